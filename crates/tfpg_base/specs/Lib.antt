@@ -1,0 +1,5 @@
+pub mod Outside
+pub mod Words
+pub mod Lines
+pub mod Set
+pub mod Trace

@@ -1,0 +1,115 @@
+-- Bytes as lines, and what a reader of lines has taken and given.
+use Rattle.std.specs.Prelude.{◌≡◌, ◌⊎◌, ℕ, ◌+◌, ◌-◌, ◌<◌, ◌≤◌, ◌^◌, List, [], ◌∷◌, ◌++◌, length, take, ◌==◌, Option, Some, None, Result, Ok, Err, IsSome, slice_get, slice_index_or}
+use Rattle.std.specs.List.{slice_split, flat_map}
+use Rattle.tfpg_base.specs.declared.line.Line.{Line}
+use Rattle.tfpg_base.specs.declared.line.Line.TheVariants as line
+use Rattle.tfpg_base.specs.declared.line.LineFault.{LineFault}
+use Rattle.tfpg_base.specs.declared.line.LineFault.TheVariants as fault
+use Rattle.tfpg_base.specs.Outside.{Takes, IsAtEnd}
+
+-- The bytes between line ends. There is always a last part, which may be empty.
+abbrev pub parts_of : List ℕ → List (List ℕ)
+parts_of bytes = slice_split (λ byte. byte == 10) bytes
+
+-- the lines whose line end is among the bytes
+abbrev pub whole_lines : List ℕ → List (List ℕ)
+whole_lines bytes = take (length (parts_of bytes) - 1) (parts_of bytes)
+
+-- what stands after the last line end
+abbrev pub last_part : List ℕ → List ℕ
+last_part bytes = slice_index_or (parts_of bytes) (length (parts_of bytes) - 1) []
+
+-- a part is a line where it has a byte
+abbrev pub line_of_part : List ℕ → List (List ℕ)
+line_of_part [] = []
+line_of_part (byte ∷ bytes) = (byte ∷ bytes) ∷ []
+
+-- The lines of bytes, without their line ends. A last line without one counts where it has a byte.
+abbrev pub lines_of : List ℕ → List (List ℕ)
+lines_of bytes = whole_lines bytes ++ line_of_part (last_part bytes)
+
+-- how many bytes a line may have
+abbrev pub longest_line : ℕ
+longest_line = 4096
+
+-- how many bytes a reader takes, but for one to see that there are more
+abbrev pub most_bytes : ℕ
+most_bytes = 2 ^ 32
+
+-- The history of a reader of lines: all the bytes that it took, all the lines that it gave, and the answer
+-- that ended it, if one has.
+pub record Reading : Type 0 where
+  pub taken : List ℕ
+  pub given : List (List ℕ)
+  pub ended : Option (Result Line LineFault)
+
+-- nothing taken, nothing given
+abbrev pub new_reading : Reading
+new_reading = record { taken = []; given = []; ended = None }
+
+-- the next line that has come whole and is not given yet
+abbrev pub next_whole : Reading → Option (List ℕ)
+next_whole reading = slice_get (whole_lines (take most_bytes reading.taken)) (length reading.given)
+
+-- the history after these bytes were taken
+abbrev pub with_bytes : Reading → List ℕ → Reading
+with_bytes reading bytes = record { taken = reading.taken ++ bytes; given = reading.given; ended = reading.ended }
+
+-- the history after one more line was given
+abbrev pub with_line : Reading → List ℕ → Reading
+with_line reading line = record { taken = reading.taken; given = reading.given ++ line ∷ []; ended = None }
+
+-- the history after an answer that ends it
+abbrev pub ended_by : Reading → Result Line LineFault → Reading
+ended_by reading answer = record { taken = reading.taken; given = reading.given; ended = Some answer }
+
+-- what contracts see of a reader: the bytes in its buffer, how many it took, what it lends, and what ended it
+pub record Buffered : Type 0 where
+  pub waiting : List ℕ
+  pub taken : ℕ
+  pub text : List ℕ
+  pub number : ℕ
+  pub ended : Option (Result Line LineFault)
+
+-- a line with its line end
+abbrev pub with_line_end : List ℕ → List ℕ
+with_line_end line = line ++ 10 ∷ []
+
+-- while nothing has ended it, the buffer holds what was taken behind the lines that were given
+pub record IsGoingOn (reader : Buffered) (reading : Reading) : Type 0 where
+  pub bytes : reading.taken ≡ flat_map with_line_end reading.given ++ reader.waiting
+  pub lines : whole_lines (flat_map with_line_end reading.given) ≡ reading.given
+  pub few : reader.taken ≤ most_bytes
+
+-- The reader has this history.
+pub record StandsFor (reader : Buffered) (reading : Reading) : Type 0 where
+  pub number : reader.number ≡ length reading.given
+  pub taken : reader.taken ≡ length reading.taken
+  pub ended : reader.ended ≡ reading.ended
+  pub going_on : reading.ended ≡ None → IsGoingOn reader reading
+
+-- The line is the next one, behind those given, of all the bytes taken. It has come whole, or the source has ended.
+pub record IsNext (reading : Reading) (line : List ℕ) (source_ended : Type 0) : Type 0 where
+  pub front : take (length reading.given + 1) (lines_of reading.taken) ≡ reading.given ++ line ∷ []
+  pub whole : (next_whole reading ≡ Some line) ⊎ source_ended
+
+-- What a reader that nothing has ended answers, with the bytes of this call among those taken.
+abbrev pub Answers : Reading → Type 0 → Type 0 → Result Line LineFault → Buffered → Type 0
+Answers reading source_ended rose (Ok line.Text) reader =
+    (next : List ℕ) × IsNext reading next source_ended × (length next ≤ longest_line) × (reader.text ≡ next) × StandsFor reader (with_line reading next)
+Answers reading source_ended rose (Ok line.TooLong) reader =
+    (next : List ℕ) × IsNext reading next source_ended × (longest_line < length next) × (reader.text ≡ []) × StandsFor reader (with_line reading next)
+Answers reading source_ended rose (Ok line.End) reader =
+    (lines_of reading.taken ≡ reading.given) × source_ended × (reader.text ≡ []) × StandsFor reader (ended_by reading (Ok line.End))
+Answers reading source_ended rose (Err fault.ReadFault) reader =
+    (whole_lines reading.taken ≡ reading.given) × rose × (reader.text ≡ []) × StandsFor reader (ended_by reading (Err fault.ReadFault))
+Answers reading source_ended rose (Err fault.TooMuchInput) reader =
+    (whole_lines (take most_bytes reading.taken) ≡ reading.given) × (length reading.taken ≡ most_bytes + 1) × (reader.text ≡ [])
+    × StandsFor reader (ended_by reading (Err fault.TooMuchInput))
+
+-- One call: what ended a reader is answered again. Else bytes are taken, but only where no whole line is left to give.
+abbrev pub Continues : Reading → Option (Result Line LineFault) → Option (List ℕ) → Option (List ℕ) → Type 0 → Result Line LineFault → Buffered → Type 0
+Continues reading (Some answer) before after rose result reader = (result ≡ answer) × (after ≡ before) × StandsFor reader reading
+Continues reading None before after rose result reader =
+    (more : List ℕ) × Takes before after more × (IsSome (next_whole reading) → more ≡ [])
+    × Answers (with_bytes reading more) (IsAtEnd after) rose result reader

@@ -1,0 +1,39 @@
+-- Words on a line, and the two forms of words that every text format uses: names and numbers.
+use Rattle.std.specs.Prelude.{ℕ, List, [], ◌∷◌, length, Bool, false, not, ◌&&◌, ◌||◌, nat_le, ◌==◌, if◌then◌else◌, Option, Some, None}
+use Rattle.std.specs.List.{slice_split, list_all}
+use Rattle.std.specs.Char.{is_ascii_digit}
+use Rattle.std.specs.Str.Parse.{digits_value}
+use Rattle.tfpg_base.specs.declared.word.Number.{Number}
+use Rattle.tfpg_base.specs.declared.word.Number.TheVariants.{Value, TooLarge, NotANumber}
+
+-- The words of a line: the parts round its spaces. A space at an end, or two in a row, make an empty word.
+abbrev pub words_of : List ℕ → List (List ℕ)
+words_of line = slice_split (λ byte. byte == 32) line
+
+-- from A to Z or from a to z
+abbrev pub is_letter : ℕ → Bool
+is_letter byte = (nat_le 65 byte && nat_le byte 90) || (nat_le 97 byte && nat_le byte 122)
+
+-- a letter, a digit, an underscore, a dot or a hyphen
+abbrev pub is_name_byte : ℕ → Bool
+is_name_byte byte = is_letter byte || (is_ascii_digit byte || (byte == 95 || (byte == 46 || byte == 45)))
+
+-- A name has 1 to 32 bytes, of which the first is a letter.
+abbrev pub is_name : List ℕ → Bool
+is_name [] = false
+is_name (first ∷ others) = is_letter first && (list_all is_name_byte others && nat_le (length others) 31)
+
+-- A number is `0`, or a digit from 1 to 9 and then digits.
+abbrev pub is_number : List ℕ → Bool
+is_number [] = false
+is_number (digit ∷ []) = is_ascii_digit digit
+is_number (first ∷ second ∷ others) = is_ascii_digit first && (not (first == 48) && list_all is_ascii_digit (second ∷ others))
+
+-- the number that a word spells, where it has the form of a number
+abbrev pub number_of : List ℕ → Option ℕ
+number_of word = if is_number word then Some (digits_value 10 word) else None
+
+-- what a word says in the place of a number of at most `most`
+abbrev pub number_up_to : ℕ → Option ℕ → Number
+number_up_to most None = NotANumber
+number_up_to most (Some number) = if nat_le number most then Value number else TooLarge

@@ -1,0 +1,23 @@
+//! What every other crate of the diagnoser stands on: the outside (sources, sinks and shelves of files),
+//! lines of bytes, the words on a line, sets of failure modes, traces and difference constraints.
+//!
+//! - [`Source`], [`Sink`] and [`Shelf`] are the outside. Each counts its faults, and may tell its contents to
+//!   the contracts. Each has an implementation in memory.
+//! - [`Lines`] cuts what a source gives into lines.
+//! - [`read_name`] and [`read_number`] know the two forms of words that every text format uses.
+//! - [`Set`] is a set of failure modes, [`Trace`] says when which node became active.
+#![tactic(auto)]
+
+mod activation;
+mod constraint;
+mod line;
+mod no_memory;
+mod outside;
+mod word;
+
+pub use activation::Activation;
+pub use constraint::Constraint;
+pub use line::{Line, LineFault};
+pub use no_memory::NoMemory;
+pub use outside::{Failed, Shelf, ShelfFault, Sink, Source};
+pub use word::Number;
