@@ -1,0 +1,99 @@
+-- What a timed failure propagation graph is.
+use Rattle.std.specs.Prelude.{ℕ, ◌+◌, List, [], ◌∷◌, filter, slice_get, Bool, true, false, ◌&&◌, ◌==◌, if◌then◌else◌, Option, Some, None, is_some, option_map, option_and_then, bytes_eq, position}
+use Rattle.std.specs.Int.{bit_at}
+use Rattle.tfpg_graph.specs.declared.kind.Kind.{Kind}
+use Rattle.tfpg_graph.specs.declared.kind.Kind.TheVariants.{Failure, Or, And}
+use Rattle.tfpg_graph.specs.declared.edge.Edge.{Edge}
+
+-- a failure mode or a discrepancy, with its name
+pub record Node : Type 0 where
+  pub name : List ℕ
+  pub kind : Kind
+
+-- A timed failure propagation graph. Nodes, edges and modes are numbered from 0, in this order. The first mode
+-- holds in the beginning.
+pub record Tfpg : Type 0 where
+  pub nodes : List Node
+  pub edges : List Edge
+  pub modes : List (List ℕ)
+
+-- the numbers of the items that pass, rising, where the first item has this number
+abbrev pub numbers_from : {X : Type 0} → ℕ → (X → Bool) → List X → List ℕ
+numbers_from number passes [] = []
+numbers_from number passes (x ∷ xs) = if passes x then number ∷ numbers_from (number + 1) passes xs else numbers_from (number + 1) passes xs
+
+abbrev pub is_failure : Kind → Bool
+is_failure (Failure rarity) = true
+is_failure (Or lag) = false
+is_failure (And lag) = false
+
+abbrev pub is_or : Kind → Bool
+is_or (Failure rarity) = false
+is_or (Or lag) = true
+is_or (And lag) = false
+
+abbrev pub is_and : Kind → Bool
+is_and (Failure rarity) = false
+is_and (Or lag) = false
+is_and (And lag) = true
+
+-- the lag of a monitored discrepancy
+abbrev pub lag_of : Kind → Option ℕ
+lag_of (Failure rarity) = None
+lag_of (Or lag) = lag
+lag_of (And lag) = lag
+
+-- what the node of this number is
+abbrev pub kind_at : Tfpg → ℕ → Option Kind
+kind_at graph node = option_map (λ n. n.kind) (slice_get graph.nodes node)
+
+-- whether the node of this number is of such a kind
+abbrev pub is_kind_at : (Kind → Bool) → Tfpg → ℕ → Bool
+is_kind_at is_kind graph node = is_some (option_and_then (λ kind. if is_kind kind then Some kind else None) (kind_at graph node))
+
+-- the lag of the node of this number, where it is monitored
+abbrev pub lag_at : Tfpg → ℕ → Option ℕ
+lag_at graph node = option_and_then lag_of (kind_at graph node)
+
+abbrev pub is_monitored : Tfpg → ℕ → Bool
+is_monitored graph node = is_some (lag_at graph node)
+
+-- The nodes that are failure modes. The place of one in this list is its position.
+abbrev pub failures : Tfpg → List ℕ
+failures graph = numbers_from 0 (λ node. is_failure node.kind) graph.nodes
+
+-- the node of the failure mode at a position
+abbrev pub failure_at : Tfpg → ℕ → Option ℕ
+failure_at graph place = slice_get (failures graph) place
+
+-- the numbers of the edges into a node, rising
+abbrev pub incoming : Tfpg → ℕ → List ℕ
+incoming graph node = numbers_from 0 (λ edge. edge.target == node) graph.edges
+
+-- the edges into a node, in order
+abbrev pub edges_into : Tfpg → ℕ → List Edge
+edges_into graph node = filter (λ edge. edge.target == node) graph.edges
+
+-- An edge is active in a mode where the bit of the mode is set.
+abbrev pub is_allowed : Edge → ℕ → Bool
+is_allowed edge mode = bit_at edge.modes mode == 1
+
+-- the number of the node of this name
+abbrev pub node_named : Tfpg → List ℕ → Option ℕ
+node_named graph name = position (λ node. bytes_eq node.name name) graph.nodes
+
+-- the number of the mode of this name
+abbrev pub mode_named : Tfpg → List ℕ → Option ℕ
+mode_named graph name = position (λ mode. bytes_eq mode name) graph.modes
+
+-- the name of the node of this number
+abbrev pub name_at : Tfpg → ℕ → Option (List ℕ)
+name_at graph node = option_map (λ n. n.name) (slice_get graph.nodes node)
+
+-- the number of the edge from the one node to the other
+abbrev pub edge_from_to : Tfpg → ℕ → ℕ → Option ℕ
+edge_from_to graph source target = position (λ edge. (edge.source == source) && (edge.target == target)) graph.edges
+
+-- the position of a failure mode
+abbrev pub place_of_failure : Tfpg → ℕ → Option ℕ
+place_of_failure graph node = position (λ failure. failure == node) (failures graph)

@@ -1,0 +1,88 @@
+-- The text of a graph: what each line spells.
+use Rattle.std.specs.Prelude.{◌≡◌, ℕ, ◌-◌, ◌≤◌, ◌^◌, List, [], ◌∷◌, ◌++◌, length, map, filter, All, Bool, true, not, ◌==◌, if◌then◌else◌, Option, Some, None, unwrap_or, slice_get, codes, decimal, sum_by, filter_map, ◌⊎◌, ◌≢◌, ◌<◌, AllPairs}
+use Rattle.std.specs.Int.{bit_at}
+use Rattle.std.specs.List.{join_with_byte, range_with_len, AllZip}
+use Rattle.tfpg_base.specs.Lines.{lines_of, longest_line}
+use Rattle.tfpg_graph.specs.declared.kind.Kind.{Kind}
+use Rattle.tfpg_graph.specs.declared.kind.Kind.TheVariants.{Failure, Or, And}
+use Rattle.tfpg_graph.specs.declared.edge.Edge.{Edge}
+use Rattle.tfpg_graph.specs.Graph.{Tfpg, Node, name_at}
+
+-- words with a space between each two
+abbrev pub line_of : List (List ℕ) → List ℕ
+line_of words = join_with_byte 32 words
+
+abbrev pub header : List ℕ
+header = codes "tfpg 1"
+
+abbrev pub mode_line : List ℕ → List ℕ
+mode_line name = line_of (codes "mode" ∷ name ∷ [])
+
+-- a discrepancy's last words: whether it is monitored
+abbrev pub watch_words : Option ℕ → List (List ℕ)
+watch_words None = codes "hidden" ∷ []
+watch_words (Some lag) = codes "watch" ∷ decimal lag ∷ []
+
+-- the words of a node's line
+abbrev pub node_words : List ℕ → Kind → List (List ℕ)
+node_words name (Failure rarity) = codes "failure" ∷ name ∷ decimal rarity ∷ []
+node_words name (Or lag) = codes "or" ∷ name ∷ watch_words lag
+node_words name (And lag) = codes "and" ∷ name ∷ watch_words lag
+
+abbrev pub node_line : Node → List ℕ
+node_line node = line_of (node_words node.name node.kind)
+
+-- the word for a greatest delay
+abbrev pub tmax_word : Option ℕ → List ℕ
+tmax_word None = codes "inf"
+tmax_word (Some tmax) = decimal tmax
+
+-- An edge, with the word that spells its modes.
+abbrev pub edge_line : Tfpg → Edge → List ℕ → List ℕ
+edge_line graph edge modes_word =
+    line_of (codes "edge" ∷ unwrap_or (name_at graph edge.source) [] ∷ unwrap_or (name_at graph edge.target) [] ∷ decimal edge.tmin ∷ tmax_word edge.tmax ∷ modes_word ∷ [])
+
+-- the bits of all the graph's modes
+abbrev pub all_modes : Tfpg → ℕ
+all_modes graph = 2 ^ length graph.modes - 1
+
+-- The word spells these modes: a star for all, or the names of some, in any order, each once, with commas between.
+abbrev pub SpellsModes : Tfpg → ℕ → List ℕ → Type 0
+SpellsModes graph bits word =
+    ((word ≡ codes "*") × (bits ≡ all_modes graph))
+    ⊎ ((modes : List ℕ) × (modes ≢ []) × AllPairs (λ a b. a ≢ b) modes × All (λ mode. mode < length graph.modes) modes
+    × (word ≡ join_with_byte 44 (filter_map (slice_get graph.modes) modes)) × (bits ≡ sum_by (λ mode. 2 ^ mode) modes))
+
+-- The line spells this edge.
+abbrev pub SpellsEdge : Tfpg → Edge → List ℕ → Type 0
+SpellsEdge graph edge line = (word : List ℕ) × SpellsModes graph edge.modes word × (line ≡ edge_line graph edge word)
+
+-- an empty line, or one that begins with `#`
+abbrev pub is_skipped : List ℕ → Bool
+is_skipped [] = true
+is_skipped (first ∷ others) = first == 35
+
+-- The lines that say something: the header, then the modes, the nodes, the edges and the end.
+pub record SpellsLines (graph : Tfpg) (lines : List (List ℕ)) : Type 0 where
+  pub edge_lines : List (List ℕ)
+  pub edges : AllZip (SpellsEdge graph) graph.edges edge_lines
+  pub all : lines ≡ map mode_line graph.modes ++ map node_line graph.nodes ++ edge_lines ++ codes "end" ∷ []
+
+-- The text spells the graph. Behind the header, empty lines and lines that begin with `#` are skipped; no line is too long.
+pub record Spells (text : List ℕ) (graph : Tfpg) : Type 0 where
+  pub behind : List (List ℕ)
+  pub lines : lines_of text ≡ header ∷ behind
+  pub said : SpellsLines graph (filter (λ line. not (is_skipped line)) behind)
+  pub short : All (λ line. length line ≤ longest_line) (lines_of text)
+
+-- the word for an edge's modes in the canonical text: a star for all, else the names in the order of the modes
+abbrev pub modes_word : Tfpg → ℕ → List ℕ
+modes_word graph bits =
+    if bits == all_modes graph then codes "*"
+    else join_with_byte 44 (filter_map (slice_get graph.modes) (filter (λ mode. bit_at bits mode == 1) (range_with_len 0 (length graph.modes))))
+
+-- the lines of the canonical text
+abbrev pub canonical_lines : Tfpg → List (List ℕ)
+canonical_lines graph =
+    header ∷ (map mode_line graph.modes ++ map node_line graph.nodes
+    ++ map (λ edge. edge_line graph edge (modes_word graph edge.modes)) graph.edges ++ codes "end" ∷ [])

@@ -1,0 +1,61 @@
+-- Which graphs are valid.
+use Rattle.std.specs.Prelude.{◌≡◌, ◌≢◌, ℕ, zero, suc, ◌≤◌, ◌<◌, ◌^◌, [], length, All, AllPairs, Contains, IsTrue, IfSome, not}
+use Rattle.tfpg_base.specs.Words.{is_name}
+use Rattle.tfpg_graph.specs.declared.kind.Kind.{Kind}
+use Rattle.tfpg_graph.specs.declared.kind.Kind.TheVariants.{Failure, Or, And}
+use Rattle.tfpg_graph.specs.declared.edge.Edge.{Edge}
+use Rattle.tfpg_graph.specs.Graph.{Tfpg, is_kind_at, is_failure, failures, incoming}
+
+-- the greatest time, delay and lag, in milliseconds
+abbrev pub most_time : ℕ
+most_time = 10 ^ 12
+
+abbrev pub most_rarity : ℕ
+most_rarity = 1000000
+
+-- its number is within its limit
+abbrev pub HasValidNumber : Kind → Type 0
+HasValidNumber (Failure rarity) = rarity ≤ most_rarity
+HasValidNumber (Or lag) = IfSome lag (λ l. l ≤ most_time)
+HasValidNumber (And lag) = IfSome lag (λ l. l ≤ most_time)
+
+-- The edge goes from a node to another one that is a discrepancy, its delays are in order, and it is active in some of
+-- the graph's modes and in no other.
+pub record IsValidEdge (graph : Tfpg) (edge : Edge) : Type 0 where
+  pub source : edge.source < length graph.nodes
+  pub target : edge.target < length graph.nodes
+  pub into_discrepancy : IsTrue (not (is_kind_at is_failure graph edge.target))
+  pub no_self_edge : edge.source ≢ edge.target
+  pub least : edge.tmin ≤ most_time
+  pub most : IfSome edge.tmax (λ tmax. (edge.tmin ≤ tmax) × (tmax ≤ most_time))
+  pub some_mode : 0 < edge.modes
+  pub own_modes : edge.modes < 2 ^ length graph.modes
+
+-- two edges with the same source and target
+abbrev pub IsSamePair : Edge → Edge → Type 0
+IsSamePair a b = (a.source ≡ b.source) × (a.target ≡ b.target)
+
+-- one can go from the one node to the other over this many edges, each of which may take no time
+abbrev pub WalksInNoTime : Tfpg → ℕ → ℕ → ℕ → Type 0
+WalksInNoTime graph from to zero = from ≡ to
+WalksInNoTime graph from to (suc steps) =
+    (edge : Edge) × Contains graph.edges edge × (edge.source ≡ from) × (edge.tmin ≡ 0) × WalksInNoTime graph edge.target to steps
+
+-- A graph is valid: its parts have names of their own and numbers within the limits, no two edges have one source and
+-- one target, each discrepancy has an edge into it, no cycle takes no time, and there are not too many of anything.
+pub record IsValid (graph : Tfpg) : Type 0 where
+  pub node_names : All (λ node. IsTrue (is_name node.name)) graph.nodes
+  pub nodes_differ : AllPairs (λ a b. a.name ≢ b.name) graph.nodes
+  pub node_numbers : All (λ node. HasValidNumber node.kind) graph.nodes
+  pub mode_names : All (λ mode. IsTrue (is_name mode)) graph.modes
+  pub modes_differ : AllPairs (λ a b. a ≢ b) graph.modes
+  pub edges : All (IsValidEdge graph) graph.edges
+  pub edges_differ : AllPairs (λ a b. IsSamePair a b → ⊥) graph.edges
+  pub has_incoming : (node : ℕ) → node < length graph.nodes → IsTrue (not (is_kind_at is_failure graph node)) → incoming graph node ≢ []
+  pub no_zero_cycle : (node steps : ℕ) → WalksInNoTime graph node node (suc steps) → ⊥
+  pub has_mode : 0 < length graph.modes
+  pub few_nodes : length graph.nodes ≤ 512
+  pub few_failures : length (failures graph) ≤ 64
+  pub few_edges : length graph.edges ≤ 2048
+  pub few_modes : length graph.modes ≤ 64
+  pub few_incoming : (node : ℕ) → length (incoming graph node) ≤ 32

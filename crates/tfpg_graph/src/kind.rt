@@ -1,0 +1,13 @@
+//! What a node is.
+
+/// What a node is. A discrepancy with a lag is monitored: an alarm logged at `t` says that it became active at
+/// most `lag` milliseconds before. One without is hidden.
+#[derive(Clone, Copy, Debug, PartialEq, Eq)]
+pub enum Kind {
+    /// A failure mode, with its rarity from 0 to 1,000,000: the rarer, the greater.
+    Failure { rarity: u64 },
+    /// A discrepancy that is activated when the failure reaches it from any source. Lags go from 0 to 10^12 ms.
+    Or { lag: Option<u64> },
+    /// A discrepancy that is activated when the failure reaches it from all its sources.
+    And { lag: Option<u64> },
+}

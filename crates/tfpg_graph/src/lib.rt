@@ -1,0 +1,15 @@
+//! Timed failure propagation graphs: failure modes and discrepancies as nodes, propagations with their delays and
+//! system modes as edges.
+//!
+//! - [`Graph`] is a valid graph with its look-ups.
+//! - [`Kind`] and [`Edge`] are its parts.
+//! - [`GraphCause`] says what is wrong with a text that spells no valid graph.
+#![tactic(auto)]
+
+mod cause;
+mod edge;
+mod kind;
+
+pub use cause::{GraphCause, GraphFault, GraphRefusal};
+pub use edge::Edge;
+pub use kind::Kind;
