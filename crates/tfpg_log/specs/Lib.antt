@@ -1,0 +1,10 @@
+pub use Rattle.tfpg_base.specs.Trace
+pub use Rattle.tfpg_graph.specs.Graph
+pub use Rattle.tfpg_graph.specs.Reach
+pub use Rattle.tfpg_graph.specs.Valid
+pub mod Log
+pub mod Rules
+pub mod Explains
+pub mod Spans
+pub mod Accepted
+pub mod AcceptedNow

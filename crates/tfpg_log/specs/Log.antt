@@ -1,0 +1,84 @@
+-- What a log is: its events, its time, its alarms, and the mode of an instant.
+use Rattle.std.specs.Prelude.{◌≡◌, ℕ, zero, suc, ◌<◌, List, [], ◌∷◌, ◌++◌, length, take, All, fold, Bool, true, false, nat_lt, ◌==◌, if◌then◌else◌, IsTrue, Option, Some, None, slice_get}
+use Rattle.tfpg_log.specs.declared.event.Event.{Event}
+use Rattle.tfpg_log.specs.declared.event.Event.TheVariants.{Alarm, Silent, Sweep, Tick, Mode}
+use Rattle.tfpg_graph.specs.Graph.{Tfpg, is_monitored}
+
+-- a log: its events in order, numbered from 1
+pub record Logbook : Type 0 where
+  pub events : List Event
+
+-- the time of an event
+abbrev pub time_of_event : Event → ℕ
+time_of_event (Alarm time node) = time
+time_of_event (Silent time node) = time
+time_of_event (Sweep time) = time
+time_of_event (Tick time) = time
+time_of_event (Mode time mode) = time
+
+-- the time of the last event, and 0 for a log without events
+abbrev pub now : Logbook → ℕ
+now log = fold (λ last event. time_of_event event) 0 log.events
+
+-- the event of a number
+abbrev pub event_at : Logbook → ℕ → Option Event
+event_at log zero = None
+event_at log (suc before) = slice_get log.events before
+
+-- the log of the first events alone
+abbrev pub first_events : Logbook → ℕ → Logbook
+first_events log count = record { events = take count log.events }
+
+-- the log with one more event
+abbrev pub with_event : Logbook → Event → Logbook
+with_event log event = record { events = log.events ++ event ∷ [] }
+
+-- One log goes on from another: it begins with the other's events.
+abbrev pub GoesOn : Logbook → Logbook → Type 0
+GoesOn earlier later = (more : List Event) × (later.events ≡ earlier.events ++ more)
+
+-- the time of the first alarm of a node
+abbrev pub alarm_among : List Event → ℕ → Option ℕ
+alarm_among [] node = None
+alarm_among (Alarm time alarmed ∷ events) node = if alarmed == node then Some time else alarm_among events node
+alarm_among (Silent time silent ∷ events) node = alarm_among events node
+alarm_among (Sweep time ∷ events) node = alarm_among events node
+alarm_among (Tick time ∷ events) node = alarm_among events node
+alarm_among (Mode time mode ∷ events) node = alarm_among events node
+
+abbrev pub alarm_of : Logbook → ℕ → Option ℕ
+alarm_of log node = alarm_among log.events node
+
+-- whether an event is a change of mode
+abbrev pub is_mode_change : Event → Bool
+is_mode_change (Alarm time node) = false
+is_mode_change (Silent time node) = false
+is_mode_change (Sweep time) = false
+is_mode_change (Tick time) = false
+is_mode_change (Mode time mode) = true
+
+-- the mode at an instant, where this one holds before the events
+abbrev pub mode_after : ℕ → List Event → ℕ → ℕ
+mode_after held [] instant = held
+mode_after held (Mode time mode ∷ events) instant = mode_after (if nat_lt time instant then mode else held) events instant
+mode_after held (Alarm time node ∷ events) instant = mode_after held events instant
+mode_after held (Silent time node ∷ events) instant = mode_after held events instant
+mode_after held (Sweep time ∷ events) instant = mode_after held events instant
+mode_after held (Tick time ∷ events) instant = mode_after held events instant
+
+-- The mode of an instant is that of the last change whose time is below it, and else the first declared mode. So a
+-- change does not hold at its own instant, and of two with one time the later line decides.
+abbrev pub mode_at : Logbook → ℕ → ℕ
+mode_at log instant = mode_after 0 log.events instant
+
+-- the event names only monitored nodes and modes of the graph
+abbrev pub IsEventOf : Tfpg → Event → Type 0
+IsEventOf graph (Alarm time node) = IsTrue (is_monitored graph node)
+IsEventOf graph (Silent time node) = IsTrue (is_monitored graph node)
+IsEventOf graph (Sweep time) = Unit {0}
+IsEventOf graph (Tick time) = Unit {0}
+IsEventOf graph (Mode time mode) = mode < length graph.modes
+
+-- A log is of a graph: each event names only its monitored nodes and modes.
+abbrev pub IsOf : Tfpg → Logbook → Type 0
+IsOf graph log = All (IsEventOf graph) log.events

@@ -1,0 +1,90 @@
+-- Spans of one mode, and the windows of spans in which an edge, or all edges into a node, are active.
+use Rattle.std.specs.Prelude.{ℕ, zero, suc, ◌+◌, Bool, ◌&&◌, nat_le, ◌==◌, if◌then◌else◌, Option, Some, None, option_and_then}
+use Rattle.std.specs.List.{list_all}
+use Rattle.tfpg_graph.specs.declared.edge.Edge.{Edge}
+use Rattle.tfpg_graph.specs.Graph.{Tfpg, is_allowed, edges_into}
+use Rattle.tfpg_log.specs.Log.{Logbook, now, mode_at}
+
+-- a maximal run of instants with one mode, from the first to the last of them
+pub record Span : Type 0 where
+  pub lo : ℕ
+  pub hi : ℕ
+  pub mode : ℕ
+
+-- a maximal run of spans, with the number of the first
+pub record Window : Type 0 where
+  pub first : ℕ
+  pub lo : ℕ
+  pub hi : ℕ
+
+-- the first of two that there is
+abbrev pub first_of_two : Option ℕ → Option ℕ → Option ℕ
+first_of_two (Some number) other = Some number
+first_of_two None other = other
+
+-- the least number up to a limit that passes
+abbrev pub least : (ℕ → Bool) → ℕ → Option ℕ
+least passes zero = if passes 0 then Some 0 else None
+least passes (suc limit) = first_of_two (least passes limit) (if passes (suc limit) then Some (suc limit) else None)
+
+-- the greatest number up to a limit that passes
+abbrev pub greatest : (ℕ → Bool) → ℕ → Option ℕ
+greatest passes zero = if passes 0 then Some 0 else None
+greatest passes (suc limit) = if passes (suc limit) then Some (suc limit) else greatest passes limit
+
+-- the number of the span of an instant: how many times the mode changed from one instant to the next up to it
+abbrev pub span_number : Logbook → ℕ → ℕ
+span_number log zero = 0
+span_number log (suc instant) = span_number log instant + (if mode_at log instant == mode_at log (suc instant) then 0 else 1)
+
+-- the span between two instants
+abbrev pub span_between : Logbook → Option ℕ → Option ℕ → Option Span
+span_between log None hi = None
+span_between log (Some lo) None = None
+span_between log (Some lo) (Some hi) = Some (record { lo = lo; hi = hi; mode = mode_at log lo })
+
+-- the span of a number, of the instants up to a horizon that is not after now
+abbrev pub span_at : Logbook → ℕ → ℕ → Option Span
+span_at log number horizon =
+    if nat_le horizon (now log)
+    then span_between log (least (λ instant. span_number log instant == number) horizon) (greatest (λ instant. span_number log instant == number) horizon)
+    else None
+
+-- the first instant of the run of passing instants up to one that passes
+abbrev pub run_start : (ℕ → Bool) → ℕ → ℕ
+run_start passes zero = 0
+run_start passes (suc instant) = if passes instant then run_start passes instant else suc instant
+
+-- the last instant, up to a horizon, of the run of passing instants from this one on
+abbrev pub run_end : (ℕ → Bool) → ℕ → ℕ → Option ℕ
+run_end passes instant horizon =
+    greatest (λ last. nat_le instant last && (passes last && nat_le (run_start passes last) instant)) horizon
+
+-- the window between two instants
+abbrev pub window_between : Logbook → ℕ → Option ℕ → Option Window
+window_between log lo None = None
+window_between log lo (Some hi) = Some (record { first = span_number log lo; lo = lo; hi = hi })
+
+-- The window round a span up to a horizon: the maximal run of passing instants that the span lies in. There is none where
+-- the span's own instants do not pass.
+abbrev pub window_round : Logbook → (ℕ → Bool) → Span → ℕ → Option Window
+window_round log passes span horizon =
+    if passes span.lo then window_between log (run_start passes span.lo) (run_end passes span.lo horizon) else None
+
+-- the edge is active in the mode of the instant
+abbrev pub is_allowed_at : Logbook → Edge → ℕ → Bool
+is_allowed_at log edge instant = is_allowed edge (mode_at log instant)
+
+-- so is each edge into the node
+abbrev pub are_allowed_at : Tfpg → Logbook → ℕ → ℕ → Bool
+are_allowed_at graph log node instant = list_all (λ edge. is_allowed_at log edge instant) (edges_into graph node)
+
+-- the maximal window round a span in which the edge is active
+abbrev pub window_of : Logbook → Edge → ℕ → ℕ → Option Window
+window_of log edge number horizon =
+    option_and_then (λ span. window_round log (is_allowed_at log edge) span horizon) (span_at log number horizon)
+
+-- the maximal window round a span in which all edges into the node are active at once
+abbrev pub joint_of : Tfpg → Logbook → ℕ → ℕ → ℕ → Option Window
+joint_of graph log node number horizon =
+    option_and_then (λ span. window_round log (are_allowed_at graph log node) span horizon) (span_at log number horizon)

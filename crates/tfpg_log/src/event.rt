@@ -1,0 +1,25 @@
+//! What a line of the log says.
+
+use crate::Refusal;
+
+/// An accepted line. Times are in milliseconds, from 0 to 10^12, and never fall from one event to the next.
+#[derive(Clone, Copy, Debug, PartialEq, Eq)]
+pub enum Event {
+    /// The monitor of a discrepancy raised its alarm.
+    Alarm { time: u64, node: u32 },
+    /// The monitor of a discrepancy was asked and is silent.
+    Silent { time: u64, node: u32 },
+    /// All monitors were asked; those without an alarm so far are silent.
+    Sweep { time: u64 },
+    /// Time went on.
+    Tick { time: u64 },
+    /// The system's mode changed. It holds from the next millisecond on.
+    Mode { time: u64, mode: u32 },
+}
+
+/// What became of a line.
+#[derive(Clone, Copy, Debug, PartialEq, Eq)]
+pub enum Offered {
+    Accepted(Event),
+    Refused(Refusal),
+}

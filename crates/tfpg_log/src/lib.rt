@@ -1,0 +1,14 @@
+//! The log of alarms, silences and mode changes, and what it means for a trace to explain it.
+//!
+//! - [`Event`] is what a line of the log says, once it is accepted.
+//! - [`Refusal`] says why a line is refused.
+//!
+//! Its definitions, in `specs/`, are those that every crate above stands on: the mode of an instant, the age of an
+//! edge, the propagation rules, and which sets of failure modes fit the log.
+#![tactic(auto)]
+
+mod event;
+mod refusal;
+
+pub use event::{Event, Offered};
+pub use refusal::Refusal;

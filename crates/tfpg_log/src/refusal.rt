@@ -1,0 +1,30 @@
+//! Why a line of the log is refused.
+
+/// Why a line of the log is refused: the first in this order that holds.
+#[derive(Clone, Copy, Debug, PartialEq, Eq)]
+pub enum Refusal {
+    /// It has none of the five shapes.
+    BadLine,
+    /// Its time is not a number.
+    BadNumber,
+    /// Its time is above 10^12.
+    TimeTooLarge,
+    /// Its time is below `last`, the time of the last event.
+    TimeBack { last: u64 },
+    /// No node has the name.
+    UnknownName,
+    /// The node is not monitored.
+    NotMonitored,
+    /// No mode has the name.
+    NotAMode,
+    /// The node has an alarm already, at `first`.
+    SecondAlarm { first: u64 },
+    /// The node has an alarm, at `first`.
+    SilentAfterAlarm { first: u64 },
+    /// 16,384 events were accepted.
+    LogFull,
+    /// 1,024 mode changes were accepted.
+    ModesFull,
+    /// For now: the line is not an accepted alarm or tick.
+    NotBuilt,
+}
