@@ -6,18 +6,27 @@
 //! - [`Lines`] cuts what a source gives into lines.
 //! - [`read_name`] and [`read_number`] know the two forms of words that every text format uses.
 //! - [`Set`] is a set of failure modes, [`Trace`] says when which node became active.
+//! - [`Items`] is a list that contracts see as one; [`Bytes`], [`NumberList`] and [`LineList`] are such lists, and a crate
+//!   names one of its own items by `pub type StepList = Items<Step>;`. [`Text`] is a text that is kept.
+//! - [`Steps`] counts the steps of a call, at no cost.
 #![tactic(auto)]
 
 mod activation;
 mod constraint;
+mod items;
 mod line;
 mod no_memory;
 mod outside;
+mod steps;
+mod text;
 mod word;
 
 pub use activation::Activation;
 pub use constraint::Constraint;
+pub use items::{Bytes, Items, LineList, NumberList};
 pub use line::{Line, LineFault};
 pub use no_memory::NoMemory;
 pub use outside::{Failed, Shelf, ShelfFault, Sink, Source};
+pub use steps::Steps;
+pub use text::Text;
 pub use word::Number;
