@@ -1,0 +1,104 @@
+-- Clauses: of each, every trace that explains the log meets an alternative.
+use Rattle.std.specs.Prelude.{ℕ, ◌+◌, ◌-◌, max, pos, ◌-ℤ◌, List, [], ◌∷◌, ◌++◌, map, filter_map, fold, Bool, ◌&&◌, nat_le, ◌==◌, if◌then◌else◌, All, Contains, Option, Some, None, option_map, option_and_then, slice_get}
+use Rattle.std.specs.List.{list_all}
+use Rattle.tfpg_base.specs.declared.constraint.Constraint.{Constraint}
+use Rattle.tfpg_graph.specs.declared.edge.Edge.{Edge}
+use Rattle.tfpg_graph.specs.Graph.{Tfpg, is_kind_at, is_or, is_and, edges_into}
+use Rattle.tfpg_log.specs.Log.{Logbook}
+use Rattle.tfpg_log.specs.Spans.{Span, Window, span_at, window_of, joint_of}
+use Rattle.tfpg_evidence.specs.declared.clause_name.ClauseName.{ClauseName}
+use Rattle.tfpg_evidence.specs.declared.clause_name.ClauseName.TheVariants.{OrMay, AndMay, OrMust, AndMust}
+use Rattle.tfpg_clause.specs.Bounds.{at_most, at_least, at_most_after, at_least_after, Meets}
+
+-- the value, where the test holds
+abbrev pub only_if : {X : Type 0} → Bool → X → Option X
+only_if holds x = if holds then Some x else None
+
+-- the values, where there is each of them
+abbrev pub each_of : {X : Type 0} → List (Option X) → Option (List X)
+each_of [] = Some []
+each_of (None ∷ others) = None
+each_of (Some x ∷ others) = option_map (λ xs. x ∷ xs) (each_of others)
+
+-- The node becomes active before the span; or after it.
+abbrev pub outside : ℕ → Span → List (List Constraint)
+outside node span = (at_most node (pos span.lo -ℤ pos 1) ∷ []) ∷ (at_least node (span.hi + 1) ∷ []) ∷ []
+
+-- The failure arrives by the edge within the span, where it can: it has been on its way since some instant of the edge's
+-- window, for the least delay or longer.
+abbrev pub arrival : Logbook → ℕ → ℕ → Span → Edge → Option (List Constraint)
+arrival log number horizon span edge =
+    option_and_then (λ window. only_if (nat_le (window.lo + edge.tmin) span.hi)
+    (at_least_after edge.target edge.source edge.tmin ∷ at_least edge.target (max span.lo (window.lo + edge.tmin)) ∷ at_most edge.target (pos span.hi) ∷ []))
+    (window_of log edge number horizon)
+
+-- a failure on its way over an edge with a finite greatest delay: by when it arrives, if it has been on its way since the
+-- beginning of the edge's window
+pub record Due : Type 0 where
+  pub source : ℕ
+  pub target : ℕ
+  pub tmax : ℕ
+  pub by : ℕ
+
+abbrev pub due_over : Logbook → ℕ → ℕ → Edge → Option Due
+due_over log number horizon edge =
+    option_and_then (λ tmax. option_map (λ window. record { source = edge.source; target = edge.target; tmax = tmax; by = window.lo + tmax }) (window_of log edge number horizon)) edge.tmax
+
+-- The source becomes active too late for the failure to arrive within a window that ends here.
+abbrev pub starts_late : ℕ → Due → List Constraint
+starts_late hi due = at_least due.source (hi - due.tmax + 1) ∷ []
+
+-- The target becomes active at most the greatest delay after the source.
+abbrev pub follows_in_time : Due → List Constraint
+follows_in_time due = at_most_after due.target due.source due.tmax ∷ []
+
+-- the latest of the times
+abbrev pub latest : List Due → ℕ
+latest dues = fold (λ time due. max time due.by) 0 dues
+
+-- The alternatives of a must, in a window that ends at hi: some source starts late; or the target follows some source in
+-- time; or it is active by the time by which the failure arrives if it has been on its way since the window's beginning.
+abbrev pub must_alternatives : ℕ → ℕ → List Due → List (List Constraint)
+must_alternatives target hi dues =
+    map (starts_late hi) dues ++ map follows_in_time dues ++ (at_most target (pos (latest dues)) ∷ []) ∷ []
+
+-- There is a must where the window begins with this span and has room for each greatest delay.
+abbrev pub must_in : ℕ → ℕ → Window → List Due → Option (List (List Constraint))
+must_in target number window dues =
+    only_if ((window.first == number) && list_all (λ due. nat_le due.by window.hi) dues) (must_alternatives target window.hi dues)
+
+abbrev pub or_may : Tfpg → Logbook → ℕ → ℕ → ℕ → Option (List (List Constraint))
+or_may graph log node number horizon =
+    option_and_then (λ span. only_if (is_kind_at is_or graph node)
+    (outside node span ++ filter_map (arrival log number horizon span) (edges_into graph node)))
+    (span_at log number horizon)
+
+abbrev pub and_may : Tfpg → Logbook → Edge → ℕ → ℕ → Option (List (List Constraint))
+and_may graph log edge number horizon =
+    option_and_then (λ span. only_if (is_kind_at is_and graph edge.target)
+    (outside edge.target span ++ filter_map (arrival log number horizon span) (edge ∷ [])))
+    (span_at log number horizon)
+
+abbrev pub or_must : Tfpg → Logbook → Edge → ℕ → ℕ → Option (List (List Constraint))
+or_must graph log edge number horizon =
+    if is_kind_at is_or graph edge.target
+    then option_and_then (λ due. option_and_then (λ window. must_in edge.target number window (due ∷ [])) (window_of log edge number horizon)) (due_over log number horizon edge)
+    else None
+
+abbrev pub and_must : Tfpg → Logbook → ℕ → ℕ → ℕ → Option (List (List Constraint))
+and_must graph log node number horizon =
+    if is_kind_at is_and graph node
+    then option_and_then (λ dues. option_and_then (λ window. must_in node number window dues) (joint_of graph log node number horizon))
+    (each_of (map (due_over log number horizon) (edges_into graph node)))
+    else None
+
+-- The alternatives of a clause in order, each a list of constraints, where the name is allowed at the log.
+abbrev pub alternatives : Tfpg → Logbook → ClauseName → Option (List (List Constraint))
+alternatives graph log (OrMay node number horizon) = or_may graph log node number horizon
+alternatives graph log (AndMay edge number horizon) = option_and_then (λ e. and_may graph log e number horizon) (slice_get graph.edges edge)
+alternatives graph log (OrMust edge number horizon) = option_and_then (λ e. or_must graph log e number horizon) (slice_get graph.edges edge)
+alternatives graph log (AndMust node number horizon) = and_must graph log node number horizon
+
+-- The times meet a clause: they meet each constraint of some alternative. Else they violate it.
+abbrev pub MeetsSome : List ℕ → List (List Constraint) → Type 0
+MeetsSome times clause = (alternative : List Constraint) × Contains clause alternative × All (Meets times) alternative

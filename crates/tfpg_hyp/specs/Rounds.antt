@@ -1,0 +1,122 @@
+-- What a round is: a finding for each hypothesis, each with its evidence, in order and counted.
+use Rattle.std.specs.Prelude.{◌≡◌, ℕ, ◌≤◌, List, [], ◌∷◌, ◌++◌, length, map, count_by, flat_map, AllPairs, Contains, Bool, true, false, IsTrue, not, Option, Some, None, slice_get, option_map, option_and_then, unwrap_or}
+use Rattle.tfpg_base.specs.Set.{IsProperPart}
+use Rattle.tfpg_graph.specs.Graph.{Tfpg}
+use Rattle.tfpg_graph.specs.Reach.{IsReach}
+use Rattle.tfpg_log.specs.Log.{Logbook, now}
+use Rattle.tfpg_log.specs.Explains.{Explains}
+use Rattle.tfpg_evidence.specs.declared.finding.Finding.{Finding}
+use Rattle.tfpg_evidence.specs.declared.finding.Status.{Status}
+use Rattle.tfpg_evidence.specs.declared.finding.Status.TheVariants.{Ranked, Covered, Rejected, Open}
+use Rattle.tfpg_evidence.specs.declared.round.Round.{Round}
+use Rattle.tfpg_evidence.specs.declared.round.Counts.{Counts}
+use Rattle.tfpg_clause.specs.Trees.{Judged, IsRefutation, IsPartial, is_cycle}
+use Rattle.tfpg_hyp.specs.Table.{IsTable}
+use Rattle.tfpg_hyp.specs.Ranking.{cost, robustness, Place, IsRankedBefore}
+
+abbrev pub is_ranked : Status → Bool
+is_ranked (Ranked trace cost alarmed monitored) = true
+is_ranked (Covered by) = false
+is_ranked Rejected = false
+is_ranked Open = false
+
+abbrev pub is_covered : Status → Bool
+is_covered (Ranked trace cost alarmed monitored) = false
+is_covered (Covered by) = true
+is_covered Rejected = false
+is_covered Open = false
+
+abbrev pub is_rejected : Status → Bool
+is_rejected (Ranked trace cost alarmed monitored) = false
+is_rejected (Covered by) = false
+is_rejected Rejected = true
+is_rejected Open = false
+
+abbrev pub is_open : Status → Bool
+is_open (Ranked trace cost alarmed monitored) = false
+is_open (Covered by) = false
+is_open Rejected = false
+is_open Open = true
+
+-- the steps of one hypothesis in a round, judged by the log of that round, which has as many events as the round's number
+abbrev pub steps_in : ℕ → Round → List Judged
+steps_in number round =
+    map (λ step. record { seen = round.number; step = step }) (unwrap_or (option_map (λ finding. finding.steps) (slice_get round.findings number)) [])
+
+-- the steps of one hypothesis in these rounds
+abbrev pub steps_so_far : ℕ → List Round → List Judged
+steps_so_far number rounds = flat_map (steps_in number) rounds
+
+-- the hypothesis of this number is ranked, and its set is a proper part of the set
+pub record IsRankedPart (findings : List Finding) (set : List ℕ) (number : ℕ) : Type 0 where
+  pub finding : Finding
+  pub numbered : slice_get findings number ≡ Some finding
+  pub ranked : IsTrue (is_ranked finding.status)
+  pub part : IsProperPart finding.set set
+
+abbrev pub HasRankedPart : List Finding → List ℕ → Type 0
+HasRankedPart findings set = (number : ℕ) × IsRankedPart findings set number
+
+-- What each status says of a set with this reach, whose steps of all rounds so far are these.
+abbrev pub HasEvidence : Tfpg → Logbook → ℕ → List Finding → List ℕ → List Judged → Finding → Status → Type 0
+-- The steps of all rounds are a refutation.
+HasEvidence graph log budget findings reach steps finding Rejected = IsRefutation graph log reach steps
+-- A proper part is ranked, and the least number of one is given. There is no step in this round.
+HasEvidence graph log budget findings reach steps finding (Covered by) =
+    IsPartial graph log reach steps × (finding.steps ≡ []) × IsRankedPart findings finding.set by
+    × ((other : ℕ) → IsRankedPart findings finding.set other → by ≤ other)
+-- A trace explains the log from the set, and no proper part is ranked.
+HasEvidence graph log budget findings reach steps finding (Ranked trace c alarmed monitored) =
+    IsPartial graph log reach steps × Explains graph log finding.set trace × (HasRankedPart findings finding.set → ⊥) × (c ≡ cost graph finding.set)
+    × (robustness graph log reach ≡ record { alarmed = alarmed; monitored = monitored })
+-- This round spent its whole budget on splits, the tree is not closed, and no proper part is ranked.
+HasEvidence graph log budget findings reach steps finding Open =
+    IsPartial graph log reach steps × (HasRankedPart findings finding.set → ⊥) × (count_by (λ step. not (is_cycle step)) finding.steps ≡ budget)
+
+-- The finding on the hypothesis of this number.
+pub record IsFinding (graph : Tfpg) (log : Logbook) (budget : ℕ) (rounds : List Round) (findings : List Finding) (number : ℕ) (set : List ℕ) (finding : Finding) : Type 0 where
+  pub number_is : finding.number ≡ number
+  pub set_is : finding.set ≡ set
+  pub reach : List ℕ
+  pub reach_is : IsReach graph set reach
+  pub evidence : HasEvidence graph log budget findings reach (steps_so_far number rounds) finding finding.status
+
+-- where a ranked finding stands
+abbrev pub place_of_status : ℕ → Status → Option Place
+place_of_status number (Ranked trace cost alarmed monitored) = Some (record { cost = cost; alarmed = alarmed; monitored = monitored; number = number })
+place_of_status number (Covered by) = None
+place_of_status number Rejected = None
+place_of_status number Open = None
+
+abbrev pub place_at : List Finding → ℕ → Option Place
+place_at findings number = option_and_then (λ finding. place_of_status number finding.status) (slice_get findings number)
+
+-- The numbers of the ranked hypotheses, best first.
+pub record IsOrder (findings : List Finding) (order : List ℕ) : Type 0 where
+  pub places : List Place
+  pub all_ranked : map (place_at findings) order ≡ map Some places
+  pub each_ranked : (number : ℕ) (place : Place) → place_at findings number ≡ Some place → Contains order number
+  pub in_order : AllPairs IsRankedBefore places
+
+-- how many hypotheses have each status
+abbrev pub counts_of : List Finding → Counts
+counts_of findings =
+    record {
+      ranked = count_by (λ finding. is_ranked finding.status) findings;
+      covered = count_by (λ finding. is_covered finding.status) findings;
+      rejected = count_by (λ finding. is_rejected finding.status) findings;
+      unsettled = count_by (λ finding. is_open finding.status) findings;
+    }
+
+-- The round that an accepted line gives, behind these rounds: a finding for each hypothesis of the table.
+pub record IsRound (graph : Tfpg) (k budget : ℕ) (rounds : List Round) (log : Logbook) (line : ℕ) (round : Round) : Type 0 where
+  pub number : round.number ≡ length log.events
+  pub line_is : round.line ≡ line
+  pub now_is : round.now ≡ now log
+  pub sets : List (List ℕ)
+  pub table : IsTable graph k sets
+  pub complete : length round.findings ≡ length sets
+  pub findings : (number : ℕ) (set : List ℕ) (finding : Finding) → slice_get sets number ≡ Some set → slice_get round.findings number ≡ Some finding
+      → IsFinding graph log budget (rounds ++ round ∷ []) round.findings number set finding
+  pub order : IsOrder round.findings round.order
+  pub counts : round.counts ≡ counts_of round.findings

@@ -1,0 +1,148 @@
+-- The text of each block of a report.
+use Rattle.std.specs.Prelude.{ℕ, List, [], ◌∷◌, ◌++◌, length, map, filter_map, flat_map, Bool, if◌then◌else◌, ◌==◌, option_map, option_and_then, unwrap_or, slice_get, codes, decimal}
+use Rattle.std.specs.List.{join_with_byte}
+use Rattle.tfpg_base.specs.Lines.{with_line_end}
+use Rattle.tfpg_graph.specs.Graph.{Tfpg, name_at, failure_at}
+use Rattle.tfpg_graph.specs.Text.{line_of}
+use Rattle.tfpg_log.specs.declared.refusal.Refusal.{Refusal}
+use Rattle.tfpg_log.specs.declared.refusal.Refusal.TheVariants.{BadLine, BadNumber, TimeTooLarge, TimeBack, UnknownName, NotMonitored, NotAMode, SecondAlarm, SilentAfterAlarm, LogFull, ModesFull, NotBuilt}
+use Rattle.tfpg_evidence.specs.declared.clause_name.ClauseName.{ClauseName}
+use Rattle.tfpg_evidence.specs.declared.clause_name.ClauseName.TheVariants.{OrMay, AndMay, OrMust, AndMust}
+use Rattle.tfpg_evidence.specs.declared.reason.Reason.{Reason}
+use Rattle.tfpg_evidence.specs.declared.reason.Reason.TheVariants.{Zero, Top, Unreached, From, Upto, Quiet, Pick}
+use Rattle.tfpg_evidence.specs.declared.step.Step.{Step}
+use Rattle.tfpg_evidence.specs.declared.step.Step.TheVariants.{Split, Cycle}
+use Rattle.tfpg_evidence.specs.declared.finding.Status.{Status}
+use Rattle.tfpg_evidence.specs.declared.finding.Status.TheVariants.{Ranked, Covered, Rejected, Open}
+use Rattle.tfpg_evidence.specs.declared.finding.Finding.{Finding}
+use Rattle.tfpg_evidence.specs.declared.round.Counts.{Counts}
+use Rattle.tfpg_evidence.specs.declared.round.Round.{Round}
+use Rattle.tfpg_report.specs.declared.refused_line.RefusedLine.{RefusedLine}
+use Rattle.tfpg_report.specs.declared.refused_line.RefusedLine.TheVariants.{TooLong, Offer}
+
+-- words with a space between each two, and a line end
+abbrev pub text_line : List (List ℕ) → List ℕ
+text_line words = with_line_end (line_of words)
+
+-- the first line of a report
+abbrev pub head_text : ℕ → ℕ → List ℕ
+head_text k budget = text_line (codes "report" ∷ codes "1" ∷ codes "k" ∷ decimal k ∷ codes "budget" ∷ decimal budget ∷ [])
+
+-- the words for a refusal: its name, and its time where it has one
+abbrev pub refusal_words : Refusal → List (List ℕ)
+refusal_words BadLine = codes "BadLine" ∷ []
+refusal_words BadNumber = codes "BadNumber" ∷ []
+refusal_words TimeTooLarge = codes "TimeTooLarge" ∷ []
+refusal_words (TimeBack last) = codes "TimeBack" ∷ decimal last ∷ []
+refusal_words UnknownName = codes "UnknownName" ∷ []
+refusal_words NotMonitored = codes "NotMonitored" ∷ []
+refusal_words NotAMode = codes "NotAMode" ∷ []
+refusal_words (SecondAlarm first) = codes "SecondAlarm" ∷ decimal first ∷ []
+refusal_words (SilentAfterAlarm first) = codes "SilentAfterAlarm" ∷ decimal first ∷ []
+refusal_words LogFull = codes "LogFull" ∷ []
+refusal_words ModesFull = codes "ModesFull" ∷ []
+refusal_words NotBuilt = codes "NotBuilt" ∷ []
+
+abbrev pub cause_words : RefusedLine → List (List ℕ)
+cause_words TooLong = codes "TooLong" ∷ []
+cause_words (Offer refusal) = refusal_words refusal
+
+-- the block of a refused line
+abbrev pub refused_text : ℕ → RefusedLine → List ℕ
+refused_text line cause = text_line (codes "refused" ∷ decimal line ∷ cause_words cause)
+
+-- a node's name
+abbrev pub name_word : Tfpg → ℕ → List ℕ
+name_word graph node = unwrap_or (name_at graph node) []
+
+-- the names of an edge's source and target
+abbrev pub edge_words : Tfpg → ℕ → List (List ℕ)
+edge_words graph edge = unwrap_or (option_map (λ e. name_word graph e.source ∷ name_word graph e.target ∷ []) (slice_get graph.edges edge)) []
+
+-- a set: a hyphen for the empty set, else the names of its members with commas between
+abbrev pub set_word : Tfpg → List ℕ → List ℕ
+set_word graph [] = codes "-"
+set_word graph (place ∷ places) = join_with_byte 44 (map (λ p. unwrap_or (option_and_then (name_at graph) (failure_at graph p)) []) (place ∷ places))
+
+abbrev pub clause_words : Tfpg → ClauseName → List (List ℕ)
+clause_words graph (OrMay node span horizon) = codes "ormay" ∷ name_word graph node ∷ decimal span ∷ decimal horizon ∷ []
+clause_words graph (AndMay edge span horizon) = codes "andmay" ∷ edge_words graph edge ++ decimal span ∷ decimal horizon ∷ []
+clause_words graph (OrMust edge span horizon) = codes "ormust" ∷ edge_words graph edge ++ decimal span ∷ decimal horizon ∷ []
+clause_words graph (AndMust node span horizon) = codes "andmust" ∷ name_word graph node ∷ decimal span ∷ decimal horizon ∷ []
+
+abbrev pub reason_words : Tfpg → Reason → List (List ℕ)
+reason_words graph (Zero node) = codes "zero" ∷ name_word graph node ∷ []
+reason_words graph (Top node) = codes "top" ∷ name_word graph node ∷ []
+reason_words graph (Unreached node horizon) = codes "unreached" ∷ name_word graph node ∷ decimal horizon ∷ []
+reason_words graph (From event) = codes "from" ∷ decimal event ∷ []
+reason_words graph (Upto event) = codes "upto" ∷ decimal event ∷ []
+reason_words graph (Quiet event node) = codes "quiet" ∷ decimal event ∷ name_word graph node ∷ []
+reason_words graph (Pick split place) = codes "pick" ∷ decimal split ∷ decimal place ∷ []
+
+-- the lines of a step
+abbrev pub step_text : Tfpg → Step → List ℕ
+step_text graph (Split name) = text_line (codes "split" ∷ clause_words graph name)
+step_text graph (Cycle reasons) =
+    text_line (codes "cycle" ∷ decimal (length reasons) ∷ []) ++ flat_map (λ reason. text_line (codes "why" ∷ reason_words graph reason)) reasons
+
+-- a hypothesis with its steps, where it has any in this round
+abbrev pub steps_text : Tfpg → Finding → List ℕ
+steps_text graph finding =
+    if length finding.steps == 0 then []
+    else text_line (codes "hyp" ∷ decimal finding.number ∷ []) ++ flat_map (step_text graph) finding.steps
+
+-- the number of a hypothesis and its set
+abbrev pub hypothesis_words : Tfpg → Finding → List (List ℕ)
+hypothesis_words graph finding = decimal finding.number ∷ codes "set" ∷ set_word graph finding.set ∷ []
+
+-- a ranked hypothesis and the times of its trace
+abbrev pub ranked_text : Tfpg → Finding → Status → List ℕ
+ranked_text graph finding (Ranked trace cost alarmed monitored) =
+    text_line (codes "ranked" ∷ decimal finding.number ∷ codes "cost" ∷ decimal cost ∷ codes "robust" ∷ (decimal alarmed ++ codes "/" ++ decimal monitored)
+    ∷ codes "set" ∷ set_word graph finding.set ∷ [])
+    ++ flat_map (λ activation. text_line (codes "at" ∷ name_word graph activation.node ∷ decimal activation.time ∷ [])) trace
+ranked_text graph finding (Covered by) = []
+ranked_text graph finding Rejected = []
+ranked_text graph finding Open = []
+
+-- an open hypothesis
+abbrev pub open_text : Tfpg → Finding → Status → List ℕ
+open_text graph finding (Ranked trace cost alarmed monitored) = []
+open_text graph finding (Covered by) = []
+open_text graph finding Rejected = []
+open_text graph finding Open = text_line (codes "open" ∷ hypothesis_words graph finding)
+
+-- a hypothesis that this round rejected, by a step at least
+abbrev pub rejected_text : Tfpg → Finding → Status → List ℕ
+rejected_text graph finding (Ranked trace cost alarmed monitored) = []
+rejected_text graph finding (Covered by) = []
+rejected_text graph finding Rejected = if length finding.steps == 0 then [] else text_line (codes "rejected" ∷ hypothesis_words graph finding)
+rejected_text graph finding Open = []
+
+abbrev pub counts_text : Counts → List ℕ
+counts_text counts =
+    text_line (codes "counts" ∷ codes "ranked" ∷ decimal counts.ranked ∷ codes "covered" ∷ decimal counts.covered ∷ codes "rejected" ∷ decimal counts.rejected
+    ∷ codes "open" ∷ decimal counts.unsettled ∷ [])
+
+-- the findings of these numbers
+abbrev pub findings_at : List Finding → List ℕ → List Finding
+findings_at findings numbers = filter_map (slice_get findings) numbers
+
+-- The block of a round: its first line; the steps by rising numbers; the ranked hypotheses in ranking order; the open ones
+-- and those that this round rejected by rising numbers; the counts.
+abbrev pub round_text : Tfpg → Round → List ℕ
+round_text graph round =
+    text_line (codes "round" ∷ decimal round.number ∷ decimal round.line ∷ decimal round.now ∷ [])
+    ++ flat_map (steps_text graph) round.findings
+    ++ flat_map (λ finding. ranked_text graph finding finding.status) (findings_at round.findings round.order)
+    ++ flat_map (λ finding. open_text graph finding finding.status) round.findings
+    ++ flat_map (λ finding. rejected_text graph finding finding.status) round.findings
+    ++ counts_text round.counts
+
+-- a panel that was lost, or found no memory, at the round before
+pub record Loss : Type 0 where
+  pub panel : ℕ
+  pub no_memory : Bool
+
+abbrev pub lost_text : Loss → List ℕ
+lost_text loss = text_line (codes "panel" ∷ decimal loss.panel ∷ (if loss.no_memory then codes "memory" else codes "lost") ∷ [])

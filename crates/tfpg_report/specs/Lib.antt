@@ -1,0 +1,2 @@
+pub use Rattle.tfpg_graph.specs.Graph
+pub mod Blocks

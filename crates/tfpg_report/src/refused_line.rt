@@ -1,0 +1,12 @@
+//! Why a line of input gives no round.
+
+use tfpg_log::Refusal;
+
+/// Why a line of input gives no round.
+#[derive(Clone, Copy, Debug, PartialEq, Eq)]
+pub enum RefusedLine {
+    /// It has more than 4,096 bytes.
+    TooLong,
+    /// The log refused it.
+    Offer(Refusal),
+}
