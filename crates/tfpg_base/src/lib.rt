@@ -22,6 +22,7 @@ mod steps;
 mod text;
 mod trace;
 mod word;
+mod words;
 
 pub use activation::Activation;
 pub use constraint::Constraint;
@@ -34,3 +35,4 @@ pub use steps::Steps;
 pub use text::Text;
 pub use trace::Trace;
 pub use word::Number;
+pub use words::first_word;
