@@ -1,2 +1,3 @@
 pub use Rattle.tfpg_graph.specs.Graph
 pub mod Blocks
+pub mod Pieces

@@ -1,0 +1,21 @@
+use Rattle.std.proofs.Common.{map, arith}
+use Rattle.std.proofs.lemmas.List.{length-map}
+use Rattle.tfpg_base.proofs.Appended.{Appends-err, kept_after, kept_same}
+use Rattle.tfpg_report.proofs.Joined.{line_goes_on, line_ends}
+use Rattle.tfpg_report.proofs.text_line.put_line.Goals as goal
+
+pub returns-in_err-put_word : goal.returns-in_err-put_word
+returns-in_err-put_word c =
+    Appends-err _ _ _ _ c.from_residual.ensures.0 (kept_after _ _ _ _ c.loop-place.invariant c.in_err-put_word.ensures)
+
+pub loop-place-preserved : goal.loop-place-preserved
+loop-place-preserved c =
+    line_goes_on (λ w. w.now) c.args.words.now c.loop-place.place _ _ _ _ c.loop-place-test.true c.loop-place.invariant c.in_ok-put_word.ensures
+
+pub returns-in_err-push : goal.returns-in_err-push
+returns-in_err-push c =
+    Appends-err _ _ _ _ c.from_residual-in_err-push.ensures.0 (kept_after _ _ _ _ c.loop-place.invariant (kept_same _ _ c.in_err-push.ensures.items))
+
+pub returns : goal.returns
+returns c =
+    line_ends (map (λ w. w.now) c.args.words.now) c.loop-place.place _ _ _ (omega (arith, length-map c.args.words.now (λ w. w.now), c.loop-place-test.false)) c.loop-place.invariant c.in_ok-push.ensures.items

@@ -1,0 +1,27 @@
+//! The first line of a report.
+
+ghost use Rattle.tfpg_base.specs.Append.{Appends};
+ghost use Rattle.tfpg_report.specs.Blocks.{head_text};
+
+use crate::text_line::put_line;
+use itoa::Buffer;
+use tfpg_base::NoMemory;
+
+/// Appends the first line of a report on sets of at most `k` failure modes, with this budget.
+pub fn head(k: u32, budget: u64, into: &mut Vec<u8>) -> Result<(), NoMemory>
+    ensures { Appends result into.old.items into.new.items (head_text k budget) }
+{
+    let mut k_digits = Buffer::new();
+    let mut budget_digits = Buffer::new();
+    put_line(
+        into,
+        &[
+            b"report",
+            b"1",
+            b"k",
+            k_digits.format(k).as_bytes(),
+            b"budget",
+            budget_digits.format(budget).as_bytes(),
+        ],
+    )
+}
