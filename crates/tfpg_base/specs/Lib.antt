@@ -3,3 +3,4 @@ pub mod Words
 pub mod Lines
 pub mod Set
 pub mod Trace
+pub mod SetBits

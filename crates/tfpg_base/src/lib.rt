@@ -13,6 +13,7 @@ mod constraint;
 mod line;
 mod no_memory;
 mod outside;
+mod set;
 mod word;
 
 pub use activation::Activation;
@@ -20,4 +21,5 @@ pub use constraint::Constraint;
 pub use line::{Line, LineFault};
 pub use no_memory::NoMemory;
 pub use outside::{Failed, Shelf, ShelfFault, Sink, Source};
+pub use set::Set;
 pub use word::{Number, read_name, read_number};
