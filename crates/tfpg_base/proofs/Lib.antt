@@ -1,2 +1,4 @@
+pub mod Elements
 pub mod Numbers
 pub mod Sets
+pub mod Traces

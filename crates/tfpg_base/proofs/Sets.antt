@@ -1,6 +1,6 @@
 -- Laws of sets as rising lists of positions, and of the bits that keep them.
-use Rattle.std.proofs.Common.{◌≡◌, ℕ, suc, zero, ◌+◌, ◌*◌, ◌/◌, ◌%◌, ◌<◌, ◌≤◌, ◌^◌, Bool, true, false, cond, eqb, ltb, List, [], ◌∷◌, ◌++◌, length, get_or, ◌⊎◌, ◌↔◌, inl, inr, ⊎_elim, bit_and, bit_or, count_ones, append-nil, length-append, add-one, w64, nat_eq, IsTrue, refl, arith, sym, ◌∙◌, ap}
-use Rattle.std.specs.List.{All, AllPairs, Contains}
+use Rattle.std.proofs.Common.{◌≡◌, ℕ, suc, zero, ◌+◌, ◌*◌, ◌/◌, ◌%◌, ◌<◌, ◌≤◌, ◌^◌, Bool, true, false, cond, eqb, ltb, List, [], ◌∷◌, ◌++◌, length, ◌⊎◌, ◌↔◌, inl, inr, ⊎_elim, bit_and, bit_or, count_ones, append-nil, length-append, add-one, w64, nat_eq, IsTrue, refl, arith, sym, ◌∙◌, ap}
+use Rattle.std.specs.List.{AllPairs, Contains}
 use Rattle.std.specs.Int.{bit_at}
 use Rattle.std.proofs.lemmas.Bool.{ltb-true, ltb-false, eqb-true, eqb-false, eq-eqb, cases_lt, cases_eq, cond-true, cond_both}
 use Rattle.std.proofs.lemmas.List.Elements.{Contains-get_or, All-nil, All-contains, Contains-append_left, Contains-append_right, Contains-append_cases}
@@ -9,6 +9,7 @@ use Rattle.std.proofs.Math.Nat.{add_comm, mod-one, mod-lt, mod-eq_of_lt}
 use Rattle.std.proofs.Math.Pow.{mod-pow-add, pow_pos}
 use Rattle.std.proofs.lemmas.Nat.{ones_le_self, zero_from_ones, ones_cat}
 use Rattle.std.proofs.lemmas.Nat.Bits.{bit_at-lt, shr_and_one, bit_at_and, bit_at_set_same, bit_at_set_other, bit_at_above, same_from_bits}
+use Rattle.tfpg_base.proofs.Elements.{AllPairs-head, AllPairs-tail, AllPairs-cons, All-from_members, Contains-head, Contains-tail, Contains-cons_cases, Contains-nil}
 use Rattle.tfpg_base.specs.Set.{with_member, IsPart, IsSet}
 use Rattle.tfpg_base.specs.SetBits.{ones_below, members_of, bits_of, bits_of, bits_of-members_of}
 
@@ -16,52 +17,18 @@ use Rattle.tfpg_base.specs.SetBits.{ones_below, members_of, bits_of, bits_of, bi
 abbrev pub Rises : List ℕ → Type 0
 Rises members = AllPairs (λ earlier later. earlier < later) members
 
--- ---- members of a list
-
--- what heads a list stands in it
-pub Contains-head : (first : ℕ) (others : List ℕ) → Contains (first ∷ others) first
-Contains-head first others = (0, omega arith, refl)
-
--- what stands in the rest of a list stands in it
-pub Contains-tail : (first : ℕ) (others : List ℕ) (place : ℕ) → Contains others place → Contains (first ∷ others) place
-Contains-tail first others place member = Contains-append_right (first ∷ []) others place member
-
--- what stands in a list heads it or stands in its rest
-pub Contains-cons_cases : (first : ℕ) (others : List ℕ) (place : ℕ) → Contains (first ∷ others) place → (first ≡ place) ⊎ Contains others place
-Contains-cons_cases first others place (zero, within, is) = inl is
-Contains-cons_cases first others place (suc index, within, is) = inr (index, omega arith, is)
-
--- nothing stands in an empty list
-pub Contains-nil : (place : ℕ) → Contains [] place → ⊥
-Contains-nil place member = omega (arith, member.1)
-
 -- ---- rising lists
-
--- what stands behind the head of a rising list is greater
-pub Rises-head : (first : ℕ) (others : List ℕ) → Rises (first ∷ others) → All (λ place. first < place) others
-Rises-head first others rising index d within = rising 0 (suc index) d (omega arith) (omega arith)
-
--- the rest of a rising list rises
-pub Rises-tail : (first : ℕ) (others : List ℕ) → Rises (first ∷ others) → Rises others
-Rises-tail first others rising i j d before within = rising (suc i) (suc j) d (omega arith) (omega arith)
-
--- a rising list behind a lesser head rises
-pub Rises-cons : (first : ℕ) (others : List ℕ) → All (λ place. first < place) others → Rises others → Rises (first ∷ others)
-Rises-cons first others above rising zero zero d before within = absurd (omega arith)
-Rises-cons first others above rising zero (suc j) d before within = above j d (omega arith)
-Rises-cons first others above rising (suc i) zero d before within = absurd (omega arith)
-Rises-cons first others above rising (suc i) (suc j) d before within = rising i j d (omega arith) (omega arith)
 
 -- where rising lists have the same heads and each member of the one is one of the other, this holds of their rests
 Contains-rest : (x y : ℕ) (xs ys : List ℕ) → x ≡ y → Rises (x ∷ xs) → ((place : ℕ) → Contains (x ∷ xs) place → Contains (y ∷ ys) place) → (place : ℕ) → Contains xs place → Contains ys place
 Contains-rest x y xs ys same rising to place member =
-    let above : x < place = All-contains (λ later. x < later) xs place (Rises-head x xs rising) member in
+    let above : x < place = All-contains (λ later. x < later) xs place (AllPairs-head ◌<◌ x xs rising) member in
     ⊎_elim (λ is. absurd (omega (arith, same, above, is))) (λ behind. behind) (Contains-cons_cases y ys place (to place (Contains-tail x xs place member)))
 
 -- a member of a rising list is no less than its head
 least_first : (first : ℕ) (others : List ℕ) (place : ℕ) → Rises (first ∷ others) → Contains (first ∷ others) place → first ≤ place
 least_first first others place rising member =
-    ⊎_elim (λ is. omega (arith, is)) (λ behind. omega (arith, All-contains (λ later. first < later) others place (Rises-head first others rising) behind)) (Contains-cons_cases first others place member)
+    ⊎_elim (λ is. omega (arith, is)) (λ behind. omega (arith, All-contains (λ later. first < later) others place (AllPairs-head ◌<◌ first others rising) behind)) (Contains-cons_cases first others place member)
 
 -- Rising lists with the same members are equal.
 pub same_from_members : (xs ys : List ℕ) → Rises xs → Rises ys → ((place : ℕ) → Contains xs place → Contains ys place) → ((place : ℕ) → Contains ys place → Contains xs place) → xs ≡ ys
@@ -72,12 +39,8 @@ same_from_members (x ∷ xs) (y ∷ ys) rises_x rises_y to from =
     let low = least_first y ys x rises_y (to x (Contains-head x xs)) in
     let high = least_first x xs y rises_x (from y (Contains-head y ys)) in
     let heads : x ≡ y = omega (arith, low, high) in
-    let rests = same_from_members xs ys (Rises-tail x xs rises_x) (Rises-tail y ys rises_y) (Contains-rest x y xs ys heads rises_x to) (Contains-rest y x ys xs (sym heads) rises_y from) in
+    let rests = same_from_members xs ys (AllPairs-tail ◌<◌ x xs rises_x) (AllPairs-tail ◌<◌ y ys rises_y) (Contains-rest x y xs ys heads rises_x to) (Contains-rest y x ys xs (sym heads) rises_y from) in
     cc
-
--- what holds of each member holds of each element
-All-from_members : (P : ℕ → Type 0) (xs : List ℕ) → ((place : ℕ) → Contains xs place → P place) → All P xs
-All-from_members P xs each index d within = each (get_or xs index d) (Contains-get_or xs index d within)
 
 -- ---- a member more
 
@@ -119,16 +82,16 @@ with_member-only place (first ∷ others) other member =
 
 -- With one member more the list still rises.
 pub Rises-with_member : (place : ℕ) (members : List ℕ) → Rises members → Rises (with_member place members)
-Rises-with_member place [] rising = Rises-cons place [] (All-nil (λ later. place < later)) rising
+Rises-with_member place [] rising = AllPairs-cons ◌<◌ place [] (All-nil (λ later. place < later)) rising
 Rises-with_member place (first ∷ others) rising =
     with_member_cases Rises place first others
-    (λ less. Rises-cons place (first ∷ others)
+    (λ less. AllPairs-cons ◌<◌ place (first ∷ others)
     (All-from_members (λ later. place < later) (first ∷ others) (λ later member. omega (arith, less, least_first first others later rising member))) rising)
     (λ same. rising)
-    (λ above. Rises-cons first (with_member place others)
+    (λ above. AllPairs-cons ◌<◌ first (with_member place others)
     (All-from_members (λ later. first < later) (with_member place others)
-    (λ later member. ⊎_elim (λ new. omega (arith, above, new)) (λ old. All-contains (λ later. first < later) others later (Rises-head first others rising) old) (with_member-only place others later member)))
-    (Rises-with_member place others (Rises-tail first others rising)))
+    (λ later member. ⊎_elim (λ new. omega (arith, above, new)) (λ old. All-contains (λ later. first < later) others later (AllPairs-head ◌<◌ first others rising) old) (with_member-only place others later member)))
+    (Rises-with_member place others (AllPairs-tail ◌<◌ first others rising)))
 
 -- With one member more a set is still a set.
 pub IsSet-with_member : (place : ℕ) (members : List ℕ) → place < 64 → IsSet members → IsSet (with_member place members)

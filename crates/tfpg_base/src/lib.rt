@@ -14,6 +14,7 @@ mod line;
 mod no_memory;
 mod outside;
 mod set;
+mod trace;
 mod word;
 
 pub use activation::Activation;
@@ -22,4 +23,5 @@ pub use line::{Line, LineFault};
 pub use no_memory::NoMemory;
 pub use outside::{Failed, Shelf, ShelfFault, Sink, Source};
 pub use set::Set;
+pub use trace::Trace;
 pub use word::{Number, read_name, read_number};
