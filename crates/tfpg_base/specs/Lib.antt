@@ -4,3 +4,4 @@ pub mod Lines
 pub mod Set
 pub mod Trace
 pub mod Append
+pub mod SetBits

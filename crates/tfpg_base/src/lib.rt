@@ -34,5 +34,5 @@ pub use set::Set;
 pub use steps::Steps;
 pub use text::Text;
 pub use trace::Trace;
-pub use word::Number;
+pub use word::{Number, read_name, read_number};
 pub use words::first_word;
