@@ -2,7 +2,7 @@
 use Rattle.std.specs.Prelude.{ℕ, List, [], ◌∷◌, ◌++◌, length, map, filter_map, flat_map, Bool, if◌then◌else◌, ◌==◌, option_map, option_and_then, unwrap_or, slice_get, codes, decimal}
 use Rattle.std.specs.List.{join_with_byte}
 use Rattle.tfpg_base.specs.Lines.{with_line_end}
-use Rattle.tfpg_graph.specs.Graph.{Tfpg, name_at, failure_at}
+use Rattle.tfpg_graph.specs.Graph.{Tfpg, name_at, failures, failure_at}
 use Rattle.tfpg_graph.specs.Text.{line_of}
 use Rattle.tfpg_log.specs.declared.refusal.Refusal.{Refusal}
 use Rattle.tfpg_log.specs.declared.refusal.Refusal.TheVariants.{BadLine, BadNumber, TimeTooLarge, TimeBack, UnknownName, NotMonitored, NotAMode, SecondAlarm, SilentAfterAlarm, LogFull, ModesFull, NotBuilt}
@@ -17,6 +17,7 @@ use Rattle.tfpg_evidence.specs.declared.finding.Status.TheVariants.{Ranked, Cove
 use Rattle.tfpg_evidence.specs.declared.finding.Finding.{Finding}
 use Rattle.tfpg_evidence.specs.declared.round.Counts.{Counts}
 use Rattle.tfpg_evidence.specs.declared.round.Round.{Round}
+use Rattle.tfpg_evidence.specs.RoundOf.{Sizes, finding_numbered}
 use Rattle.tfpg_report.specs.declared.refused_line.RefusedLine.{RefusedLine}
 use Rattle.tfpg_report.specs.declared.refused_line.RefusedLine.TheVariants.{TooLong, Offer}
 
@@ -28,24 +29,44 @@ text_line words = with_line_end (line_of words)
 abbrev pub head_text : ℕ → ℕ → List ℕ
 head_text k budget = text_line (codes "report" ∷ codes "1" ∷ codes "k" ∷ decimal k ∷ codes "budget" ∷ decimal budget ∷ [])
 
--- the words for a refusal: its name, and its time where it has one
-abbrev pub refusal_words : Refusal → List (List ℕ)
-refusal_words BadLine = codes "BadLine" ∷ []
-refusal_words BadNumber = codes "BadNumber" ∷ []
-refusal_words TimeTooLarge = codes "TimeTooLarge" ∷ []
-refusal_words (TimeBack last) = codes "TimeBack" ∷ decimal last ∷ []
-refusal_words UnknownName = codes "UnknownName" ∷ []
-refusal_words NotMonitored = codes "NotMonitored" ∷ []
-refusal_words NotAMode = codes "NotAMode" ∷ []
-refusal_words (SecondAlarm first) = codes "SecondAlarm" ∷ decimal first ∷ []
-refusal_words (SilentAfterAlarm first) = codes "SilentAfterAlarm" ∷ decimal first ∷ []
-refusal_words LogFull = codes "LogFull" ∷ []
-refusal_words ModesFull = codes "ModesFull" ∷ []
-refusal_words NotBuilt = codes "NotBuilt" ∷ []
+-- the name of a refusal
+abbrev pub refusal_name : Refusal → List ℕ
+refusal_name BadLine = codes "BadLine"
+refusal_name BadNumber = codes "BadNumber"
+refusal_name TimeTooLarge = codes "TimeTooLarge"
+refusal_name (TimeBack last) = codes "TimeBack"
+refusal_name UnknownName = codes "UnknownName"
+refusal_name NotMonitored = codes "NotMonitored"
+refusal_name NotAMode = codes "NotAMode"
+refusal_name (SecondAlarm first) = codes "SecondAlarm"
+refusal_name (SilentAfterAlarm first) = codes "SilentAfterAlarm"
+refusal_name LogFull = codes "LogFull"
+refusal_name ModesFull = codes "ModesFull"
+refusal_name NotBuilt = codes "NotBuilt"
+
+-- the time that a refusal carries
+abbrev pub refusal_time : Refusal → Option ℕ
+refusal_time BadLine = None
+refusal_time BadNumber = None
+refusal_time TimeTooLarge = None
+refusal_time (TimeBack last) = Some last
+refusal_time UnknownName = None
+refusal_time NotMonitored = None
+refusal_time NotAMode = None
+refusal_time (SecondAlarm first) = Some first
+refusal_time (SilentAfterAlarm first) = Some first
+refusal_time LogFull = None
+refusal_time ModesFull = None
+refusal_time NotBuilt = None
+
+-- the word for a time, where there is one
+abbrev pub time_words : Option ℕ → List (List ℕ)
+time_words None = []
+time_words (Some time) = decimal time ∷ []
 
 abbrev pub cause_words : RefusedLine → List (List ℕ)
 cause_words TooLong = codes "TooLong" ∷ []
-cause_words (Offer refusal) = refusal_words refusal
+cause_words (Offer refusal) = refusal_name refusal ∷ time_words (refusal_time refusal)
 
 -- the block of a refused line
 abbrev pub refused_text : ℕ → RefusedLine → List ℕ
@@ -124,9 +145,13 @@ counts_text counts =
     text_line (codes "counts" ∷ codes "ranked" ∷ decimal counts.ranked ∷ codes "covered" ∷ decimal counts.covered ∷ codes "rejected" ∷ decimal counts.rejected
     ∷ codes "open" ∷ decimal counts.unsettled ∷ [])
 
+-- how many nodes, edges and failure modes the graph has
+abbrev pub sizes_of : Tfpg → Sizes
+sizes_of graph = record { nodes = length graph.nodes; edges = length graph.edges; failures = length (failures graph) }
+
 -- the findings of these numbers
 abbrev pub findings_at : List Finding → List ℕ → List Finding
-findings_at findings numbers = filter_map (slice_get findings) numbers
+findings_at findings numbers = filter_map (finding_numbered findings) numbers
 
 -- The block of a round: its first line; the steps by rising numbers; the ranked hypotheses in ranking order; the open ones
 -- and those that this round rejected by rising numbers; the counts.
