@@ -27,29 +27,41 @@ abbrev pub outcome_of : Tfpg → Logbook → List ℕ → Outcome
 outcome_of graph log line =
     if nat_lt longest_line (length line) then Fails TooLong else outcome_of_offer (offered_now graph log line)
 
--- The bytes are the block of a line, and then bytes that continue the report. A refused line has the block of its refusal and
--- leaves everything as it was. An accepted one has the block of some round that meets the definition of a round for all events
--- and all rounds so far; lines on lost panels may follow, by rising numbers.
-abbrev pub BlockThen : Tfpg → ℕ → ℕ → List Round → Logbook → ℕ → (List Round → Logbook → List ℕ → Type 0) → List ℕ → Outcome → Type 0
-BlockThen graph k budget rounds log number continues bytes (Fails cause) =
-    (rest : List ℕ) × (bytes ≡ refused_text number cause ++ rest) × continues rounds log rest
-BlockThen graph k budget rounds log number continues bytes (Gives event) =
-    (round : Round) × (losses : List Loss) × (rest : List ℕ)
-    × IsRound graph k budget rounds (with_event log event) number round
-    × AllPairs (λ earlier later. earlier.panel < later.panel) losses
-    × (bytes ≡ round_text graph round ++ (flat_map lost_text losses ++ rest))
-    × continues (rounds ++ round ∷ []) (with_event log event) rest
+-- how far a report has come: the rounds and the log so far
+pub record Progress : Type 0 where
+  pub rounds : List Round
+  pub log : Logbook
 
--- The bytes are the blocks of the lines, of which the first has this number, behind these rounds and this log.
-abbrev pub AreBlocks : Tfpg → ℕ → ℕ → List Round → Logbook → ℕ → List (List ℕ) → List ℕ → Type 0
-AreBlocks graph k budget rounds log number [] bytes = bytes ≡ []
-AreBlocks graph k budget rounds log number (line ∷ lines) bytes =
-    BlockThen graph k budget rounds log number (λ rounds' log' rest. AreBlocks graph k budget rounds' log' (number + 1) lines rest) bytes (outcome_of graph log line)
+-- nothing has been told yet
+abbrev pub start : Progress
+start = record { rounds = []; log = record { events = [] } }
+
+-- The text is the block of a line. A refused line has the block of its refusal and leaves everything as it was. An accepted one
+-- has the block of some round that meets the definition of a round for all events and all rounds so far; lines on lost panels
+-- may follow, by rising numbers.
+abbrev pub IsBlockOf : Tfpg → ℕ → ℕ → Progress → ℕ → List ℕ → Progress → Outcome → Type 0
+IsBlockOf graph k budget before number text after (Fails cause) = (text ≡ refused_text number cause) × (after ≡ before)
+IsBlockOf graph k budget before number text after (Gives event) =
+    (round : Round) × (losses : List Loss)
+    × IsRound graph k budget before.rounds (with_event before.log event) number round
+    × AllPairs (λ earlier later. earlier.panel < later.panel) losses
+    × (text ≡ round_text graph round ++ flat_map lost_text losses)
+    × (after ≡ record { rounds = before.rounds ++ round ∷ []; log = with_event before.log event })
+
+abbrev pub IsBlock : Tfpg → ℕ → ℕ → Progress → ℕ → List ℕ → List ℕ → Progress → Type 0
+IsBlock graph k budget before number line text after = IsBlockOf graph k budget before number text after (outcome_of graph before.log line)
+
+-- The bytes are the blocks of the lines, one after another, of which the first line has this number.
+abbrev pub AreBlocks : Tfpg → ℕ → ℕ → Progress → ℕ → List (List ℕ) → List ℕ → Type 0
+AreBlocks graph k budget before number [] bytes = bytes ≡ []
+AreBlocks graph k budget before number (line ∷ lines) bytes =
+    (text rest : List ℕ) × (after : Progress) × IsBlock graph k budget before number line text after × (bytes ≡ text ++ rest)
+    × AreBlocks graph k budget after (number + 1) lines rest
 
 -- The bytes are a report of the graph, of sets of at most k failure modes, of this budget and of these lines.
 abbrev pub IsReport : Tfpg → ℕ → ℕ → List (List ℕ) → List ℕ → Type 0
 IsReport graph k budget lines bytes =
-    (blocks : List ℕ) × (bytes ≡ head_text k budget ++ blocks) × AreBlocks graph k budget [] (record { events = [] }) 1 lines blocks
+    (blocks : List ℕ) × (bytes ≡ head_text k budget ++ blocks) × AreBlocks graph k budget start 1 lines blocks
 
 -- The bytes are nothing, or the beginning of a report of the first of these lines.
 abbrev pub BeginsReport : Tfpg → ℕ → ℕ → List (List ℕ) → List ℕ → Type 0
