@@ -11,6 +11,7 @@
 mod activation;
 mod constraint;
 mod line;
+mod lines;
 mod no_memory;
 mod outside;
 mod word;
@@ -18,6 +19,7 @@ mod word;
 pub use activation::Activation;
 pub use constraint::Constraint;
 pub use line::{Line, LineFault};
+pub use lines::Lines;
 pub use no_memory::NoMemory;
 pub use outside::{Failed, Shelf, ShelfFault, Sink, Source};
 pub use word::Number;

@@ -1,0 +1,4 @@
+pub mod LinesOf
+mod Histories
+mod Ranges
+mod Searches
