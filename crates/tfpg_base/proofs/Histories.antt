@@ -187,6 +187,10 @@ pub Takes-nothing : (left : Option (List ℕ)) → Takes left left []
 Takes-nothing None = tt
 Takes-nothing (Some rest) = (rest, refl, refl)
 
+-- equal bytes were taken
+pub Takes-same : (before after : Option (List ℕ)) (bytes same : List ℕ) → bytes ≡ same → Takes before after bytes → Takes before after same
+Takes-same before after bytes same is takes = subst (λ b. Takes before after b) is takes
+
 -- the reader stands for the history also when it lends nothing any more
 StandsFor-lends_none : (old now : Buffered) (reading : Reading) (answer : Result Line LineFault) → reading.ended ≡ Some answer → now.number ≡ old.number → now.taken ≡ old.taken → now.ended ≡ old.ended → StandsFor old reading → StandsFor now reading
 StandsFor-lends_none old now reading answer is number taken ended stands = record {

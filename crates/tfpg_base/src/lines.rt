@@ -10,6 +10,8 @@ ghost use Rattle.tfpg_base.specs.LineSearch.{IsAtLineEnd, kind_of, lent_of};
 
 mod refill;
 mod search;
+#[cfg(test)]
+mod tests;
 
 use crate::{Line, LineFault, NoMemory, Source};
 use std::alloc::Global;

@@ -1,7 +1,7 @@
-use Rattle.std.proofs.Common.{◌≡◌, ℕ, ◌+◌, ◌≤◌, List, [], ◌∷◌, ◌++◌, length, slice_range, ap, ◌∙◌, subst, refl, arith, Ok, Result}
+use Rattle.std.proofs.Common.{◌≡◌, ℕ, ◌+◌, ◌≤◌, List, [], ◌∷◌, ◌++◌, length, slice_range, ap, ◌∙◌, refl, arith, Ok, Result}
 use Rattle.tfpg_base.specs.declared.outside.Failed.{Failed}
 use Rattle.tfpg_base.specs.Lines.{Buffered, most_bytes}
-use Rattle.tfpg_base.specs.Outside.{Takes}
+use Rattle.tfpg_base.proofs.Histories.{Takes-same}
 use Rattle.tfpg_base.proofs.Ranges.{slice_range-longer, length-slice_range-written, one_element, only_one}
 use Rattle.tfpg_base.proofs.lines.Lines.refill.Goals as goal
 
@@ -18,7 +18,7 @@ returns-then-self-gt-MOST-clause-refilled g c =
     let all : c.self.inside.taken + count ≡ most_bytes + 1 = omega (arith, one, taken, c.requires.few, c.if-self-gt-MOST.true) in (
       only.0,
       record {
-        takes = subst (λ more. Takes (g.S.Source.left c.args.source.now) (g.S.Source.left c.take_into.new.source) more) only.1 c.in-Ok.ensures.taken;
+        takes = Takes-same (g.S.Source.left c.args.source.now) (g.S.Source.left c.take_into.new.source) (slice_range items r.end (r.end + count)) (only.0 ∷ []) only.1 c.in-Ok.ensures.taken;
         count = omega (arith, one, taken);
       },
       all,
