@@ -4,3 +4,7 @@ pub mod Elements
 pub mod Numbers
 pub mod Sets
 pub mod Traces
+pub mod LinesOf
+mod Histories
+mod Ranges
+mod Searches

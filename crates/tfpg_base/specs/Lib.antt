@@ -1,6 +1,8 @@
 pub mod Outside
 pub mod Words
 pub mod Lines
+pub mod LineSearch
+pub mod LinesInside
 pub mod Set
 pub mod Trace
 pub mod Append
