@@ -11,6 +11,7 @@
 mod activation;
 mod constraint;
 mod line;
+mod memory;
 mod no_memory;
 mod outside;
 mod set;
@@ -20,6 +21,7 @@ mod word;
 pub use activation::Activation;
 pub use constraint::Constraint;
 pub use line::{Line, LineFault};
+pub use memory::{Discard, MemoryShelf, MemorySink, MemorySource, SteadySource};
 pub use no_memory::NoMemory;
 pub use outside::{Failed, Shelf, ShelfFault, Sink, Source};
 pub use set::Set;
