@@ -17,6 +17,7 @@ mod outside;
 mod set;
 mod trace;
 mod word;
+mod words;
 
 pub use activation::Activation;
 pub use constraint::Constraint;
@@ -27,3 +28,4 @@ pub use outside::{Failed, Shelf, ShelfFault, Sink, Source};
 pub use set::Set;
 pub use trace::Trace;
 pub use word::{Number, read_name, read_number};
+pub use words::{MOST_WORDS, Words};
