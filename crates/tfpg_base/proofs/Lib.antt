@@ -1,7 +1,7 @@
-pub mod FirstWord
 pub mod Appended
 pub mod Elements
 pub mod Numbers
+pub mod Separators
 pub mod Sets
 pub mod Traces
 pub mod LinesOf
