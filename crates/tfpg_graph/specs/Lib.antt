@@ -6,3 +6,4 @@ pub mod Reach
 pub mod Valid
 pub mod Text
 pub mod Small
+pub mod Indexes

@@ -7,6 +7,7 @@
 #![tactic(auto)]
 
 mod cause;
+mod declared;
 mod edge;
 mod kind;
 
