@@ -97,6 +97,19 @@ impl Declared {
         self.modes.get_index_of(name).map(|index| index as u32)
     }
 
+    pub(crate) fn edge_between(&self, source: u32, target: u32) -> Option<u32>
+        requires source_in { source < length self.now.nodes }
+        requires target_in { target < length self.now.nodes }
+        ensures { result ≡ edge_from_to self.now source target }
+    {
+        for number in self.incoming(target) {
+            if self.edge(*number).source == source {
+                return Some(*number);
+            }
+        }
+        None
+    }
+
     pub(crate) fn incoming(&self, node: u32) -> &[u32]
         requires { node < length self.now.nodes }
         ensures { result.now ≡ incoming self.now node }
