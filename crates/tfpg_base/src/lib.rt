@@ -20,4 +20,4 @@ pub use constraint::Constraint;
 pub use line::{Line, LineFault};
 pub use no_memory::NoMemory;
 pub use outside::{Failed, Shelf, ShelfFault, Sink, Source};
-pub use word::Number;
+pub use word::{Number, read_name, read_number};
