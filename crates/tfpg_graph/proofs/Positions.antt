@@ -1,11 +1,14 @@
 -- The first place at which a test passes.
-use Rattle.std.proofs.Common.{◌≡◌, ℕ, suc, ◌+◌, ◌<◌, ◌≤◌, Bool, true, false, cond, not, nat_lt, List, [], ◌∷◌, ◌++◌, length, map, get_or, Option, Some, None, position, refl, ap, sym, ◌∙◌, arith, tests, rules}
-use Rattle.std.specs.List.{position_or_len}
+use Rattle.std.proofs.Common.{◌≡◌, ◌≢◌, ℕ, suc, ◌+◌, ◌<◌, ◌≤◌, Bool, true, false, cond, not, nat_lt, List, [], ◌∷◌, ◌++◌, length, map, get_or, slice_get, Option, Some, None, position, All, refl, ap, sym, ◌∙◌, arith, tests, rules}
+use Rattle.std.specs.List.{position_or_len, AllByRecursion}
 use Rattle.std.specs.Option.{option_map}
 use Rattle.std.specs.Str.{bytes_eq}
 use Rattle.std.specs.Cmp.Lexicographic.{nat_list_eq_equiv}
-use Rattle.std.proofs.lemmas.List.{length-map, length_push}
-use Rattle.std.proofs.lemmas.List.Folds.{position_or_len_push}
+use Rattle.std.proofs.lemmas.List.{length-map, length_push, get_or_append_left, get_or_push}
+use Rattle.std.proofs.lemmas.Option.{slice_get-get_or}
+use Rattle.std.proofs.lemmas.List.Elements.{All-from_recursion, All-head, All-tail}
+use Rattle.std.proofs.lemmas.Slice.Eq.{bytes_eq-Decides}
+use Rattle.std.proofs.lemmas.Bool.{false≢true}
 use Rattle.std.proofs.lemmas.Bool.Decides.{nat_tests}
 
 cond_first : (m n : ℕ) → 0 < m → cond (nat_lt 0 m) (Some n) None ≡ Some n
@@ -54,6 +57,40 @@ module _ {X : Type 0} where
       let later = not_first (p x) (position p xs) (sym (position-cons p x xs) ∙ none) in
       position-cons p x (xs ++ y ∷ []) ∙ (λ i. cond (later.0 i) (Some 0) (option_map suc (position-push_yes p xs y later.1 passes i)))
 
+-- where the first of a list fails and there is no place among the others, there is none
+pub position-cons_none : {X : Type 0} (p : X → Bool) (x : X) (xs : List X) → position p (x ∷ xs) ≡ None → (p x ≡ false) × (position p xs ≡ None)
+position-cons_none p x xs none = not_first (p x) (position p xs) (sym (position-cons p x xs) ∙ none)
+
+each_fails : {X : Type 0} (p : X → Bool) (xs : List X) → position p xs ≡ None → AllByRecursion (λ x. p x ≡ false) xs
+each_fails p [] none = tt
+each_fails p (x ∷ xs) none = let first = position-cons_none p x xs none in (first.0, each_fails p xs first.1)
+
+-- where there is no place, each fails
+pub All-none : {X : Type 0} (p : X → Bool) (xs : List X) → position p xs ≡ None → All (λ x. p x ≡ false) xs
+All-none p xs none = All-from_recursion _ xs (each_fails p xs none)
+
 -- equal bytes, the other way round
 pub bytes_eq-swapped : (xs ys : List ℕ) → bytes_eq xs ys ≡ bytes_eq ys xs
 bytes_eq-swapped xs ys = nat_list_eq_equiv.symm xs ys
+
+-- bytes that are not equal differ
+pub bytes_eq-false : (xs ys : List ℕ) → bytes_eq xs ys ≡ false → xs ≢ ys
+bytes_eq-false xs ys fails same = false≢true (sym fails ∙ (bytes_eq-Decides xs ys).1 same)
+
+-- where each fails, there is no place
+pub position-All_fail : {X : Type 0} (p : X → Bool) (xs : List X) → All (λ x. p x ≡ false) xs → position p xs ≡ None
+position-All_fail p [] fail = refl
+position-All_fail p (x ∷ xs) fail =
+    position-cons p x xs
+    ∙ (λ i. cond (All-head (λ y. p y ≡ false) x xs fail i) (Some 0) (option_map suc (position-All_fail p xs (All-tail (λ y. p y ≡ false) x xs fail) i)))
+
+module _ {X : Type 0} (xs : List X) (y : X) where
+  -- what is read before a new last item is what was read
+  pub slice_get-push_before : (i : ℕ) → i < length xs → slice_get (xs ++ y ∷ []) i ≡ slice_get xs i
+  slice_get-push_before i within =
+      slice_get-get_or (xs ++ y ∷ []) i y (omega (arith, length_push xs y)) ∙ ap Some (get_or_append_left xs (y ∷ []) y i within) ∙ sym (slice_get-get_or xs i y within)
+
+  -- and at its place it is read
+  pub slice_get-push_last : (i : ℕ) → i ≡ length xs → slice_get (xs ++ y ∷ []) i ≡ Some y
+  slice_get-push_last i last =
+      slice_get-get_or (xs ++ y ∷ []) i y (omega (arith, length_push xs y)) ∙ ap Some (get_or_push xs y y i (sym last))

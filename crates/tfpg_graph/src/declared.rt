@@ -1,12 +1,16 @@
 //! What is declared so far of a graph, with the indexes by which it is looked up.
 
-ghost use Rattle.std.specs.Prelude.{◌≡◌, ◌<◌, length, Some, slice_get};
-ghost use Rattle.tfpg_graph.specs.Graph.{kind_at, name_at, node_named, mode_named, edge_from_to, incoming, failures, failure_at, place_of_failure};
+ghost use Rattle.std.specs.Prelude.{◌≡◌, ◌<◌, ◌^◌, [], ◌∷◌, ◌++◌, length, Some, None, slice_get, IsTrue, IfOk, IfSome, IfNone, if◌then◌else◌, is_some};
+ghost use Rattle.tfpg_base.specs.Words.{is_name};
+ghost use Rattle.tfpg_graph.specs.Graph.{is_failure, kind_at, name_at, node_named, mode_named, edge_from_to, incoming, failures, failure_at, place_of_failure};
+ghost use Rattle.tfpg_graph.specs.Valid.{HasValidNumber, IsValidEdge};
 
 use crate::edge::Edge;
 use crate::kind::Kind;
 use indexmap::{IndexMap, IndexSet};
+use std::alloc::Global;
 use std::marker::Model;
+use tfpg_base::NoMemory;
 
 /// Nodes, edges and modes, in the order of their lines.
 #[derive(Drop)]
@@ -32,6 +36,74 @@ impl Model for Declared {
 }
 
 impl Declared {
+    ghost use Rattle.tfpg_graph.specs.Indexes.{nothing_declared, with_node, with_edge, with_mode, HasIncoming, LacksIncoming};
+
+    /// Nothing is declared. Takes no memory.
+    pub(crate) fn new(alloc: Global) -> Declared
+        ensures { result ≡ nothing_declared }
+    {
+        Declared {
+            nodes: IndexMap::new(alloc),
+            edges: Vec::new(alloc),
+            modes: IndexSet::new(alloc),
+            incoming: Vec::new(alloc),
+            failures: Vec::new(alloc),
+            places: Vec::new(alloc),
+        }
+    }
+
+    /// Declares one more mode.
+    pub(crate) fn with_mode(self, alloc: Global, name: &[u8]) -> Result<Declared, NoMemory>
+        requires before_edges { self.edges ≡ [] }
+        requires name { IsTrue (is_name name.now) }
+        requires new { mode_named self name.now ≡ None }
+        requires room { length self.modes < 64 }
+        ensures { IfOk result (λ declared. declared ≡ with_mode self name.now) }
+    {
+        let mut declared = self;
+        let name = Vec::from_slice(alloc, name)?;
+        declared.modes.insert(name)?;
+        Ok(declared)
+    }
+
+    /// Declares one more node.
+    pub(crate) fn with_node(
+        self,
+        alloc: Global,
+        name: &[u8],
+        kind: Kind,
+    ) -> Result<Declared, NoMemory>
+        requires before_edges { self.edges ≡ [] }
+        requires name { IsTrue (is_name name.now) }
+        requires new { node_named self name.now ≡ None }
+        requires number { HasValidNumber kind }
+        requires room { length self.nodes < 512 }
+        requires failure_room { IsTrue (is_failure kind) → length (failures self) < 64 }
+        ensures { IfOk result (λ declared. declared ≡ with_node self name.now kind) }
+    {
+        let Declared {
+            mut nodes,
+            edges,
+            modes,
+            mut incoming,
+            mut failures,
+            mut places,
+        } = self;
+        let place = give_place(&mut failures, nodes.len() as u32, kind)?;
+        let name = Vec::from_slice(alloc, name)?;
+        nodes.insert(name, kind)?;
+        incoming.push(Vec::new(alloc))?;
+        places.push(place)?;
+        Ok(Declared {
+            nodes,
+            edges,
+            modes,
+            incoming,
+            failures,
+            places,
+        })
+    }
+
     pub(crate) fn node_count(&self) -> u32
         ensures { result ≡ length self.now.nodes }
     {
@@ -129,5 +201,21 @@ impl Declared {
         ensures { result ≡ place_of_failure self.now node }
     {
         self.places[node as usize]
+    }
+}
+
+/// Gives the next place to a node that is a failure mode.
+fn give_place(failures: &mut Vec<u32>, node: u32, kind: Kind) -> Result<Option<u32>, NoMemory>
+    requires { length failures.old.items < 2 ^ 32 }
+    ensures failures { IfOk result (λ _. failures.new.items ≡ failures.old.items ++ (if is_failure kind then node ∷ [] else [])) }
+    ensures place { IfOk result (λ place. place ≡ (if is_failure kind then Some (length failures.old.items) else None)) }
+{
+    match kind {
+        Kind::Failure { rarity: _ } => {
+            let place = failures.len() as u32;
+            failures.push(node)?;
+            Ok(Some(place))
+        }
+        _ => Ok(None),
     }
 }
