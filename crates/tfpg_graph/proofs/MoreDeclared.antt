@@ -1,19 +1,19 @@
 -- What is declared stays valid so far, and indexed, when one thing more is declared.
-use Rattle.std.proofs.Common.{◌≡◌, ◌≢◌, ℕ, suc, ◌+◌, ◌<◌, ◌≤◌, ◌==◌, Bool, true, false, cond, List, [], ◌∷◌, ◌++◌, map, length, get_or, Option, Some, None, position, All, AllPairs, IsTrue, refl, ap, sym, ◌∙◌, subst, arith, slice_get, ⊎_elim}
+use Rattle.std.proofs.Common.{◌≡◌, ◌≢◌, ℕ, suc, ◌+◌, ◌<◌, ◌≤◌, ◌==◌, Bool, true, false, cond, List, [], ◌∷◌, ◌++◌, map, length, get_or, Option, Some, None, position, All, AllPairs, IsTrue, refl, ap, sym, ◌∙◌, subst, arith, slice_get, set, ◌&&◌, ⊎_elim}
 use Rattle.std.specs.Str.{bytes_eq}
-use Rattle.std.proofs.lemmas.Bool.{cases_lt, eq-eqb, ne_eqb}
-use Rattle.std.proofs.lemmas.List.{length_push, append-nil, length-append}
+use Rattle.std.proofs.lemmas.Bool.{cases_lt, cases_eq, eq-eqb, ne_eqb, and_from, false≢true}
+use Rattle.std.proofs.lemmas.List.{length_push, length-set, append-nil}
 use Rattle.std.proofs.lemmas.List.Elements.{All-push, All-nil, All-same, All-get_or, All-weaker}
 use Rattle.std.proofs.lemmas.List.Quantifiers.{all_pairs_push}
 use Rattle.tfpg_base.specs.Words.{is_name}
 use Rattle.tfpg_graph.specs.declared.declared.Declared.TheInside.{Inside}
 use Rattle.tfpg_graph.specs.declared.kind.Kind.{Kind}
 use Rattle.tfpg_graph.specs.declared.edge.Edge.{Edge}
-use Rattle.tfpg_graph.specs.Graph.{Tfpg, Node, numbers_from, is_failure, failures, incoming, place_of_failure, node_named, mode_named}
-use Rattle.tfpg_graph.specs.Valid.{HasValidNumber, IsValidEdge}
+use Rattle.tfpg_graph.specs.Graph.{Tfpg, Node, numbers_from, is_failure, failures, incoming, place_of_failure, node_named, mode_named, edge_from_to}
+use Rattle.tfpg_graph.specs.Valid.{HasValidNumber, IsValidEdge, IsSamePair}
 use Rattle.tfpg_graph.specs.Indexes.{graph_of, with_mode, with_node, with_edge, IsIndexed, IsValidSoFar, IsDeclared}
 use Rattle.tfpg_graph.proofs.Numbered.{numbers_from-push, All-below-numbers_from}
-use Rattle.tfpg_graph.proofs.Positions.{All-none, bytes_eq-false, position-push_no, position-push_yes, position-All_fail, slice_get-push_before, slice_get-push_last}
+use Rattle.tfpg_graph.proofs.Positions.{All-none, bytes_eq-false, position-push_no, position-push_yes, position-All_fail, slice_get-push_before, slice_get-push_last, slice_get-set_same, slice_get-set_other}
 
 module _ (d : Inside) (graph : Tfpg) (seen : graph_of d ≡ graph) where
   -- what holds of what is declared, said of the graph as which it is seen
@@ -141,3 +141,82 @@ module _ (d e : Inside) (graph : Tfpg) (name : List ℕ) (kind : Kind) (before :
       let more = IsIndexed-with_node graph name kind (map (λ row. row.items) d.incoming.items) d.failures.items d.places.items none was.0 in
       IsDeclared-seen e (with_node graph name kind) after (coe 1 0 (i. IsIndexed (with_node graph name kind) (rows i) (failed i) (places i)) more)
       (IsValidSoFar-with_node graph name kind none named new number room failure_room was.1)
+
+-- ---- an edge
+
+incoming-with_edge : (graph : Tfpg) (edge : Edge) (node : ℕ) → incoming (with_edge graph edge) node ≡ incoming graph node ++ cond (edge.target == node) (length graph.edges ∷ []) []
+incoming-with_edge graph edge node =
+    numbers_from-push (λ e. e.target == node) 0 graph.edges edge ∙ ap (λ n. incoming graph node ++ cond (edge.target == node) (n ∷ []) []) (omega arith)
+
+module _ (graph : Tfpg) (edge : Edge) where
+  -- into the target goes one more edge
+  incoming-target : (node : ℕ) → node ≡ edge.target → incoming (with_edge graph edge) node ≡ incoming graph edge.target ++ length graph.edges ∷ []
+  incoming-target node same =
+      incoming-with_edge graph edge node ∙ (λ i. incoming graph (same i) ++ cond (eq-eqb edge.target node (sym same) i) (length graph.edges ∷ []) [])
+
+  -- into another node no more
+  incoming-other : (node : ℕ) → node ≢ edge.target → incoming (with_edge graph edge) node ≡ incoming graph node
+  incoming-other node differs =
+      incoming-with_edge graph edge node
+      ∙ ap (λ b. incoming graph node ++ cond b (length graph.edges ∷ []) []) (ne_eqb edge.target node (λ same. differs (sym same)))
+      ∙ append-nil (incoming graph node)
+
+  pub IsIndexed-with_edge : (rows : List (List ℕ)) (failed : List ℕ) (places : List (Option ℕ)) → edge.target < length graph.nodes → IsIndexed graph rows failed places
+      → IsIndexed (with_edge graph edge) (set rows edge.target (incoming graph edge.target ++ length graph.edges ∷ [])) failed places
+  IsIndexed-with_edge rows failed places target is = record {
+      row_count = length-set rows edge.target _ ∙ is.row_count;
+      row_is = λ node within. ⊎_elim
+        (λ same. slice_get-set_same rows edge.target node _ (omega (arith, is.row_count)) same ∙ ap Some (sym (incoming-target node same)))
+        (λ differs. slice_get-set_other rows edge.target node _ (omega (arith, is.row_count)) differs ∙ is.row_is node within ∙ ap Some (sym (incoming-other node differs)))
+        (cases_eq node edge.target);
+      failed_are = is.failed_are;
+      place_count = is.place_count;
+      place_is = is.place_is;
+    }
+
+  -- an edge is as valid with one edge more
+  IsValidEdge-with_edge : (e : Edge) → IsValidEdge graph e → IsValidEdge (with_edge graph edge) e
+  IsValidEdge-with_edge e is = record {
+      source = is.source; target = is.target; into_discrepancy = is.into_discrepancy; no_self_edge = is.no_self_edge;
+      least = is.least; most = is.most; some_mode = is.some_mode; own_modes = is.own_modes;
+    }
+
+  differs_from_new : (e : Edge) → ((e.source == edge.source) && (e.target == edge.target)) ≡ false → IsSamePair e edge → ⊥
+  differs_from_new e fails same = false≢true (sym fails ∙ and_from _ _ (eq-eqb e.source edge.source same.0) (eq-eqb e.target edge.target same.1))
+
+  few_incoming_with_edge : length (incoming graph edge.target) < 32 → (node : ℕ) → length (incoming graph node) ≤ 32 → length (incoming (with_edge graph edge) node) ≤ 32
+  few_incoming_with_edge room node few = ⊎_elim
+      (λ same. subst (λ xs. length xs ≤ 32) (sym (incoming-target node same)) (omega (arith, length_push (incoming graph edge.target) (length graph.edges))))
+      (λ differs. subst (λ xs. length xs ≤ 32) (sym (incoming-other node differs)) few)
+      (cases_eq node edge.target)
+
+  pub IsValidSoFar-with_edge : IsValidEdge graph edge → edge_from_to graph edge.source edge.target ≡ None → length graph.edges < 2048 → length (incoming graph edge.target) < 32
+      → IsValidSoFar graph → IsValidSoFar (with_edge graph edge)
+  IsValidSoFar-with_edge valid new room incoming_room is = record {
+      node_names = is.node_names;
+      nodes_differ = is.nodes_differ;
+      node_numbers = is.node_numbers;
+      mode_names = is.mode_names;
+      modes_differ = is.modes_differ;
+      edges = All-push (IsValidEdge (with_edge graph edge)) graph.edges edge
+        (All-weaker (IsValidEdge graph) (IsValidEdge (with_edge graph edge)) IsValidEdge-with_edge graph.edges is.edges) (IsValidEdge-with_edge edge valid);
+      edges_differ = all_pairs_push (λ a b. IsSamePair a b → ⊥) graph.edges edge is.edges_differ
+        (λ k d within. differs_from_new (get_or graph.edges k d)
+          (All-get_or (λ e. ((e.source == edge.source) && (e.target == edge.target)) ≡ false) graph.edges k d within (All-none (λ e. (e.source == edge.source) && (e.target == edge.target)) graph.edges new)));
+      few_nodes = is.few_nodes;
+      few_failures = is.few_failures;
+      few_edges = omega (arith, length_push graph.edges edge);
+      few_modes = is.few_modes;
+      few_incoming = λ node. few_incoming_with_edge incoming_room node (is.few_incoming node);
+    }
+
+module _ (d e : Inside) (graph : Tfpg) (edge : Edge) (before : graph_of d ≡ graph) (after : graph_of e ≡ with_edge graph edge) where
+  pub IsDeclared-with_edge : IsDeclared d
+      → map (λ row. row.items) e.incoming.items ≡ set (map (λ row. row.items) d.incoming.items) edge.target (incoming graph edge.target ++ length graph.edges ∷ [])
+      → e.failures.items ≡ d.failures.items → e.places.items ≡ d.places.items
+      → IsValidEdge graph edge → edge_from_to graph edge.source edge.target ≡ None → length graph.edges < 2048 → length (incoming graph edge.target) < 32 → IsDeclared e
+  IsDeclared-with_edge is rows failed places valid new room incoming_room =
+      let was = IsDeclared-seen_as d graph before is in
+      let more = IsIndexed-with_edge graph edge (map (λ row. row.items) d.incoming.items) d.failures.items d.places.items valid.target was.0 in
+      IsDeclared-seen e (with_edge graph edge) after (coe 1 0 (i. IsIndexed (with_edge graph edge) (rows i) (failed i) (places i)) more)
+      (IsValidSoFar-with_edge graph edge valid new room incoming_room was.1)

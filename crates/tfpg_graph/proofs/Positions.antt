@@ -1,10 +1,10 @@
 -- The first place at which a test passes.
-use Rattle.std.proofs.Common.{◌≡◌, ◌≢◌, ℕ, suc, ◌+◌, ◌<◌, ◌≤◌, Bool, true, false, cond, not, nat_lt, List, [], ◌∷◌, ◌++◌, length, map, get_or, slice_get, Option, Some, None, position, All, refl, ap, sym, ◌∙◌, arith, tests, rules}
+use Rattle.std.proofs.Common.{◌≡◌, ◌≢◌, ℕ, suc, ◌+◌, ◌<◌, ◌≤◌, Bool, true, false, cond, not, nat_lt, List, [], ◌∷◌, ◌++◌, length, map, get_or, set, slice_get, Option, Some, None, position, All, refl, ap, sym, ◌∙◌, arith, tests, rules}
 use Rattle.std.specs.List.{position_or_len, AllByRecursion}
 use Rattle.std.specs.Option.{option_map}
 use Rattle.std.specs.Str.{bytes_eq}
 use Rattle.std.specs.Cmp.Lexicographic.{nat_list_eq_equiv}
-use Rattle.std.proofs.lemmas.List.{length-map, length_push, get_or_append_left, get_or_push}
+use Rattle.std.proofs.lemmas.List.{length-map, length_push, length-set, get_or_append_left, get_or_push, get_or-set_same, get_or-set_other}
 use Rattle.std.proofs.lemmas.Option.{slice_get-get_or}
 use Rattle.std.proofs.lemmas.List.Elements.{All-from_recursion, All-head, All-tail}
 use Rattle.std.proofs.lemmas.Slice.Eq.{bytes_eq-Decides}
@@ -94,3 +94,14 @@ module _ {X : Type 0} (xs : List X) (y : X) where
   pub slice_get-push_last : (i : ℕ) → i ≡ length xs → slice_get (xs ++ y ∷ []) i ≡ Some y
   slice_get-push_last i last =
       slice_get-get_or (xs ++ y ∷ []) i y (omega (arith, length_push xs y)) ∙ ap Some (get_or_push xs y y i (sym last))
+
+module _ {X : Type 0} (xs : List X) (i j : ℕ) (y : X) (within : j < length xs) where
+  -- what was written is read
+  pub slice_get-set_same : j ≡ i → slice_get (set xs i y) j ≡ Some y
+  slice_get-set_same same =
+      slice_get-get_or (set xs i y) j y (omega (arith, length-set xs i y)) ∙ ap Some (ap (λ k. get_or (set xs i y) k y) same ∙ get_or-set_same xs i y y (omega arith))
+
+  -- elsewhere nothing changed
+  pub slice_get-set_other : j ≢ i → slice_get (set xs i y) j ≡ slice_get xs j
+  slice_get-set_other differs =
+      slice_get-get_or (set xs i y) j y (omega (arith, length-set xs i y)) ∙ ap Some (get_or-set_other xs i j y y differs) ∙ sym (slice_get-get_or xs j y within)

@@ -104,6 +104,21 @@ impl Declared {
         })
     }
 
+    /// Declares one more edge, which is valid among the nodes and modes that are declared.
+    pub(crate) fn with_edge(self, edge: Edge) -> Result<Declared, NoMemory>
+        requires valid { IsValidEdge self edge }
+        requires new { edge_from_to self edge.source edge.target ≡ None }
+        requires room { length self.edges < 2048 }
+        requires incoming_room { length (incoming self edge.target) < 32 }
+        ensures { IfOk result (λ declared. declared ≡ with_edge self edge) }
+    {
+        let mut declared = self;
+        let number = declared.edges.len() as u32;
+        declared.edges.push(edge)?;
+        declared.incoming[edge.target as usize].push(number)?;
+        Ok(declared)
+    }
+
     pub(crate) fn node_count(&self) -> u32
         ensures { result ≡ length self.now.nodes }
     {
