@@ -7,3 +7,4 @@ pub mod Valid
 pub mod Text
 pub mod Small
 pub mod Indexes
+pub mod Shapes

@@ -10,6 +10,7 @@ mod cause;
 mod declared;
 mod edge;
 mod kind;
+mod line_shape;
 mod words;
 
 pub use cause::{GraphCause, GraphFault, GraphRefusal};
