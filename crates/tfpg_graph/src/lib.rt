@@ -9,10 +9,12 @@
 mod cause;
 mod declared;
 mod edge;
+mod graph;
 mod kind;
 mod line_shape;
 mod words;
 
 pub use cause::{GraphCause, GraphFault, GraphRefusal};
 pub use edge::Edge;
+pub use graph::Graph;
 pub use kind::Kind;
