@@ -4,3 +4,4 @@ pub mod Named
 pub mod Leaving
 pub mod Inserts
 pub mod MoreDeclared
+pub mod WordValues

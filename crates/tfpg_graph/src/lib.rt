@@ -12,6 +12,7 @@ mod edge;
 mod graph;
 mod kind;
 mod line_shape;
+mod word_value;
 mod words;
 
 pub use cause::{GraphCause, GraphFault, GraphRefusal};
