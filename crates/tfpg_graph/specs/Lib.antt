@@ -8,3 +8,4 @@ pub mod Text
 pub mod Small
 pub mod Indexes
 pub mod Shapes
+pub mod NewEdge

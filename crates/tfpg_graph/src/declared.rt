@@ -173,7 +173,9 @@ impl Declared {
     }
 
     pub(crate) fn find(&self, name: &[u8]) -> Option<u32>
-        ensures { result ≡ node_named self.now name.now }
+        ensures node { result ≡ node_named self.now name.now }
+        ensures within { IfSome result (λ node. node < length self.now.nodes) }
+        ensures named { IfSome result (λ node. name_at self.now node ≡ Some name.now) }
     {
         self.nodes.get_index_of(name).map(|index| index as u32)
     }

@@ -11,6 +11,7 @@ mod declared;
 mod edge;
 mod graph;
 mod kind;
+mod new_edge;
 mod line_shape;
 mod word_value;
 mod words;
