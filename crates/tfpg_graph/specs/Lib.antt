@@ -9,3 +9,4 @@ pub mod Small
 pub mod Indexes
 pub mod Shapes
 pub mod NewEdge
+pub mod Progress

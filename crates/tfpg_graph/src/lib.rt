@@ -12,6 +12,7 @@ mod edge;
 mod graph;
 mod kind;
 mod new_edge;
+mod reader;
 mod line_shape;
 mod word_value;
 mod words;
