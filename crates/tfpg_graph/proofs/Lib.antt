@@ -5,3 +5,4 @@ pub mod Leaving
 pub mod Inserts
 pub mod MoreDeclared
 pub mod WordValues
+pub mod MoreRead

@@ -10,3 +10,4 @@ pub mod Indexes
 pub mod Shapes
 pub mod NewEdge
 pub mod Progress
+pub mod NewNode

@@ -14,7 +14,8 @@ pub record CanJoin (graph : Tfpg) (source target : ℕ) : Type 0 where
   pub into_discrepancy : IsTrue (not (is_kind_at is_failure graph target))
   pub no_self_edge : source ≢ target
   pub new : edge_from_to graph source target ≡ None
-  pub room : length (incoming graph target) < 32
+  pub room : length graph.edges < 2048
+  pub incoming_room : length (incoming graph target) < 32
 
 -- these delays are in order, and the least is not 0
 pub record AreDelays (tmin : ℕ) (tmax : Option ℕ) : Type 0 where
@@ -27,5 +28,6 @@ pub record SpellsNewEdge (graph : Tfpg) (words : EdgeWords) (edge : Edge) : Type
   pub valid : IsValidEdge graph edge
   pub takes_time : 1 ≤ edge.tmin
   pub new : edge_from_to graph edge.source edge.target ≡ None
+  pub room : length graph.edges < 2048
   pub incoming_room : length (incoming graph edge.target) < 32
   pub line : edge_line graph edge (modes_word graph edge.modes) ≡ line_of (edge_words words)

@@ -12,6 +12,7 @@ mod edge;
 mod graph;
 mod kind;
 mod new_edge;
+mod new_node;
 mod reader;
 mod line_shape;
 mod word_value;

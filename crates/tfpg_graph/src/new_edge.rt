@@ -11,6 +11,9 @@ use crate::edge::Edge;
 use crate::line_shape::EdgeWords;
 use crate::word_value::{read_greatest_delay, read_time};
 
+/// How many edges there are at most.
+const MOST_EDGES: u32 = 2048;
+
 /// How many edges lead into a node at most.
 const MOST_INCOMING: usize = 32;
 
@@ -73,6 +76,7 @@ fn can_join(declared: &Declared, source: u32, target: u32) -> bool
     !declared.kind(target).is_failure()
         && source != target
         && declared.edge_between(source, target).is_none()
+        && declared.edge_count() < MOST_EDGES
         && declared.incoming(target).len() < MOST_INCOMING
 }
 
