@@ -1,1 +1,5 @@
+pub mod Elements
 pub mod Numbers
+pub mod Separators
+pub mod Sets
+pub mod Traces

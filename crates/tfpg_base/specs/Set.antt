@@ -1,5 +1,5 @@
 -- Sets of failure modes, as the rising lists of their positions.
-use Rattle.std.specs.Prelude.{◌≢◌, ℕ, List, [], ◌∷◌, All, Contains, nat_lt, ◌==◌, if◌then◌else◌}
+use Rattle.std.specs.Prelude.{◌≢◌, ◌<◌, ℕ, List, [], ◌∷◌, All, AllPairs, Contains, nat_lt, ◌==◌, if◌then◌else◌}
 
 -- the set with this member
 abbrev pub with_member : ℕ → List ℕ → List ℕ
@@ -14,3 +14,8 @@ IsPart part whole = All (Contains whole) part
 -- a part, and not the whole
 abbrev pub IsProperPart : List ℕ → List ℕ → Type 0
 IsProperPart part whole = IsPart part whole × (part ≢ whole)
+
+-- The members rise strictly, so each stands once, and each is below 64.
+pub record IsSet (members : List ℕ) : Type 0 where
+  pub rising : AllPairs (λ earlier later. earlier < later) members
+  pub small : All (λ place. place < 64) members

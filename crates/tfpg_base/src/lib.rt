@@ -11,13 +11,21 @@
 mod activation;
 mod constraint;
 mod line;
+mod memory;
 mod no_memory;
 mod outside;
+mod set;
+mod trace;
 mod word;
+mod words;
 
 pub use activation::Activation;
 pub use constraint::Constraint;
 pub use line::{Line, LineFault};
+pub use memory::{Discard, MemoryShelf, MemorySink, MemorySource, SteadySource};
 pub use no_memory::NoMemory;
 pub use outside::{Failed, Shelf, ShelfFault, Sink, Source};
+pub use set::Set;
+pub use trace::Trace;
 pub use word::{Number, read_name, read_number};
+pub use words::{MOST_WORDS, Words};

@@ -1,0 +1,269 @@
+-- Laws of sets as rising lists of positions, and of the bits that keep them.
+use Rattle.std.proofs.Common.{◌≡◌, ℕ, suc, zero, ◌+◌, ◌*◌, ◌/◌, ◌%◌, ◌<◌, ◌≤◌, ◌^◌, Bool, true, false, cond, eqb, ltb, List, [], ◌∷◌, ◌++◌, length, ◌⊎◌, ◌↔◌, inl, inr, ⊎_elim, bit_and, bit_or, count_ones, append-nil, length-append, add-one, w64, nat_eq, IsTrue, refl, arith, sym, ◌∙◌, ap}
+use Rattle.std.specs.List.{AllPairs, Contains}
+use Rattle.std.specs.Int.{bit_at}
+use Rattle.std.proofs.lemmas.Bool.{ltb-true, ltb-false, eqb-true, eqb-false, eq-eqb, cases_lt, cases_eq, cond-true, cond_both}
+use Rattle.std.proofs.lemmas.List.Elements.{Contains-get_or, All-nil, All-contains, Contains-append_left, Contains-append_right, Contains-append_cases}
+use Rattle.std.proofs.lemmas.List.Quantifiers.{all_pairs_push}
+use Rattle.std.proofs.Math.Nat.{add_comm, mod-one, mod-lt, mod-eq_of_lt}
+use Rattle.std.proofs.Math.Pow.{mod-pow-add, pow_pos}
+use Rattle.std.proofs.lemmas.Nat.{ones_le_self, zero_from_ones, ones_cat}
+use Rattle.std.proofs.lemmas.Nat.Bits.{bit_at-lt, shr_and_one, bit_at_and, bit_at_set_same, bit_at_set_other, bit_at_above, same_from_bits}
+use Rattle.tfpg_base.proofs.Elements.{AllPairs-head, AllPairs-tail, AllPairs-cons, All-from_members, Contains-head, Contains-tail, Contains-cons_cases, Contains-nil}
+use Rattle.tfpg_base.specs.Set.{with_member, IsPart, IsSet}
+use Rattle.tfpg_base.specs.SetBits.{ones_below, members_of, bits_of, bits_of, bits_of-members_of}
+
+-- the members rise strictly
+abbrev pub Rises : List ℕ → Type 0
+Rises members = AllPairs (λ earlier later. earlier < later) members
+
+-- ---- rising lists
+
+-- where rising lists have the same heads and each member of the one is one of the other, this holds of their rests
+Contains-rest : (x y : ℕ) (xs ys : List ℕ) → x ≡ y → Rises (x ∷ xs) → ((place : ℕ) → Contains (x ∷ xs) place → Contains (y ∷ ys) place) → (place : ℕ) → Contains xs place → Contains ys place
+Contains-rest x y xs ys same rising to place member =
+    let above : x < place = All-contains (λ later. x < later) xs place (AllPairs-head ◌<◌ x xs rising) member in
+    ⊎_elim (λ is. absurd (omega (arith, same, above, is))) (λ behind. behind) (Contains-cons_cases y ys place (to place (Contains-tail x xs place member)))
+
+-- a member of a rising list is no less than its head
+least_first : (first : ℕ) (others : List ℕ) (place : ℕ) → Rises (first ∷ others) → Contains (first ∷ others) place → first ≤ place
+least_first first others place rising member =
+    ⊎_elim (λ is. omega (arith, is)) (λ behind. omega (arith, All-contains (λ later. first < later) others place (AllPairs-head ◌<◌ first others rising) behind)) (Contains-cons_cases first others place member)
+
+-- Rising lists with the same members are equal.
+pub same_from_members : (xs ys : List ℕ) → Rises xs → Rises ys → ((place : ℕ) → Contains xs place → Contains ys place) → ((place : ℕ) → Contains ys place → Contains xs place) → xs ≡ ys
+same_from_members [] [] rises_x rises_y to from = refl
+same_from_members [] (y ∷ ys) rises_x rises_y to from = absurd (Contains-nil y (from y (Contains-head y ys)))
+same_from_members (x ∷ xs) [] rises_x rises_y to from = absurd (Contains-nil x (to x (Contains-head x xs)))
+same_from_members (x ∷ xs) (y ∷ ys) rises_x rises_y to from =
+    let low = least_first y ys x rises_y (to x (Contains-head x xs)) in
+    let high = least_first x xs y rises_x (from y (Contains-head y ys)) in
+    let heads : x ≡ y = omega (arith, low, high) in
+    let rests = same_from_members xs ys (AllPairs-tail ◌<◌ x xs rises_x) (AllPairs-tail ◌<◌ y ys rises_y) (Contains-rest x y xs ys heads rises_x to) (Contains-rest y x ys xs (sym heads) rises_y from) in
+    cc
+
+-- ---- a member more
+
+-- the three ways in which a set gets a member
+with_member_cases : (P : List ℕ → Type 0) (place first : ℕ) (others : List ℕ) → (place < first → P (place ∷ first ∷ others)) → (place ≡ first → P (first ∷ others)) → (first < place → P (first ∷ with_member place others)) → P (with_member place (first ∷ others))
+with_member_cases P place first others below same above =
+    cond_both (ltb place first) _ _ P (λ less. below (ltb-true place first less))
+    (λ not_less. cond_both (eqb place first) _ _ P (λ equal. same (eqb-true place first equal))
+    (λ unequal. above (omega (arith, ltb-false place first not_less, eqb-false place first unequal))))
+
+-- The new member is one.
+pub Contains-with_member : (place : ℕ) (members : List ℕ) → Contains (with_member place members) place
+Contains-with_member place [] = Contains-head place []
+Contains-with_member place (first ∷ others) =
+    with_member_cases (λ more. Contains more place) place first others (λ less. Contains-head place (first ∷ others))
+    (λ same. rw same (Contains-head first others))
+    (λ above. Contains-tail first (with_member place others) place (Contains-with_member place others))
+
+-- The old members stay.
+pub with_member-keeps : (place : ℕ) (members : List ℕ) (other : ℕ) → Contains members other → Contains (with_member place members) other
+with_member-keeps place [] other member = absurd (Contains-nil other member)
+with_member-keeps place (first ∷ others) other member =
+    with_member_cases (λ more. Contains more other) place first others (λ less. Contains-tail place (first ∷ others) other member)
+    (λ same. member)
+    (λ above. ⊎_elim (λ is. rw (← is) (Contains-head first (with_member place others)))
+    (λ behind. Contains-tail first (with_member place others) other (with_member-keeps place others other behind))
+    (Contains-cons_cases first others other member))
+
+-- No other members come.
+pub with_member-only : (place : ℕ) (members : List ℕ) (other : ℕ) → Contains (with_member place members) other → (place ≡ other) ⊎ Contains members other
+with_member-only place [] other member = Contains-cons_cases place [] other member
+with_member-only place (first ∷ others) other member =
+    with_member_cases (λ more. Contains more other → (place ≡ other) ⊎ Contains (first ∷ others) other) place first others (λ less. Contains-cons_cases place (first ∷ others) other)
+    (λ same member. inr member)
+    (λ above member. ⊎_elim (λ is. inr (rw (← is) (Contains-head first others)))
+    (λ behind. ⊎_elim (λ new. inl new) (λ old. inr (Contains-tail first others other old)) (with_member-only place others other behind))
+    (Contains-cons_cases first (with_member place others) other member))
+    member
+
+-- With one member more the list still rises.
+pub Rises-with_member : (place : ℕ) (members : List ℕ) → Rises members → Rises (with_member place members)
+Rises-with_member place [] rising = AllPairs-cons ◌<◌ place [] (All-nil (λ later. place < later)) rising
+Rises-with_member place (first ∷ others) rising =
+    with_member_cases Rises place first others
+    (λ less. AllPairs-cons ◌<◌ place (first ∷ others)
+    (All-from_members (λ later. place < later) (first ∷ others) (λ later member. omega (arith, less, least_first first others later rising member))) rising)
+    (λ same. rising)
+    (λ above. AllPairs-cons ◌<◌ first (with_member place others)
+    (All-from_members (λ later. first < later) (with_member place others)
+    (λ later member. ⊎_elim (λ new. omega (arith, above, new)) (λ old. All-contains (λ later. first < later) others later (AllPairs-head ◌<◌ first others rising) old) (with_member-only place others later member)))
+    (Rises-with_member place others (AllPairs-tail ◌<◌ first others rising)))
+
+-- With one member more a set is still a set.
+pub IsSet-with_member : (place : ℕ) (members : List ℕ) → place < 64 → IsSet members → IsSet (with_member place members)
+IsSet-with_member place members small set = record {
+  rising = Rises-with_member place members set.rising;
+  small = All-from_members (λ later. later < 64) (with_member place members)
+      (λ later member. ⊎_elim (λ new. omega (arith, small, new)) (λ old. All-contains (λ later. later < 64) members later set.small old) (with_member-only place members later member));
+}
+
+-- ---- the bits of a set
+
+-- no bit, no member
+pub members_of-zero : members_of 0 ≡ []
+unfolding members_of ones_below
+members_of-zero = refl
+
+-- the one place, where there is one
+Contains-cond : (chosen : Bool) (only place : ℕ) → Contains (cond chosen (only ∷ []) []) place → (chosen ≡ true) × (only ≡ place)
+Contains-cond true only place member = (refl, ⊎_elim (λ is. is) (λ behind. absurd (Contains-nil place behind)) (Contains-cons_cases only [] place member))
+Contains-cond false only place member = absurd (Contains-nil place member)
+
+-- what stands among the ones below a count is a place below it with a one
+ones_below-only : (count bits place : ℕ) → Contains (ones_below count bits) place → (place < count) × (bit_at bits place ≡ 1)
+unfolding ones_below
+ones_below-only zero bits place member = absurd (Contains-nil place member)
+ones_below-only (suc count) bits place member =
+    ⊎_elim (λ before. let old = ones_below-only count bits place before in (omega (arith, old.0), old.1))
+    (λ last. let new = Contains-cond (eqb (bit_at bits count) 1) count place last in
+    (omega (arith, new.1), rw (← new.1) (eqb-true (bit_at bits count) 1 new.0)))
+    (Contains-append_cases (ones_below count bits) _ place member)
+
+-- each place below a count with a one stands among them
+ones_below-all : (count bits place : ℕ) → place < count → bit_at bits place ≡ 1 → Contains (ones_below count bits) place
+unfolding ones_below
+ones_below-all zero bits place within one = absurd (omega arith)
+ones_below-all (suc count) bits place within one =
+    ⊎_elim (λ last. Contains-append_right (ones_below count bits) (cond (eqb (bit_at bits count) 1) (count ∷ []) []) place
+    (rw (cond-true (eqb (bit_at bits count) 1) (count ∷ []) [] (eq-eqb (bit_at bits count) 1 (ap (bit_at bits) (sym last) ∙ one))) (rw last (Contains-head count []))))
+    (λ before. Contains-append_left (ones_below count bits) _ place (ones_below-all count bits place (omega (arith, before, within)) one))
+    (cases_eq place count)
+
+-- the ones below a count rise
+Rises-ones_below : (count bits : ℕ) → Rises (ones_below count bits)
+unfolding ones_below
+Rises-ones_below zero bits = λ i j d before within. absurd (omega arith)
+Rises-ones_below (suc count) bits =
+    cond_both (eqb (bit_at bits count) 1) (count ∷ []) [] (λ last. Rises (ones_below count bits ++ last))
+    (λ one. all_pairs_push (λ earlier later. earlier < later) (ones_below count bits) count (Rises-ones_below count bits)
+    (λ k d within. (ones_below-only count bits _ (Contains-get_or (ones_below count bits) k d within)).0))
+    (λ none. rw append-nil (Rises-ones_below count bits))
+
+-- what bits keep is a set
+pub IsSet-members_of : (bits : ℕ) → IsSet (members_of bits)
+unfolding members_of
+IsSet-members_of bits = record {
+  rising = Rises-ones_below 64 bits;
+  small = All-from_members (λ place. place < 64) (ones_below 64 bits) (λ place member. (ones_below-only 64 bits place member).0);
+}
+
+-- the members are the places below 64 whose bit is 1
+pub members_of-is : (bits place : ℕ) → Contains (members_of bits) place ↔ ((place < 64) × (bit_at bits place ≡ 1))
+unfolding members_of
+members_of-is bits place = (ones_below-only 64 bits place, λ both. ones_below-all 64 bits place both.0 both.1)
+
+-- a bit has as many ones as it is worth
+count_ones-bit : (bit : ℕ) → bit < 2 → count_ones bit ≡ bit
+count_ones-bit bit small =
+    ⊎_elim (λ none. none ∙ sym (zero_from_ones bit none)) (λ some. omega (arith, some, small, ones_le_self bit)) (cases_eq (count_ones bit) 0)
+
+-- a place stands once where its bit is 1, and else not at all
+length-cond : (bit place : ℕ) → bit < 2 → length (cond (eqb bit 1) (place ∷ []) []) ≡ bit
+length-cond zero place small = refl
+length-cond (suc zero) place small = refl
+length-cond (suc (suc bit)) place small = absurd (omega arith)
+
+-- there are as many ones below a count as among the lowest bits
+length-ones_below : (count bits : ℕ) → length (ones_below count bits) ≡ count_ones (bits % 2 ^ count)
+unfolding ones_below
+length-ones_below zero bits = rw mod-one (sym (count_ones-bit 0 (omega arith)))
+length-ones_below (suc count) bits =
+    let bit = bit_at bits count in
+    let small = bit_at-lt bits count in
+    let low = bits % 2 ^ count in
+    let last = cond (eqb bit 1) (count ∷ []) [] in
+    let split : bits % 2 ^ suc count ≡ bit * 2 ^ count + low = ap (λ upto. bits % 2 ^ upto) (sym (add_comm 1 count ∙ add-one count)) ∙ mod-pow-add bits 1 count in
+    let ones : count_ones (bits % 2 ^ suc count) ≡ count_ones bit + count_ones low = ap count_ones split ∙ ones_cat count bit low (mod-lt bits (pow_pos count)) in
+    let parts = length-append (ones_below count bits) last in
+    omega (arith, ones, parts, length-cond bit count small, length-ones_below count bits, count_ones-bit bit small)
+
+-- A set has as many members as its bits have ones.
+pub length-members_of : (bits : ℕ) → bits < 2 ^ 64 → length (members_of bits) ≡ count_ones bits
+unfolding members_of
+length-members_of bits small = length-ones_below 64 bits ∙ ap count_ones (mod-eq_of_lt small)
+
+-- Bits that keep the same members are the same.
+pub same_from_members_of : (a b : ℕ) → a < 2 ^ 64 → b < 2 ^ 64 → members_of a ≡ members_of b → a ≡ b
+same_from_members_of a b small_a small_b same = sym (bits_of-members_of a small_a) ∙ ap bits_of same ∙ bits_of-members_of b small_b
+
+-- To set one more bit is to have one member more.
+pub members_of-set : (bits place : ℕ) → place < 64 → members_of (bit_or bits (1 * 2 ^ place % 2 ^ 64)) ≡ with_member place (members_of bits)
+members_of-set bits place small =
+    let more = bit_or bits (1 * 2 ^ place % 2 ^ 64) in
+    same_from_members (members_of more) (with_member place (members_of bits)) (IsSet-members_of more).rising (Rises-with_member place (members_of bits) (IsSet-members_of bits).rising)
+    (λ other member. let both = (members_of-is more other).0 member in
+    ⊎_elim (λ same. rw same (Contains-with_member place (members_of bits)))
+    (λ unlike. with_member-keeps place (members_of bits) other ((members_of-is bits other).1 (both.0, sym (bit_at_set_other w64 bits place small other unlike) ∙ both.1)))
+    (cases_eq other place))
+    (λ other member. (members_of-is more other).1
+    (⊎_elim (λ same. rw (← same) (small, bit_at_set_same w64 bits place small))
+    (λ old. let both = (members_of-is bits other).0 old in
+    ⊎_elim (λ same. (both.0, rw same (bit_at_set_same w64 bits place small)))
+    (λ unlike. (both.0, bit_at_set_other w64 bits place small other unlike ∙ both.1))
+    (cases_eq other place))
+    (with_member-only place (members_of bits) other member)))
+
+-- Each member is one of the other set where no bit is lost by taking the bits of both.
+pub IsPart-from_bits : (a b : ℕ) → bit_and a b ≡ a → IsPart (members_of a) (members_of b)
+IsPart-from_bits a b kept =
+    All-from_members (Contains (members_of b)) (members_of a)
+    (λ place member. let both = (members_of-is a place).0 member in
+    (members_of-is b place).1
+    (both.0, omega (arith, both.1, bit_at_and a b place, ap (λ bits. bit_at bits place) kept, bit_at-lt b place)))
+
+-- a one of 64 bits has a place below 64
+one_within : (bits place : ℕ) → bits < 2 ^ 64 → bit_at bits place ≡ 1 → place < 64
+one_within bits place small one =
+    ⊎_elim (λ within. within) (λ beyond. absurd (omega (arith, one, bit_at_above bits 64 place small beyond))) (cases_lt place 64)
+
+-- No bit is lost by taking the bits of both where each member is one of the other set.
+pub bits_from_IsPart : (a b : ℕ) → a < 2 ^ 64 → IsPart (members_of a) (members_of b) → bit_and a b ≡ a
+bits_from_IsPart a b small part =
+    same_from_bits (bit_and a b) a
+    (λ place. ⊎_elim
+    (λ none. omega (arith, bit_at_and a b place, none))
+    (λ some.
+    let one : bit_at a place ≡ 1 = omega (arith, some, bit_at-lt a place) in
+    let within = one_within a place small one in
+    let other = (members_of-is b place).0 (All-contains (Contains (members_of b)) (members_of a) place part ((members_of-is a place).1 (within, one))) in
+    omega (arith, one, other.1, bit_at_and a b place))
+    (cases_eq (bit_at a place) 0))
+
+-- ---- what the tests on bits say of the members
+
+-- what bits keep is a set
+pub IsSet-from_bits : (bits : ℕ) (members : List ℕ) → members_of bits ≡ members → IsSet members
+IsSet-from_bits bits members view = rw (← view) (IsSet-members_of bits)
+
+-- the bit of a place tells whether it is a member
+pub bit_tells_member : (bits place : ℕ) (members : List ℕ) → members_of bits ≡ members → place < 64 → IsTrue (nat_eq (bit_and (bits / 2 ^ place) 1) 1) ↔ Contains members place
+bit_tells_member bits place members view small =
+    rw (← view) (
+      λ yes. (members_of-is bits place).1 (small, sym (shr_and_one bits place) ∙ eqb-true (bit_and (bits / 2 ^ place) 1) 1 yes),
+      λ member. eq-eqb (bit_and (bits / 2 ^ place) 1) 1 (shr_and_one bits place ∙ ((members_of-is bits place).0 member).1),
+    )
+
+-- a place from 64 on is no member
+pub beyond_no_member : (bits place : ℕ) (members : List ℕ) → members_of bits ≡ members → 64 ≤ place → Contains members place → ⊥
+beyond_no_member bits place members view beyond =
+    rw (← view) (λ member. omega (arith, beyond, ((members_of-is bits place).0 member).0))
+
+-- the bits are equal where the members are
+pub bits_tell_equal : (a b : ℕ) (xs ys : List ℕ) → members_of a ≡ xs → members_of b ≡ ys → a < 2 ^ 64 → b < 2 ^ 64 → IsTrue (nat_eq a b) ↔ (xs ≡ ys)
+bits_tell_equal a b xs ys view_a view_b small_a small_b =
+    rw (← view_a, ← view_b) (
+      λ yes. ap members_of (eqb-true a b yes),
+      λ same. eq-eqb a b (same_from_members_of a b small_a small_b same),
+    )
+
+-- the bits of both tell whether one set is a part of the other
+pub bits_tell_part : (a b : ℕ) (xs ys : List ℕ) → members_of a ≡ xs → members_of b ≡ ys → a < 2 ^ 64 → IsTrue (nat_eq (bit_and a b) a) ↔ IsPart xs ys
+bits_tell_part a b xs ys view_a view_b small =
+    rw (← view_a, ← view_b) (
+      λ yes. IsPart-from_bits a b (eqb-true (bit_and a b) a yes),
+      λ part. eq-eqb (bit_and a b) a (bits_from_IsPart a b small part),
+    )

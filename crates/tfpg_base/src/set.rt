@@ -1,0 +1,125 @@
+//! Sets of failure modes.
+
+ghost use Rattle.std.specs.Prelude.{◌≡◌, ◌<◌, ◌^◌, ◌↔◌, [], IsTrue, Contains, length, bytes_eq};
+ghost use Rattle.std.specs.Cmp.{partial_equiv_from_equiv};
+ghost use Rattle.std.specs.Cmp.Lexicographic.{nat_list_eq_equiv};
+ghost use Rattle.tfpg_base.specs.Set.{with_member, IsPart, IsProperPart, IsSet};
+
+use std::marker::Model;
+
+/// A set of failure modes, each by its position among the failure modes of the graph, which is below 64.
+/// Contracts see it as the rising list of these positions.
+#[derive(Clone, Copy, Debug)]
+pub struct Set {
+    bits: u64,
+}
+
+impl Model for Set {
+    ghost use Rattle.std.specs.Prelude.{ℕ, List, ◌<◌, ◌^◌};
+    ghost use Rattle.std.proofs.Common.{ap};
+    ghost use Rattle.tfpg_base.specs.SetBits.{members_of, bits_of, bits_of-members_of};
+
+    ghost Value = { List ℕ };
+
+    ghost view = { λ set. members_of set.bits };
+
+    ghost invariant = { λ set. set.bits < 2 ^ 64 };
+
+    ghost inverse = { λ members. record { bits = bits_of members } };
+
+    ghost inverse_ok = { λ set small. ap (λ (bits : ℕ). record { bits = bits }) (bits_of-members_of set.bits small) };
+}
+
+impl PartialEq for Set {
+    ghost eq = { bytes_eq };
+
+    ghost laws = { partial_equiv_from_equiv nat_list_eq_equiv };
+
+    fn eq(&self, other: &Set) -> bool {
+        self.bits == other.bits
+    }
+}
+
+impl Eq for Set {
+    ghost laws = { nat_list_eq_equiv };
+}
+
+impl Set {
+    /// The set without a member.
+    pub fn empty() -> Set
+        ensures { result ≡ [] }
+    {
+        Set { bits: 0 }
+    }
+
+    /// The set with this member.
+    pub fn with(self, place: u32) -> Set
+        requires { place < 64 }
+        ensures members { result ≡ with_member place self }
+        ensures set { IsSet result }
+    {
+        Set {
+            bits: self.bits | 1 << place,
+        }
+    }
+
+    /// Whether the position is a member.
+    pub fn has(self, place: u32) -> bool
+        ensures member { IsTrue result ↔ Contains self place }
+        ensures set { IsSet self }
+    {
+        place < 64 && self.bits >> place & 1 == 1
+    }
+
+    /// How many members there are.
+    pub fn len(self) -> u32
+        ensures count { result ≡ length self }
+        ensures set { IsSet self }
+    {
+        self.bits.count_ones()
+    }
+
+    /// Whether there is no member.
+    pub fn is_empty(self) -> bool
+        ensures { IsTrue result ↔ (self ≡ []) }
+    {
+        self.bits == 0
+    }
+
+    /// Whether each member is one of the other set, and the sets are not equal.
+    pub fn is_proper_part(self, of: Set) -> bool
+        ensures { IsTrue result ↔ IsProperPart self of }
+    {
+        self.is_part(of) && self != of
+    }
+
+    fn is_part(self, of: Set) -> bool
+        ensures { IsTrue result ↔ IsPart self of }
+    {
+        self.bits & of.bits == self.bits
+    }
+}
+
+#[cfg(test)]
+mod tests {
+    use super::*;
+
+    #[test]
+    fn holds_its_members(rt: HostRuntime) {
+        let set = Set::empty().with(63).with(0).with(63);
+        assert_eq!(rt; set.len(), 2);
+        for (place, is_member) in [
+            (0, true),
+            (1, false),
+            (63, true),
+            (64, false),
+            (u32::MAX, false),
+        ] {
+            assert_eq!(rt; set.has(place), is_member, "at {place}");
+        }
+        assert!(rt; Set::empty().is_empty() && !set.is_empty());
+        assert!(rt; Set::empty().with(63).is_proper_part(set));
+        assert!(rt; !set.is_proper_part(set) && !Set::empty().with(1).is_proper_part(set));
+        assert!(rt; set == Set::empty().with(0).with(63));
+    }
+}

@@ -1,0 +1,103 @@
+//! Traces: which node became active when.
+
+ghost use Rattle.std.specs.Prelude.{◌≡◌, [], IfOk, IfErr, OnOk, OnErr};
+ghost use Rattle.tfpg_base.specs.Trace.{IsRisingByNode, IsPlaceFor, StandsAt, time_of, with_time};
+
+use crate::{Activation, NoMemory};
+use std::alloc::Global;
+use std::marker::Model;
+
+/// Which node became active at which millisecond. A node that does not stand in it never became active.
+/// Contracts see it as the list of its activations, by rising nodes.
+#[derive(Clone, Debug, Drop)]
+pub struct Trace {
+    items: Vec<Activation>,
+}
+
+impl Model for Trace {
+    ghost use Rattle.std.specs.Prelude.{List};
+    ghost use Rattle.tfpg_base.specs.declared.activation.Activation.{Activation};
+    ghost use Rattle.tfpg_base.specs.Trace.{IsRisingByNode};
+
+    ghost Value = { List Activation };
+
+    ghost view = { λ trace. trace.items.items };
+
+    ghost invariant = { λ trace. IsRisingByNode trace.items.items };
+}
+
+impl Trace {
+    /// The trace in which no node becomes active. Takes no memory.
+    pub fn new(alloc: Global) -> Trace
+        ensures { result ≡ [] }
+    {
+        Trace {
+            items: Vec::new(alloc),
+        }
+    }
+
+    /// Gives the node that time, in place of the time that it may have. A node above all others costs the
+    /// logarithm of the length, any other new one the length.
+    pub fn set(&mut self, node: u32, time: u64) -> Result<(), NoMemory>
+        ensures ok { OnOk result (self.new ≡ with_time node time self.old) }
+        ensures err { OnErr result (self.new ≡ self.old) }
+    {
+        let activation = Activation { node, time };
+        match search(&self.items, node) {
+            Ok(place) => self.items[place] = activation,
+            Err(place) => self.items.insert(place, activation)?,
+        }
+        Ok(())
+    }
+
+    /// The time of the node, if it became active. Costs the logarithm of the length.
+    pub fn at(&self, node: u32) -> Option<u64>
+        ensures { result ≡ time_of self.now node }
+    {
+        match search(&self.items, node) {
+            Ok(place) => Some(self.items[place].time),
+            Err(_) => None,
+        }
+    }
+
+    /// The activations, by rising nodes.
+    pub fn as_slice(&self) -> &[Activation]
+        ensures value { result.now ≡ self.now }
+        ensures rising { IsRisingByNode self.now }
+    {
+        &self.items
+    }
+}
+
+/// Where the node stands, or where it would.
+fn search(items: &[Activation], node: u32) -> Result<usize, usize>
+    requires { IsRisingByNode items.now }
+    ensures found { IfOk result (StandsAt items.now node) }
+    ensures absent { IfErr result (IsPlaceFor items.now node) }
+{
+    items.binary_search_by_key(&node, |activation| activation.node)
+}
+
+#[cfg(test)]
+mod tests {
+    use super::*;
+    use std::test::Fail;
+
+    #[test]
+    fn keeps_the_last_time_by_rising_nodes(rt: HostRuntime) -> Result<(), Fail> {
+        let mut trace = Trace::new(rt.alloc());
+        for (node, time) in [(7, 10), (4, 20), (9, 0), (7, 30)] {
+            trace.set(node, time)?;
+        }
+        let expected = [
+            Activation { node: 4, time: 20 },
+            Activation { node: 7, time: 30 },
+            Activation { node: 9, time: 0 },
+        ];
+        assert_eq!(rt; trace.as_slice(), expected.as_slice());
+        assert_eq!(rt; trace.at(7), Some(30));
+        assert_eq!(rt; trace.at(8), None);
+        assert_eq!(rt; trace.clone()?.as_slice(), trace.as_slice());
+        Ok(())
+    }
+}
