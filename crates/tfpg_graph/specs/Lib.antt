@@ -6,3 +6,8 @@ pub mod Reach
 pub mod Valid
 pub mod Text
 pub mod Small
+pub mod Indexes
+pub mod Shapes
+pub mod NewEdge
+pub mod Progress
+pub mod NewNode
