@@ -49,7 +49,7 @@ and_by (Some (Failure rarity)) h = absurd cc
 and_by (Some (Or lag)) h = absurd cc
 and_by (Some (And lag)) h = (refl, refl)
 
-some_is_below : {X Y : Type 0} (f : X → Y) (xs : List X) (i : ℕ) → is_some (option_map f (slice_get xs i)) ≡ true → i < length xs
+pub some_is_below : {X Y : Type 0} (f : X → Y) (xs : List X) (i : ℕ) → is_some (option_map f (slice_get xs i)) ≡ true → i < length xs
 some_is_below f [] i h = absurd cc
 some_is_below f (x ∷ xs) zero h = omega arith
 some_is_below f (x ∷ xs) (suc i) h = omega (arith, some_is_below f xs i h)
