@@ -1,4 +1,5 @@
 pub mod LinesOf
 mod Histories
+pub mod ReadingOn
 mod Ranges
 mod Searches

@@ -76,11 +76,19 @@ fn long_lines(rt: HostRuntime) -> Result<(), Fail> {
     for (count, answer) in [(4096, b'|'), (4097, b'x'), (65_536, b'x'), (200_000, b'x')] {
         let mut text = vec![in rt.alloc(); b'a'; count]?;
         let bare = answers(rt.alloc(), text.as_slice(), 1000, false)?;
-        assert_eq!(rt; bare.first().copied(), Some(answer), "{count} bytes at the end");
+        assert_eq!(rt;
+            bare.first().copied(),
+            Some(answer),
+            "{count} bytes at the end"
+        );
         assert_eq!(rt; bare.last().copied(), Some(b'.'));
         text.extend_from_slice(b"\nb")?;
         let told = answers(rt.alloc(), text.as_slice(), 70_000, true)?;
-        assert_eq!(rt; told.first().copied(), Some(answer), "{count} bytes and a line end");
+        assert_eq!(rt;
+            told.first().copied(),
+            Some(answer),
+            "{count} bytes and a line end"
+        );
         text.extend_from_slice(b"\n")?;
         let told = answers(rt.alloc(), text.as_slice(), 70_000, false)?;
         assert!(rt; told.as_slice().ends_with(b"|b...."));
