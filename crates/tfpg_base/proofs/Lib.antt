@@ -1,5 +1,6 @@
+pub mod Taking
 pub mod LinesOf
-mod Histories
 pub mod ReadingOn
-mod Ranges
+mod Histories
 mod Searches
+mod Ranges
