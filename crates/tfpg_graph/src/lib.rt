@@ -16,7 +16,6 @@ mod new_node;
 mod reader;
 mod line_shape;
 mod word_value;
-mod words;
 
 pub use cause::{GraphCause, GraphFault, GraphRefusal};
 pub use edge::Edge;
