@@ -6,3 +6,4 @@ pub mod Inserts
 pub mod MoreDeclared
 pub mod WordValues
 pub mod MoreRead
+pub mod Complete
