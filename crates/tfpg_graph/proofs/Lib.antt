@@ -7,3 +7,4 @@ pub mod MoreDeclared
 pub mod WordValues
 pub mod MoreRead
 pub mod Complete
+pub mod Lines
