@@ -8,3 +8,4 @@ pub mod WordValues
 pub mod MoreRead
 pub mod Complete
 pub mod Lines
+pub mod SmallText

@@ -1,6 +1,6 @@
 //! Reads the text of a graph.
 
-ghost use Rattle.std.specs.Prelude.{◌≡◌, ◌<◌, length, IfOk, IfErr};
+ghost use Rattle.std.specs.Prelude.{◌≡◌, ◌<◌, ◌≤◌, length, IfOk, IfErr};
 ghost use Rattle.tfpg_base.specs.Lines.{parts_of, lines_of};
 ghost use Rattle.tfpg_graph.specs.Text.{Spells};
 ghost use Rattle.tfpg_graph.specs.Valid.{IsValid};
@@ -34,7 +34,8 @@ pub fn read(alloc: Global, text: &[u8]) -> Result<Graph, GraphRefusal>
 
 /// The text before a line end at its end.
 fn without_last_line_end(text: &[u8]) -> &[u8]
-    ensures { 0 < length text.now → lines_of text.now ≡ parts_of result.now }
+    ensures lines { 0 < length text.now → lines_of text.now ≡ parts_of result.now }
+    ensures front { length result.now ≤ length text.now }
 {
     match text.strip_suffix(b"\n".as_slice()) {
         Some(front) => front,
