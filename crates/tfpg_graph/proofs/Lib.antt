@@ -9,3 +9,5 @@ pub mod MoreRead
 pub mod Complete
 pub mod Lines
 pub mod SmallText
+pub mod LineLengths
+pub mod Spelled

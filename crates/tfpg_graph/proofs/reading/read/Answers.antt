@@ -5,6 +5,7 @@ use Rattle.std.proofs.lemmas.Result.{IfOk-weaker}
 use Rattle.tfpg_graph.specs.Text.{Spells}
 use Rattle.tfpg_graph.specs.Small.{IsSmallText}
 use Rattle.tfpg_graph.proofs.SmallText.{IfOk-both, IsSmallText-parts}
+use Rattle.tfpg_graph.proofs.Spelled.{Spells-small}
 use Rattle.tfpg_graph.proofs.reading.read.Goals as goal
 use Rattle.tfpg_graph.proofs.reading.read.Goals.{After-end}
 
@@ -19,4 +20,4 @@ pub returns-clause-small : goal.returns-clause-small
 returns-clause-small c = small_text c
 
 pub returns-clause-spelled : goal.returns-clause-spelled
-returns-clause-spelled c = IfOk-weaker c.end.result (IsSmallText c.args.text.now) (λ graph. Spells c.args.text.now graph) (λ graph is. ?) (small_text c)
+returns-clause-spelled c = IfOk-weaker c.end.result (IsSmallText c.args.text.now) (λ graph. Spells c.args.text.now graph) (λ graph is. Spells-small c.args.text.now graph is) (small_text c)
