@@ -1,5 +1,5 @@
 -- The text of each block of a report.
-use Rattle.std.specs.Prelude.{ℕ, List, [], ◌∷◌, ◌++◌, length, map, filter_map, flat_map, Bool, if◌then◌else◌, ◌==◌, option_map, option_and_then, unwrap_or, slice_get, codes, decimal}
+use Rattle.std.specs.Prelude.{ℕ, List, [], ◌∷◌, ◌++◌, length, map, filter_map, flat_map, Bool, if◌then◌else◌, ◌==◌, Option, Some, None, option_map, option_and_then, unwrap_or, slice_get, codes, decimal}
 use Rattle.std.specs.List.{join_with_byte}
 use Rattle.tfpg_base.specs.Lines.{with_line_end}
 use Rattle.tfpg_graph.specs.Graph.{Tfpg, name_at, failures, failure_at}

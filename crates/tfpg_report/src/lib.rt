@@ -7,8 +7,10 @@
 #![tactic(auto)]
 
 mod first_line;
+mod refused_block;
 mod refused_line;
 mod text_line;
 
 pub use first_line::head;
+pub use refused_block::refused;
 pub use refused_line::RefusedLine;
