@@ -6,3 +6,5 @@ pub mod Reach
 pub mod Valid
 pub mod Text
 pub mod Small
+pub mod Indexes
+pub mod Shapes

@@ -7,8 +7,11 @@
 #![tactic(auto)]
 
 mod cause;
+mod declared;
 mod edge;
 mod kind;
+mod line_shape;
+mod words;
 
 pub use cause::{GraphCause, GraphFault, GraphRefusal};
 pub use edge::Edge;

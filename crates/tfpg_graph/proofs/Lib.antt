@@ -1,0 +1,6 @@
+pub mod Positions
+pub mod Numbered
+pub mod Named
+pub mod Leaving
+pub mod Inserts
+pub mod MoreDeclared

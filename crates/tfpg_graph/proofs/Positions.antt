@@ -1,0 +1,107 @@
+-- The first place at which a test passes.
+use Rattle.std.proofs.Common.{◌≡◌, ◌≢◌, ℕ, suc, ◌+◌, ◌<◌, ◌≤◌, Bool, true, false, cond, not, nat_lt, List, [], ◌∷◌, ◌++◌, length, map, get_or, set, slice_get, Option, Some, None, position, All, refl, ap, sym, ◌∙◌, arith, tests, rules}
+use Rattle.std.specs.List.{position_or_len, AllByRecursion}
+use Rattle.std.specs.Option.{option_map}
+use Rattle.std.specs.Str.{bytes_eq}
+use Rattle.std.specs.Cmp.Lexicographic.{nat_list_eq_equiv}
+use Rattle.std.proofs.lemmas.List.{length-map, length_push, length-set, get_or_append_left, get_or_push, get_or-set_same, get_or-set_other}
+use Rattle.std.proofs.lemmas.Option.{slice_get-get_or}
+use Rattle.std.proofs.lemmas.List.Elements.{All-from_recursion, All-head, All-tail}
+use Rattle.std.proofs.lemmas.Slice.Eq.{bytes_eq-Decides}
+use Rattle.std.proofs.lemmas.Bool.{false≢true}
+use Rattle.std.proofs.lemmas.Bool.Decides.{nat_tests}
+
+cond_first : (m n : ℕ) → 0 < m → cond (nat_lt 0 m) (Some n) None ≡ Some n
+cond_first m n some = grind (arith, nat_tests)
+
+cond_next : (n m : ℕ) → cond (nat_lt (1 + n) (suc m)) (Some (1 + n)) None ≡ option_map suc (cond (nat_lt n m) (Some n) None)
+cond_next n m = grind (arith, nat_tests)
+
+-- the first place of a list with one more in front
+pub position-cons : {X : Type 0} (p : X → Bool) (x : X) (xs : List X) → position p (x ∷ xs) ≡ cond (p x) (Some 0) (option_map suc (position p xs))
+position-cons p x xs = by (p x) (position_or_len p xs) (length xs)
+  where
+    by : (b : Bool) (n m : ℕ) → cond (nat_lt (cond (not b) (1 + n) 0) (suc m)) (Some (cond (not b) (1 + n) 0)) None ≡ cond b (Some 0) (option_map suc (cond (nat_lt n m) (Some n) None))
+    by true n m = cond_first (suc m) 0 (omega arith)
+    by false n m = cond_next n m
+
+not_first : (b : Bool) (o : Option ℕ) → cond b (Some 0) (option_map suc o) ≡ None → (b ≡ false) × (o ≡ None)
+not_first true o e = cc
+not_first false None e = (refl, refl)
+not_first false (Some n) e = cc
+
+module _ {X : Type 0} where
+  -- two tests that agree pass first at one place
+  pub position-agrees : (p q : X → Bool) → ((x : X) → p x ≡ q x) → (xs : List X) → position p xs ≡ position q xs
+  position-agrees p q same xs = λ i. position (λ x. same x i) xs
+
+  position_or_len-map : {Y : Type 0} (p : Y → Bool) (f : X → Y) (xs : List X) → position_or_len p (map f xs) ≡ position_or_len (λ x. p (f x)) xs
+  position_or_len-map p f [] = refl
+  position_or_len-map p f (x ∷ xs) = ap (λ n. cond (not (p (f x))) (1 + n) 0) (position_or_len-map p f xs)
+
+  -- the place of an image is the place of the first whose image passes
+  pub position-map : {Y : Type 0} (p : Y → Bool) (f : X → Y) (xs : List X) → position p (map f xs) ≡ position (λ x. p (f x)) xs
+  position-map p f xs =
+      λ i. cond (nat_lt (position_or_len-map p f xs i) (length-map xs f i)) (Some (position_or_len-map p f xs i)) None
+
+  -- one more that does not pass changes nothing
+  pub position-push_no : (p : X → Bool) (xs : List X) (y : X) → p y ≡ false → position p (xs ++ y ∷ []) ≡ position p xs
+  position-push_no p [] y fails = position-cons p y [] ∙ ap (λ b. cond b (Some 0) None) fails
+  position-push_no p (x ∷ xs) y fails =
+      position-cons p x (xs ++ y ∷ []) ∙ ap (λ o. cond (p x) (Some 0) (option_map suc o)) (position-push_no p xs y fails) ∙ sym (position-cons p x xs)
+
+  -- one more that is the first to pass stands at the end
+  pub position-push_yes : (p : X → Bool) (xs : List X) (y : X) → position p xs ≡ None → p y ≡ true → position p (xs ++ y ∷ []) ≡ Some (length xs)
+  position-push_yes p [] y none passes = position-cons p y [] ∙ ap (λ b. cond b (Some 0) None) passes
+  position-push_yes p (x ∷ xs) y none passes = 
+      let later = not_first (p x) (position p xs) (sym (position-cons p x xs) ∙ none) in
+      position-cons p x (xs ++ y ∷ []) ∙ (λ i. cond (later.0 i) (Some 0) (option_map suc (position-push_yes p xs y later.1 passes i)))
+
+-- where the first of a list fails and there is no place among the others, there is none
+pub position-cons_none : {X : Type 0} (p : X → Bool) (x : X) (xs : List X) → position p (x ∷ xs) ≡ None → (p x ≡ false) × (position p xs ≡ None)
+position-cons_none p x xs none = not_first (p x) (position p xs) (sym (position-cons p x xs) ∙ none)
+
+each_fails : {X : Type 0} (p : X → Bool) (xs : List X) → position p xs ≡ None → AllByRecursion (λ x. p x ≡ false) xs
+each_fails p [] none = tt
+each_fails p (x ∷ xs) none = let first = position-cons_none p x xs none in (first.0, each_fails p xs first.1)
+
+-- where there is no place, each fails
+pub All-none : {X : Type 0} (p : X → Bool) (xs : List X) → position p xs ≡ None → All (λ x. p x ≡ false) xs
+All-none p xs none = All-from_recursion _ xs (each_fails p xs none)
+
+-- equal bytes, the other way round
+pub bytes_eq-swapped : (xs ys : List ℕ) → bytes_eq xs ys ≡ bytes_eq ys xs
+bytes_eq-swapped xs ys = nat_list_eq_equiv.symm xs ys
+
+-- bytes that are not equal differ
+pub bytes_eq-false : (xs ys : List ℕ) → bytes_eq xs ys ≡ false → xs ≢ ys
+bytes_eq-false xs ys fails same = false≢true (sym fails ∙ (bytes_eq-Decides xs ys).1 same)
+
+-- where each fails, there is no place
+pub position-All_fail : {X : Type 0} (p : X → Bool) (xs : List X) → All (λ x. p x ≡ false) xs → position p xs ≡ None
+position-All_fail p [] fail = refl
+position-All_fail p (x ∷ xs) fail =
+    position-cons p x xs
+    ∙ (λ i. cond (All-head (λ y. p y ≡ false) x xs fail i) (Some 0) (option_map suc (position-All_fail p xs (All-tail (λ y. p y ≡ false) x xs fail) i)))
+
+module _ {X : Type 0} (xs : List X) (y : X) where
+  -- what is read before a new last item is what was read
+  pub slice_get-push_before : (i : ℕ) → i < length xs → slice_get (xs ++ y ∷ []) i ≡ slice_get xs i
+  slice_get-push_before i within =
+      slice_get-get_or (xs ++ y ∷ []) i y (omega (arith, length_push xs y)) ∙ ap Some (get_or_append_left xs (y ∷ []) y i within) ∙ sym (slice_get-get_or xs i y within)
+
+  -- and at its place it is read
+  pub slice_get-push_last : (i : ℕ) → i ≡ length xs → slice_get (xs ++ y ∷ []) i ≡ Some y
+  slice_get-push_last i last =
+      slice_get-get_or (xs ++ y ∷ []) i y (omega (arith, length_push xs y)) ∙ ap Some (get_or_push xs y y i (sym last))
+
+module _ {X : Type 0} (xs : List X) (i j : ℕ) (y : X) (within : j < length xs) where
+  -- what was written is read
+  pub slice_get-set_same : j ≡ i → slice_get (set xs i y) j ≡ Some y
+  slice_get-set_same same =
+      slice_get-get_or (set xs i y) j y (omega (arith, length-set xs i y)) ∙ ap Some (ap (λ k. get_or (set xs i y) k y) same ∙ get_or-set_same xs i y y (omega arith))
+
+  -- elsewhere nothing changed
+  pub slice_get-set_other : j ≢ i → slice_get (set xs i y) j ≡ slice_get xs j
+  slice_get-set_other differs =
+      slice_get-get_or (set xs i y) j y (omega (arith, length-set xs i y)) ∙ ap Some (get_or-set_other xs i j y y differs) ∙ sym (slice_get-get_or xs j y within)

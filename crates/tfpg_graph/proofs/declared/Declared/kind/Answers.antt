@@ -1,0 +1,5 @@
+use Rattle.tfpg_graph.proofs.Named.{kind_at-values}
+use Rattle.tfpg_graph.proofs.declared.Declared.kind.Goals as goal
+
+pub returns : goal.returns
+returns c = rw (← c.self.view_is) (kind_at-values c.self.inside c.args.node _ c.index.ensures)

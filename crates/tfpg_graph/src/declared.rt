@@ -1,0 +1,236 @@
+//! What is declared so far of a graph, with the indexes by which it is looked up.
+
+ghost use Rattle.std.specs.Prelude.{◌≡◌, ◌<◌, ◌^◌, [], ◌∷◌, ◌++◌, length, Some, None, slice_get, IsTrue, IfOk, IfSome, IfNone, if◌then◌else◌, is_some};
+ghost use Rattle.tfpg_base.specs.Words.{is_name};
+ghost use Rattle.tfpg_graph.specs.Graph.{is_failure, kind_at, name_at, node_named, mode_named, edge_from_to, incoming, failures, failure_at, place_of_failure};
+ghost use Rattle.tfpg_graph.specs.Valid.{HasValidNumber, IsValidEdge};
+
+use crate::edge::Edge;
+use crate::kind::Kind;
+use indexmap::{IndexMap, IndexSet};
+use std::alloc::Global;
+use std::marker::Model;
+use tfpg_base::NoMemory;
+
+/// Nodes, edges and modes, in the order of their lines.
+#[derive(Drop)]
+pub(crate) struct Declared {
+    nodes: IndexMap<Vec<u8>, Kind>,
+    edges: Vec<Edge>,
+    modes: IndexSet<Vec<u8>>,
+    incoming: Vec<Vec<u32>>,
+    failures: Vec<u32>,
+    places: Vec<Option<u32>>,
+}
+
+impl Model for Declared {
+    ghost use Rattle.tfpg_graph.specs.Graph.{Tfpg};
+
+    ghost Value = { Tfpg };
+
+    ghost use Rattle.tfpg_graph.specs.Indexes.{graph_of, IsDeclared};
+
+    ghost view = { graph_of };
+
+    ghost invariant = { IsDeclared };
+}
+
+impl Declared {
+    ghost use Rattle.tfpg_graph.specs.Indexes.{nothing_declared, with_node, with_edge, with_mode, HasIncoming, LacksIncoming};
+
+    /// Nothing is declared. Takes no memory.
+    pub(crate) fn new(alloc: Global) -> Declared
+        ensures { result ≡ nothing_declared }
+    {
+        Declared {
+            nodes: IndexMap::new(alloc),
+            edges: Vec::new(alloc),
+            modes: IndexSet::new(alloc),
+            incoming: Vec::new(alloc),
+            failures: Vec::new(alloc),
+            places: Vec::new(alloc),
+        }
+    }
+
+    /// Declares one more mode.
+    pub(crate) fn with_mode(self, alloc: Global, name: &[u8]) -> Result<Declared, NoMemory>
+        requires before_edges { self.edges ≡ [] }
+        requires name { IsTrue (is_name name.now) }
+        requires new { mode_named self name.now ≡ None }
+        requires room { length self.modes < 64 }
+        ensures { IfOk result (λ declared. declared ≡ with_mode self name.now) }
+    {
+        let mut declared = self;
+        let name = Vec::from_slice(alloc, name)?;
+        declared.modes.insert(name)?;
+        Ok(declared)
+    }
+
+    /// Declares one more node.
+    pub(crate) fn with_node(
+        self,
+        alloc: Global,
+        name: &[u8],
+        kind: Kind,
+    ) -> Result<Declared, NoMemory>
+        requires before_edges { self.edges ≡ [] }
+        requires name { IsTrue (is_name name.now) }
+        requires new { node_named self name.now ≡ None }
+        requires number { HasValidNumber kind }
+        requires room { length self.nodes < 512 }
+        requires failure_room { IsTrue (is_failure kind) → length (failures self) < 64 }
+        ensures { IfOk result (λ declared. declared ≡ with_node self name.now kind) }
+    {
+        let Declared {
+            mut nodes,
+            edges,
+            modes,
+            mut incoming,
+            mut failures,
+            mut places,
+        } = self;
+        let place = give_place(&mut failures, nodes.len() as u32, kind)?;
+        let name = Vec::from_slice(alloc, name)?;
+        nodes.insert(name, kind)?;
+        incoming.push(Vec::new(alloc))?;
+        places.push(place)?;
+        Ok(Declared {
+            nodes,
+            edges,
+            modes,
+            incoming,
+            failures,
+            places,
+        })
+    }
+
+    /// Declares one more edge, which is valid among the nodes and modes that are declared.
+    pub(crate) fn with_edge(self, edge: Edge) -> Result<Declared, NoMemory>
+        requires valid { IsValidEdge self edge }
+        requires new { edge_from_to self edge.source edge.target ≡ None }
+        requires room { length self.edges < 2048 }
+        requires incoming_room { length (incoming self edge.target) < 32 }
+        ensures { IfOk result (λ declared. declared ≡ with_edge self edge) }
+    {
+        let mut declared = self;
+        let number = declared.edges.len() as u32;
+        declared.edges.push(edge)?;
+        declared.incoming[edge.target as usize].push(number)?;
+        Ok(declared)
+    }
+
+    pub(crate) fn node_count(&self) -> u32
+        ensures { result ≡ length self.now.nodes }
+    {
+        self.nodes.len() as u32
+    }
+
+    pub(crate) fn edge_count(&self) -> u32
+        ensures { result ≡ length self.now.edges }
+    {
+        self.edges.len() as u32
+    }
+
+    pub(crate) fn mode_count(&self) -> u32
+        ensures { result ≡ length self.now.modes }
+    {
+        self.modes.len() as u32
+    }
+
+    pub(crate) fn failure_count(&self) -> u32
+        ensures { result ≡ length (failures self.now) }
+    {
+        self.failures.len() as u32
+    }
+
+    pub(crate) fn kind(&self, node: u32) -> Kind
+        requires { node < length self.now.nodes }
+        ensures { kind_at self.now node ≡ Some result }
+    {
+        self.nodes[node as usize]
+    }
+
+    pub(crate) fn edge(&self, edge: u32) -> Edge
+        requires { edge < length self.now.edges }
+        ensures { slice_get self.now.edges edge ≡ Some result }
+    {
+        self.edges[edge as usize]
+    }
+
+    pub(crate) fn name(&self, node: u32) -> &[u8]
+        requires { node < length self.now.nodes }
+        ensures { name_at self.now node ≡ Some result.now }
+    {
+        let (name, _) = self.nodes.get_index(node as usize).unwrap();
+        name.as_slice()
+    }
+
+    pub(crate) fn mode_name(&self, mode: u32) -> &[u8]
+        requires { mode < length self.now.modes }
+        ensures { slice_get self.now.modes mode ≡ Some result.now }
+    {
+        self.modes.get_index(mode as usize).unwrap().as_slice()
+    }
+
+    pub(crate) fn find(&self, name: &[u8]) -> Option<u32>
+        ensures { result ≡ node_named self.now name.now }
+    {
+        self.nodes.get_index_of(name).map(|index| index as u32)
+    }
+
+    pub(crate) fn find_mode(&self, name: &[u8]) -> Option<u32>
+        ensures { result ≡ mode_named self.now name.now }
+    {
+        self.modes.get_index_of(name).map(|index| index as u32)
+    }
+
+    pub(crate) fn edge_between(&self, source: u32, target: u32) -> Option<u32>
+        requires source_in { source < length self.now.nodes }
+        requires target_in { target < length self.now.nodes }
+        ensures { result ≡ edge_from_to self.now source target }
+    {
+        for number in self.incoming(target) {
+            if self.edge(*number).source == source {
+                return Some(*number);
+            }
+        }
+        None
+    }
+
+    pub(crate) fn incoming(&self, node: u32) -> &[u32]
+        requires { node < length self.now.nodes }
+        ensures { result.now ≡ incoming self.now node }
+    {
+        self.incoming[node as usize].as_slice()
+    }
+
+    pub(crate) fn failure_node(&self, place: u32) -> u32
+        requires { place < length (failures self.now) }
+        ensures { failure_at self.now place ≡ Some result }
+    {
+        self.failures[place as usize]
+    }
+
+    pub(crate) fn place_of(&self, node: u32) -> Option<u32>
+        requires { node < length self.now.nodes }
+        ensures { result ≡ place_of_failure self.now node }
+    {
+        self.places[node as usize]
+    }
+}
+
+/// Gives the next place to a node that is a failure mode.
+fn give_place(failures: &mut Vec<u32>, node: u32, kind: Kind) -> Result<Option<u32>, NoMemory>
+    requires { length failures.old.items < 2 ^ 32 }
+    ensures failures { IfOk result (λ _. failures.new.items ≡ failures.old.items ++ (if is_failure kind then node ∷ [] else [])) }
+    ensures place { IfOk result (λ place. place ≡ (if is_failure kind then Some (length failures.old.items) else None)) }
+{
+    match kind {
+        Kind::Failure { rarity: _ } => {
+            let place = failures.len() as u32;
+            failures.push(node)?;
+            Ok(Some(place))
+        }
+        _ => Ok(None),
+    }
+}

@@ -1,0 +1,137 @@
+//! What a line of a graph's text says by its shape alone.
+
+ghost use Rattle.std.specs.Prelude.{◌≡◌, ◌∷◌, map, codes, IfSome};
+ghost use Rattle.tfpg_graph.specs.Shapes.{shape_words, lag_words};
+
+/// The shape of a line: its keyword, and its other words unread.
+#[derive(Clone, Copy)]
+pub(crate) enum LineShape<'a> {
+    Header,
+    Mode {
+        name: &'a [u8],
+    },
+    Failure {
+        name: &'a [u8],
+        rarity: &'a [u8],
+    },
+    Or {
+        name: &'a [u8],
+        lag: Option<&'a [u8]>,
+    },
+    Edge {
+        source: &'a [u8],
+        target: &'a [u8],
+        tmin: &'a [u8],
+        tmax: &'a [u8],
+        modes: &'a [u8],
+    },
+    End,
+}
+
+/// The shape of a line with these words, where it has one.
+pub(crate) fn shape_of<'a>(words: &[&'a [u8]]) -> Option<LineShape<'a>>
+    ensures { IfSome result (λ shape. map (λ word. word.now) words.now ≡ shape_words shape) }
+{
+    let (keyword, others) = words.split_first()?;
+    match *keyword {
+        b"tfpg" => header_of(others),
+        b"mode" => mode_of(others),
+        b"failure" => failure_of(others),
+        b"or" => or_of(others),
+        b"edge" => edge_of(others),
+        b"end" => end_of(others),
+        _ => None,
+    }
+}
+
+fn header_of<'a>(words: &[&'a [u8]]) -> Option<LineShape<'a>>
+    ensures { IfSome result (λ shape. codes "tfpg" ∷ map (λ word. word.now) words.now ≡ shape_words shape) }
+{
+    match words {
+        [b"1"] => Some(LineShape::Header),
+        _ => None,
+    }
+}
+
+fn mode_of<'a>(words: &[&'a [u8]]) -> Option<LineShape<'a>>
+    ensures { IfSome result (λ shape. codes "mode" ∷ map (λ word. word.now) words.now ≡ shape_words shape) }
+{
+    match words {
+        [name] => Some(LineShape::Mode { name: *name }),
+        _ => None,
+    }
+}
+
+fn failure_of<'a>(words: &[&'a [u8]]) -> Option<LineShape<'a>>
+    ensures { IfSome result (λ shape. codes "failure" ∷ map (λ word. word.now) words.now ≡ shape_words shape) }
+{
+    match words {
+        [name, rarity] => Some(LineShape::Failure {
+            name: *name,
+            rarity: *rarity,
+        }),
+        _ => None,
+    }
+}
+
+fn or_of<'a>(words: &[&'a [u8]]) -> Option<LineShape<'a>>
+    ensures { IfSome result (λ shape. codes "or" ∷ map (λ word. word.now) words.now ≡ shape_words shape) }
+{
+    let (name, others) = words.split_first()?;
+    let lag = lag_of(others)?;
+    Some(LineShape::Or { name: *name, lag })
+}
+
+/// The word for the lag, where the last words of a discrepancy's line say that it is watched.
+fn lag_of<'a>(words: &[&'a [u8]]) -> Option<Option<&'a [u8]>>
+    ensures { IfSome result (λ lag. map (λ word. word.now) words.now ≡ lag_words lag) }
+{
+    let (state, others) = words.split_first()?;
+    match *state {
+        b"hidden" => hidden_lag(others),
+        b"watch" => watched_lag(others),
+        _ => None,
+    }
+}
+
+fn hidden_lag<'a>(words: &[&'a [u8]]) -> Option<Option<&'a [u8]>>
+    ensures { IfSome result (λ lag. codes "hidden" ∷ map (λ word. word.now) words.now ≡ lag_words lag) }
+{
+    match words {
+        [] => Some(None),
+        _ => None,
+    }
+}
+
+fn watched_lag<'a>(words: &[&'a [u8]]) -> Option<Option<&'a [u8]>>
+    ensures { IfSome result (λ lag. codes "watch" ∷ map (λ word. word.now) words.now ≡ lag_words lag) }
+{
+    match words {
+        [lag] => Some(Some(*lag)),
+        _ => None,
+    }
+}
+
+fn edge_of<'a>(words: &[&'a [u8]]) -> Option<LineShape<'a>>
+    ensures { IfSome result (λ shape. codes "edge" ∷ map (λ word. word.now) words.now ≡ shape_words shape) }
+{
+    match words {
+        [source, target, tmin, tmax, modes] => Some(LineShape::Edge {
+            source: *source,
+            target: *target,
+            tmin: *tmin,
+            tmax: *tmax,
+            modes: *modes,
+        }),
+        _ => None,
+    }
+}
+
+fn end_of<'a>(words: &[&'a [u8]]) -> Option<LineShape<'a>>
+    ensures { IfSome result (λ shape. codes "end" ∷ map (λ word. word.now) words.now ≡ shape_words shape) }
+{
+    match words {
+        [] => Some(LineShape::End),
+        _ => None,
+    }
+}
