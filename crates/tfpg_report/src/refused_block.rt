@@ -17,7 +17,10 @@ pub fn refused(line: u64, cause: RefusedLine, into: &mut Vec<u8>) -> Result<(), 
     match cause {
         RefusedLine::TooLong => {
             let mut digits = Buffer::new();
-            put_line(into, &[b"refused", digits.format(line).as_bytes(), b"TooLong"])
+            put_line(
+                into,
+                &[b"refused", digits.format(line).as_bytes(), b"TooLong"],
+            )
         }
         RefusedLine::Offer(refusal) => put_refusal(line, refusal, into),
     }
