@@ -41,7 +41,7 @@ digits_value-front digits i within =
     omega (arith, digits_value_more 10 digits i within, digits_value-take-le 10 digits (i + 1) (omega arith))
 
 -- digits one by one, from digits together
-list_all-from_AllDigits : (bytes : List ℕ) → AllDigits 10 bytes → list_all is_ascii_digit bytes ≡ true
+pub list_all-from_AllDigits : (bytes : List ℕ) → AllDigits 10 bytes → list_all is_ascii_digit bytes ≡ true
 list_all-from_AllDigits [] digits = refl
 list_all-from_AllDigits (byte ∷ bytes) digits =
     and_from (is_ascii_digit byte) (list_all is_ascii_digit bytes) (is_ascii_digit-true byte digits.0) (list_all-from_AllDigits bytes digits.1)
@@ -61,7 +61,7 @@ first_or_one n small (inl above) = inl (first_decimal n above small)
 first_or_one n small (inr zero) = inr (ap length (decimal_digit n (omega arith)))
 
 -- the decimal text of a number has the form of a number
-is_number-decimal : (n : ℕ) → n < 2 ^ 64 → is_number (decimal n) ≡ true
+pub is_number-decimal : (n : ℕ) → n < 2 ^ 64 → is_number (decimal n) ≡ true
 is_number-decimal n small =
     let numeral = (decimal_is_IsNumeral n small).0 in
     number_from_AllDigits (decimal n) numeral.1 numeral.0 (first_or_one n small (cases_lt 0 n))

@@ -1,5 +1,5 @@
 -- Bytes as lines, and what a reader of lines has taken and given.
-use Rattle.std.specs.Prelude.{◌≡◌, ◌⊎◌, ℕ, ◌+◌, ◌-◌, ◌<◌, ◌≤◌, ◌^◌, List, [], ◌∷◌, ◌++◌, length, take, ◌==◌, Option, Some, None, Result, Ok, Err, IsSome, slice_get, slice_index_or}
+use Rattle.std.specs.Prelude.{◌≡◌, ◌⊎◌, ℕ, ◌+◌, ◌-◌, ◌<◌, ◌≤◌, ◌^◌, List, [], ◌∷◌, ◌++◌, length, take, ◌==◌, Bool, false, Option, Some, None, Result, Ok, Err, IsSome, All, slice_get, slice_index_or}
 use Rattle.std.specs.List.{slice_split, flat_map}
 use Rattle.tfpg_base.specs.declared.line.Line.{Line}
 use Rattle.tfpg_base.specs.declared.line.Line.TheVariants as line
@@ -7,9 +7,13 @@ use Rattle.tfpg_base.specs.declared.line.LineFault.{LineFault}
 use Rattle.tfpg_base.specs.declared.line.LineFault.TheVariants as fault
 use Rattle.tfpg_base.specs.Outside.{Takes, IsAtEnd}
 
+-- whether a byte ends a line
+abbrev pub ends_line : ℕ → Bool
+ends_line byte = byte == 10
+
 -- The bytes between line ends. There is always a last part, which may be empty.
 abbrev pub parts_of : List ℕ → List (List ℕ)
-parts_of bytes = slice_split (λ byte. byte == 10) bytes
+parts_of bytes = slice_split ends_line bytes
 
 -- the lines whose line end is among the bytes
 abbrev pub whole_lines : List ℕ → List (List ℕ)
@@ -55,9 +59,14 @@ next_whole reading = slice_get (whole_lines (take most_bytes reading.taken)) (le
 abbrev pub with_bytes : Reading → List ℕ → Reading
 with_bytes reading bytes = record { taken = reading.taken ++ bytes; given = reading.given; ended = reading.ended }
 
+-- what is answered behind a line: a line that has come without a line end is the last, and behind it is the end
+abbrev pub ended_behind : Option (List ℕ) → Option (Result Line LineFault)
+ended_behind (Some whole) = None
+ended_behind None = Some (Ok line.End)
+
 -- the history after one more line was given
 abbrev pub with_line : Reading → List ℕ → Reading
-with_line reading line = record { taken = reading.taken; given = reading.given ++ line ∷ []; ended = None }
+with_line reading line = record { taken = reading.taken; given = reading.given ++ line ∷ []; ended = ended_behind (next_whole reading) }
 
 -- the history after an answer that ends it
 abbrev pub ended_by : Reading → Result Line LineFault → Reading
@@ -75,10 +84,14 @@ pub record Buffered : Type 0 where
 abbrev pub with_line_end : List ℕ → List ℕ
 with_line_end line = line ++ 10 ∷ []
 
+-- no byte of it ends a line
+abbrev pub HasNoLineEnd : List ℕ → Type 0
+HasNoLineEnd bytes = All (λ byte. ends_line byte ≡ false) bytes
+
 -- while nothing has ended it, the buffer holds what was taken behind the lines that were given
 pub record IsGoingOn (reader : Buffered) (reading : Reading) : Type 0 where
   pub bytes : reading.taken ≡ flat_map with_line_end reading.given ++ reader.waiting
-  pub lines : whole_lines (flat_map with_line_end reading.given) ≡ reading.given
+  pub lines : All HasNoLineEnd reading.given
   pub few : reader.taken ≤ most_bytes
 
 -- The reader has this history.
@@ -87,9 +100,11 @@ pub record StandsFor (reader : Buffered) (reading : Reading) : Type 0 where
   pub taken : reader.taken ≡ length reading.taken
   pub ended : reader.ended ≡ reading.ended
   pub going_on : reading.ended ≡ None → IsGoingOn reader reading
+  pub all_given : reading.ended ≡ Some (Ok line.End) → lines_of reading.taken ≡ reading.given
 
--- The line is the next one, behind those given, of all the bytes taken. It has come whole, or the source has ended.
+-- The line is the next one, behind those given, of all the bytes taken, which are not too many. It has come whole, or the source has ended.
 pub record IsNext (reading : Reading) (line : List ℕ) (source_ended : Type 0) : Type 0 where
+  pub few : length reading.taken ≤ most_bytes
   pub front : take (length reading.given + 1) (lines_of reading.taken) ≡ reading.given ++ line ∷ []
   pub whole : (next_whole reading ≡ Some line) ⊎ source_ended
 
@@ -100,16 +115,16 @@ Answers reading source_ended rose (Ok line.Text) reader =
 Answers reading source_ended rose (Ok line.TooLong) reader =
     (next : List ℕ) × IsNext reading next source_ended × (longest_line < length next) × (reader.text ≡ []) × StandsFor reader (with_line reading next)
 Answers reading source_ended rose (Ok line.End) reader =
-    (lines_of reading.taken ≡ reading.given) × source_ended × (reader.text ≡ []) × StandsFor reader (ended_by reading (Ok line.End))
+    (lines_of reading.taken ≡ reading.given) × source_ended × (length reading.taken ≤ most_bytes) × (reader.text ≡ []) × StandsFor reader (ended_by reading (Ok line.End))
 Answers reading source_ended rose (Err fault.ReadFault) reader =
-    (whole_lines reading.taken ≡ reading.given) × rose × (reader.text ≡ []) × StandsFor reader (ended_by reading (Err fault.ReadFault))
+    (whole_lines reading.taken ≡ reading.given) × rose × (length reading.taken ≤ most_bytes) × (reader.text ≡ []) × StandsFor reader (ended_by reading (Err fault.ReadFault))
 Answers reading source_ended rose (Err fault.TooMuchInput) reader =
     (whole_lines (take most_bytes reading.taken) ≡ reading.given) × (length reading.taken ≡ most_bytes + 1) × (reader.text ≡ [])
     × StandsFor reader (ended_by reading (Err fault.TooMuchInput))
 
--- One call: what ended a reader is answered again. Else bytes are taken, but only where no whole line is left to give.
+-- One call: what ended a reader is answered again, and nothing is taken. Else bytes are taken, but only where no whole line is left to give.
 abbrev pub Continues : Reading → Option (Result Line LineFault) → Option (List ℕ) → Option (List ℕ) → Type 0 → Result Line LineFault → Buffered → Type 0
-Continues reading (Some answer) before after rose result reader = (result ≡ answer) × (after ≡ before) × StandsFor reader reading
+Continues reading (Some answer) before after rose result reader = (result ≡ answer) × (after ≡ before) × (reader.text ≡ []) × StandsFor reader reading
 Continues reading None before after rose result reader =
     (more : List ℕ) × Takes before after more × (IsSome (next_whole reading) → more ≡ [])
     × Answers (with_bytes reading more) (IsAtEnd after) rose result reader

@@ -31,8 +31,8 @@ pub trait Source {
     /// The bytes that are left, where the source tells them.
     ghost left: { Self → Option (List ℕ) };
 
-    /// Fills the first places of the room with the next bytes, and answers how many. None for a room that
-    /// has a place means that the source has given its end.
+    /// Fills the first places of the room with the next bytes, and answers how many. An answer of 0 for a room
+    /// that has a place means that the source has given its end.
     fn take(&mut self, room: &mut [u8]) -> Result<usize, Failed>
         ensures within { IfOk result (λ count. count ≤ length room.old) }
         ensures taken { IfOk result (λ count. Takes (left self.old) (left self.new) (take count room.new)) }

@@ -86,3 +86,53 @@ fn with_digit(value: u64, digit: u8) -> Option<u64>
 {
     value.checked_mul(10)?.checked_add(u64::from(digit - b'0'))
 }
+
+#[cfg(test)]
+mod tests {
+    use super::*;
+
+    #[test]
+    fn knows_names(rt: HostRuntime) {
+        let words: [(&[u8], bool); 10] = [
+            (b"F1", true),
+            (b"z", true),
+            (b"Pump_2.out-B", true),
+            (b"abcdefghijklmnopqrstuvwxyz012345", true),
+            (b"abcdefghijklmnopqrstuvwxyz0123456", false),
+            (b"", false),
+            (b"1F", false),
+            (b"_a", false),
+            (b"a b", false),
+            (b"a\xc3\xa9", false),
+        ];
+        for (word, is_name) in words {
+            assert_eq!(rt; read_name(word), is_name, "at {word:?}");
+        }
+    }
+
+    #[test]
+    fn knows_numbers(rt: HostRuntime) {
+        let words: [(&[u8], u64, Number); 13] = [
+            (b"0", 0, Number::Value(0)),
+            (b"7", 9, Number::Value(7)),
+            (b"10", 10, Number::Value(10)),
+            (b"11", 10, Number::TooLarge),
+            (b"18446744073709551615", u64::MAX, Number::Value(u64::MAX)),
+            (b"18446744073709551616", u64::MAX, Number::TooLarge),
+            (
+                b"99999999999999999999999999999999999999999",
+                u64::MAX,
+                Number::TooLarge,
+            ),
+            (b"", 9, Number::NotANumber),
+            (b"00", 9, Number::NotANumber),
+            (b"01", 9, Number::NotANumber),
+            (b"+1", 9, Number::NotANumber),
+            (b"-1", 9, Number::NotANumber),
+            (b"1a", 0, Number::NotANumber),
+        ];
+        for (word, most, number) in words {
+            assert_eq!(rt; read_number(word, most), number, "at {word:?}");
+        }
+    }
+}

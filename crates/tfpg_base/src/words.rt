@@ -1,23 +1,68 @@
-//! The words of a line, one after another.
+//! The words of a line.
 
-ghost use Rattle.std.specs.Prelude.{◌≡◌, ◌==◌, ◌∷◌, [], ◌≤◌, length, MatchOption, position};
+ghost use Rattle.std.specs.Prelude.{◌≡◌, ◌<◌, length, map, MatchOption};
 ghost use Rattle.tfpg_base.specs.Words.{words_of};
 
-/// Where the first space of a line is.
-fn space_in(line: &[u8]) -> Option<usize>
-    ensures { result ≡ position (λ byte. byte == 32) line.now }
-{
-    line.iter().position(|byte| *byte == b' ')
+use std::marker::Model;
+
+/// How many words a line of any text format has at most.
+pub const MOST_WORDS: usize = 9;
+
+/// The words of a line that has at most [`MOST_WORDS`]. Contracts see them as the list of their bytes.
+#[derive(Debug, Drop)]
+pub struct Words<'a> {
+    items: [&'a [u8]; MOST_WORDS],
+    count: usize,
 }
 
-/// The first word of a line, and what stands behind the space after it, if there is one. Words are parted by
-/// exactly one space, so a space at an end and two in a row make an empty word. Linear in the word.
-pub fn first_word(line: &[u8]) -> (&[u8], Option<&[u8]>)
-    ensures words { MatchOption result.1 (words_of line.now ≡ result.0.now ∷ [])
-        (λ rest. words_of line.now ≡ result.0.now ∷ words_of rest.now) }
-{
-    match space_in(line) {
-        Some(space) => (&line[..space], Some(&line[space + 1..])),
-        None => (line, None),
+impl<'a> Model for Words<'a> {
+    ghost use Rattle.std.specs.Prelude.{◌≤◌, ℕ, List, map, take};
+
+    ghost Value = { List (List ℕ) };
+
+    ghost view = { λ words. map (λ word. word.now) (take words.count words.items) };
+
+    ghost invariant = { λ words. words.count ≤ 9 };
+}
+
+impl<'a> Words<'a> {
+    /// The words of the line, or None where it has more than [`MOST_WORDS`]. Takes no memory, and time in the
+    /// length of the line.
+    pub fn of(line: &'a [u8]) -> Option<Words<'a>>
+        ensures { MatchOption result (9 < length (words_of line.now)) (λ words. words ≡ words_of line.now) }
+    {
+        let mut items: [&[u8]; MOST_WORDS] = [&[]; MOST_WORDS];
+        let mut count = 0;
+        for word in line.split(|byte| *byte == b' ') {
+            if count == MOST_WORDS {
+                return None;
+            }
+            items[count] = word;
+            count += 1;
+        }
+        Some(Words { items, count })
+    }
+
+    /// The words, of which a line has at least one.
+    pub fn as_slice(&self) -> &[&'a [u8]]
+        ensures { map (λ word. word.now) result.now ≡ self.now }
+    {
+        &self.items[..self.count]
+    }
+}
+
+#[cfg(test)]
+mod tests {
+    use super::*;
+
+    #[test]
+    fn cuts_at_each_space(rt: HostRuntime) {
+        let words = Words::of(b"5 alarm  N\t ").expect(&rt, "few words");
+        match words.as_slice() {
+            [b"5", b"alarm", b"", b"N\t", b""] => {}
+            other => panic!(&rt; "{other:?}"),
+        }
+        assert!(rt; Words::of(b"1 2 3 4 5 6 7 8 9").is_some());
+        assert!(rt; Words::of(b"1 2 3 4 5 6 7 8 9 ").is_none());
     }
 }

@@ -1,57 +1,74 @@
 -- The report of a graph and a list of lines.
-use Rattle.std.specs.Prelude.{◌≡◌, ℕ, ◌+◌, ◌<◌, ◌≤◌, List, [], ◌∷◌, ◌++◌, length, take, flat_map, AllPairs, nat_lt, if◌then◌else◌}
-use Rattle.tfpg_base.specs.Lines.{longest_line}
+use Rattle.std.specs.Prelude.{◌≡◌, ℕ, ◌+◌, ◌<◌, ◌≤◌, List, [], ◌∷◌, ◌++◌, length, take, flat_map, AllPairs, if◌then◌else◌, Result, Ok, Err}
 use Rattle.tfpg_graph.specs.Graph.{Tfpg}
 use Rattle.tfpg_log.specs.declared.event.Event.{Event}
 use Rattle.tfpg_log.specs.declared.event.Offered.{Offered}
 use Rattle.tfpg_log.specs.declared.event.Offered.TheVariants.{Accepted, Refused}
 use Rattle.tfpg_log.specs.Log.{Logbook, with_event}
-use Rattle.tfpg_log.specs.AcceptedNow.{offered_now}
+use Rattle.tfpg_log.specs.AcceptedNow.{reply_now}
+use Rattle.tfpg_log.specs.LogOfLines.{new_log, is_too_long, log_after}
 use Rattle.tfpg_evidence.specs.declared.round.Round.{Round}
 use Rattle.tfpg_hyp.specs.Rounds.{IsRound}
 use Rattle.tfpg_report.specs.declared.refused_line.RefusedLine.{RefusedLine}
 use Rattle.tfpg_report.specs.declared.refused_line.RefusedLine.TheVariants.{TooLong, Offer}
-use Rattle.tfpg_report.specs.Blocks.{head_text, refused_text, round_text, Loss, lost_text}
+use Rattle.tfpg_report.specs.Blocks.{head_text, Loss, Block, RefusedBlock, RoundBlock, block_text}
 
--- what becomes of a line: it gives an event, or is refused
-pub data Outcome : Type 0 where
-  Gives : (event : Event) → Outcome
-  Fails : (cause : RefusedLine) → Outcome
+-- the event that a log's reply gives, or why there is none
+abbrev pub event_of_reply : Offered → Result Event RefusedLine
+event_of_reply (Accepted event) = Ok event
+event_of_reply (Refused refusal) = Err (Offer refusal)
 
-abbrev pub outcome_of_offer : Offered → Outcome
-outcome_of_offer (Accepted event) = Gives event
-outcome_of_offer (Refused refusal) = Fails (Offer refusal)
+-- the event that a line gives, or why there is none
+abbrev pub event_of_line : Tfpg → Logbook → List ℕ → Result Event RefusedLine
+event_of_line graph log line = if is_too_long line then Err TooLong else event_of_reply (reply_now graph log line)
 
--- A line that is too long never reaches the log.
-abbrev pub outcome_of : Tfpg → Logbook → List ℕ → Outcome
-outcome_of graph log line =
-    if nat_lt longest_line (length line) then Fails TooLong else outcome_of_offer (offered_now graph log line)
+-- how far a report has come: the rounds and the log so far
+pub record Progress : Type 0 where
+  pub rounds : List Round
+  pub log : Logbook
 
--- The bytes are the block of a line, and then bytes that continue the report. A refused line has the block of its refusal and
--- leaves everything as it was. An accepted one has the block of some round that meets the definition of a round for all events
--- and all rounds so far; lines on lost panels may follow, by rising numbers.
-abbrev pub BlockThen : Tfpg → ℕ → ℕ → List Round → Logbook → ℕ → (List Round → Logbook → List ℕ → Type 0) → List ℕ → Outcome → Type 0
-BlockThen graph k budget rounds log number continues bytes (Fails cause) =
-    (rest : List ℕ) × (bytes ≡ refused_text number cause ++ rest) × continues rounds log rest
-BlockThen graph k budget rounds log number continues bytes (Gives event) =
-    (round : Round) × (losses : List Loss) × (rest : List ℕ)
-    × IsRound graph k budget rounds (with_event log event) number round
+-- nothing has been told yet
+abbrev pub start : Progress
+start = record { rounds = []; log = new_log }
+
+-- the round of a block
+abbrev pub rounds_of : Block → List Round
+rounds_of (RefusedBlock line cause) = []
+rounds_of (RoundBlock round losses) = round ∷ []
+
+-- how far a report has come after the block of a line
+abbrev pub after : Tfpg → Progress → List ℕ → Block → Progress
+after graph before line block = record { rounds = before.rounds ++ rounds_of block; log = log_after graph before.log line }
+
+-- What block a line has. A refused line has the block of its refusal. An accepted one has the block of some round that meets the
+-- definition of a round for all events and all rounds so far; panels may be lost at it, in the order of their numbers.
+abbrev pub IsBlockOf : Tfpg → ℕ → ℕ → Progress → ℕ → Block → Result Event RefusedLine → Type 0
+IsBlockOf graph k budget before number block (Err cause) = block ≡ RefusedBlock number cause
+IsBlockOf graph k budget before number block (Ok event) =
+    (round : Round) × (losses : List Loss) × (block ≡ RoundBlock round losses)
+    × IsRound graph k budget before.rounds (with_event before.log event) number round
     × AllPairs (λ earlier later. earlier.panel < later.panel) losses
-    × (bytes ≡ round_text graph round ++ (flat_map lost_text losses ++ rest))
-    × continues (rounds ++ round ∷ []) (with_event log event) rest
 
--- The bytes are the blocks of the lines, of which the first has this number, behind these rounds and this log.
-abbrev pub AreBlocks : Tfpg → ℕ → ℕ → List Round → Logbook → ℕ → List (List ℕ) → List ℕ → Type 0
-AreBlocks graph k budget rounds log number [] bytes = bytes ≡ []
-AreBlocks graph k budget rounds log number (line ∷ lines) bytes =
-    BlockThen graph k budget rounds log number (λ rounds' log' rest. AreBlocks graph k budget rounds' log' (number + 1) lines rest) bytes (outcome_of graph log line)
+abbrev pub IsBlock : Tfpg → ℕ → ℕ → Progress → ℕ → List ℕ → Block → Type 0
+IsBlock graph k budget before number line block = IsBlockOf graph k budget before number block (event_of_line graph before.log line)
+
+-- These are the blocks of the lines, one for each line in order, of which the first line has this number.
+abbrev pub AreBlocks : Tfpg → ℕ → ℕ → Progress → ℕ → List (List ℕ) → List Block → Type 0
+AreBlocks graph k budget before number [] [] = Unit {0}
+AreBlocks graph k budget before number [] (block ∷ blocks) = ⊥
+AreBlocks graph k budget before number (line ∷ lines) [] = ⊥
+AreBlocks graph k budget before number (line ∷ lines) (block ∷ blocks) =
+    IsBlock graph k budget before number line block × AreBlocks graph k budget (after graph before line block) (number + 1) lines blocks
+
+-- the text of a report with these blocks
+abbrev pub report_text : Tfpg → ℕ → ℕ → List Block → List ℕ
+report_text graph k budget blocks = head_text k budget ++ flat_map (block_text graph) blocks
 
 -- The bytes are a report of the graph, of sets of at most k failure modes, of this budget and of these lines.
 abbrev pub IsReport : Tfpg → ℕ → ℕ → List (List ℕ) → List ℕ → Type 0
-IsReport graph k budget lines bytes =
-    (blocks : List ℕ) × (bytes ≡ head_text k budget ++ blocks) × AreBlocks graph k budget [] (record { events = [] }) 1 lines blocks
+IsReport graph k budget lines bytes = (blocks : List Block) × AreBlocks graph k budget start 1 lines blocks × (bytes ≡ report_text graph k budget blocks)
 
--- The bytes are nothing, or the beginning of a report of the first of these lines.
+-- The bytes begin a report of the first of these lines.
 abbrev pub BeginsReport : Tfpg → ℕ → ℕ → List (List ℕ) → List ℕ → Type 0
 BeginsReport graph k budget lines bytes =
     (count : ℕ) × (report more : List ℕ) × (count ≤ length lines) × IsReport graph k budget (take count lines) report × (report ≡ bytes ++ more)

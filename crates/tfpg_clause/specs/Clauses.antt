@@ -5,7 +5,9 @@ use Rattle.tfpg_base.specs.declared.constraint.Constraint.{Constraint}
 use Rattle.tfpg_graph.specs.declared.edge.Edge.{Edge}
 use Rattle.tfpg_graph.specs.Graph.{Tfpg, is_kind_at, is_or, is_and, edges_into}
 use Rattle.tfpg_log.specs.Log.{Logbook}
-use Rattle.tfpg_log.specs.Spans.{Span, Window, span_at, window_of, joint_of}
+use Rattle.tfpg_log.specs.declared.span.Span.{Span}
+use Rattle.tfpg_log.specs.declared.span.Window.{Window}
+use Rattle.tfpg_log.specs.Spans.{span_at, window_of, joint_of}
 use Rattle.tfpg_evidence.specs.declared.clause_name.ClauseName.{ClauseName}
 use Rattle.tfpg_evidence.specs.declared.clause_name.ClauseName.TheVariants.{OrMay, AndMay, OrMust, AndMust}
 use Rattle.tfpg_clause.specs.Bounds.{at_most, at_least, at_most_after, at_least_after, Meets}
@@ -21,8 +23,8 @@ each_of (None ∷ others) = None
 each_of (Some x ∷ others) = option_map (λ xs. x ∷ xs) (each_of others)
 
 -- The node becomes active before the span; or after it.
-abbrev pub outside : ℕ → Span → List (List Constraint)
-outside node span = (at_most node (pos span.lo -ℤ pos 1) ∷ []) ∷ (at_least node (span.hi + 1) ∷ []) ∷ []
+abbrev pub outside_span : ℕ → Span → List (List Constraint)
+outside_span node span = (at_most node (pos span.lo -ℤ pos 1) ∷ []) ∷ (at_least node (span.hi + 1) ∷ []) ∷ []
 
 -- The failure arrives by the edge within the span, where it can: it has been on its way since some instant of the edge's
 -- window, for the least delay or longer.
@@ -40,11 +42,12 @@ pub record Due : Type 0 where
   pub tmax : ℕ
   pub by : ℕ
 
+-- what is due over an edge, where its greatest delay is finite and it is active in the span
 abbrev pub due_over : Logbook → ℕ → ℕ → Edge → Option Due
 due_over log number horizon edge =
     option_and_then (λ tmax. option_map (λ window. record { source = edge.source; target = edge.target; tmax = tmax; by = window.lo + tmax }) (window_of log edge number horizon)) edge.tmax
 
--- The source becomes active too late for the failure to arrive within a window that ends here.
+-- The source becomes active too late for the failure to be due within a window that ends here.
 abbrev pub starts_late : ℕ → Due → List Constraint
 starts_late hi due = at_least due.source (hi - due.tmax + 1) ∷ []
 
@@ -53,38 +56,42 @@ abbrev pub follows_in_time : Due → List Constraint
 follows_in_time due = at_most_after due.target due.source due.tmax ∷ []
 
 -- the latest of the times
-abbrev pub latest : List Due → ℕ
-latest dues = fold (λ time due. max time due.by) 0 dues
+abbrev pub latest_of : List Due → ℕ
+latest_of dues = fold (λ time due. max time due.by) 0 dues
 
 -- The alternatives of a must, in a window that ends at hi: some source starts late; or the target follows some source in
 -- time; or it is active by the time by which the failure arrives if it has been on its way since the window's beginning.
 abbrev pub must_alternatives : ℕ → ℕ → List Due → List (List Constraint)
 must_alternatives target hi dues =
-    map (starts_late hi) dues ++ map follows_in_time dues ++ (at_most target (pos (latest dues)) ∷ []) ∷ []
+    map (starts_late hi) dues ++ map follows_in_time dues ++ (at_most target (pos (latest_of dues)) ∷ []) ∷ []
 
 -- There is a must where the window begins with this span and has room for each greatest delay.
 abbrev pub must_in : ℕ → ℕ → Window → List Due → Option (List (List Constraint))
 must_in target number window dues =
     only_if ((window.first == number) && list_all (λ due. nat_le due.by window.hi) dues) (must_alternatives target window.hi dues)
 
+-- the clause that an OR node becomes active in a span only where the failure arrives by some edge
 abbrev pub or_may : Tfpg → Logbook → ℕ → ℕ → ℕ → Option (List (List Constraint))
 or_may graph log node number horizon =
     option_and_then (λ span. only_if (is_kind_at is_or graph node)
-    (outside node span ++ filter_map (arrival log number horizon span) (edges_into graph node)))
+    (outside_span node span ++ filter_map (arrival log number horizon span) (edges_into graph node)))
     (span_at log number horizon)
 
+-- the clause that an AND node becomes active in a span only where the failure arrives by this edge
 abbrev pub and_may : Tfpg → Logbook → Edge → ℕ → ℕ → Option (List (List Constraint))
 and_may graph log edge number horizon =
     option_and_then (λ span. only_if (is_kind_at is_and graph edge.target)
-    (outside edge.target span ++ filter_map (arrival log number horizon span) (edge ∷ [])))
+    (outside_span edge.target span ++ filter_map (arrival log number horizon span) (edge ∷ [])))
     (span_at log number horizon)
 
+-- the clause that an OR node is active once the failure is due by this edge
 abbrev pub or_must : Tfpg → Logbook → Edge → ℕ → ℕ → Option (List (List Constraint))
 or_must graph log edge number horizon =
     if is_kind_at is_or graph edge.target
     then option_and_then (λ due. option_and_then (λ window. must_in edge.target number window (due ∷ [])) (window_of log edge number horizon)) (due_over log number horizon edge)
     else None
 
+-- the clause that an AND node is active once the failure is due by all edges
 abbrev pub and_must : Tfpg → Logbook → ℕ → ℕ → ℕ → Option (List (List Constraint))
 and_must graph log node number horizon =
     if is_kind_at is_and graph node

@@ -6,7 +6,7 @@ use Rattle.tfpg_graph.specs.Graph.{Tfpg, is_monitored, lag_at}
 use Rattle.tfpg_graph.specs.Valid.{most_time}
 use Rattle.tfpg_log.specs.declared.event.Event.{Event}
 use Rattle.tfpg_log.specs.declared.event.Event.TheVariants.{Alarm, Silent, Sweep, Tick, Mode}
-use Rattle.tfpg_log.specs.Log.{Logbook, now, event_at, alarm_among}
+use Rattle.tfpg_log.specs.Log.{Logbook, now_of, event_at, alarm_among}
 use Rattle.tfpg_evidence.specs.declared.reason.Reason.{Reason}
 use Rattle.tfpg_evidence.specs.declared.reason.Reason.TheVariants.{Zero, Top, Unreached, From, Upto, Quiet, Pick}
 use Rattle.tfpg_clause.specs.Bounds.{at_most, at_least}
@@ -48,7 +48,7 @@ abbrev pub fact : Tfpg → Logbook → List ℕ → Reason → Option Constraint
 fact graph log reach (Zero node) = where_so (nat_lt node (length graph.nodes)) (at_least node 0)
 fact graph log reach (Top node) = where_so (nat_lt node (length graph.nodes)) (at_most node (pos never))
 fact graph log reach (Unreached node horizon) =
-    where_so (nat_lt node (length graph.nodes) && (nat_le horizon (now log) && not (list_any (λ reached. reached == node) reach))) (at_least node (horizon + 1))
+    where_so (nat_lt node (length graph.nodes) && (nat_le horizon (now_of log) && not (list_any (λ reached. reached == node) reach))) (at_least node (horizon + 1))
 fact graph log reach (From event) = option_and_then (from_alarm graph) (event_at log event)
 fact graph log reach (Upto event) = option_and_then upto_alarm (event_at log event)
 fact graph log reach (Quiet event node) = option_and_then (λ e. quiet_by graph (take (event - 1) log.events) e node) (event_at log event)

@@ -4,3 +4,5 @@ pub mod Named
 pub mod Leaving
 pub mod Inserts
 pub mod MoreDeclared
+pub mod WordValues
+pub mod MoreRead

@@ -1,13 +1,16 @@
 -- The look-ups by name, and by the number of a name, in the maps that hold the names.
-use Rattle.std.proofs.Common.{◌≡◌, ℕ, ◌<◌, List, Vec, Global, get_or, length, map, Option, None, Some, slice_get, position, refl, ap, sym, ◌∙◌, arith}
+use Rattle.std.proofs.Common.{◌≡◌, ℕ, ◌<◌, List, Vec, Global, get_or, length, map, Option, None, Some, slice_get, position, IfSome, refl, ap, sym, ◌∙◌, arith}
 use Rattle.std.proofs.lemmas.List.{length-map}
 use Rattle.std.specs.Option.{option_map}
 use Rattle.std.specs.Str.{bytes_eq}
-use Rattle.std.proofs.lemmas.Option.{slice_get-map, slice_get_read, same_Some}
+use Rattle.std.proofs.lemmas.Option.{slice_get-map, slice_get_read, slice_get-get_or, same_Some}
+use Rattle.std.proofs.lemmas.List.Quantifiers.{position-Some}
+use Rattle.std.proofs.lemmas.Slice.Eq.{bytes_eq-Decides}
 use Rattle.indexmap.specs.IndexMap.{keys, values, index_of_by}
 use Rattle.tfpg_graph.specs.declared.declared.Declared.TheInside.{Inside}
 use Rattle.tfpg_graph.specs.declared.kind.Kind.{Kind}
-use Rattle.tfpg_graph.specs.Graph.{Tfpg, Node, incoming, kind_at, node_named, mode_named}
+use Rattle.tfpg_graph.specs.declared.kind.Kind.TheVariants.{Failure}
+use Rattle.tfpg_graph.specs.Graph.{Tfpg, Node, incoming, kind_at, name_at, node_named, mode_named}
 use Rattle.tfpg_graph.specs.Indexes.{graph_of, IsIndexed}
 use Rattle.tfpg_graph.proofs.Positions.{position-agrees, position-map, bytes_eq-swapped}
 
@@ -43,3 +46,16 @@ row-incoming graph rows failed places is node row within read =
     let among : node < length rows = omega (arith, is.row_count, length-map rows (λ r. r.items)) in
     same_Some row.items (incoming graph node)
     (ap (option_map (λ r. r.items)) (sym (slice_get_read rows (length rows) node row refl among read)) ∙ sym (slice_get-map (λ r. r.items) rows node) ∙ is.row_is node within)
+
+module _ (graph : Tfpg) (name : List ℕ) where
+  -- where a name is found, it is that of the node
+  pub named_found : (node : ℕ) → node_named graph name ≡ Some node → (node < length graph.nodes) × (name_at graph node ≡ Some name)
+  named_found node found =
+      let other : Node = record { name = name; kind = Failure 0 } in
+      let is = position-Some (λ n. bytes_eq n.name name) graph.nodes node other found in
+      (is.0, ap (option_map (λ n. n.name)) (slice_get-get_or graph.nodes node other is.0) ∙ ap Some ((bytes_eq-Decides (get_or graph.nodes node other).name name).0 is.1))
+
+  -- the same of a look-up's answer
+  pub IfSome-named : (r : Option ℕ) → r ≡ node_named graph name → IfSome r (λ node. (node < length graph.nodes) × (name_at graph node ≡ Some name))
+  IfSome-named None is = tt
+  IfSome-named (Some node) is = named_found node (sym is)

@@ -23,9 +23,9 @@ with_edge graph edge = record { nodes = graph.nodes; edges = graph.edges ++ edge
 abbrev pub with_mode : Tfpg → List ℕ → Tfpg
 with_mode graph name = record { nodes = graph.nodes; edges = graph.edges; modes = graph.modes ++ name ∷ [] }
 
--- each discrepancy has an edge into it
-abbrev pub HasIncoming : Tfpg → Type 0
-HasIncoming graph = (node : ℕ) → node < length graph.nodes → IsTrue (not (is_kind_at is_failure graph node)) → incoming graph node ≢ []
+-- each discrepancy before this number has an edge into it
+abbrev pub HasIncomingBefore : Tfpg → ℕ → Type 0
+HasIncomingBefore graph end = (node : ℕ) → node < end → IsTrue (not (is_kind_at is_failure graph node)) → incoming graph node ≢ []
 
 -- the node of this number is a discrepancy with no edge into it
 abbrev pub LacksIncoming : Tfpg → ℕ → Type 0

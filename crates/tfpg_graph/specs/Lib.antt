@@ -8,3 +8,6 @@ pub mod Text
 pub mod Small
 pub mod Indexes
 pub mod Shapes
+pub mod NewEdge
+pub mod Progress
+pub mod NewNode

@@ -41,3 +41,22 @@ pub enum GraphRefusal {
     Fault(GraphFault),
     NoMemory,
 }
+
+impl GraphRefusal {
+    /// For now: the answer for each text that is not read so far.
+    pub(crate) const NOT_BUILT: GraphRefusal = GraphRefusal::Fault(GraphFault {
+        line: 0,
+        cause: GraphCause::NotBuilt,
+    });
+}
+
+impl From<tfpg_base::NoMemory> for GraphRefusal {
+    ghost use Rattle.std.specs.Prelude.{◌≡◌};
+    ghost use Rattle.tfpg_graph.specs.declared.cause.GraphRefusal.TheVariants.{NoMemory};
+
+    ghost from_gives = { λ _ refusal. refusal ≡ NoMemory };
+
+    fn from(_wanting: tfpg_base::NoMemory) -> GraphRefusal {
+        GraphRefusal::NoMemory
+    }
+}

@@ -1,6 +1,6 @@
 //! What is declared so far of a graph, with the indexes by which it is looked up.
 
-ghost use Rattle.std.specs.Prelude.{◌≡◌, ◌<◌, ◌^◌, [], ◌∷◌, ◌++◌, length, Some, None, slice_get, IsTrue, IfOk, IfSome, IfNone, if◌then◌else◌, is_some};
+ghost use Rattle.std.specs.Prelude.{◌≡◌, ◌↔◌, ◌<◌, ◌^◌, [], ◌∷◌, ◌++◌, length, Some, None, slice_get, IsTrue, IfOk, IfSome, IfNone, if◌then◌else◌, is_some};
 ghost use Rattle.tfpg_base.specs.Words.{is_name};
 ghost use Rattle.tfpg_graph.specs.Graph.{is_failure, kind_at, name_at, node_named, mode_named, edge_from_to, incoming, failures, failure_at, place_of_failure};
 ghost use Rattle.tfpg_graph.specs.Valid.{HasValidNumber, IsValidEdge};
@@ -36,7 +36,7 @@ impl Model for Declared {
 }
 
 impl Declared {
-    ghost use Rattle.tfpg_graph.specs.Indexes.{nothing_declared, with_node, with_edge, with_mode, HasIncoming, LacksIncoming};
+    ghost use Rattle.tfpg_graph.specs.Indexes.{nothing_declared, with_node, with_edge, with_mode, HasIncomingBefore, LacksIncoming, IsValidSoFar};
 
     /// Nothing is declared. Takes no memory.
     pub(crate) fn new(alloc: Global) -> Declared
@@ -173,7 +173,9 @@ impl Declared {
     }
 
     pub(crate) fn find(&self, name: &[u8]) -> Option<u32>
-        ensures { result ≡ node_named self.now name.now }
+        ensures node { result ≡ node_named self.now name.now }
+        ensures within { IfSome result (λ node. node < length self.now.nodes) }
+        ensures named { IfSome result (λ node. name_at self.now node ≡ Some name.now) }
     {
         self.nodes.get_index_of(name).map(|index| index as u32)
     }
@@ -202,6 +204,29 @@ impl Declared {
         ensures { result.now ≡ incoming self.now node }
     {
         self.incoming[node as usize].as_slice()
+    }
+
+    /// The first discrepancy with no edge into it. Takes time in the number of nodes.
+    pub(crate) fn without_incoming(&self) -> Option<u32>
+        ensures all { IfNone result (HasIncomingBefore self.now (length self.now.nodes)) }
+        ensures lacking { IfSome result (LacksIncoming self.now) }
+        ensures first { IfSome result (HasIncomingBefore self.now) }
+        ensures so_far { IsValidSoFar self.now }
+    {
+        let _declared = &self.nodes;
+        for node in 0..self.node_count() {
+            if self.lacks_incoming(node) {
+                return Some(node);
+            }
+        }
+        None
+    }
+
+    fn lacks_incoming(&self, node: u32) -> bool
+        requires { node < length self.now.nodes }
+        ensures { IsTrue result ↔ LacksIncoming self.now node }
+    {
+        !self.kind(node).is_failure() && self.incoming(node).is_empty()
     }
 
     pub(crate) fn failure_node(&self, place: u32) -> u32

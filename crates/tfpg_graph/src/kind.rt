@@ -1,5 +1,7 @@
 //! What a node is.
 
+ghost use Rattle.std.specs.Prelude.{◌≡◌};
+
 /// What a node is. A discrepancy with a lag is monitored: an alarm logged at `t` says that it became active at
 /// most `lag` milliseconds before. One without is hidden.
 #[derive(Clone, Copy, Debug, PartialEq, Eq)]
@@ -10,4 +12,15 @@ pub enum Kind {
     Or { lag: Option<u64> },
     /// A discrepancy that is activated when the failure reaches it from all its sources.
     And { lag: Option<u64> },
+}
+
+impl Kind {
+    ghost use Rattle.tfpg_graph.specs.Graph.{is_failure};
+
+    /// Whether it is a failure mode.
+    pub(crate) fn is_failure(self) -> bool
+        ensures { result ≡ is_failure self }
+    {
+        matches!(self, Kind::Failure { rarity: _ })
+    }
 }

@@ -9,10 +9,16 @@
 mod cause;
 mod declared;
 mod edge;
+mod graph;
 mod kind;
+mod new_edge;
+mod new_node;
+mod reader;
 mod line_shape;
+mod word_value;
 mod words;
 
 pub use cause::{GraphCause, GraphFault, GraphRefusal};
 pub use edge::Edge;
+pub use graph::Graph;
 pub use kind::Kind;

@@ -1,35 +1,48 @@
 //! What a line of a graph's text says by its shape alone.
 
 ghost use Rattle.std.specs.Prelude.{◌≡◌, ◌∷◌, map, codes, IfSome};
+ghost use Rattle.tfpg_graph.specs.Text.{line_of};
 ghost use Rattle.tfpg_graph.specs.Shapes.{shape_words, lag_words};
+
+use crate::words::split_words;
 
 /// The shape of a line: its keyword, and its other words unread.
 #[derive(Clone, Copy)]
 pub(crate) enum LineShape<'a> {
     Header,
-    Mode {
-        name: &'a [u8],
-    },
-    Failure {
-        name: &'a [u8],
-        rarity: &'a [u8],
-    },
-    Or {
-        name: &'a [u8],
-        lag: Option<&'a [u8]>,
-    },
-    Edge {
-        source: &'a [u8],
-        target: &'a [u8],
-        tmin: &'a [u8],
-        tmax: &'a [u8],
-        modes: &'a [u8],
-    },
+    Mode { name: &'a [u8] },
+    Node { name: &'a [u8], kind: KindWords<'a> },
+    Edge(EdgeWords<'a>),
     End,
 }
 
-/// The shape of a line with these words, where it has one.
-pub(crate) fn shape_of<'a>(words: &[&'a [u8]]) -> Option<LineShape<'a>>
+/// The words that say what a node is.
+#[derive(Clone, Copy)]
+pub(crate) enum KindWords<'a> {
+    Failure { rarity: &'a [u8] },
+    Or { lag: Option<&'a [u8]> },
+}
+
+/// The words of an edge's line behind its keyword.
+#[derive(Clone, Copy)]
+pub(crate) struct EdgeWords<'a> {
+    pub(crate) source: &'a [u8],
+    pub(crate) target: &'a [u8],
+    pub(crate) tmin: &'a [u8],
+    pub(crate) tmax: &'a [u8],
+    pub(crate) modes: &'a [u8],
+}
+
+/// The shape of the line, where it has one. Takes time in the length of the line.
+pub(crate) fn shape_of_line(line: &[u8]) -> Option<LineShape<'_>>
+    ensures { IfSome result (λ shape. line.now ≡ line_of (shape_words shape)) }
+{
+    let words = split_words(line)?;
+    shape_of(words.as_slice())
+}
+
+/// The shape of a line with these words.
+fn shape_of<'a>(words: &[&'a [u8]]) -> Option<LineShape<'a>>
     ensures { IfSome result (λ shape. map (λ word. word.now) words.now ≡ shape_words shape) }
 {
     let (keyword, others) = words.split_first()?;
@@ -66,9 +79,9 @@ fn failure_of<'a>(words: &[&'a [u8]]) -> Option<LineShape<'a>>
     ensures { IfSome result (λ shape. codes "failure" ∷ map (λ word. word.now) words.now ≡ shape_words shape) }
 {
     match words {
-        [name, rarity] => Some(LineShape::Failure {
+        [name, rarity] => Some(LineShape::Node {
             name: *name,
-            rarity: *rarity,
+            kind: KindWords::Failure { rarity: *rarity },
         }),
         _ => None,
     }
@@ -79,7 +92,10 @@ fn or_of<'a>(words: &[&'a [u8]]) -> Option<LineShape<'a>>
 {
     let (name, others) = words.split_first()?;
     let lag = lag_of(others)?;
-    Some(LineShape::Or { name: *name, lag })
+    Some(LineShape::Node {
+        name: *name,
+        kind: KindWords::Or { lag },
+    })
 }
 
 /// The word for the lag, where the last words of a discrepancy's line say that it is watched.
@@ -116,13 +132,13 @@ fn edge_of<'a>(words: &[&'a [u8]]) -> Option<LineShape<'a>>
     ensures { IfSome result (λ shape. codes "edge" ∷ map (λ word. word.now) words.now ≡ shape_words shape) }
 {
     match words {
-        [source, target, tmin, tmax, modes] => Some(LineShape::Edge {
+        [source, target, tmin, tmax, modes] => Some(LineShape::Edge(EdgeWords {
             source: *source,
             target: *target,
             tmin: *tmin,
             tmax: *tmax,
             modes: *modes,
-        }),
+        })),
         _ => None,
     }
 }

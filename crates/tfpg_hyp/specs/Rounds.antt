@@ -3,7 +3,7 @@ use Rattle.std.specs.Prelude.{◌≡◌, ℕ, ◌≤◌, List, [], ◌∷◌, �
 use Rattle.tfpg_base.specs.Set.{IsProperPart}
 use Rattle.tfpg_graph.specs.Graph.{Tfpg}
 use Rattle.tfpg_graph.specs.Reach.{IsReach}
-use Rattle.tfpg_log.specs.Log.{Logbook, now}
+use Rattle.tfpg_log.specs.Log.{Logbook, now_of}
 use Rattle.tfpg_log.specs.Explains.{Explains}
 use Rattle.tfpg_evidence.specs.declared.finding.Finding.{Finding}
 use Rattle.tfpg_evidence.specs.declared.finding.Status.{Status}
@@ -12,8 +12,10 @@ use Rattle.tfpg_evidence.specs.declared.round.Round.{Round}
 use Rattle.tfpg_evidence.specs.declared.round.Counts.{Counts}
 use Rattle.tfpg_clause.specs.Trees.{Judged, IsRefutation, IsPartial, is_cycle}
 use Rattle.tfpg_hyp.specs.Table.{IsTable}
-use Rattle.tfpg_hyp.specs.Ranking.{cost, robustness, Place, IsRankedBefore}
+use Rattle.tfpg_hyp.specs.declared.place.Place.{Place}
+use Rattle.tfpg_hyp.specs.Ranking.{cost_of, robustness_of, IsRankedBefore}
 
+-- tests of a status
 abbrev pub is_ranked : Status → Bool
 is_ranked (Ranked trace cost alarmed monitored) = true
 is_ranked (Covered by) = false
@@ -67,8 +69,8 @@ HasEvidence graph log budget findings reach steps finding (Covered by) =
     × ((other : ℕ) → IsRankedPart findings finding.set other → by ≤ other)
 -- A trace explains the log from the set, and no proper part is ranked.
 HasEvidence graph log budget findings reach steps finding (Ranked trace c alarmed monitored) =
-    IsPartial graph log reach steps × Explains graph log finding.set trace × (HasRankedPart findings finding.set → ⊥) × (c ≡ cost graph finding.set)
-    × (robustness graph log reach ≡ record { alarmed = alarmed; monitored = monitored })
+    IsPartial graph log reach steps × Explains graph log finding.set trace × (HasRankedPart findings finding.set → ⊥) × (c ≡ cost_of graph finding.set)
+    × (robustness_of graph log reach ≡ record { alarmed = alarmed; monitored = monitored })
 -- This round spent its whole budget on splits, the tree is not closed, and no proper part is ranked.
 HasEvidence graph log budget findings reach steps finding Open =
     IsPartial graph log reach steps × (HasRankedPart findings finding.set → ⊥) × (count_by (λ step. not (is_cycle step)) finding.steps ≡ budget)
@@ -83,7 +85,7 @@ pub record IsFinding (graph : Tfpg) (log : Logbook) (budget : ℕ) (rounds : Lis
 
 -- where a ranked finding stands
 abbrev pub place_of_status : ℕ → Status → Option Place
-place_of_status number (Ranked trace cost alarmed monitored) = Some (record { cost = cost; alarmed = alarmed; monitored = monitored; number = number })
+place_of_status number (Ranked trace cost alarmed monitored) = Some (record { cost = cost; robust = record { alarmed = alarmed; monitored = monitored }; number = number })
 place_of_status number (Covered by) = None
 place_of_status number Rejected = None
 place_of_status number Open = None
@@ -112,7 +114,7 @@ counts_of findings =
 pub record IsRound (graph : Tfpg) (k budget : ℕ) (rounds : List Round) (log : Logbook) (line : ℕ) (round : Round) : Type 0 where
   pub number : round.number ≡ length log.events
   pub line_is : round.line ≡ line
-  pub now_is : round.now ≡ now log
+  pub now_is : round.now ≡ now_of log
   pub sets : List (List ℕ)
   pub table : IsTable graph k sets
   pub complete : length round.findings ≡ length sets

@@ -11,7 +11,7 @@ use Rattle.tfpg_log.specs.declared.event.Offered.{Offered}
 use Rattle.tfpg_log.specs.declared.event.Offered.TheVariants.{Accepted, Refused}
 use Rattle.tfpg_log.specs.declared.refusal.Refusal.{Refusal}
 use Rattle.tfpg_log.specs.declared.refusal.Refusal.TheVariants.{BadLine, BadNumber, TimeTooLarge, TimeBack, UnknownName, NotMonitored, NotAMode, SecondAlarm, SilentAfterAlarm, LogFull, ModesFull}
-use Rattle.tfpg_log.specs.Log.{Logbook, now, alarm_of, is_mode_change}
+use Rattle.tfpg_log.specs.Log.{Logbook, now_of, alarm_of, is_mode_change}
 
 -- how many events a log takes, and how many of them may be changes of mode
 abbrev pub most_events : ℕ
@@ -43,7 +43,7 @@ shape_of (time ∷ word ∷ name ∷ more ∷ others) = None
 abbrev pub said_by : List ℕ → Option (List ℕ × Said)
 said_by line = if list_any (λ word. length word == 0) (words_of line) then None else shape_of (words_of line)
 
--- the name of an alarm or a silence; of an alarm; of a silence; of a mode
+-- the name in an alarm or a silence
 abbrev pub monitor_named : Said → Option (List ℕ)
 monitor_named (Alarm name) = Some name
 monitor_named (Silent name) = Some name
@@ -51,6 +51,7 @@ monitor_named Sweep = None
 monitor_named Tick = None
 monitor_named (Mode name) = None
 
+-- the name in an alarm
 abbrev pub alarm_named : Said → Option (List ℕ)
 alarm_named (Alarm name) = Some name
 alarm_named (Silent name) = None
@@ -58,6 +59,7 @@ alarm_named Sweep = None
 alarm_named Tick = None
 alarm_named (Mode name) = None
 
+-- the name in a silence
 abbrev pub silence_named : Said → Option (List ℕ)
 silence_named (Alarm name) = None
 silence_named (Silent name) = Some name
@@ -65,6 +67,7 @@ silence_named Sweep = None
 silence_named Tick = None
 silence_named (Mode name) = None
 
+-- the name in a change of mode
 abbrev pub mode_of_line : Said → Option (List ℕ)
 mode_of_line (Alarm name) = None
 mode_of_line (Silent name) = None
@@ -91,7 +94,7 @@ abbrev pub refusals : Tfpg → Logbook → List ℕ → Said → List (Option Re
 refusals graph log time said =
     refused_where (not (is_number time)) BadNumber
     ∷ refused_where (nat_lt most_time (digits_value 10 time)) TimeTooLarge
-    ∷ refused_where (nat_lt (digits_value 10 time) (now log)) (TimeBack (now log))
+    ∷ refused_where (nat_lt (digits_value 10 time) (now_of log)) (TimeBack (now_of log))
     ∷ option_and_then (λ name. refused_where (is_none (node_named graph name)) UnknownName) (monitor_named said)
     ∷ option_and_then (λ name. option_and_then (λ node. refused_where (not (is_monitored graph node)) NotMonitored) (node_named graph name)) (monitor_named said)
     ∷ option_and_then (λ name. refused_where (is_none (mode_named graph name)) NotAMode) (mode_of_line said)
@@ -109,21 +112,21 @@ event_of graph time Sweep = Some (kinds.Sweep time)
 event_of graph time Tick = Some (kinds.Tick time)
 event_of graph time (Mode name) = option_map (λ mode. kinds.Mode time mode) (mode_named graph name)
 
--- an event is accepted
-abbrev pub accepted : Option Event → Offered
-accepted (Some event) = Accepted event
-accepted None = Refused BadLine
+-- The event is accepted. A line that nothing refuses always has one.
+abbrev pub acceptance_of : Option Event → Offered
+acceptance_of (Some event) = Accepted event
+acceptance_of None = Refused BadLine
 
 -- A line that has a shape is refused for the first test that holds, and else accepted.
-abbrev pub offered_said : Tfpg → Logbook → List ℕ → Said → Option Refusal → Offered
-offered_said graph log time said (Some refusal) = Refused refusal
-offered_said graph log time said None = accepted (event_of graph (digits_value 10 time) said)
+abbrev pub reply_to_said : Tfpg → Logbook → List ℕ → Said → Option Refusal → Offered
+reply_to_said graph log time said (Some refusal) = Refused refusal
+reply_to_said graph log time said None = acceptance_of (event_of graph (digits_value 10 time) said)
 
 -- what becomes of a line, where it has this shape
-abbrev pub offered_shape : Tfpg → Logbook → Option (List ℕ × Said) → Offered
-offered_shape graph log None = Refused BadLine
-offered_shape graph log (Some line) = offered_said graph log line.0 line.1 (first_refusal (refusals graph log line.0 line.1))
+abbrev pub reply_to_shape : Tfpg → Logbook → Option (List ℕ × Said) → Offered
+reply_to_shape graph log None = Refused BadLine
+reply_to_shape graph log (Some line) = reply_to_said graph log line.0 line.1 (first_refusal (refusals graph log line.0 line.1))
 
 -- What becomes of a line that is offered to a log.
-abbrev pub offered : Tfpg → Logbook → List ℕ → Offered
-offered graph log line = offered_shape graph log (said_by line)
+abbrev pub reply_to : Tfpg → Logbook → List ℕ → Offered
+reply_to graph log line = reply_to_shape graph log (said_by line)

@@ -7,7 +7,7 @@ use Rattle.tfpg_log.specs.declared.event.Offered.{Offered}
 use Rattle.tfpg_log.specs.declared.event.Offered.TheVariants.{Accepted, Refused}
 use Rattle.tfpg_log.specs.declared.refusal.Refusal.TheVariants.{NotBuilt}
 use Rattle.tfpg_log.specs.Log.{Logbook}
-use Rattle.tfpg_log.specs.Accepted.{offered}
+use Rattle.tfpg_log.specs.Accepted.{reply_to}
 
 abbrev pub built_so_far : Offered → Offered
 built_so_far (Accepted (Alarm time node)) = Accepted (Alarm time node)
@@ -17,6 +17,6 @@ built_so_far (Accepted (Tick time)) = Accepted (Tick time)
 built_so_far (Accepted (Mode time mode)) = Refused NotBuilt
 built_so_far (Refused refusal) = Refused NotBuilt
 
--- What becomes of a line for now.
-abbrev pub offered_now : Tfpg → Logbook → List ℕ → Offered
-offered_now graph log line = built_so_far (offered graph log line)
+-- What a log replies to a line for now.
+abbrev pub reply_now : Tfpg → Logbook → List ℕ → Offered
+reply_now graph log line = built_so_far (reply_to graph log line)

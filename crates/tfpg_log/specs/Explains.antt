@@ -1,17 +1,17 @@
 -- When a trace shows an event and explains a log, and which sets of failure modes fit it.
-use Rattle.std.specs.Prelude.{◌≡◌, ℕ, ◌+◌, ◌≤◌, List, take, All, Contains, IsTrue, Some, IfSome, IsNone, slice_get}
+use Rattle.std.specs.Prelude.{◌≡◌, ℕ, ◌+◌, ◌≤◌, List, take, All, Contains, IsTrue, Some, IsNone, slice_get}
 use Rattle.tfpg_base.specs.declared.activation.Activation.{Activation}
 use Rattle.tfpg_base.specs.Trace.{time_of}
 use Rattle.tfpg_graph.specs.Graph.{Tfpg, lag_at, is_monitored, is_kind_at, is_failure, failure_at}
 use Rattle.tfpg_log.specs.declared.event.Event.{Event}
 use Rattle.tfpg_log.specs.declared.event.Event.TheVariants.{Alarm, Silent, Sweep, Tick, Mode}
-use Rattle.tfpg_log.specs.Log.{Logbook, now, alarm_among}
+use Rattle.tfpg_log.specs.Log.{Logbook, now_of, alarm_among}
 use Rattle.tfpg_log.specs.Rules.{IsActive, KeepsRules, IsTraceOf}
 
 -- The node became active at most its lag before the alarm, and not after it.
 abbrev pub ShowsAlarm : Tfpg → List Activation → ℕ → ℕ → Type 0
 ShowsAlarm graph trace node time =
-    IfSome (lag_at graph node) (λ lag. (active : ℕ) × (time_of trace node ≡ Some active) × (time ≤ active + lag) × (active ≤ time))
+    (lag active : ℕ) × (lag_at graph node ≡ Some lag) × (time_of trace node ≡ Some active) × (time ≤ active + lag) × (active ≤ time)
 
 -- The node is not active.
 abbrev pub ShowsSilence : List Activation → ℕ → ℕ → Type 0
@@ -26,10 +26,10 @@ Shows graph trace before (Sweep time) =
 Shows graph trace before (Tick time) = Unit {0}
 Shows graph trace before (Mode time mode) = Unit {0}
 
--- The trace shows each event of the log.
+-- The trace shows each event. Places count from 0.
 abbrev pub ShowsAll : Tfpg → List Activation → List Event → Type 0
 ShowsAll graph trace events =
-    (number : ℕ) (event : Event) → slice_get events number ≡ Some event → Shows graph trace (take number events) event
+    (place : ℕ) (event : Event) → slice_get events place ≡ Some event → Shows graph trace (take place events) event
 
 -- the failure mode is a member of the set, a list of positions
 abbrev pub IsMember : Tfpg → List ℕ → ℕ → Type 0
@@ -39,7 +39,7 @@ IsMember graph set node = (place : ℕ) × Contains set place × (failure_at gra
 -- set, the propagation rules hold, and it shows each event.
 pub record Explains (graph : Tfpg) (log : Logbook) (set : List ℕ) (trace : List Activation) : Type 0 where
   pub trace_of : IsTraceOf graph trace
-  pub by_now : All (λ activation. activation.time ≤ now log) trace
+  pub by_now : All (λ activation. activation.time ≤ now_of log) trace
   pub from_set : All (λ activation. IsTrue (is_kind_at is_failure graph activation.node) → IsMember graph set activation.node) trace
   pub rules : KeepsRules graph log trace
   pub shows : ShowsAll graph trace log.events

@@ -8,3 +8,4 @@ pub mod Explains
 pub mod Spans
 pub mod Accepted
 pub mod AcceptedNow
+pub mod LogOfLines

@@ -1,8 +1,9 @@
 -- What a log is: its events, its time, its alarms, and the mode of an instant.
-use Rattle.std.specs.Prelude.{◌≡◌, ℕ, zero, suc, ◌<◌, List, [], ◌∷◌, ◌++◌, length, take, All, fold, Bool, true, false, nat_lt, ◌==◌, if◌then◌else◌, IsTrue, Option, Some, None, slice_get}
+use Rattle.std.specs.Prelude.{◌≤◌, AllPairs, ◌≡◌, ℕ, zero, suc, ◌<◌, List, [], ◌∷◌, ◌++◌, length, take, All, fold, Bool, true, false, nat_lt, ◌==◌, if◌then◌else◌, IsTrue, Option, Some, None, slice_get}
 use Rattle.tfpg_log.specs.declared.event.Event.{Event}
 use Rattle.tfpg_log.specs.declared.event.Event.TheVariants.{Alarm, Silent, Sweep, Tick, Mode}
 use Rattle.tfpg_graph.specs.Graph.{Tfpg, is_monitored}
+use Rattle.tfpg_graph.specs.Valid.{most_time}
 
 -- a log: its events in order, numbered from 1
 pub record Logbook : Type 0 where
@@ -17,8 +18,8 @@ time_of_event (Tick time) = time
 time_of_event (Mode time mode) = time
 
 -- the time of the last event, and 0 for a log without events
-abbrev pub now : Logbook → ℕ
-now log = fold (λ last event. time_of_event event) 0 log.events
+abbrev pub now_of : Logbook → ℕ
+now_of log = fold (λ last event. time_of_event event) 0 log.events
 
 -- the event of a number
 abbrev pub event_at : Logbook → ℕ → Option Event
@@ -46,6 +47,7 @@ alarm_among (Sweep time ∷ events) node = alarm_among events node
 alarm_among (Tick time ∷ events) node = alarm_among events node
 alarm_among (Mode time mode ∷ events) node = alarm_among events node
 
+-- the time of the first alarm of a node in the log
 abbrev pub alarm_of : Logbook → ℕ → Option ℕ
 alarm_of log node = alarm_among log.events node
 
@@ -79,6 +81,8 @@ IsEventOf graph (Sweep time) = Unit {0}
 IsEventOf graph (Tick time) = Unit {0}
 IsEventOf graph (Mode time mode) = mode < length graph.modes
 
--- A log is of a graph: each event names only its monitored nodes and modes.
-abbrev pub IsOf : Tfpg → Logbook → Type 0
-IsOf graph log = All (IsEventOf graph) log.events
+-- A log is of a graph: each event names only its monitored nodes and modes. Its times never fall, and none is too large.
+pub record IsOf (graph : Tfpg) (log : Logbook) : Type 0 where
+  pub own : All (IsEventOf graph) log.events
+  pub in_order : AllPairs (λ earlier later. time_of_event earlier ≤ time_of_event later) log.events
+  pub in_range : All (λ event. time_of_event event ≤ most_time) log.events

@@ -4,7 +4,7 @@ use Rattle.tfpg_base.specs.declared.activation.Activation.{Activation}
 use Rattle.tfpg_base.specs.Trace.{time_of, IsRisingByNode}
 use Rattle.tfpg_graph.specs.declared.edge.Edge.{Edge}
 use Rattle.tfpg_graph.specs.Graph.{Tfpg, is_kind_at, is_or, is_and, is_allowed, edges_into}
-use Rattle.tfpg_log.specs.Log.{Logbook, now, mode_at}
+use Rattle.tfpg_log.specs.Log.{Logbook, now_of, mode_at}
 
 -- the trace gives the node a time of at most this instant
 abbrev pub IsActive : List Activation → ℕ → ℕ → Type 0
@@ -49,7 +49,7 @@ pub record KeepsMust (graph : Tfpg) (log : Logbook) (trace : List Activation) (n
 -- The propagation rules hold for each node at each instant up to now.
 abbrev pub KeepsRules : Tfpg → Logbook → List Activation → Type 0
 KeepsRules graph log trace =
-    (node instant : ℕ) → node < length graph.nodes → instant ≤ now log → KeepsMay graph log trace node instant × KeepsMust graph log trace node instant
+    (node instant : ℕ) → node < length graph.nodes → instant ≤ now_of log → KeepsMay graph log trace node instant × KeepsMust graph log trace node instant
 
 -- a finite map from nodes of the graph to times
 abbrev pub IsTraceOf : Tfpg → List Activation → Type 0

@@ -3,19 +3,9 @@ use Rattle.std.specs.Prelude.{ℕ, zero, suc, ◌+◌, Bool, ◌&&◌, nat_le, �
 use Rattle.std.specs.List.{list_all}
 use Rattle.tfpg_graph.specs.declared.edge.Edge.{Edge}
 use Rattle.tfpg_graph.specs.Graph.{Tfpg, is_allowed, edges_into}
-use Rattle.tfpg_log.specs.Log.{Logbook, now, mode_at}
-
--- a maximal run of instants with one mode, from the first to the last of them
-pub record Span : Type 0 where
-  pub lo : ℕ
-  pub hi : ℕ
-  pub mode : ℕ
-
--- a maximal run of spans, with the number of the first
-pub record Window : Type 0 where
-  pub first : ℕ
-  pub lo : ℕ
-  pub hi : ℕ
+use Rattle.tfpg_log.specs.declared.span.Span.{Span}
+use Rattle.tfpg_log.specs.declared.span.Window.{Window}
+use Rattle.tfpg_log.specs.Log.{Logbook, now_of, mode_at}
 
 -- the first of two that there is
 abbrev pub first_of_two : Option ℕ → Option ℕ → Option ℕ
@@ -46,7 +36,7 @@ span_between log (Some lo) (Some hi) = Some (record { lo = lo; hi = hi; mode = m
 -- the span of a number, of the instants up to a horizon that is not after now
 abbrev pub span_at : Logbook → ℕ → ℕ → Option Span
 span_at log number horizon =
-    if nat_le horizon (now log)
+    if nat_le horizon (now_of log)
     then span_between log (least (λ instant. span_number log instant == number) horizon) (greatest (λ instant. span_number log instant == number) horizon)
     else None
 

@@ -9,6 +9,8 @@
 
 mod event;
 mod refusal;
+mod span;
 
 pub use event::{Event, Offered};
 pub use refusal::Refusal;
+pub use span::{Span, Window};

@@ -171,3 +171,12 @@ pub record Loss : Type 0 where
 
 abbrev pub lost_text : Loss → List ℕ
 lost_text loss = text_line (codes "panel" ∷ decimal loss.panel ∷ (if loss.no_memory then codes "memory" else codes "lost") ∷ [])
+
+-- the block of a line: of a refused line, or of a round with the panels that were lost at it
+pub data Block : Type 0 where
+  RefusedBlock : (line : ℕ) (cause : RefusedLine) → Block
+  RoundBlock : (round : Round) (losses : List Loss) → Block
+
+abbrev pub block_text : Tfpg → Block → List ℕ
+block_text graph (RefusedBlock line cause) = refused_text line cause
+block_text graph (RoundBlock round losses) = round_text graph round ++ flat_map lost_text losses

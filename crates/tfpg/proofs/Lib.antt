@@ -1,0 +1,2 @@
+pub mod EmptySet
+pub mod EmptyRounds

@@ -1,0 +1,226 @@
+-- From what a call finds in the bytes behind the lines given to what it answers for each history.
+use Rattle.std.proofs.Common.{◌≡◌, inl, inr, ℕ, ◌+◌, ◌<◌, ◌≤◌, List, [], ◌∷◌, ◌++◌, length, take, Option, Some, None, Result, Ok, Err, IsSome, refl, ap, ◌∙◌, sym, subst, arith, append_assoc, append-nil, length-append}
+use Rattle.std.specs.List.{All, flat_map, slice_get}
+use Rattle.std.proofs.lemmas.List.{take_all, take_at, length_push, flat_map_more}
+use Rattle.std.proofs.lemmas.Option.{slice_get_past}
+use Rattle.std.proofs.lemmas.List.Elements.{All-push}
+use Rattle.tfpg_base.specs.declared.line.Line.{Line}
+use Rattle.tfpg_base.specs.declared.line.Line.TheVariants as line
+use Rattle.tfpg_base.specs.declared.line.LineFault.{LineFault}
+use Rattle.tfpg_base.specs.declared.line.LineFault.TheVariants as fault
+use Rattle.tfpg_base.specs.Outside.{Takes, IsAtEnd}
+use Rattle.tfpg_base.specs.Lines.{Reading, Buffered, HasNoLineEnd, StandsFor, IsGoingOn, IsNext, Answers, Continues, with_bytes, with_line, ended_by, ended_behind, next_whole, whole_lines, lines_of, with_line_end, most_bytes}
+use Rattle.tfpg_base.specs.LineSearch.{BeginsWith, IsLast, IsGiven, IsEnded, Found, Took, Searched}
+use Rattle.tfpg_base.proofs.LinesOf.{whole_lines-behind, lines_of-behind, whole_lines-line, lines_of-line, whole_lines-none, lines_of-none}
+
+-- the element behind a front
+slice_get-behind : (front : List (List ℕ)) (x : List ℕ) (xs : List (List ℕ)) → slice_get (front ++ x ∷ xs) (length front) ≡ Some x
+slice_get-behind [] x xs = refl
+slice_get-behind (y ∷ front) x xs = slice_get-behind front x xs
+
+-- the front and one element more
+take-behind : (front : List (List ℕ)) (x : List ℕ) (xs : List (List ℕ)) → take (length front + 1) (front ++ x ∷ xs) ≡ front ++ x ∷ []
+take-behind front x xs =
+    ap (take (length front + 1)) (sym (append_assoc front (x ∷ []) xs)) ∙ take_at (front ++ x ∷ []) xs (length front + 1) (length_push front x)
+
+-- bytes without a line end are one line, where there are some
+lines_of-one : (bytes : List ℕ) → HasNoLineEnd bytes → 0 < length bytes → lines_of bytes ≡ bytes ∷ []
+lines_of-one [] h some = absurd (omega arith)
+lines_of-one (byte ∷ bytes) h some = lines_of-none (byte ∷ bytes) h
+
+-- A history with its lines given, the bytes behind them, and no more bytes taken than it may.
+module _ (reading : Reading) (bytes : List ℕ) (split : reading.taken ≡ flat_map with_line_end reading.given ++ bytes) (clean : All HasNoLineEnd reading.given) where
+  -- the lines are those given and those of the bytes behind them
+  lines_of-taken : lines_of reading.taken ≡ reading.given ++ lines_of bytes
+  lines_of-taken = ap lines_of split ∙ lines_of-behind reading.given bytes clean
+
+  -- and so are the whole lines
+  whole_lines-taken : whole_lines reading.taken ≡ reading.given ++ whole_lines bytes
+  whole_lines-taken = ap whole_lines split ∙ whole_lines-behind reading.given bytes clean
+
+  module _ (few : length reading.taken ≤ most_bytes) where
+    -- what is the next whole line of the bytes is the next one
+    next_whole-is : next_whole reading ≡ slice_get (reading.given ++ whole_lines bytes) (length reading.given)
+    next_whole-is = ap (λ taken. slice_get (whole_lines taken) (length reading.given)) (take_all most_bytes reading.taken few) ∙ ap (λ lines. slice_get lines (length reading.given)) whole_lines-taken
+
+    -- the line that the bytes begin with is the next whole one
+    next_whole-first : (first rest : List ℕ) → HasNoLineEnd first → bytes ≡ first ++ 10 ∷ rest → next_whole reading ≡ Some first
+    next_whole-first first rest h e =
+        next_whole-is
+        ∙ ap (λ b. slice_get (reading.given ++ whole_lines b) (length reading.given)) e
+        ∙ ap (λ lines. slice_get (reading.given ++ lines) (length reading.given)) (whole_lines-line first rest h)
+        ∙ slice_get-behind reading.given first (whole_lines rest)
+
+    -- where no byte ends a line there is none
+    next_whole-none : HasNoLineEnd bytes → next_whole reading ≡ None
+    next_whole-none h =
+        next_whole-is
+        ∙ ap (λ lines. slice_get (reading.given ++ lines) (length reading.given)) (whole_lines-none bytes h)
+        ∙ ap (λ lines. slice_get lines (length reading.given)) (append-nil reading.given)
+        ∙ slice_get_past reading.given (length reading.given) (omega arith)
+
+  -- the line that the bytes begin with is the next one
+  front-first : (first rest : List ℕ) → HasNoLineEnd first → bytes ≡ first ++ 10 ∷ rest → take (length reading.given + 1) (lines_of reading.taken) ≡ reading.given ++ first ∷ []
+  front-first first rest h e =
+      ap (take (length reading.given + 1)) (lines_of-taken ∙ ap (λ b. reading.given ++ lines_of b) e ∙ ap (λ lines. reading.given ++ lines) (lines_of-line first rest h))
+      ∙ take-behind reading.given first (lines_of rest)
+
+  -- a last line is the last one of all
+  lines_of-last : (first : List ℕ) → HasNoLineEnd first → 0 < length first → bytes ≡ first → lines_of reading.taken ≡ reading.given ++ first ∷ []
+  lines_of-last first h some e = lines_of-taken ∙ ap (λ b. reading.given ++ lines_of b) e ∙ ap (λ lines. reading.given ++ lines) (lines_of-one first h some)
+
+-- behind a whole line nothing has ended
+not_ended : (next : Option (List ℕ)) (first : List ℕ) (answer : Result Line LineFault) → next ≡ Some first → ended_behind next ≡ Some answer → ⊥
+not_ended next first answer is e = let none : ended_behind next ≡ None = ap ended_behind is in cc
+
+-- behind a last line the end is
+ended_by_last : (next : Option (List ℕ)) → next ≡ None → ended_behind next ≡ None → ⊥
+ended_by_last next is e = let some : ended_behind next ≡ Some (Ok line.End) = ap ended_behind is in cc
+
+-- the bytes of the lines given and of one more
+with_line_end-push : (given : List (List ℕ)) (first rest : List ℕ) → flat_map with_line_end given ++ (first ++ 10 ∷ rest) ≡ flat_map with_line_end (given ++ first ∷ []) ++ rest
+with_line_end-push given first rest =
+    ap (λ b. flat_map with_line_end given ++ b) (sym (append_assoc first (10 ∷ []) rest))
+    ∙ sym (append_assoc (flat_map with_line_end given) (with_line_end first) rest)
+    ∙ ap (λ b. b ++ rest) (flat_map_more with_line_end [] given first)
+
+-- all but the last
+take_but_one : (most : ℕ) (taken front : List ℕ) (last : ℕ) → taken ≡ front ++ last ∷ [] → length taken ≡ most + 1 → take most taken ≡ front
+take_but_one most taken front last is count =
+    ap (take most) is ∙ take_at front (last ∷ []) most (omega (arith, count, ap length is, length_push front last))
+
+-- where there is none there is not some
+is_none : (next : Option (List ℕ)) → next ≡ None → IsSome next → ⊥
+is_none next e some = let f : IsSome {T = List ℕ} None = subst IsSome e some in cc
+
+-- What is known of the reader behind a call, but for what it answers.
+record Stands (reading : Reading) (lines : ℕ) (now : Buffered) : Type 0 where
+  lines_given : lines ≡ length reading.given
+  counted : now.taken ≡ length reading.taken
+
+module _ (reading : Reading) (bytes : List ℕ) (lines : ℕ) (now : Buffered) (split : reading.taken ≡ flat_map with_line_end reading.given ++ bytes) (clean : All HasNoLineEnd reading.given) (stands : Stands reading lines now) (source_ended : Type 0) where
+  -- the line that was given is next
+  IsNext-given : (first : List ℕ) → IsGiven bytes first lines source_ended now → IsNext reading first source_ended
+  IsNext-given first is = elim is.ends [
+    | inl ends ↦ record {
+      few = omega (arith, is.few, stands.counted);
+      front = front-first reading bytes split clean first now.waiting is.line ends.whole;
+      whole = inl (next_whole-first reading bytes split clean (omega (arith, is.few, stands.counted)) first now.waiting is.line ends.whole);
+    }
+    | inr ends ↦ record {
+      few = omega (arith, is.few, stands.counted);
+      front = ap (take (length reading.given + 1)) (lines_of-last reading bytes split clean first is.line ends.some ends.whole) ∙ take_all (length reading.given + 1) (reading.given ++ first ∷ []) (omega (arith, length_push reading.given first));
+      whole = inr ends.source;
+    }
+  ]
+
+  -- one more line is given
+  number-given : (first : List ℕ) → IsGiven bytes first lines source_ended now → now.number ≡ length (reading.given ++ first ∷ [])
+  number-given first is = omega (arith, is.number, stands.lines_given, length_push reading.given first)
+
+  -- a reader that gave a line with its line end goes on
+  StandsFor-begins : (first : List ℕ) → IsGiven bytes first lines source_ended now → BeginsWith bytes first now → StandsFor now (with_line reading first)
+  StandsFor-begins first is ends =
+      let next : next_whole reading ≡ Some first = next_whole-first reading bytes split clean (omega (arith, is.few, stands.counted)) first now.waiting is.line ends.whole in
+      record {
+        number = number-given first is;
+        taken = stands.counted;
+        ended = ends.ended ∙ sym (ap ended_behind next);
+        going_on = λ _. record {
+          bytes = split ∙ ap (λ b. flat_map with_line_end reading.given ++ b) ends.whole ∙ with_line_end-push reading.given first now.waiting;
+          lines = All-push HasNoLineEnd reading.given first clean is.line;
+          few = is.few;
+        };
+        all_given = λ e. absurd (not_ended (next_whole reading) first (Ok line.End) next e);
+      }
+
+  -- a reader that gave the last line is ended
+  StandsFor-last : (first : List ℕ) → IsGiven bytes first lines source_ended now → IsLast bytes first source_ended now → StandsFor now (with_line reading first)
+  StandsFor-last first is ends =
+      let next : next_whole reading ≡ None = next_whole-none reading bytes split clean (omega (arith, is.few, stands.counted)) (subst HasNoLineEnd (sym ends.whole) is.line) in
+      record {
+        number = number-given first is;
+        taken = stands.counted;
+        ended = ends.ended ∙ sym (ap ended_behind next);
+        going_on = λ e. absurd (ended_by_last (next_whole reading) next e);
+        all_given = λ _. lines_of-last reading bytes split clean first is.line ends.some ends.whole;
+      }
+
+  -- the reader stands for the history with the line that it gave
+  StandsFor-given : (first : List ℕ) → IsGiven bytes first lines source_ended now → StandsFor now (with_line reading first)
+  StandsFor-given first is = elim is.ends [ inl ends ↦ StandsFor-begins first is ends | inr ends ↦ StandsFor-last first is ends ]
+
+  -- the reader stands for the history that the answer ends
+  StandsFor-ended : (answer : Result Line LineFault) → IsEnded lines answer now → (Some answer ≡ Some (Ok line.End) → lines_of reading.taken ≡ reading.given) → StandsFor now (ended_by reading answer)
+  StandsFor-ended answer is all = record {
+    number = is.number ∙ stands.lines_given;
+    taken = stands.counted;
+    ended = is.ended;
+    going_on = λ e. absurd (cc);
+    all_given = all;
+  }
+
+  -- what was found is the answer for the history
+  Answers-found : (rose : Type 0) (result : Result Line LineFault) → Found bytes lines source_ended rose result now → Answers reading source_ended rose result now
+  Answers-found rose (Ok line.Text) found = (found.0, IsNext-given found.0 found.1, found.2, found.3, StandsFor-given found.0 found.1)
+  Answers-found rose (Ok line.TooLong) found = (found.0, IsNext-given found.0 found.1, found.2, found.3, StandsFor-given found.0 found.1)
+  Answers-found rose (Ok line.End) found =
+      let all : lines_of reading.taken ≡ reading.given = lines_of-taken reading bytes split clean ∙ ap (λ b. reading.given ++ lines_of b) found.0 ∙ append-nil reading.given in
+      (all, found.1, omega (arith, found.2, stands.counted), found.3.text, StandsFor-ended (Ok line.End) found.3 (λ _. all))
+  Answers-found rose (Err fault.ReadFault) found =
+      let all : whole_lines reading.taken ≡ reading.given = whole_lines-taken reading bytes split clean ∙ ap (λ lines. reading.given ++ lines) (whole_lines-none bytes found.0) ∙ append-nil reading.given in
+      (all, found.1, omega (arith, found.2, stands.counted), found.3.text, StandsFor-ended (Err fault.ReadFault) found.3 (λ e. absurd (cc)))
+  Answers-found rose (Err fault.TooMuchInput) found =
+      let first : List ℕ = found.0 in
+      let front : List ℕ = flat_map with_line_end reading.given ++ first in
+      let is : reading.taken ≡ front ++ found.1 ∷ [] = split ∙ ap (λ b. flat_map with_line_end reading.given ++ b) found.3 ∙ sym (append_assoc (flat_map with_line_end reading.given) first (found.1 ∷ [])) in
+      let count : length reading.taken ≡ most_bytes + 1 = sym stands.counted ∙ found.4 in
+      let all : whole_lines (take most_bytes reading.taken) ≡ reading.given =
+      ap whole_lines (take_but_one most_bytes reading.taken front found.1 is count)
+      ∙ whole_lines-behind reading.given first clean
+      ∙ ap (λ lines. reading.given ++ lines) (whole_lines-none first found.2)
+      ∙ append-nil reading.given in
+      (all, count, found.5.text, StandsFor-ended (Err fault.TooMuchInput) found.5 (λ e. absurd (cc)))
+
+-- nothing is taken where nothing changed
+pub Takes-nothing : (left : Option (List ℕ)) → Takes left left []
+Takes-nothing None = tt
+Takes-nothing (Some rest) = (rest, refl, refl)
+
+-- equal bytes were taken
+pub Takes-same : (before after : Option (List ℕ)) (bytes same : List ℕ) → bytes ≡ same → Takes before after bytes → Takes before after same
+Takes-same before after bytes same is takes = subst (λ b. Takes before after b) is takes
+
+-- the reader stands for the history also when it lends nothing any more
+StandsFor-lends_none : (old now : Buffered) (reading : Reading) (answer : Result Line LineFault) → reading.ended ≡ Some answer → now.number ≡ old.number → now.taken ≡ old.taken → now.ended ≡ old.ended → StandsFor old reading → StandsFor now reading
+StandsFor-lends_none old now reading answer is number taken ended stands = record {
+  number = number ∙ stands.number;
+  taken = taken ∙ stands.taken;
+  ended = ended ∙ stands.ended;
+  going_on = λ e. absurd (cc);
+  all_given = stands.all_given;
+}
+
+-- what ended a reader is answered again
+pub Continues-ended : (old now : Buffered) (answer : Result Line LineFault) (left : Option (List ℕ)) (rose : Type 0) → old.ended ≡ Some answer → now.text ≡ [] → now.number ≡ old.number → now.taken ≡ old.taken → now.ended ≡ old.ended → (reading : Reading) → StandsFor old reading → Continues reading reading.ended left left rose answer now
+Continues-ended old now answer left rose is text number taken ended reading stands =
+    let was : reading.ended ≡ Some answer = sym stands.ended ∙ is in
+    subst (λ e. Continues reading e left left rose answer now) (sym was) (refl, refl, text, StandsFor-lends_none old now reading answer was number taken ended stands)
+
+module _ (old now : Buffered) (before after : Option (List ℕ)) (rose : Type 0) (result : Result Line LineFault) where
+  -- what a call found is the answer for each history
+  pub Continues-found : (more : List ℕ) → Took old now before after more → Found (old.waiting ++ more) old.number (IsAtEnd after) rose result now → old.ended ≡ None → (reading : Reading) → StandsFor old reading → (IsSome (next_whole reading) → more ≡ []) → Continues reading reading.ended before after rose result now
+  Continues-found more took found unended reading stands only =
+      let unended_too : reading.ended ≡ None = sym stands.ended ∙ unended in
+      let going : IsGoingOn old reading = stands.going_on unended_too in
+      let split : reading.taken ++ more ≡ flat_map with_line_end reading.given ++ (old.waiting ++ more) = ap (λ b. b ++ more) going.bytes ∙ append_assoc (flat_map with_line_end reading.given) old.waiting more in
+      let known : Stands (with_bytes reading more) old.number now = record { lines_given = stands.number; counted = took.count ∙ ap (λ n. n + length more) stands.taken ∙ sym (length-append reading.taken more) } in
+      subst (λ ended. Continues reading ended before after rose result now) (sym unended_too)
+      (more, took.takes, only, Answers-found (with_bytes reading more) (old.waiting ++ more) old.number now split going.lines known (IsAtEnd after) rose result found)
+
+  -- a call that found no line end in the buffer takes bytes
+  pub Continues-searched : old.ended ≡ None → HasNoLineEnd old.waiting → Searched old before after rose result now → (reading : Reading) → StandsFor old reading → Continues reading reading.ended before after rose result now
+  Continues-searched unended clean searched reading stands =
+      let going : IsGoingOn old reading = stands.going_on (sym stands.ended ∙ unended) in
+      Continues-found searched.0 searched.1 searched.2 unended reading stands
+      (λ some. absurd (is_none (next_whole reading) (next_whole-none reading old.waiting going.bytes going.lines (omega (arith, going.few, stands.taken)) clean) some))

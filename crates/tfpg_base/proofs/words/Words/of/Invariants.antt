@@ -1,0 +1,10 @@
+use Rattle.std.proofs.Common.{◌≡◌, ◌≤◌, length, take}
+use Rattle.tfpg_base.proofs.words.Words.of.Given as goal
+
+abbrev pub invariant-loop-word : goal.invariant-loop-word
+invariant-loop-word l = record {
+  few : l.count ≤ 9;
+  counted : l.count ≡ length l.yielded;
+  room : length l.items ≡ 9;
+  kept : take l.count l.items ≡ l.yielded;
+}

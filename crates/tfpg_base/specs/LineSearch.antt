@@ -1,0 +1,95 @@
+-- What one call of a reader of lines finds, apart from its history: how the bytes behind the lines given go on.
+use Rattle.std.specs.Prelude.{◌≡◌, ◌⊎◌, ℕ, ◌+◌, ◌<◌, ◌≤◌, List, [], ◌∷◌, ◌++◌, length, take, drop, nat_le, if◌then◌else◌, Option, Some, None, Result, Ok, Err}
+use Rattle.tfpg_base.specs.declared.line.Line.{Line}
+use Rattle.tfpg_base.specs.declared.line.Line.TheVariants as line
+use Rattle.tfpg_base.specs.declared.line.LineFault.{LineFault}
+use Rattle.tfpg_base.specs.declared.line.LineFault.TheVariants as fault
+use Rattle.tfpg_base.specs.Outside.{Takes, IsAtEnd}
+use Rattle.tfpg_base.specs.Lines.{Buffered, HasNoLineEnd, longest_line, most_bytes}
+
+-- The line ends at the first byte that ends one.
+pub record IsAtLineEnd (bytes : List ℕ) (count : ℕ) : Type 0 where
+  pub within : count < length bytes
+  pub line : HasNoLineEnd (take count bytes)
+  pub whole : bytes ≡ take count bytes ++ 10 ∷ drop (count + 1) bytes
+
+-- what the answer at a line is
+abbrev pub kind_of : List ℕ → Line
+kind_of bytes = if nat_le (length bytes) longest_line then line.Text else line.TooLong
+
+-- what is lent of a line
+abbrev pub lent_of : List ℕ → List ℕ
+lent_of bytes = if nat_le (length bytes) longest_line then bytes else []
+
+-- The bytes are a line, its line end, and what waits.
+pub record BeginsWith (bytes first : List ℕ) (now : Buffered) : Type 0 where
+  pub whole : bytes ≡ first ++ 10 ∷ now.waiting
+  pub ended : now.ended ≡ None
+
+-- The bytes are a last line, without a line end.
+pub record IsLast (bytes first : List ℕ) (source_ended : Type 0) (now : Buffered) : Type 0 where
+  pub whole : bytes ≡ first
+  pub some : 0 < length first
+  pub source : source_ended
+  pub ended : now.ended ≡ Some (Ok line.End)
+
+-- The line at the front of the bytes was given.
+pub record IsGiven (bytes first : List ℕ) (lines : ℕ) (source_ended : Type 0) (now : Buffered) : Type 0 where
+  pub line : HasNoLineEnd first
+  pub ends : BeginsWith bytes first now ⊎ IsLast bytes first source_ended now
+  pub number : now.number ≡ lines + 1
+  pub few : now.taken ≤ most_bytes
+
+-- All that waited was given as the last line, or there was nothing.
+abbrev pub GivesLast : Buffered → Line → Buffered → Type 0
+GivesLast old line.Text now = (0 < length old.waiting) × (now.text ≡ old.waiting) × (now.number ≡ old.number + 1)
+GivesLast old line.TooLong now = ⊥
+GivesLast old line.End now = (old.waiting ≡ []) × (now.text ≡ []) × (now.number ≡ old.number)
+
+-- Nothing was given, and the answer ends the reader.
+pub record IsEnded (lines : ℕ) (answer : Result Line LineFault) (now : Buffered) : Type 0 where
+  pub number : now.number ≡ lines
+  pub text : now.text ≡ []
+  pub ended : now.ended ≡ Some answer
+
+-- what a call found in these bytes
+abbrev pub Found : List ℕ → ℕ → Type 0 → Type 0 → Result Line LineFault → Buffered → Type 0
+Found bytes lines source_ended rose (Ok line.Text) now =
+    (first : List ℕ) × IsGiven bytes first lines source_ended now × (length first ≤ longest_line) × (now.text ≡ first)
+Found bytes lines source_ended rose (Ok line.TooLong) now =
+    (first : List ℕ) × IsGiven bytes first lines source_ended now × (longest_line < length first) × (now.text ≡ [])
+Found bytes lines source_ended rose (Ok line.End) now =
+    (bytes ≡ []) × source_ended × (now.taken ≤ most_bytes) × IsEnded lines (Ok line.End) now
+Found bytes lines source_ended rose (Err fault.ReadFault) now =
+    HasNoLineEnd bytes × rose × (now.taken ≤ most_bytes) × IsEnded lines (Err fault.ReadFault) now
+Found bytes lines source_ended rose (Err fault.TooMuchInput) now =
+    (first : List ℕ) × (last : ℕ) × HasNoLineEnd first × (bytes ≡ first ++ last ∷ []) × (now.taken ≡ most_bytes + 1) × IsEnded lines (Err fault.TooMuchInput) now
+
+-- these bytes were taken
+pub record Took (old now : Buffered) (before after : Option (List ℕ)) (more : List ℕ) : Type 0 where
+  pub takes : Takes before after more
+  pub count : now.taken ≡ old.taken + length more
+
+-- Bytes were taken, and wait.
+pub record IsRefilled (old now : Buffered) (before after : Option (List ℕ)) (count : ℕ) : Type 0 where
+  pub more : List ℕ
+  pub took : Took old now before after more
+  pub length : length more ≡ count
+  pub end : count ≡ 0 → IsAtEnd after
+  pub few : now.taken ≤ most_bytes
+  pub waiting : now.waiting ≡ old.waiting ++ more
+  pub number : now.number ≡ old.number
+  pub ended : now.ended ≡ old.ended
+
+-- bytes were taken, or a fault ended the reader
+abbrev pub Refilled : Buffered → Option (List ℕ) → Option (List ℕ) → Type 0 → Result ℕ LineFault → Buffered → Type 0
+Refilled old before after rose (Ok count) now = IsRefilled old now before after count
+Refilled old before after rose (Err fault.ReadFault) now =
+    Took old now before after [] × rose × (now.taken ≤ most_bytes) × IsEnded old.number (Err fault.ReadFault) now
+Refilled old before after rose (Err fault.TooMuchInput) now =
+    (last : ℕ) × Took old now before after (last ∷ []) × (now.taken ≡ most_bytes + 1) × IsEnded old.number (Err fault.TooMuchInput) now
+
+-- bytes were taken until one of the answers came
+abbrev pub Searched : Buffered → Option (List ℕ) → Option (List ℕ) → Type 0 → Result Line LineFault → Buffered → Type 0
+Searched old before after rose result now =
+    (more : List ℕ) × Took old now before after more × Found (old.waiting ++ more) old.number (IsAtEnd after) rose result now

@@ -1,0 +1,40 @@
+-- What contracts see of the sources, sinks and shelves in memory.
+use Rattle.std.specs.Prelude.{◌≡◌, ◌<◌, ◌≤◌, ◌^◌, ℕ, List, ◌++◌, length, Option, Some, Result, Ok, Err}
+use Rattle.tfpg_base.specs.declared.outside.ShelfFault.{ShelfFault}
+use Rattle.tfpg_base.specs.declared.outside.ShelfFault.TheVariants as faults
+
+-- Bytes to give: those that are left, the most that one call gives, the numbers of the calls that are to fail,
+-- how many calls came, and how many failed.
+pub record GivesBytes : Type 0 where
+  pub left : List ℕ
+  pub most : ℕ
+  pub failing : List ℕ
+  pub calls : ℕ
+  pub faults : ℕ
+
+-- Bytes that were taken: all of them so far, the most that one call takes, the numbers of the calls that are to
+-- fail, how many calls came, and how many failed.
+pub record HoldsBytes : Type 0 where
+  pub holds : List ℕ
+  pub most : ℕ
+  pub failing : List ℕ
+  pub calls : ℕ
+  pub faults : ℕ
+
+-- Files by name: the names with the contents, the names asked for so far, the numbers of the calls that are to
+-- fail, how many calls came, and how many failed.
+pub record HasFiles : Type 0 where
+  pub files : List (List ℕ × List ℕ)
+  pub asked : List (List ℕ)
+  pub failing : List ℕ
+  pub calls : ℕ
+  pub faults : ℕ
+
+-- What fetching a file answers, where there may be one of this content: the whole content where it has at most
+-- 2^24 bytes, else its first 2^24 bytes and that it is too long. A failure is a fault.
+abbrev pub Fetches : Option (List ℕ) → Type 0 → List ℕ → Result (Unit {0}) ShelfFault → Type 0
+Fetches content rose copy (Ok done) = (content ≡ Some copy) × (length copy ≤ 2 ^ 24)
+Fetches content rose copy (Err faults.TooLong) =
+    (length copy ≡ 2 ^ 24) × ((more : List ℕ) × (0 < length more) × (content ≡ Some (copy ++ more)))
+Fetches content rose copy (Err faults.NoMemory) = Unit {0}
+Fetches content rose copy (Err faults.Failed) = rose

@@ -1,0 +1,174 @@
+//! Bytes as lines.
+//!
+//! [`Lines`] keeps the bytes that it took in one buffer. What waits there is what stands behind the lines that it
+//! gave; a line is lent from where it stands. A line that is too long for the buffer is passed in pieces.
+
+ghost use Rattle.std.specs.Prelude.{◌≡◌, ◌<◌, ◌≤◌, ◌+◌, ℕ, List, take, drop, length, slice_range, IfOk, IfNone, IfSome};
+ghost use Rattle.tfpg_base.specs.Outside.{Rose};
+ghost use Rattle.tfpg_base.specs.Lines.{Reading, new_reading, StandsFor, Continues, HasNoLineEnd};
+ghost use Rattle.tfpg_base.specs.LineSearch.{IsAtLineEnd, kind_of, lent_of};
+
+mod refill;
+mod search;
+#[cfg(test)]
+mod tests;
+
+use crate::{Line, LineFault, NoMemory, Source};
+use std::alloc::Global;
+use std::marker::Model;
+
+/// How many bytes a line may have.
+const LONGEST: usize = 4_096;
+
+/// How many bytes the buffer has: more than a line may have.
+const ROOM: usize = 65_536;
+
+/// Places of the buffer, from the one to before the other.
+#[derive(Clone, Copy)]
+struct Span {
+    start: usize,
+    end: usize,
+}
+
+impl Span {
+    /// No place.
+    const NONE: Span = Span { start: 0, end: 0 };
+}
+
+/// Cuts the bytes of one source into lines.
+///
+/// It keeps a buffer of 64 KiB. The cost of all calls together is linear in the bytes.
+#[derive(Drop)]
+pub struct Lines {
+    buffer: Vec<u8>,
+    waiting: Span,
+    text: Span,
+    number: u64,
+    taken: u64,
+    ended: Option<Result<Line, LineFault>>,
+}
+
+impl Model for Lines {
+    ghost use Rattle.tfpg_base.specs.Lines.{Buffered};
+
+    ghost Value = { Buffered };
+
+    ghost use Rattle.tfpg_base.specs.LinesInside.{buffered_of, IsInPlace};
+
+    ghost view = { buffered_of };
+
+    ghost invariant = { IsInPlace };
+}
+
+impl Lines {
+    /// A reader that has taken nothing. It takes its whole buffer now, and no memory later.
+    pub fn new(alloc: Global) -> Result<Lines, NoMemory>
+        ensures { IfOk result (λ lines. StandsFor lines new_reading) }
+    {
+        Ok(Lines {
+            buffer: vec![in alloc; 0; ROOM]?,
+            waiting: Span::NONE,
+            text: Span::NONE,
+            number: 0,
+            taken: 0,
+            ended: None,
+        })
+    }
+
+    /// Moves to the next line. The lines are those of all the bytes that the calls of one reader take, in order.
+    ///
+    /// Bytes are taken only where no whole line is left in the buffer. After the end, and after a fault, each
+    /// later call answers the same and takes nothing. A last line without a line end is given once the source has
+    /// given its end, and then the source is not asked again.
+    ///
+    /// # Errors
+    ///
+    /// `ReadFault` where the source failed, `TooMuchInput` where 2^32 bytes were taken, no line is left that ends
+    /// in them, and the source gives one more byte.
+    pub fn next<S: Source>(&mut self, source: &mut S) -> Result<Line, LineFault>
+        ensures answer { (reading : Reading) → StandsFor self.old reading
+            → Continues reading reading.ended (S.left source.old) (S.left source.new) (Rose (S.faults source.old) (S.faults source.new)) result self.new }
+        ensures never_falls { S.faults source.old ≤ S.faults source.new }
+    {
+        if let Some(answer) = self.ended {
+            self.text = Span::NONE;
+            return answer;
+        }
+        match line_end(self.waiting()) {
+            Some(count) => Ok(self.give_whole(count)),
+            None => self.read_line(source),
+        }
+    }
+
+    /// The line, without its line end; empty where the last answer was not `Text`.
+    pub fn text(&self) -> &[u8]
+        ensures { result.now ≡ self.now.text }
+    {
+        &self.buffer[self.text.start..self.text.end]
+    }
+
+    /// The number of the last line, from 1; 0 before the first.
+    pub fn number(&self) -> u64
+        ensures { result ≡ self.now.number }
+    {
+        self.number
+    }
+
+    /// The bytes behind the lines that were given.
+    fn waiting(&self) -> &[u8]
+        ensures { result.now ≡ self.now.waiting }
+    {
+        &self.buffer[self.waiting.start..self.waiting.end]
+    }
+
+    /// Gives so many of the bytes that wait as a line, and passes the line end behind them.
+    fn give_whole(&mut self, count: usize) -> Line
+        requires { count < length self.old.waiting }
+        ensures kind { result ≡ kind_of (take count self.old.waiting) }
+        ensures waiting { self.new.waiting ≡ drop (count + 1) self.old.waiting }
+        ensures text { self.new.text ≡ lent_of (take count self.old.waiting) }
+        ensures number { self.new.number ≡ self.old.number + 1 }
+        ensures taken { self.new.taken ≡ self.old.taken }
+        ensures ended { self.new.ended ≡ self.old.ended }
+    {
+        self.text = lent(self.waiting.start, count);
+        self.waiting.start += count + 1;
+        self.number += 1;
+        kind(count)
+    }
+}
+
+/// Where the first byte that ends a line stands.
+fn line_end(bytes: &[u8]) -> Option<usize>
+    ensures none { IfNone result (HasNoLineEnd bytes.now) }
+    ensures some { IfSome result (IsAtLineEnd bytes.now) }
+{
+    bytes.iter().position(|byte| *byte == b'\n')
+}
+
+/// What the answer at a line of so many bytes is.
+fn kind(count: usize) -> Line
+    ensures { (line : List ℕ) → length line ≡ count → result ≡ kind_of line }
+{
+    if count <= LONGEST {
+        Line::Text
+    } else {
+        Line::TooLong
+    }
+}
+
+/// Where the text of a line of so many bytes stands: nowhere for one that is too long.
+fn lent(start: usize, count: usize) -> Span
+    requires { start + count ≤ ROOM }
+    ensures place { result.start ≤ result.end }
+    ensures within { result.end ≤ start + count }
+    ensures text { (bytes : List ℕ) → start + count ≤ length bytes
+        → slice_range bytes result.start result.end ≡ lent_of (slice_range bytes start (start + count)) }
+{
+    let end = if count <= LONGEST {
+        start + count
+    } else {
+        start
+    };
+    Span { start, end }
+}

@@ -1,0 +1,102 @@
+//! Taking bytes from the source into the buffer.
+
+ghost use Rattle.std.specs.Prelude.{◌≡◌, ◌<◌, ◌≤◌, ◌+◌, ◌-◌, take, length, slice_range, vec_len, IfOk, OnErr, Ok};
+ghost use Rattle.tfpg_base.specs.Outside.{Rose, Takes, IsAtEnd};
+ghost use Rattle.tfpg_base.specs.Lines.{longest_line, most_bytes};
+ghost use Rattle.tfpg_base.specs.LineSearch.{Refilled};
+
+use super::{Lines, ROOM, Span};
+use crate::{Failed, LineFault, Source};
+
+/// How many bytes a reader takes, but for one to see that there are more.
+const MOST: u64 = 4_294_967_296;
+
+impl Lines {
+    /// Takes further bytes, and answers how many: none where the source has given its end. A fault ends the reader.
+    pub(super) fn refill<S: Source>(&mut self, source: &mut S) -> Result<usize, LineFault>
+        requires short { length self.old.waiting ≤ longest_line }
+        requires few { self.old.taken ≤ most_bytes }
+        ensures refilled { Refilled self.old (S.left source.old) (S.left source.new) (Rose (S.faults source.old) (S.faults source.new)) result self.new }
+        ensures never_falls { S.faults source.old ≤ S.faults source.new }
+    {
+        self.text = Span::NONE;
+        self.waiting = with_room(&mut self.buffer, self.waiting);
+        let from = self.waiting.end;
+        let to = from + wanted(self.taken, ROOM - from);
+        match take_into(source, &mut self.buffer, from, to) {
+            Err(Failed) => {
+                self.ended = Some(Err(LineFault::ReadFault));
+                Err(LineFault::ReadFault)
+            }
+            Ok(count) => {
+                self.waiting.end += count;
+                self.taken += count as u64;
+                if self.taken > MOST {
+                    self.ended = Some(Err(LineFault::TooMuchInput));
+                    return Err(LineFault::TooMuchInput);
+                }
+                Ok(count)
+            }
+        }
+    }
+}
+
+/// Where the bytes that wait stand once there is a place behind them. They are moved to the front of the buffer
+/// where there was none, and where none waits.
+fn with_room(buffer: &mut Vec<u8>, waiting: Span) -> Span
+    requires room { vec_len buffer.old ≡ ROOM }
+    requires order { waiting.start ≤ waiting.end }
+    requires within { waiting.end ≤ ROOM }
+    requires short { waiting.end < waiting.start + ROOM }
+    ensures room { vec_len buffer.new ≡ vec_len buffer.old }
+    ensures order { result.start ≤ result.end }
+    ensures within { result.end < ROOM }
+    ensures same { slice_range buffer.new.items result.start result.end ≡ slice_range buffer.old.items waiting.start waiting.end }
+{
+    if waiting.start < waiting.end && waiting.end < ROOM {
+        return waiting;
+    }
+    buffer.copy_within(waiting.start..waiting.end, 0);
+    Span {
+        start: 0,
+        end: waiting.end - waiting.start,
+    }
+}
+
+/// How many bytes to take at most: one where no more may be taken, to see whether there are more.
+fn wanted(taken: u64, free: usize) -> usize
+    requires few { taken ≤ most_bytes }
+    requires some { 0 < free }
+    ensures some { 0 < result }
+    ensures within { result ≤ free }
+    ensures few { taken < most_bytes → taken + result ≤ most_bytes }
+    ensures one { taken ≡ most_bytes → result ≡ 1 }
+{
+    let left = MOST - taken;
+    if left < free as u64 {
+        (left as usize).max(1)
+    } else {
+        free
+    }
+}
+
+/// Takes bytes into the places of the buffer from the one to before the other, and answers how many.
+fn take_into<S: Source>(
+    source: &mut S,
+    buffer: &mut Vec<u8>,
+    from: usize,
+    to: usize,
+) -> Result<usize, Failed>
+    requires some { from < to }
+    requires within { to ≤ vec_len buffer.old }
+    ensures room { vec_len buffer.new ≡ vec_len buffer.old }
+    ensures front { take from buffer.new.items ≡ take from buffer.old.items }
+    ensures within { IfOk result (λ count. count ≤ to - from) }
+    ensures taken { IfOk result (λ count. Takes (S.left source.old) (S.left source.new) (slice_range buffer.new.items from (from + count))) }
+    ensures end { result ≡ Ok 0 → IsAtEnd (S.left source.new) }
+    ensures failed { OnErr result (Rose (S.faults source.old) (S.faults source.new)) }
+    ensures nothing_taken { OnErr result (S.left source.new ≡ S.left source.old) }
+    ensures never_falls { S.faults source.old ≤ S.faults source.new }
+{
+    source.take(&mut buffer[from..to])
+}

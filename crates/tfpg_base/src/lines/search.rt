@@ -1,0 +1,111 @@
+//! The search for the end of a line that has not come whole.
+
+ghost use Rattle.std.specs.Prelude.{◌≡◌, ◌<◌, ◌≤◌, ◌+◌, [], drop, length, None, Some, Ok};
+ghost use Rattle.tfpg_base.specs.Outside.{Rose};
+ghost use Rattle.tfpg_base.specs.Lines.{HasNoLineEnd, longest_line, most_bytes};
+ghost use Rattle.tfpg_base.specs.LineSearch.{GivesLast, Searched};
+
+use super::{LONGEST, Lines, Span, line_end};
+use crate::{Line, LineFault, Source};
+
+impl Lines {
+    /// Takes bytes until the line that waits is whole, or there are no more.
+    pub(super) fn read_line<S: Source>(&mut self, source: &mut S) -> Result<Line, LineFault>
+        requires goes_on { self.old.ended ≡ None }
+        requires part { HasNoLineEnd self.old.waiting }
+        requires few { self.old.taken ≤ most_bytes }
+        ensures searched { Searched self.old (S.left source.old) (S.left source.new) (Rose (S.faults source.old) (S.faults source.new)) result self.new }
+        ensures never_falls { S.faults source.old ≤ S.faults source.new }
+    {
+        loop {
+            let seen = self.waiting().len();
+            if seen > LONGEST {
+                return self.skip_line(source);
+            }
+            if self.refill(source)? == 0 {
+                return Ok(self.give_last());
+            }
+            if let Some(more) = line_end(&self.waiting()[seen..]) {
+                return Ok(self.give_whole(seen + more));
+            }
+        }
+    }
+
+    /// Takes bytes until the line that waits, and is too long to be kept, is passed.
+    fn skip_line<S: Source>(&mut self, source: &mut S) -> Result<Line, LineFault>
+        requires goes_on { self.old.ended ≡ None }
+        requires part { HasNoLineEnd self.old.waiting }
+        requires long { longest_line < length self.old.waiting }
+        requires few { self.old.taken ≤ most_bytes }
+        ensures searched { Searched self.old (S.left source.old) (S.left source.new) (Rose (S.faults source.old) (S.faults source.new)) result self.new }
+        ensures never_falls { S.faults source.old ≤ S.faults source.new }
+    {
+        loop {
+            self.drop_waiting();
+            if self.refill(source)? == 0 {
+                self.pass_last();
+                return Ok(Line::TooLong);
+            }
+            if let Some(count) = line_end(self.waiting()) {
+                self.pass(count);
+                return Ok(Line::TooLong);
+            }
+        }
+    }
+
+    /// Gives the bytes that wait as the last line, if there are some. From then on the end is answered.
+    fn give_last(&mut self) -> Line
+        requires { length self.old.waiting ≤ longest_line }
+        ensures given { GivesLast self.old result self.new }
+        ensures taken { self.new.taken ≡ self.old.taken }
+        ensures ended { self.new.ended ≡ Some (Ok Line.End) }
+    {
+        self.ended = Some(Ok(Line::End));
+        self.text = self.waiting;
+        self.waiting.start = self.waiting.end;
+        if self.text.start == self.text.end {
+            return Line::End;
+        }
+        self.number += 1;
+        Line::Text
+    }
+
+    /// Drops the bytes that wait: they are part of a line that is too long.
+    fn drop_waiting(&mut self)
+        ensures waiting { self.new.waiting ≡ [] }
+        ensures number { self.new.number ≡ self.old.number }
+        ensures taken { self.new.taken ≡ self.old.taken }
+        ensures ended { self.new.ended ≡ self.old.ended }
+        ensures lines { self.old.number + length self.old.waiting ≤ self.old.taken }
+    {
+        self.waiting = Span::NONE;
+    }
+
+    /// Passes so many of the bytes that wait and the line end behind them, as the rest of a line that is too long.
+    fn pass(&mut self, count: usize)
+        requires { count < length self.old.waiting }
+        ensures waiting { self.new.waiting ≡ drop (count + 1) self.old.waiting }
+        ensures text { self.new.text ≡ [] }
+        ensures number { self.new.number ≡ self.old.number + 1 }
+        ensures taken { self.new.taken ≡ self.old.taken }
+        ensures ended { self.new.ended ≡ self.old.ended }
+    {
+        self.text = Span::NONE;
+        self.waiting.start += count + 1;
+        self.number += 1;
+    }
+
+    /// Counts a last line that is too long. From then on the end is answered.
+    fn pass_last(&mut self)
+        requires { self.old.number < self.old.taken }
+        ensures text { self.new.text ≡ [] }
+        ensures number { self.new.number ≡ self.old.number + 1 }
+        ensures taken { self.new.taken ≡ self.old.taken }
+        ensures ended { self.new.ended ≡ Some (Ok Line.End) }
+    {
+        self.ended = Some(Ok(Line::End));
+        self.text = Span::NONE;
+        self.waiting = Span::NONE;
+        self.number += 1;
+    }
+}

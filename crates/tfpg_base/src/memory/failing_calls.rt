@@ -1,0 +1,51 @@
+//! The calls that are to fail.
+
+ghost use Rattle.std.specs.Prelude.{◌≡◌, ◌≤◌};
+ghost use Rattle.std.specs.Bool.{OnFalse, OnTrue};
+ghost use Rattle.tfpg_base.specs.Outside.{Rose};
+
+/// Counts calls and faults. The calls with these numbers, from 1, are to fail.
+#[derive(Debug, Drop)]
+pub struct FailingCalls<'a> {
+    pub failing: &'a [u64],
+    pub calls: u64,
+    pub faults: u64,
+}
+
+impl<'a> FailingCalls<'a> {
+    pub fn new(failing: &'a [u64]) -> FailingCalls<'a>
+        ensures failing { result.failing.now ≡ failing.now }
+        ensures calls { result.calls ≡ 0 }
+        ensures faults { result.faults ≡ 0 }
+    {
+        FailingCalls {
+            failing,
+            calls: 0,
+            faults: 0,
+        }
+    }
+
+    /// Counts a call, and says whether it is to fail. That counts as a fault.
+    pub fn next_fails(&mut self) -> bool
+        ensures failed { OnTrue result (Rose self.old.faults self.new.faults) }
+        ensures went_on { OnFalse result (self.new.faults ≡ self.old.faults) }
+        ensures never_falls { self.old.faults ≤ self.new.faults }
+        ensures failing { self.new.failing.now ≡ self.old.failing.now }
+    {
+        self.calls = self.calls.saturating_add(1);
+        let fails = self.failing.contains(&self.calls);
+        if fails {
+            self.raise();
+        }
+        fails
+    }
+
+    /// Counts a fault.
+    pub fn raise(&mut self)
+        ensures rose { Rose self.old.faults self.new.faults }
+        ensures never_falls { self.old.faults ≤ self.new.faults }
+        ensures failing { self.new.failing.now ≡ self.old.failing.now }
+    {
+        self.faults = self.faults.saturating_add(1);
+    }
+}

@@ -1,0 +1,157 @@
+//! A shelf of files in memory, which fails at chosen calls.
+
+ghost use Rattle.std.specs.Prelude.{◌≡◌, ◌<◌, ◌≤◌, ◌^◌, [], ◌∷◌, ◌++◌, map, OnOk, OnErr, Some};
+ghost use Rattle.std.specs.String.{string_bytes};
+ghost use Rattle.std.specs.Option.{option_copied};
+ghost use Rattle.tfpg_base.specs.Outside.{file_of, Rose};
+ghost use Rattle.tfpg_base.specs.Memory.{Fetches};
+
+use super::failing_calls::FailingCalls;
+use crate::{NoMemory, Shelf, ShelfFault};
+use std::alloc::Global;
+use std::marker::Model;
+
+/// How many bytes a file may have.
+const LONGEST_FILE: usize = 1 << 24;
+
+/// Files by name, of which fetching fails at chosen calls and where there is no such file.
+#[derive(Debug, Drop)]
+pub struct MemoryShelf<'a> {
+    files: &'a [(&'a str, &'a [u8])],
+    asked: Vec<String>,
+    calls: FailingCalls<'a>,
+}
+
+impl<'a> Model for MemoryShelf<'a> {
+    ghost use Rattle.std.specs.Prelude.{map};
+    ghost use Rattle.std.specs.String.{string_bytes};
+    ghost use Rattle.tfpg_base.specs.Memory.{HasFiles};
+
+    ghost Value = { HasFiles };
+
+    ghost view = { λ shelf. record {
+      files = map (λ file. (file.0.now, file.1.now)) shelf.files.now;
+      asked = map string_bytes shelf.asked.items;
+      failing = shelf.calls.failing.now;
+      calls = shelf.calls.calls;
+      faults = shelf.calls.faults;
+    } };
+}
+
+impl<'a> MemoryShelf<'a> {
+    /// A shelf of these files, names with contents, which fails at the calls with these numbers. Of two files
+    /// with one name the first counts. Takes no memory.
+    pub fn new(
+        alloc: Global,
+        files: &'a [(&'a str, &'a [u8])],
+        failing: &'a [u64],
+    ) -> MemoryShelf<'a>
+        ensures { result ≡ record {
+          files = map (λ file. (file.0.now, file.1.now)) files.now;
+          asked = [];
+          failing = failing.now;
+          calls = 0;
+          faults = 0;
+        } }
+    {
+        MemoryShelf {
+            files,
+            asked: Vec::new(alloc),
+            calls: FailingCalls::new(failing),
+        }
+    }
+
+    /// The names asked for so far.
+    pub fn asked(&self) -> &[String]
+        ensures { map string_bytes result.now ≡ self.now.asked }
+    {
+        &self.asked
+    }
+
+    /// How often fetching has failed.
+    pub fn faults(&self) -> u64
+        ensures { result ≡ self.now.faults }
+    {
+        self.calls.faults
+    }
+}
+
+impl<'a> Shelf for MemoryShelf<'a> {
+    ghost use Rattle.std.specs.Prelude.{Some};
+
+    ghost faults = { λ shelf. shelf.faults };
+
+    ghost files = { λ shelf. Some shelf.files };
+
+    ghost asked = { λ shelf. Some shelf.asked };
+
+    fn fetch(&mut self, alloc: Global, name: &str, into: &mut Vec<u8>) -> Result<(), ShelfFault> {
+        into.clear();
+        let answer = self.give(name, into);
+        if answer != Err(ShelfFault::NoMemory) {
+            self.note(alloc, name).map_err(|_| ShelfFault::NoMemory)?;
+        }
+        answer
+    }
+}
+
+impl<'a> MemoryShelf<'a> {
+    /// Gives the file of that name, and counts a fault where the call is to fail or there is no such file.
+    fn give(&mut self, name: &str, into: &mut Vec<u8>) -> Result<(), ShelfFault>
+        requires { into.old.items ≡ [] }
+        ensures fetched { Fetches (file_of self.old.files name.now) (Rose self.old.faults self.new.faults) into.new.items result }
+        ensures never_falls { self.old.faults ≤ self.new.faults }
+        ensures same_files { self.new.files ≡ self.old.files }
+        ensures same_asked { self.new.asked ≡ self.old.asked }
+    {
+        if self.calls.next_fails() {
+            return Err(ShelfFault::Failed);
+        }
+        match find(self.files, name) {
+            Some(content) => copy_file(content, into),
+            None => {
+                self.calls.raise();
+                Err(ShelfFault::Failed)
+            }
+        }
+    }
+
+    /// Notes that this name was asked for.
+    fn note(&mut self, alloc: Global, name: &str) -> Result<(), NoMemory>
+        ensures ok { OnOk result (self.new.asked ≡ self.old.asked ++ name.now ∷ []) }
+        ensures err { OnErr result (self.new.asked ≡ self.old.asked) }
+        ensures same_files { self.new.files ≡ self.old.files }
+        ensures same_faults { self.new.faults ≡ self.old.faults }
+    {
+        self.asked.push(String::from_str(alloc, name)?)?;
+        Ok(())
+    }
+}
+
+/// The content of the first file of that name.
+fn find<'a>(files: &[(&str, &'a [u8])], name: &str) -> Option<&'a [u8]>
+    ensures { option_copied result ≡ file_of (map (λ file. (file.0.now, file.1.now)) files.now) name.now }
+{
+    for (file, content) in files {
+        if *file == name {
+            return Some(*content);
+        }
+    }
+    None
+}
+
+/// Copies the content of a file into the empty room, as far as a file may go.
+fn copy_file(content: &[u8], into: &mut Vec<u8>) -> Result<(), ShelfFault>
+    requires { into.old.items ≡ [] }
+    ensures { Fetches (Some content.now) ⊥ into.new.items result }
+{
+    let (kept, more) = content.split_at(content.len().min(LONGEST_FILE));
+    if into.extend_from_slice(kept).is_err() {
+        return Err(ShelfFault::NoMemory);
+    }
+    if more.is_empty() {
+        Ok(())
+    } else {
+        Err(ShelfFault::TooLong)
+    }
+}

@@ -1,0 +1,83 @@
+//! A sink that keeps its bytes, and fails at chosen calls.
+
+ghost use Rattle.std.specs.Prelude.{◌≡◌, ◌<◌, []};
+
+use super::failing_calls::FailingCalls;
+use crate::{Failed, Sink};
+use std::alloc::Global;
+use std::marker::Model;
+
+/// A sink that keeps what is put to it, takes a limited number of bytes in a call, and fails at chosen calls and
+/// where it finds no memory.
+#[derive(Debug, Drop)]
+pub struct MemorySink<'a> {
+    bytes: Vec<u8>,
+    most: usize,
+    calls: FailingCalls<'a>,
+}
+
+impl<'a> Model for MemorySink<'a> {
+    ghost use Rattle.std.specs.Prelude.{◌<◌};
+    ghost use Rattle.tfpg_base.specs.Memory.{HoldsBytes};
+
+    ghost Value = { HoldsBytes };
+
+    ghost view = { λ sink. record {
+      holds = sink.bytes.items;
+      most = sink.most;
+      failing = sink.calls.failing.now;
+      calls = sink.calls.calls;
+      faults = sink.calls.faults;
+    } };
+
+    ghost invariant = { λ sink. 0 < sink.most };
+}
+
+impl<'a> MemorySink<'a> {
+    /// A sink that holds nothing yet, takes at most so many bytes in a call, and fails at the calls with these
+    /// numbers. Takes no memory.
+    pub fn new(alloc: Global, most: usize, failing: &'a [u64]) -> MemorySink<'a>
+        requires { 0 < most }
+        ensures { result ≡ record { holds = []; most = most; failing = failing.now; calls = 0; faults = 0 } }
+    {
+        MemorySink {
+            bytes: Vec::new(alloc),
+            most,
+            calls: FailingCalls::new(failing),
+        }
+    }
+
+    /// All the bytes so far.
+    pub fn bytes(&self) -> &[u8]
+        ensures { result.now ≡ self.now.holds }
+    {
+        &self.bytes
+    }
+
+    /// How often putting has failed.
+    pub fn faults(&self) -> u64
+        ensures { result ≡ self.now.faults }
+    {
+        self.calls.faults
+    }
+}
+
+impl<'a> Sink for MemorySink<'a> {
+    ghost use Rattle.std.specs.Prelude.{Some};
+
+    ghost faults = { λ sink. sink.faults };
+
+    ghost holds = { λ sink. Some sink.holds };
+
+    fn put(&mut self, piece: &[u8]) -> Result<usize, Failed> {
+        if self.calls.next_fails() {
+            return Err(Failed);
+        }
+        let count = piece.len().min(self.most);
+        if self.bytes.extend_from_slice(&piece[..count]).is_err() {
+            self.calls.raise();
+            return Err(Failed);
+        }
+        Ok(count)
+    }
+}

@@ -1,0 +1,150 @@
+//! A valid graph with its look-ups.
+
+ghost use Rattle.std.specs.Prelude.{◌≡◌, ◌<◌, length, slice_get, Some};
+ghost use Rattle.tfpg_graph.specs.Graph.{kind_at, name_at, node_named, mode_named, edge_from_to, incoming, failures, failure_at, place_of_failure};
+ghost use Rattle.tfpg_graph.specs.Valid.{IsValid};
+
+use crate::declared::Declared;
+use crate::edge::Edge;
+use crate::kind::Kind;
+use std::marker::Model;
+
+/// A timed failure propagation graph that is valid.
+///
+/// Nodes, edges and modes are numbered from 0 in the order of their lines; the failure modes among the nodes have
+/// positions from 0, in the order of their numbers. No look-up takes memory. Those by number take constant time, those
+/// by name one look-up in a map.
+#[derive(Drop)]
+pub struct Graph {
+    declared: Declared,
+}
+
+impl Model for Graph {
+    ghost use Rattle.tfpg_graph.specs.Graph.{Tfpg};
+
+    ghost Value = { Tfpg };
+
+    ghost use Rattle.tfpg_graph.specs.Valid.{IsValid};
+
+    ghost view = { λ graph. graph.declared };
+
+    ghost invariant = { λ graph. IsValid graph.declared };
+}
+
+impl Graph {
+    /// The graph of what is declared, where that is valid.
+    pub(crate) fn new(declared: Declared) -> Graph
+        requires { IsValid declared }
+        ensures { result ≡ declared }
+    {
+        Graph { declared }
+    }
+
+    /// How many nodes it has: at most 512.
+    pub fn node_count(&self) -> u32
+        ensures count { result ≡ length self.now.nodes }
+        ensures valid { IsValid self.now }
+    {
+        self.declared.node_count()
+    }
+
+    /// How many edges it has: at most 2,048.
+    pub fn edge_count(&self) -> u32
+        ensures { result ≡ length self.now.edges }
+    {
+        self.declared.edge_count()
+    }
+
+    /// How many modes it has: from 1 to 64.
+    pub fn mode_count(&self) -> u32
+        ensures { result ≡ length self.now.modes }
+    {
+        self.declared.mode_count()
+    }
+
+    /// How many of its nodes are failure modes: at most 64.
+    pub fn failure_count(&self) -> u32
+        ensures { result ≡ length (failures self.now) }
+    {
+        self.declared.failure_count()
+    }
+
+    /// What the node is.
+    pub fn kind(&self, node: u32) -> Kind
+        requires { node < length self.now.nodes }
+        ensures { kind_at self.now node ≡ Some result }
+    {
+        self.declared.kind(node)
+    }
+
+    /// The edge of this number.
+    pub fn edge(&self, edge: u32) -> Edge
+        requires { edge < length self.now.edges }
+        ensures { slice_get self.now.edges edge ≡ Some result }
+    {
+        self.declared.edge(edge)
+    }
+
+    /// The name of the node.
+    pub fn name(&self, node: u32) -> &[u8]
+        requires { node < length self.now.nodes }
+        ensures { name_at self.now node ≡ Some result.now }
+    {
+        self.declared.name(node)
+    }
+
+    /// The name of the mode.
+    pub fn mode_name(&self, mode: u32) -> &[u8]
+        requires { mode < length self.now.modes }
+        ensures { slice_get self.now.modes mode ≡ Some result.now }
+    {
+        self.declared.mode_name(mode)
+    }
+
+    /// The node of this name, by one look-up in a map.
+    pub fn find(&self, name: &[u8]) -> Option<u32>
+        ensures { result ≡ node_named self.now name.now }
+    {
+        self.declared.find(name)
+    }
+
+    /// The mode of this name, by one look-up in a map.
+    pub fn find_mode(&self, name: &[u8]) -> Option<u32>
+        ensures { result ≡ mode_named self.now name.now }
+    {
+        self.declared.find_mode(name)
+    }
+
+    /// The edge from the one node to the other. Goes through the edges into the other, at most 32.
+    pub fn edge_between(&self, source: u32, target: u32) -> Option<u32>
+        requires source_in { source < length self.now.nodes }
+        requires target_in { target < length self.now.nodes }
+        ensures { result ≡ edge_from_to self.now source target }
+    {
+        self.declared.edge_between(source, target)
+    }
+
+    /// The numbers of the edges into the node, rising: none of a failure mode, at most 32 of a discrepancy.
+    pub fn incoming(&self, node: u32) -> &[u32]
+        requires { node < length self.now.nodes }
+        ensures { result.now ≡ incoming self.now node }
+    {
+        self.declared.incoming(node)
+    }
+
+    /// The node of the failure mode at this position.
+    pub fn failure_node(&self, place: u32) -> u32
+        requires { place < length (failures self.now) }
+        ensures { failure_at self.now place ≡ Some result }
+    {
+        self.declared.failure_node(place)
+    }
+
+    /// The position of the node among the failure modes, where it is one.
+    pub fn place_of(&self, node: u32) -> Option<u32>
+        requires { node < length self.now.nodes }
+        ensures { result ≡ place_of_failure self.now node }
+    {
+        self.declared.place_of(node)
+    }
+}
