@@ -1,5 +1,5 @@
 -- The nodes of failure modes.
-use Rattle.std.proofs.Common.{◌≡◌, ℕ, ◌<◌, length, All, Some, slice_get, arith}
+use Rattle.std.proofs.Common.{◌≡◌, ℕ, ◌<◌, length, All, Some, arith}
 use Rattle.std.proofs.lemmas.Option.{get_or_from_slice_get}
 use Rattle.tfpg_graph.specs.Graph.{Tfpg, failures, failure_at, is_failure}
 use Rattle.tfpg_graph.proofs.Numbered.{All-below-numbers_from}

@@ -1,4 +1,3 @@
-use Rattle.std.proofs.Common.{◌≡◌, ◌<◌, length}
 use Rattle.tfpg_report.proofs.Failures.{failure_at-below}
 use Rattle.tfpg_report.proofs.names.failure_name.Goals as goal
 
