@@ -60,19 +60,11 @@ fn put_rejected(graph: &Graph, finding: &Finding, into: &mut Vec<u8>) -> Result<
     ensures { Appends result into.old.items into.new.items (rejected_text graph.now finding.now finding.now.status) }
 {
     match &finding.status {
-        Status::Rejected => put_rejected_now(graph, finding, into),
+        Status::Rejected if !finding.steps.as_slice().is_empty() => {
+            put_hypothesis(graph, b"rejected ", finding, into)
+        }
         _ => Ok(()),
     }
-}
-
-fn put_rejected_now(graph: &Graph, finding: &Finding, into: &mut Vec<u8>) -> Result<(), NoMemory>
-    requires { IsFindingOf (sizes_of graph.now) finding.now }
-    ensures { Appends result into.old.items into.new.items (rejected_text graph.now finding.now Status.Rejected) }
-{
-    if finding.steps.as_slice().is_empty() {
-        return Ok(());
-    }
-    put_hypothesis(graph, b"rejected ", finding, into)
 }
 
 /// Appends the line of a hypothesis: how it stands with a space behind, its number and its set.
