@@ -2,9 +2,11 @@
 //! lines of bytes, the words on a line, sets of failure modes, traces and difference constraints.
 //!
 //! - [`Source`], [`Sink`] and [`Shelf`] are the outside. Each counts its faults, and may tell its contents to
-//!   the contracts. Each has an implementation in memory.
+//!   the contracts. [`MemorySource`], [`MemorySink`] and [`MemoryShelf`] are each in memory; [`SteadySource`]
+//!   and [`Discard`] never fail.
 //! - [`Lines`] cuts what a source gives into lines.
-//! - [`read_name`] and [`read_number`] know the two forms of words that every text format uses.
+//! - [`Words`] cuts a line into words. [`read_name`] and [`read_number`] know the two forms of words that every
+//!   text format uses.
 //! - [`Set`] is a set of failure modes, [`Trace`] says when which node became active.
 //! - [`Items`] is a list that contracts see as one; [`Bytes`], [`NumberList`] and [`LineList`] are such lists, and a crate
 //!   names one of its own items by `pub type StepList = Items<Step>;`. [`Text`] is a text that is kept.
