@@ -1,0 +1,4 @@
+pub mod Demands
+pub mod Solution
+pub mod Cycle
+pub mod State

@@ -1,0 +1,12 @@
+//! Difference systems.
+#![tactic(auto)]
+
+mod bounds;
+mod edge;
+mod pick;
+mod why;
+
+pub use bounds::Bounds;
+pub use edge::Edge;
+pub use pick::Pick;
+pub use why::{Conflict, Why};
