@@ -4,6 +4,7 @@
 mod bounds;
 mod edge;
 mod pick;
+mod trace;
 mod why;
 
 pub use bounds::Bounds;

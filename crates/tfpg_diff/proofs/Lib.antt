@@ -1,0 +1,4 @@
+pub mod Lists
+pub mod Climb
+pub mod Totals
+pub mod Walks
