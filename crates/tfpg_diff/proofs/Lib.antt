@@ -2,3 +2,5 @@ pub mod Lists
 pub mod Climb
 pub mod Totals
 pub mod Walks
+pub mod Lowering
+pub mod Latest
