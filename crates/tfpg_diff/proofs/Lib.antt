@@ -4,3 +4,4 @@ pub mod Totals
 pub mod Walks
 pub mod Lowering
 pub mod Latest
+pub mod Relaxing

@@ -1,5 +1,6 @@
 -- What the body of a system keeps: values and links that lead to zero. No public clause names it.
 use Rattle.std.specs.Prelude.{◌≡◌, ◌≢◌, Bool, true, false, sum, ℕ, ◌+◌, ◌^◌, ◌<◌, ◌≤◌, pos, ◌+ℤ◌, ◌≤ℤ◌, List, [], ◌∷◌, ◌++◌, map, length, slice_index, slice_get, All, Some}
+use Rattle.std.specs.List.{HoldsAt}
 use Rattle.tfpg_diff.specs.declared.why.Why.{Why}
 use Rattle.tfpg_diff.specs.declared.bounds.Bounds.{Bounds}
 use Rattle.tfpg_diff.specs.declared.pick.Pick.{Pick}
@@ -71,6 +72,6 @@ abbrev pub demands_of : List Bounds → List Pick → Demands
 demands_of bounds picks = record { bounds = bounds; picks = picks }
 
 -- What testing one pick does to values: where it was broken they sum up to less, else they stay and meet it.
-abbrev pub Relaxes : Edge → List ℕ → Bool → List ℕ → Type 0
-Relaxes edge before true after = sum after < sum before
-Relaxes edge before false after = (after ≡ before) × Meets after edge
+abbrev pub Relaxes : List Pick → ℕ → List ℕ → Bool → List ℕ → Type 0
+Relaxes picks place before true after = sum after < sum before
+Relaxes picks place before false after = (after ≡ before) × HoldsAt (λ pick. Meets after (edge_of pick)) picks place

@@ -4,7 +4,9 @@
 mod bounds;
 mod edge;
 mod pick;
+mod relax;
 mod trace;
+mod tree;
 mod why;
 
 pub use bounds::Bounds;
