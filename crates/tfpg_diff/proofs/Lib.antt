@@ -5,3 +5,4 @@ pub mod Walks
 pub mod Lowering
 pub mod Latest
 pub mod Relaxing
+pub mod Passing

@@ -75,3 +75,8 @@ demands_of bounds picks = record { bounds = bounds; picks = picks }
 abbrev pub Relaxes : List Pick → ℕ → List ℕ → Bool → List ℕ → Type 0
 Relaxes picks place before true after = sum after < sum before
 Relaxes picks place before false after = (after ≡ before) × HoldsAt (λ pick. Meets after (edge_of pick)) picks place
+
+-- What testing the picks in front does to values: where any was broken they sum up to less, else they stay and meet these.
+abbrev pub Passes : List Pick → List ℕ → Bool → List ℕ → Type 0
+Passes picks before true after = sum after < sum before
+Passes picks before false after = (after ≡ before) × MeetsPicks after picks

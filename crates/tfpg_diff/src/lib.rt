@@ -5,6 +5,7 @@ mod bounds;
 mod edge;
 mod pick;
 mod relax;
+mod settle;
 mod trace;
 mod tree;
 mod why;
