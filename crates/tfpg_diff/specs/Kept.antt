@@ -5,7 +5,7 @@ use Rattle.tfpg_diff.specs.declared.why.Why.{Why}
 use Rattle.tfpg_diff.specs.declared.bounds.Bounds.{Bounds}
 use Rattle.tfpg_diff.specs.declared.pick.Pick.{Pick}
 use Rattle.tfpg_diff.specs.declared.edge.Edge.{Edge}
-use Rattle.tfpg_diff.specs.Demands.{Demands, Demanded, Bounded, edge_of}
+use Rattle.tfpg_diff.specs.Demands.{Demands, Demanded, Bounded, edge_of, ceiling_of}
 use Rattle.tfpg_diff.specs.Solution.{Meets, IsSolution}
 use Rattle.tfpg_diff.specs.State.{never}
 
@@ -80,3 +80,13 @@ Relaxes picks place before false after = (after ≡ before) × HoldsAt (λ pick.
 abbrev pub Passes : List Pick → List ℕ → Bool → List ℕ → Type 0
 Passes picks before true after = sum after < sum before
 Passes picks before false after = (after ≡ before) × MeetsPicks after picks
+
+-- The variables below a number have their upper bounds as values and as links.
+pub record IsStart (bounds : List Bounds) (values : List ℕ) (links : List Edge) (count : ℕ) : Type 0 where
+  pub values_len : length values ≡ length bounds + 1
+  pub links_len : length links ≡ length bounds + 1
+  pub zero_stays : slice_index values 0 ≡ 0
+  pub values_are : (variable : ℕ) (limits : Bounds) → variable < count → slice_get bounds variable ≡ Some limits →
+    slice_index values (variable + 1) ≡ limits.ceiling
+  pub links_are : (variable : ℕ) (limits : Bounds) → variable < count → slice_get bounds variable ≡ Some limits →
+    slice_get links (variable + 1) ≡ Some (ceiling_of variable limits)

@@ -1,12 +1,11 @@
 //! Values before any pick is tested, and after all of them are met.
 
-ghost use Rattle.std.specs.Prelude.{◌≡◌, ℕ, ◌+◌, ◌<◌, ◌≤◌, List, length, vec_len, vec_capacity, IfOk, OnOk, OnErr, slice_index};
+ghost use Rattle.std.specs.Prelude.{◌≡◌, ℕ, ◌+◌, ◌-◌, ◌^◌, ◌<◌, ◌≤◌, length, vec_len, vec_capacity, IfOk, OnOk, OnErr, Some, slice_get, slice_index};
 ghost use Rattle.tfpg_diff.specs.declared.bounds.Bounds.{Bounds as BoundsOf};
-ghost use Rattle.tfpg_diff.specs.declared.pick.Pick.{Pick as PickOf};
-ghost use Rattle.tfpg_diff.specs.Demands.{Bounded};
+ghost use Rattle.tfpg_diff.specs.Demands.{ceiling_of};
 ghost use Rattle.tfpg_diff.specs.Cycle.{NamesNegativeCycle};
 ghost use Rattle.tfpg_diff.specs.State.{never};
-ghost use Rattle.tfpg_diff.specs.Kept.{IsSound, IsKept, MeetsPicks, Passes, demands_of};
+ghost use Rattle.tfpg_diff.specs.Kept.{IsSound, IsKept, IsStart, MeetsPicks, Passes, demands_of};
 
 use crate::bounds::Bounds;
 use crate::edge::Edge;
@@ -64,4 +63,45 @@ pub fn settle(
             return Ok(());
         }
     }
+}
+
+/// The upper bound of a variable as a constraint. The bound is below 2^63.
+pub fn ceiling_edge(variable: u32, bounds: Bounds) -> Edge
+    requires variable { variable < 2 ^ 32 - 1 }
+    requires small { bounds.ceiling ≤ never }
+    ensures { result ≡ ceiling_of variable bounds }
+{
+    Edge {
+        left: variable + 1,
+        right: 0,
+        most: bounds.ceiling as i64,
+        why: bounds.ceiling_why,
+    }
+}
+
+/// Gives each variable the value of its upper bound, and that bound as its link.
+pub fn start(bounds: &[Bounds], tree: &mut Tree)
+    requires few { length bounds.now < 2 ^ 32 }
+    requires ceilings { (variable : ℕ) (limits : BoundsOf) → slice_get bounds.now variable ≡ Some limits → limits.ceiling ≤ never }
+    requires values { vec_len tree.old.values ≡ length bounds.now + 1 }
+    requires links { vec_len tree.old.links ≡ length bounds.now + 1 }
+    requires zero { slice_index tree.old.values.items 0 ≡ 0 }
+    ensures { IsStart bounds.now tree.new.values.items tree.new.links.items (length bounds.now) }
+{
+    for variable in 0..bounds.len() {
+        let limits = bounds[variable];
+        tree.values[variable + 1] = limits.ceiling;
+        tree.links[variable + 1] = ceiling_edge(variable as u32, limits);
+    }
+}
+
+/// Copies values and links. It allocates nothing.
+pub fn save(tree: &Tree, into: &mut Tree)
+    requires values { vec_len into.old.values ≡ vec_len tree.now.values }
+    requires links { vec_len into.old.links ≡ vec_len tree.now.links }
+    ensures values { into.new.values.items ≡ tree.now.values.items }
+    ensures links { into.new.links.items ≡ tree.now.links.items }
+{
+    into.values.copy_from_slice(&tree.values);
+    into.links.copy_from_slice(&tree.links);
 }
