@@ -6,3 +6,4 @@ pub mod Lowering
 pub mod Latest
 pub mod Relaxing
 pub mod Passing
+pub mod Changes

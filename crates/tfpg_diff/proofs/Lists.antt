@@ -1,8 +1,10 @@
 -- Lists: reads after a write, pairs and distinct numbers.
 use Rattle.std.proofs.Common.{◌≡◌, ◌≢◌, ℕ, zero, suc, ◌+◌, ◌<◌, ◌≤◌, List, [], ◌∷◌, ◌++◌, length, get_or, set, map, Some, Option, refl, sym, ◌∙◌, ap, subst, arith, ⊎_elim, length-append}
-use Rattle.std.specs.Prelude.{slice_get, AllPairs, All, eqb, true, Bool}
+use Rattle.std.specs.Prelude.{slice_get, AllPairs, All, Contains, eqb, true, Bool}
+use Rattle.std.proofs.Common.{take, drop}
 use Rattle.std.specs.List.{list_any, IsDistinct}
-use Rattle.std.proofs.lemmas.List.{get_or-map, get_or_append_left, length-map}
+use Rattle.std.proofs.lemmas.List.{get_or-map, get_or_append_left, length-map, take-append-drop}
+use Rattle.std.proofs.lemmas.List.Elements.{Contains-append_left}
 use Rattle.std.proofs.lemmas.List.Folds.{Any-from_list_any}
 use Rattle.std.proofs.lemmas.Bool.{eqb-true}
 use Rattle.std.proofs.lemmas.Bool.Decides.{Decides-eqb}
@@ -56,3 +58,8 @@ length-le_distinct xs n apart below =
         let same : q ≡ some.1 = eqb-true q some.1 some.4 in
         let here : get_or xs some.0 some.1 < n = below some.0 some.1 some.2 in
         subst (λ (m : ℕ). m < n) (some.3 ∙ sym same) here)
+
+-- what a front part contains
+pub Contains-take : {X : Type 0} (xs : List X) (n : ℕ) (x : X) → Contains (take n xs) x → Contains xs x
+Contains-take xs n x found =
+    subst (λ ys. Contains ys x) (take-append-drop n xs) (Contains-append_left (take n xs) (drop n xs) x found)

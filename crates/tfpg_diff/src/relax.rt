@@ -88,7 +88,7 @@ pub fn relax(
     requires sound { IsSound (demands_of bounds.now picks.now) }
     requires kept { IsKept (demands_of bounds.now picks.now) tree.old.values.items tree.old.links.items }
     requires room { length bounds.now + 3 ≤ vec_capacity cycle.old }
-    ensures kept { OnOk result (IsKept (demands_of bounds.now picks.now) tree.new.values.items tree.new.links.items) }
+    ensures kept { IsKept (demands_of bounds.now picks.now) tree.new.values.items tree.new.links.items }
     ensures relaxes { IfOk result (λ lowered. Relaxes picks.now place tree.old.values.items lowered tree.new.values.items) }
     ensures cycle { OnErr result (NamesNegativeCycle (demands_of bounds.now picks.now) cycle.new.items) }
     ensures capacity { vec_capacity cycle.old ≤ vec_capacity cycle.new }

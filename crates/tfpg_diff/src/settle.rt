@@ -26,7 +26,7 @@ fn pass(
     requires sound { IsSound (demands_of bounds.now picks.now) }
     requires kept { IsKept (demands_of bounds.now picks.now) tree.old.values.items tree.old.links.items }
     requires room { length bounds.now + 3 ≤ vec_capacity cycle.old }
-    ensures kept { OnOk result (IsKept (demands_of bounds.now picks.now) tree.new.values.items tree.new.links.items) }
+    ensures kept { IsKept (demands_of bounds.now picks.now) tree.new.values.items tree.new.links.items }
     ensures passes { IfOk result (λ lowered. Passes picks.now tree.old.values.items lowered tree.new.values.items) }
     ensures cycle { OnErr result (NamesNegativeCycle (demands_of bounds.now picks.now) cycle.new.items) }
     ensures capacity { vec_capacity cycle.old ≤ vec_capacity cycle.new }
@@ -53,7 +53,7 @@ pub fn settle(
     requires sound { IsSound (demands_of bounds.now picks.now) }
     requires kept { IsKept (demands_of bounds.now picks.now) tree.old.values.items tree.old.links.items }
     requires room { length bounds.now + 3 ≤ vec_capacity cycle.old }
-    ensures kept { OnOk result (IsKept (demands_of bounds.now picks.now) tree.new.values.items tree.new.links.items) }
+    ensures kept { IsKept (demands_of bounds.now picks.now) tree.new.values.items tree.new.links.items }
     ensures met { OnOk result (MeetsPicks tree.new.values.items picks.now) }
     ensures cycle { OnErr result (NamesNegativeCycle (demands_of bounds.now picks.now) cycle.new.items) }
     ensures capacity { vec_capacity cycle.old ≤ vec_capacity cycle.new }
