@@ -7,3 +7,5 @@ pub mod Latest
 pub mod Relaxing
 pub mod Passing
 pub mod Changes
+pub mod Bounding
+pub mod Updates

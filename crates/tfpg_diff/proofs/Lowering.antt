@@ -49,24 +49,34 @@ module _ (demands : Demands) (values : List ℕ) (links : List Edge) (kept : IsK
       AllPairs-front (λ (a b : Edge). a.left ≢ b.left) es rest.0
       (Climbs-simple links Labelled-kept x (es ++ rest.0) (Climbs-append links x es y rest.0 0 climb rest.1))
 
-  -- a walk that meets the left side closes a negative cycle
-  pub cycle_from_met : (edge : Edge) (tags : List Why) → IsBroken demands values edge →
-      Walked links edge.right edge.left edge.left (edge.why ∷ []) tags → NamesNegativeCycle demands tags
-  cycle_from_met edge tags broken walked =
+  -- A walk that meets the left side of a broken constraint closes a negative cycle of demands that have that constraint and
+  -- the links.
+  pub cycle_from_links : (new : Demands) (edge : Edge) (tags : List Why) → Demanded new edge →
+      ((x : ℕ) (e : Edge) → 0 < x → slice_get links x ≡ Some e → Demanded new e) → edge.left < length links →
+      (pos (slice_index values edge.right) +ℤ edge.most) <ℤ pos (slice_index values edge.left) →
+      Walked links edge.right edge.left edge.left (edge.why ∷ []) tags → NamesNegativeCycle new tags
+  cycle_from_links new edge tags demanded demands_links inside broken walked =
       let es : List Edge = walked.0 in
       let walk : IsWalk links edge.right edge.left edge.left (edge.why ∷ []) tags es = walked.1 in
       let fall = total_of-Climbs values links IsTight-kept edge.right es edge.left walk.climbs in
-      let below = broken.broken in
-      let inside : edge.left < length links = let l = broken.left in let k = kept.links_len in omega arith in
       (edge ∷ es, edge.left, record {
           tags_are = sym walk.tags;
-          demanded = All-cons (Demanded demands) edge es broken.demanded (Demanded-Climbs edge.right es edge.left walk.climbs);
+          demanded = All-cons (Demanded new) edge es demanded
+              (All-weaker (IsOwnLink links) (Demanded new) (λ (e : Edge) (at : IsOwnLink links e). demands_links e.left e at.0 at.1) es
+              (Climbs-at links Labelled-kept edge.right es edge.left walk.climbs));
           closed = (refl, Leads-Climbs links Labelled-kept edge.right es edge.left walk.climbs);
           simple = AllPairs-cons (λ (a b : Edge). a.left ≢ b.left) edge es
               (All-weaker (λ (e : Edge). e.left ≢ edge.left) (λ (e : Edge). edge.left ≢ e.left) (λ e other same. other (sym same)) es walk.avoids)
               (AllPairs-Climbs edge.right es edge.left walk.climbs inside);
           negative = omega (arith, ints)
       })
+
+  -- a walk that meets the left side closes a negative cycle
+  pub cycle_from_met : (edge : Edge) (tags : List Why) → IsBroken demands values edge →
+      Walked links edge.right edge.left edge.left (edge.why ∷ []) tags → NamesNegativeCycle demands tags
+  cycle_from_met edge tags broken walked =
+      cycle_from_links demands edge tags broken.demanded (λ x e up at. (kept.linked x e up at).demanded)
+      (let l = broken.left in let k = kept.links_len in omega arith) broken.broken walked
 
   -- a walk to zero from a constraint that would lower its left side below its floor closes a negative cycle
   pub cycle_from_floor : (edge : Edge) (tags : List Why) (variable : ℕ) (bounds : Bounds) → IsBroken demands values edge →
