@@ -26,15 +26,15 @@ pub IsKept-moved : (old new : Demands) (values : List ℕ) (links : List Edge) �
     ((v : ℕ) (b : Bounds) → Bounded new v b → IsWithin b (slice_index values (v + 1))) →
     IsKept new values links
 IsKept-moved old new values links kept same solutions demanded within = record {
-    values_len = let k = kept.values_len in omega arith;
-    links_len = let k = kept.links_len in omega arith;
-    zero_stays = kept.zero_stays;
-    rooted = kept.rooted;
-    linked = λ x e up at.
-        let link : IsLink old values x e = kept.linked x e up at in
-        record { left = link.left; right = (let r = link.right in omega arith); demanded = demanded x e up at link; tight = link.tight };
-    within = within;
-    greatest = λ times solution. kept.greatest times (solutions times solution)
+  values_len = let k = kept.values_len in omega arith;
+  links_len = let k = kept.links_len in omega arith;
+  zero_stays = kept.zero_stays;
+  rooted = kept.rooted;
+  linked = λ x e up at.
+      let link : IsLink old values x e = kept.linked x e up at in
+      record { left = link.left; right = (let r = link.right in omega arith); demanded = demanded x e up at link; tight = link.tight };
+  within = within;
+  greatest = λ times solution. kept.greatest times (solutions times solution);
 }
 
 -- A solution stays one under other demands of as many variables, whose constraints it meets.
@@ -47,8 +47,8 @@ pub Bounded-set : (bounds : List Bounds) (picks : List Pick) (v : ℕ) (new : Bo
     Bounded (demands_of (set bounds v new) picks) u c → ((u ≡ v) × (c ≡ new)) ⊎ ((u ≢ v) × Bounded (demands_of bounds picks) u c)
 Bounded-set bounds picks v new u c at = ⊎_elim
     (λ (same : u ≡ v).
-        let inside : v < length bounds = (let w = slice_get_within (set bounds v new) u c at in let l = length-set bounds v new in omega arith) in
-        inl (same, same_Some c new (sym at ∙ ap (slice_get (set bounds v new)) same ∙ slice_get-set_same bounds v new inside)))
+    let inside : v < length bounds = (let w = slice_get_within (set bounds v new) u c at in let l = length-set bounds v new in omega arith) in
+    inl (same, same_Some c new (sym at ∙ ap (slice_get (set bounds v new)) same ∙ slice_get-set_same bounds v new inside)))
     (λ (other : u ≢ v). inr (other, sym (slice_get-set_other bounds v u new other) ∙ at))
     (cases_eq u v)
 
@@ -66,11 +66,11 @@ Bounded-set_same bounds picks v old new at = slice_get-set_same bounds v new (sl
 pub Demanded-pick : (bounds : List Bounds) (picks : List Pick) (pick : Pick) (e : Edge) →
     Demanded (demands_of bounds picks) e → Demanded (demands_of bounds (picks ++ pick ∷ [])) e
 Demanded-pick bounds picks pick e demanded = elim demanded [
-    inl is ↦ inl is
-    | inr others ↦ elim others [
-        inl is ↦ inr (inl is)
-        | inr is ↦ inr (inr (is.0, Contains-append_left picks (pick ∷ []) is.0 is.1, is.2))
-    ]
+  | inl is ↦ inl is
+  | inr others ↦ elim others [
+    | inl is ↦ inr (inl is)
+    | inr is ↦ inr (inr (is.0, Contains-append_left picks (pick ∷ []) is.0 is.1, is.2))
+  ]
 ]
 
 -- a solution with one more pick is one without it
@@ -93,20 +93,20 @@ IsKept-pick bounds picks pick values links kept =
 pub IsSound-pick : (bounds : List Bounds) (picks : List Pick) (pick : Pick) → IsSound (demands_of bounds picks) →
     pick.constraint.left ≤ length bounds → pick.constraint.right ≤ length bounds → IsSound (demands_of bounds (picks ++ pick ∷ []))
 IsSound-pick bounds picks pick sound left right = record {
-    few = sound.few;
-    ceilings = sound.ceilings;
-    lefts = All-push (λ (p : Pick). p.constraint.left ≤ length bounds) picks pick sound.lefts left;
-    rights = All-push (λ (p : Pick). p.constraint.right ≤ length bounds) picks pick sound.rights right
+  few = sound.few;
+  ceilings = sound.ceilings;
+  lefts = All-push (λ (p : Pick). p.constraint.left ≤ length bounds) picks pick sound.lefts left;
+  rights = All-push (λ (p : Pick). p.constraint.right ≤ length bounds) picks pick sound.rights right;
 }
 
 -- demands stay sound with fewer picks
 pub IsSound-take : (bounds : List Bounds) (picks : List Pick) (len : ℕ) → IsSound (demands_of bounds picks) →
     IsSound (demands_of bounds (take len picks))
 IsSound-take bounds picks len sound = record {
-    few = sound.few;
-    ceilings = sound.ceilings;
-    lefts = All-take (λ (p : Pick). p.constraint.left ≤ length bounds) len picks sound.lefts;
-    rights = All-take (λ (p : Pick). p.constraint.right ≤ length bounds) len picks sound.rights
+  few = sound.few;
+  ceilings = sound.ceilings;
+  lefts = All-take (λ (p : Pick). p.constraint.left ≤ length bounds) len picks sound.lefts;
+  rights = All-take (λ (p : Pick). p.constraint.right ≤ length bounds) len picks sound.rights;
 }
 
 -- demands stay sound with other bounds of a variable that are not past the latest value
@@ -115,13 +115,13 @@ pub IsSound-set : (bounds : List Bounds) (picks : List Pick) (v : ℕ) (new : Bo
 IsSound-set bounds picks v new sound low =
     let same : length (set bounds v new) ≡ length bounds = length-set bounds v new in
     record {
-        few = (let f = sound.few in omega arith);
-        ceilings = λ u c at. ⊎_elim
-            (λ (is : (u ≡ v) × (c ≡ new)). subst (λ (b : Bounds). b.ceiling ≤ never) (sym is.1) low)
-            (λ (is : (u ≢ v) × Bounded (demands_of bounds picks) u c). sound.ceilings u c is.1)
-            (Bounded-set bounds picks v new u c at);
-        lefts = subst (λ (n : ℕ). All (λ (p : Pick). p.constraint.left ≤ n) picks) (sym same) sound.lefts;
-        rights = subst (λ (n : ℕ). All (λ (p : Pick). p.constraint.right ≤ n) picks) (sym same) sound.rights
+      few = (let f = sound.few in omega arith);
+      ceilings = λ u c at. ⊎_elim
+          (λ (is : (u ≡ v) × (c ≡ new)). subst (λ (b : Bounds). b.ceiling ≤ never) (sym is.1) low)
+          (λ (is : (u ≢ v) × Bounded (demands_of bounds picks) u c). sound.ceilings u c is.1)
+          (Bounded-set bounds picks v new u c at);
+      lefts = subst (λ (n : ℕ). All (λ (p : Pick). p.constraint.left ≤ n) picks) (sym same) sound.lefts;
+      rights = subst (λ (n : ℕ). All (λ (p : Pick). p.constraint.right ≤ n) picks) (sym same) sound.rights;
     }
 
 -- a solution with fewer picks from one with all
@@ -130,9 +130,9 @@ pub IsSolution-take : (bounds : List Bounds) (picks : List Pick) (len : ℕ) (ti
 IsSolution-take bounds picks len times solution =
     IsSolution-moved (demands_of bounds (take len picks)) (demands_of bounds picks) times solution refl
     (λ e demanded. elim demanded [
-        inl is ↦ solution.meets e (inl is)
-        | inr others ↦ elim others [
-            inl is ↦ solution.meets e (inr (inl is))
-            | inr is ↦ solution.meets e (inr (inr (is.0, Contains-take picks len is.0 is.1, is.2)))
-        ]
+      | inl is ↦ solution.meets e (inl is)
+      | inr others ↦ elim others [
+        | inl is ↦ solution.meets e (inr (inl is))
+        | inr is ↦ solution.meets e (inr (inr (is.0, Contains-take picks len is.0 is.1, is.2)))
+      ]
     ])

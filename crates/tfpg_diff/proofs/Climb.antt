@@ -43,7 +43,7 @@ Climbs-simple links labelled x es climb i j d before inside same =
     let first = Climbs-rest links labelled x es i d climb (omega arith) in
     let second = Climbs-rest links labelled x es j d climb inside in
     let lengths : length first.0 ≡ length second.0 =
-        Climbs-same_length links _ first.0 second.0 first.1 (subst (λ (n : ℕ). Climbs links n second.0 0) (sym same) second.1) in
+    Climbs-same_length links _ first.0 second.0 first.1 (subst (λ (n : ℕ). Climbs links n second.0 0) (sym same) second.1) in
     absurd (omega (arith, lengths, first.2, second.2))
 
 -- the constraint is the link of its left side
@@ -66,10 +66,10 @@ pub length-Climbs : (links : List Edge) (labelled : IsLabelled links) (x : ℕ) 
 length-Climbs links labelled x es climb =
     let lefts : List ℕ = map (λ (e : Edge). e.left) es in
     let apart : AllPairs (λ (a b : ℕ). a ≢ b) lefts =
-        AllPairs-map (λ (a b : ℕ). a ≢ b) (λ (e : Edge). e.left) es (Climbs-simple links labelled x es climb) in
+    AllPairs-map (λ (a b : ℕ). a ≢ b) (λ (e : Edge). e.left) es (Climbs-simple links labelled x es climb) in
     let below : All (λ (n : ℕ). n < length links) lefts =
-        All-map (λ (n : ℕ). n < length links) (λ (e : Edge). e.left) es
-        (All-weaker (IsOwnLink links) (λ (e : Edge). e.left < length links) (λ (e : Edge) (at : IsOwnLink links e). slice_get_within links e.left e at.1) es (Climbs-at links labelled x es 0 climb)) in
+    All-map (λ (n : ℕ). n < length links) (λ (e : Edge). e.left) es
+    (All-weaker (IsOwnLink links) (λ (e : Edge). e.left < length links) (λ (e : Edge) (at : IsOwnLink links e). slice_get_within links e.left e at.1) es (Climbs-at links labelled x es 0 climb)) in
     omega (arith, length-le_distinct lefts (length links) apart below, length-map es (λ (e : Edge). e.left))
 
 -- a way that does not pass a number stays when that number's link changes
@@ -78,9 +78,11 @@ pub Climbs-set_other : (links : List Edge) (labelled : IsLabelled links) (a : �
 Climbs-set_other links labelled a c x [] y climb others = climb
 Climbs-set_other links labelled a c x (e ∷ es) y climb others =
     let label : e.left ≡ x = labelled x e climb.0 climb.1 in
-    let other : x ≢ a = λ same. others 0 e (omega arith) (label ∙ same) in
-    (climb.0, slice_get-set_other links a x c other ∙ climb.1,
-     Climbs-set_other links labelled a c e.right es y climb.2 (All-tail (λ (e : Edge). e.left ≢ a) e es others))
+    let other : x ≢ a = λ same. others 0 e (omega arith) (label ∙ same) in (
+      climb.0,
+      slice_get-set_other links a x c other ∙ climb.1,
+      Climbs-set_other links labelled a c e.right es y climb.2 (All-tail (λ (e : Edge). e.left ≢ a) e es others),
+    )
 
 -- Where a number gets a link from whose right side a way leads to zero that does not pass it, each way to zero has one after it.
 pub Climbs-set : (links : List Edge) (labelled : IsLabelled links) (a : ℕ) (c : Edge) (inside : a < length links) (up : 0 < a)
@@ -89,11 +91,17 @@ pub Climbs-set : (links : List Edge) (labelled : IsLabelled links) (a : ℕ) (c 
 Climbs-set links labelled a c inside up fs way others x [] climb = ([], climb)
 Climbs-set links labelled a c inside up fs way others x (e ∷ es) climb =
     ⊎_elim
-    (λ (same : x ≡ a). (c ∷ fs, (climb.0, ap (slice_get (set links a c)) same ∙ slice_get-set_same links a c inside,
-        Climbs-set_other links labelled a c c.right fs 0 way others)))
+    (λ (same : x ≡ a). (
+      c ∷ fs,
+      (
+        climb.0,
+        ap (slice_get (set links a c)) same ∙ slice_get-set_same links a c inside,
+        Climbs-set_other links labelled a c c.right fs 0 way others,
+      ),
+    ))
     (λ (other : x ≢ a).
-        let rest = Climbs-set links labelled a c inside up fs way others e.right es climb.2 in
-        (e ∷ rest.0, (climb.0, slice_get-set_other links a x c other ∙ climb.1, rest.1)))
+    let rest = Climbs-set links labelled a c inside up fs way others e.right es climb.2 in
+    (e ∷ rest.0, (climb.0, slice_get-set_other links a x c other ∙ climb.1, rest.1)))
     (cases_eq x a)
 
 -- the links still lead to zero from everywhere

@@ -21,18 +21,18 @@ pub Meets-kept : (demands : Demands) (values : List ℕ) (links : List Edge) (ke
     MeetsPicks values demands.picks → (edge : Edge) → Demanded demands edge → Meets values edge
 Meets-kept demands values links kept met edge demanded =
     elim demanded [
-        inl is ↦
+      | inl is ↦
+          let within : IsWithin is.1 (slice_index values (is.0 + 1)) = kept.within is.0 is.1 is.2 in
+          let here : Meets values (ceiling_of is.0 is.1) = (let z = kept.zero_stays in let b = within.below in omega (arith, ints)) in
+          subst (λ (e : Edge). Meets values e) (sym is.3) here
+      | inr others ↦ elim others [
+        | inl is ↦
             let within : IsWithin is.1 (slice_index values (is.0 + 1)) = kept.within is.0 is.1 is.2 in
-            let here : Meets values (ceiling_of is.0 is.1) = (let z = kept.zero_stays in let b = within.below in omega (arith, ints)) in
+            let here : Meets values (floor_of is.0 is.1) = (let z = kept.zero_stays in let b = within.above in omega (arith, ints)) in
             subst (λ (e : Edge). Meets values e) (sym is.3) here
-        | inr others ↦ elim others [
-            inl is ↦
-                let within : IsWithin is.1 (slice_index values (is.0 + 1)) = kept.within is.0 is.1 is.2 in
-                let here : Meets values (floor_of is.0 is.1) = (let z = kept.zero_stays in let b = within.above in omega (arith, ints)) in
-                subst (λ (e : Edge). Meets values e) (sym is.3) here
-            | inr is ↦
-                subst (λ (e : Edge). Meets values e) (sym is.2) (All-contains (λ (pick : Pick). Meets values (edge_of pick)) demands.picks is.0 met is.1)
-        ]
+        | inr is ↦
+            subst (λ (e : Edge). Meets values e) (sym is.2) (All-contains (λ (pick : Pick). Meets values (edge_of pick)) demands.picks is.0 met is.1)
+      ]
     ]
 
 -- they are the latest solution
@@ -42,11 +42,11 @@ IsLatest-kept demands values links kept met =
     let some : 0 < length values = let k = kept.values_len in omega arith in
     let whole : 0 ∷ drop 1 values ≡ values = zero_in_front values some kept.zero_stays in
     record {
-        solution = record {
-            complete = let k = kept.values_len in omega (arith, length-drop 1 values);
-            meets = λ edge demanded. subst (λ (times : List ℕ). Meets times edge) (sym whole) (Meets-kept demands values links kept met edge demanded)
-        };
-        greatest = λ other solution variable inside.
-            subst (λ (times : List ℕ). slice_index (0 ∷ other) (suc variable) ≤ slice_index times (suc variable)) (sym whole)
-            (kept.greatest other solution (suc variable))
+      solution = record {
+        complete = let k = kept.values_len in omega (arith, length-drop 1 values);
+        meets = λ edge demanded. subst (λ (times : List ℕ). Meets times edge) (sym whole) (Meets-kept demands values links kept met edge demanded);
+      };
+      greatest = λ other solution variable inside.
+          subst (λ (times : List ℕ). slice_index (0 ∷ other) (suc variable) ≤ slice_index times (suc variable)) (sym whole)
+          (kept.greatest other solution (suc variable));
     }

@@ -9,3 +9,4 @@ pub mod Passing
 pub mod Changes
 pub mod Bounding
 pub mod Updates
+pub mod Outcomes

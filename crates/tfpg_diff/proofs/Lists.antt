@@ -54,10 +54,10 @@ pub length-le_distinct : (xs : List ℕ) (n : ℕ) → AllPairs (λ a b. a ≢ b
 length-le_distinct xs n apart below =
     length-le_from_distinct_below xs n (IsDistinct-from_AllPairs Decides-eqb xs apart)
     (λ q found.
-        let some = Any-from_list_any (eqb q) xs found in
-        let same : q ≡ some.1 = eqb-true q some.1 some.4 in
-        let here : get_or xs some.0 some.1 < n = below some.0 some.1 some.2 in
-        subst (λ (m : ℕ). m < n) (some.3 ∙ sym same) here)
+    let some = Any-from_list_any (eqb q) xs found in
+    let same : q ≡ some.1 = eqb-true q some.1 some.4 in
+    let here : get_or xs some.0 some.1 < n = below some.0 some.1 some.2 in
+    subst (λ (m : ℕ). m < n) (some.3 ∙ sym same) here)
 
 -- what a front part contains
 pub Contains-take : {X : Type 0} (xs : List X) (n : ℕ) (x : X) → Contains (take n xs) x → Contains xs x

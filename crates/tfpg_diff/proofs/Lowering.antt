@@ -58,8 +58,10 @@ module _ (demands : Demands) (values : List ℕ) (links : List Edge) (kept : IsK
   cycle_from_links new edge tags demanded demands_links inside broken walked =
       let es : List Edge = walked.0 in
       let walk : IsWalk links edge.right edge.left edge.left (edge.why ∷ []) tags es = walked.1 in
-      let fall = total_of-Climbs values links IsTight-kept edge.right es edge.left walk.climbs in
-      (edge ∷ es, edge.left, record {
+      let fall = total_of-Climbs values links IsTight-kept edge.right es edge.left walk.climbs in (
+        edge ∷ es,
+        edge.left,
+        record {
           tags_are = sym walk.tags;
           demanded = All-cons (Demanded new) edge es demanded
               (All-weaker (IsOwnLink links) (Demanded new) (λ (e : Edge) (at : IsOwnLink links e). demands_links e.left e at.0 at.1) es
@@ -68,8 +70,9 @@ module _ (demands : Demands) (values : List ℕ) (links : List Edge) (kept : IsK
           simple = AllPairs-cons (λ (a b : Edge). a.left ≢ b.left) edge es
               (All-weaker (λ (e : Edge). e.left ≢ edge.left) (λ (e : Edge). edge.left ≢ e.left) (λ e other same. other (sym same)) es walk.avoids)
               (AllPairs-Climbs edge.right es edge.left walk.climbs inside);
-          negative = omega (arith, ints)
-      })
+          negative = omega (arith, ints);
+        },
+      )
 
   -- a walk that meets the left side closes a negative cycle
   pub cycle_from_met : (edge : Edge) (tags : List Why) → IsBroken demands values edge →
@@ -91,10 +94,12 @@ module _ (demands : Demands) (values : List ℕ) (links : List Edge) (kept : IsK
       let is_last : Demanded demands last = inr (inl (variable, bounds, bounded, refl)) in
       let inside : 0 < length links = let k = kept.links_len in omega arith in
       let up : All (λ (e : Edge). e.left ≢ 0) es =
-          All-weaker (IsOwnLink links) (λ (e : Edge). e.left ≢ 0) (λ (e : Edge) (at : IsOwnLink links e) same. absurd (omega (arith, at.0))) es
-          (Climbs-at links Labelled-kept edge.right es 0 walk.climbs) in
-      let joined = total_of-append es (last ∷ []) in
-      (edge ∷ (es ++ last ∷ []), edge.left, record {
+      All-weaker (IsOwnLink links) (λ (e : Edge). e.left ≢ 0) (λ (e : Edge) (at : IsOwnLink links e) same. absurd (omega (arith, at.0))) es
+      (Climbs-at links Labelled-kept edge.right es 0 walk.climbs) in
+      let joined = total_of-append es (last ∷ []) in (
+        edge ∷ (es ++ last ∷ []),
+        edge.left,
+        record {
           tags_are = ap (λ (rest : List Why). edge.why ∷ rest) (map_push (λ (e : Edge). e.why) es last)
               ∙ ap (λ (all : List Why). all ++ bounds.floor_why ∷ []) (sym walk.tags);
           demanded = All-cons (Demanded demands) edge (es ++ last ∷ []) broken.demanded
@@ -102,20 +107,21 @@ module _ (demands : Demands) (values : List ℕ) (links : List Edge) (kept : IsK
           closed = (refl, Leads-append edge.right es 0 (last ∷ []) edge.left (Leads-Climbs links Labelled-kept edge.right es 0 walk.climbs) (refl, sym number));
           simple = AllPairs-cons (λ (a b : Edge). a.left ≢ b.left) edge (es ++ last ∷ [])
               (All-push (λ (e : Edge). edge.left ≢ e.left) es last
-                  (All-weaker (λ (e : Edge). e.left ≢ edge.left) (λ (e : Edge). edge.left ≢ e.left) (λ e other same. other (sym same)) es walk.avoids)
-                  (omega arith))
+              (All-weaker (λ (e : Edge). e.left ≢ edge.left) (λ (e : Edge). edge.left ≢ e.left) (λ e other same. other (sym same)) es walk.avoids)
+              (omega arith))
               (all_pairs_push (λ (a b : Edge). a.left ≢ b.left) es last (AllPairs-Climbs edge.right es 0 walk.climbs inside) up);
-          negative = omega (arith, ints)
-      })
+          negative = omega (arith, ints);
+        },
+      )
 
   -- a write that lowers a value raises none
   pub slice_index-set_le : (a w : ℕ) → w ≤ slice_index values a → (x : ℕ) → slice_index (set values a w) x ≤ slice_index values x
   slice_index-set_le a w low x =
       ⊎_elim
       (λ (same : x ≡ a). ⊎_elim
-          (λ (inside : a < length values). rw same (let e = get_or-set_same values a w 0 inside in omega arith))
-          (λ (past : length values ≤ a). let e = ap (λ (xs : List ℕ). slice_index xs x) (set_past values a w past) in omega arith)
-          (cases_lt a (length values)))
+      (λ (inside : a < length values). rw same (let e = get_or-set_same values a w 0 inside in omega arith))
+      (λ (past : length values ≤ a). let e = ap (λ (xs : List ℕ). slice_index xs x) (set_past values a w past) in omega arith)
+      (cases_lt a (length values)))
       (λ (other : x ≢ a). let e = get_or-set_other values a x w 0 other in omega arith)
       (cases_eq x a)
 
@@ -133,43 +139,51 @@ module _ (demands : Demands) (values : List ℕ) (links : List Edge) (kept : IsK
       let here : slice_index (set values edge.left value) edge.left ≡ value = get_or-set_same values edge.left value 0 inside' in
       let up : 0 < edge.left = omega arith in
       record {
-          values_len = length-set values edge.left value ∙ kept.values_len;
-          links_len = length-set links edge.left edge ∙ kept.links_len;
-          zero_stays = get_or-set_other values edge.left 0 value 0 (omega arith) ∙ kept.zero_stays;
-          rooted = IsRooted-set links Labelled-kept edge.left edge inside up walked.0 walk.climbs walk.avoids kept.rooted;
-          linked = λ x e above at. ⊎_elim
-              (λ (same : x ≡ edge.left).
-                  let own : edge ≡ e = same_Some edge e (sym (slice_get-set_same links edge.left edge inside) ∙ ap (slice_get (set links edge.left edge)) (sym same) ∙ at) in
-                  subst (λ (f : Edge). IsLink demands (set values edge.left value) x f) own
-                  (subst (λ (n : ℕ). IsLink demands (set values edge.left value) n edge) (sym same)
-                  (record { left = refl; right = broken.right; demanded = broken.demanded;
-                      tight = let fall = slice_index-set_le edge.left value low edge.right in omega (arith, ints) })))
-              (λ (other : x ≢ edge.left).
-                  let old : IsLink demands values x e = kept.linked x e above (sym (slice_get-set_other links edge.left x edge other) ∙ at) in
-                  record { left = old.left; right = old.right; demanded = old.demanded;
-                      tight = let fall = slice_index-set_le edge.left value low e.right in
-                          let stays : slice_index (set values edge.left value) x ≡ slice_index values x = get_or-set_other values edge.left x value 0 other in
-                          let was = old.tight in omega (arith, ints) })
-              (cases_eq x edge.left);
-          within = λ v b at. ⊎_elim
-              (λ (same : v + 1 ≡ edge.left).
-                  let one : v ≡ variable = omega arith in
-                  let own : bounds ≡ b = same_Some bounds b (sym bounded ∙ ap (slice_get demands.bounds) (sym one) ∙ at) in
-                  let old : IsWithin b (slice_index values (v + 1)) = kept.within v b at in
-                  let old' : slice_index values edge.left ≤ b.ceiling = subst (λ (n : ℕ). slice_index values n ≤ b.ceiling) same old.below in
-                  subst (λ (n : ℕ). IsWithin b n) (sym (ap (slice_index (set values edge.left value)) same ∙ here))
-                  (record { above = subst (λ (c : Bounds). c.floor ≤ value) own high; below = omega arith }))
-              (λ (other : v + 1 ≢ edge.left).
-                  subst (λ (n : ℕ). IsWithin b n) (sym (get_or-set_other values edge.left (v + 1) value 0 other)) (kept.within v b at))
-              (cases_eq (v + 1) edge.left);
-          greatest = λ times solution x. ⊎_elim
-              (λ (same : x ≡ edge.left).
-                  let met : Meets (0 ∷ times) edge = solution.meets edge broken.demanded in
-                  let right = kept.greatest times solution edge.right in
-                  let small : slice_index (0 ∷ times) edge.left ≤ value = omega (arith, ints) in
-                  rw (same, here) small)
-              (λ (other : x ≢ edge.left). rw (get_or-set_other values edge.left x value 0 other) (kept.greatest times solution x))
-              (cases_eq x edge.left)
+        values_len = length-set values edge.left value ∙ kept.values_len;
+        links_len = length-set links edge.left edge ∙ kept.links_len;
+        zero_stays = get_or-set_other values edge.left 0 value 0 (omega arith) ∙ kept.zero_stays;
+        rooted = IsRooted-set links Labelled-kept edge.left edge inside up walked.0 walk.climbs walk.avoids kept.rooted;
+        linked = λ x e above at. ⊎_elim
+            (λ (same : x ≡ edge.left).
+            let own : edge ≡ e = same_Some edge e (sym (slice_get-set_same links edge.left edge inside) ∙ ap (slice_get (set links edge.left edge)) (sym same) ∙ at) in
+            subst (λ (f : Edge). IsLink demands (set values edge.left value) x f) own
+            (subst (λ (n : ℕ). IsLink demands (set values edge.left value) n edge) (sym same)
+            (record {
+              left = refl;
+              right = broken.right;
+              demanded = broken.demanded;
+              tight = let fall = slice_index-set_le edge.left value low edge.right in omega (arith, ints);
+            })))
+            (λ (other : x ≢ edge.left).
+            let old : IsLink demands values x e = kept.linked x e above (sym (slice_get-set_other links edge.left x edge other) ∙ at) in
+            record {
+              left = old.left;
+              right = old.right;
+              demanded = old.demanded;
+              tight = let fall = slice_index-set_le edge.left value low e.right in
+                  let stays : slice_index (set values edge.left value) x ≡ slice_index values x = get_or-set_other values edge.left x value 0 other in
+                  let was = old.tight in omega (arith, ints);
+            })
+            (cases_eq x edge.left);
+        within = λ v b at. ⊎_elim
+            (λ (same : v + 1 ≡ edge.left).
+            let one : v ≡ variable = omega arith in
+            let own : bounds ≡ b = same_Some bounds b (sym bounded ∙ ap (slice_get demands.bounds) (sym one) ∙ at) in
+            let old : IsWithin b (slice_index values (v + 1)) = kept.within v b at in
+            let old' : slice_index values edge.left ≤ b.ceiling = subst (λ (n : ℕ). slice_index values n ≤ b.ceiling) same old.below in
+            subst (λ (n : ℕ). IsWithin b n) (sym (ap (slice_index (set values edge.left value)) same ∙ here))
+            (record { above = subst (λ (c : Bounds). c.floor ≤ value) own high; below = omega arith }))
+            (λ (other : v + 1 ≢ edge.left).
+            subst (λ (n : ℕ). IsWithin b n) (sym (get_or-set_other values edge.left (v + 1) value 0 other)) (kept.within v b at))
+            (cases_eq (v + 1) edge.left);
+        greatest = λ times solution x. ⊎_elim
+            (λ (same : x ≡ edge.left).
+            let met : Meets (0 ∷ times) edge = solution.meets edge broken.demanded in
+            let right = kept.greatest times solution edge.right in
+            let small : slice_index (0 ∷ times) edge.left ≤ value = omega (arith, ints) in
+            rw (same, here) small)
+            (λ (other : x ≢ edge.left). rw (get_or-set_other values edge.left x value 0 other) (kept.greatest times solution x))
+            (cases_eq x edge.left);
       }
 
   -- and the values sum up to less

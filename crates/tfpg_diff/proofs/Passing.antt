@@ -24,10 +24,11 @@ Passes-broken picks place before middle after lowered passed relaxed =
 pub Passes-met : (picks : List Pick) (place : ℕ) (before middle after : List ℕ) (lowered : Bool) → place < length picks →
     Passes (take place picks) before lowered middle → Relaxes picks place middle false after → Passes (take (place + 1) picks) before lowered after
 Passes-met picks place before middle after true inside passed relaxed = let e = ap sum relaxed.0 in omega arith
-Passes-met picks place before middle after false inside passed relaxed =
-    (relaxed.0 ∙ passed.0,
-     All-more (λ (pick : Pick). Meets after (edge_of pick)) picks place no_pick inside
-        (subst (λ (xs : List ℕ). MeetsPicks xs (take place picks)) (sym relaxed.0) passed.1) (relaxed.1 no_pick))
+Passes-met picks place before middle after false inside passed relaxed = (
+  relaxed.0 ∙ passed.0,
+  All-more (λ (pick : Pick). Meets after (edge_of pick)) picks place no_pick inside
+      (subst (λ (xs : List ℕ). MeetsPicks xs (take place picks)) (sym relaxed.0) passed.1) (relaxed.1 no_pick),
+)
 
 -- either of the two, as the code joins them
 pub Passes-more : (picks : List Pick) (place : ℕ) (before middle after : List ℕ) (lowered result joined : Bool) → place < length picks →
@@ -36,9 +37,9 @@ pub Passes-more : (picks : List Pick) (place : ℕ) (before middle after : List 
 Passes-more picks place before middle after lowered result joined inside passed relaxed cases =
     ⊎_elim
     (λ (is : (result ≡ true) × (joined ≡ true)).
-        subst (λ (b : Bool). Passes (take (place + 1) picks) before b after) (sym is.1)
-        (Passes-broken picks place before middle after lowered passed (subst (λ (b : Bool). Relaxes picks place middle b after) is.0 relaxed)))
+    subst (λ (b : Bool). Passes (take (place + 1) picks) before b after) (sym is.1)
+    (Passes-broken picks place before middle after lowered passed (subst (λ (b : Bool). Relaxes picks place middle b after) is.0 relaxed)))
     (λ (is : (result ≡ false) × (joined ≡ lowered)).
-        subst (λ (b : Bool). Passes (take (place + 1) picks) before b after) (sym is.1)
-        (Passes-met picks place before middle after lowered inside passed (subst (λ (b : Bool). Relaxes picks place middle b after) is.0 relaxed)))
+    subst (λ (b : Bool). Passes (take (place + 1) picks) before b after) (sym is.1)
+    (Passes-met picks place before middle after lowered inside passed (subst (λ (b : Bool). Relaxes picks place middle b after) is.0 relaxed)))
     cases

@@ -48,10 +48,10 @@ IsBroken-pick demands sound values place d edge now inside is same broken =
     let low = sound.lefts place d inside in
     let high = sound.rights place d inside in
     record {
-        demanded = inr (inr (get_or demands.picks place d, Contains-get_or demands.picks place d inside, is));
-        left = omega arith;
-        right = omega arith;
-        broken = subst (λ (xs : List ℕ). (pos (slice_index xs edge.right) +ℤ edge.most) <ℤ pos (slice_index xs edge.left)) same broken
+      demanded = inr (inr (get_or demands.picks place d, Contains-get_or demands.picks place d inside, is));
+      left = omega arith;
+      right = omega arith;
+      broken = subst (λ (xs : List ℕ). (pos (slice_index xs edge.right) +ℤ edge.most) <ℤ pos (slice_index xs edge.left)) same broken;
     }
 
 -- a pick that the values meet, as the code reads both

@@ -21,14 +21,16 @@ pub Walked-more : (links : List Edge) (labelled : IsLabelled links) (from sought
     Walked links from sought link.right before (after ++ link.why ∷ [])
 Walked-more links labelled from sought stands before after link walked up other at =
     let walk : IsWalk links from sought stands before after walked.0 = walked.1 in
-    let label : link.left ≡ stands = labelled stands link up at in
-    (walked.0 ++ link ∷ [], record {
+    let label : link.left ≡ stands = labelled stands link up at in (
+      walked.0 ++ link ∷ [],
+      record {
         climbs = Climbs-append links from walked.0 stands (link ∷ []) link.right walk.climbs (up, at, refl);
         avoids = All-push (λ (edge : Edge). edge.left ≢ sought) walked.0 link walk.avoids (λ same. other (sym label ∙ same));
         tags = ap (λ (tags : List Why). tags ++ link.why ∷ []) walk.tags
             ∙ append_assoc before (map (λ (edge : Edge). edge.why) walked.0) (link.why ∷ [])
-            ∙ ap (λ (tags : List Why). before ++ tags) (sym (map_push (λ (edge : Edge). edge.why) walked.0 link))
-    })
+            ∙ ap (λ (tags : List Why). before ++ tags) (sym (map_push (λ (edge : Edge). edge.why) walked.0 link));
+      },
+    )
 
 -- a walk that is not at zero has fewer links than there are numbers
 pub length-walked : (links : List Edge) (labelled : IsLabelled links) (rooted : IsRooted links) (from sought stands : ℕ) (before after : List Why) →
@@ -40,8 +42,13 @@ length-walked links labelled rooted from sought stands before after walked up in
     let whole : Climbs links from (walked.0 ++ rest.0) 0 = Climbs-append links from walked.0 stands rest.0 0 walk.climbs rest.1 in
     let bound : length (walked.0 ++ rest.0) ≤ length links = length-Climbs links labelled from (walked.0 ++ rest.0) whole in
     let some : 0 < length rest.0 = length-Climbs_up links stands rest.0 rest.1 up in
-    omega (arith, length-append walked.0 rest.0, ap length walk.tags, length-append before (map (λ (edge : Edge). edge.why) walked.0),
-        length-map walked.0 (λ (edge : Edge). edge.why))
+    omega (
+      arith,
+      length-append walked.0 rest.0,
+      ap length walk.tags,
+      length-append before (map (λ (edge : Edge). edge.why) walked.0),
+      length-map walked.0 (λ (edge : Edge). edge.why),
+    )
 
 -- the right side of a link is a number
 pub link_right : (links : List Edge) (rooted : IsRooted links) (stands : ℕ) (link : Edge) →

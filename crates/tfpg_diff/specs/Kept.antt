@@ -87,6 +87,16 @@ pub record IsStart (bounds : List Bounds) (values : List ℕ) (links : List Edge
   pub links_len : length links ≡ length bounds + 1
   pub zero_stays : slice_index values 0 ≡ 0
   pub values_are : (variable : ℕ) (limits : Bounds) → variable < count → slice_get bounds variable ≡ Some limits →
-    slice_index values (variable + 1) ≡ limits.ceiling
+      slice_index values (variable + 1) ≡ limits.ceiling
   pub links_are : (variable : ℕ) (limits : Bounds) → variable < count → slice_get bounds variable ≡ Some limits →
-    slice_get links (variable + 1) ≡ Some (ceiling_of variable limits)
+      slice_get links (variable + 1) ≡ Some (ceiling_of variable limits)
+
+-- Between calls: what is kept, every pick met, and room for what a call sets aside or lends.
+pub record IsSettled (bounds : List Bounds) (picks : List Pick) (values : List ℕ) (links : List Edge) (backup_values : List ℕ)
+    (backup_links : List Edge) (cycle_capacity : ℕ) : Type 0 where
+  pub sound : IsSound (demands_of bounds picks)
+  pub kept : IsKept (demands_of bounds picks) values links
+  pub met : MeetsPicks values picks
+  pub backup_values_len : length backup_values ≡ length bounds + 1
+  pub backup_links_len : length backup_links ≡ length bounds + 1
+  pub room : length bounds + 3 ≤ cycle_capacity

@@ -1,10 +1,13 @@
 -- What contracts see of a system, and what its calls change.
-use Rattle.std.specs.Prelude.{ℕ, zero, suc, ◌+◌, ◌^◌, List, [], ◌∷◌, ◌++◌, take, nat_lt, if◌then◌else◌}
+use Rattle.std.specs.Prelude.{◌≡◌, Result, Ok, Err, ℕ, zero, suc, ◌+◌, ◌^◌, List, [], ◌∷◌, ◌++◌, take, nat_lt, if◌then◌else◌}
 use Rattle.tfpg_base.specs.declared.constraint.Constraint.{Constraint}
 use Rattle.tfpg_diff.specs.declared.why.Why.{Why}
 use Rattle.tfpg_diff.specs.declared.why.Why.TheVariants.{Floor, Ceiling, Given}
+use Rattle.tfpg_diff.specs.declared.why.Conflict.{Conflict}
 use Rattle.tfpg_diff.specs.declared.bounds.Bounds.{Bounds}
 use Rattle.tfpg_diff.specs.Demands.{Demands}
+use Rattle.tfpg_diff.specs.Solution.{HasSolution, HasNoSolution}
+use Rattle.tfpg_diff.specs.Cycle.{NamesNegativeCycle}
 
 -- What a system demands, for how many more picks it has room, and the tags that it lends since the last conflict.
 pub record State : Type 0 where
@@ -57,3 +60,9 @@ with_pick demands constraint tag =
 -- the demands without the picks after so many
 abbrev pub popped_to : Demands → ℕ → Demands
 popped_to demands len = record { bounds = demands.bounds; picks = take len demands.picks }
+
+-- What adding to a system answers. Ok: the system demands all of it, and that has a solution. Conflict: all of it together has
+-- no solution; the system demands what it did, and lends the tags of a negative cycle among all of it.
+abbrev pub Adds : State → Demands → Result (Unit {0}) Conflict → State → Type 0
+Adds old lengthened (Ok done) new = (new.demands ≡ lengthened) × HasSolution lengthened
+Adds old lengthened (Err conflict) new = (new.demands ≡ old.demands) × HasNoSolution lengthened × NamesNegativeCycle lengthened new.cycle

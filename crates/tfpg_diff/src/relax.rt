@@ -57,20 +57,20 @@ pub fn allowed(values: &[u64], edge: Edge, floor: u64) -> Option<u64>
     Some(value as u64)
 }
 
-/// Begins a cycle with a constraint, and walks from its right side up to its left side or to zero. Answers
-/// whether the walk ended at the left side.
-fn begin_cycle(links: &[Edge], edge: Edge, cycle: &mut Vec<Why>) -> bool
+/// Begins a cycle with the tag of a constraint, and walks from its right side up to its left side or to zero.
+/// Answers whether the walk ended at the left side.
+pub fn begin_cycle(links: &[Edge], right: u32, left: u32, why: Why, cycle: &mut Vec<Why>) -> bool
     requires rooted { IsRooted links.now }
     requires labelled { IsLabelled links.now }
-    requires right { edge.right < length links.now }
+    requires right { right < length links.now }
     requires room { length links.now + 1 ≤ vec_capacity cycle.old }
-    ensures walked { Walked links.now edge.right edge.left (if result then edge.left else 0) (edge.why ∷ []) cycle.new.items }
-    ensures found { edge.left ≡ 0 → IsTrue result }
+    ensures walked { Walked links.now right left (if result then left else 0) (why ∷ []) cycle.new.items }
+    ensures found { left ≡ 0 → IsTrue result }
     ensures capacity { vec_capacity cycle.old ≤ vec_capacity cycle.new }
 {
     cycle.clear();
-    note(cycle, edge.why);
-    trace(links, edge.right, edge.left, cycle)
+    note(cycle, why);
+    trace(links, right, left, cycle)
 }
 
 /// Tests one pick, and where the values break it lowers the value of its left side. Answers whether it did.
@@ -97,7 +97,7 @@ pub fn relax(
     if !is_broken(&tree.values, edge) {
         return Ok(false);
     }
-    if begin_cycle(&tree.links, edge, cycle) {
+    if begin_cycle(&tree.links, edge.right, edge.left, edge.why, cycle) {
         return Err(Conflict);
     }
     let bounds = bounds[edge.left as usize - 1];

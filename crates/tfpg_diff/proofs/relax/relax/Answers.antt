@@ -31,8 +31,8 @@ begin_cycle-requires-clause-labelled c =
 broken : (c : Else-not-is_broken) → IsBroken (demands_of c.args.bounds.now c.args.picks.now) c.args.tree.now.values.items c.edge_of_pick-edge.result
 broken c =
     IsBroken-pick (demands_of c.args.bounds.now c.args.picks.now) c.requires.sound c.args.tree.now.values.items c.args.place no_pick
-        c.edge_of_pick-edge.result c.deref.result.now c.requires.place c.edge_of_pick-edge.ensures c.deref.ensures.value
-        (c.is_broken.ensures.broken c.if-not-is_broken.false)
+    c.edge_of_pick-edge.result c.deref.result.now c.requires.place c.edge_of_pick-edge.ensures c.deref.ensures.value
+    (c.is_broken.ensures.broken c.if-not-is_broken.false)
 
 -- the walk that began the cycle was along the links
 walked : (links now : List Edge) (from sought stands : ℕ) (before after : List Why) → now ≡ links →
@@ -44,7 +44,7 @@ returns-then-begin_cycle-clause-cycle c =
     cycle_from_met (demands_of c.args.bounds.now c.args.picks.now) c.args.tree.now.values.items c.args.tree.now.links.items c.requires.kept
     c.edge_of_pick-edge.result c.begin_cycle.new.cycle.items (broken (goal.at.returns-then-begin_cycle-clause-cycle c).Else-not-is_broken)
     (walked c.args.tree.now.links.items c.deref-2.result.now c.edge_of_pick-edge.result.right c.edge_of_pick-edge.result.left c.edge_of_pick-edge.result.left
-        (c.edge_of_pick-edge.result.why ∷ []) c.begin_cycle.new.cycle.items c.deref-2.ensures.value c.if-begin_cycle.ensures.walked)
+    (c.edge_of_pick-edge.result.why ∷ []) c.begin_cycle.new.cycle.items c.deref-2.ensures.value c.if-begin_cycle.ensures.walked)
 
 -- the left side is a variable, since the walk did not end at it
 up : (c : Else-begin_cycle) → 0 < c.edge_of_pick-edge.result.left
@@ -63,14 +63,14 @@ allowed-requires-clause-low c =
     let b = broken (goal.at.allowed-requires-clause-low c).Else-not-is_broken in
     let read = Bounded-read (demands_of c.args.bounds.now c.args.picks.now) c.edge_of_pick-edge.result.left (up (goal.at.allowed-requires-clause-low c).Else-begin_cycle) b.left in
     floor-kept (demands_of c.args.bounds.now c.args.picks.now) c.requires.sound c.args.tree.now.values.items c.args.tree.now.links.items c.requires.kept
-        (c.edge_of_pick-edge.result.left - 1) (get_or c.args.bounds.now (c.edge_of_pick-edge.result.left - 1) no_bounds) read.0
+    (c.edge_of_pick-edge.result.left - 1) (get_or c.args.bounds.now (c.edge_of_pick-edge.result.left - 1) no_bounds) read.0
 
 pub note-requires : goal.note-requires
 note-requires c =
     let few = length-cycle (demands_of c.args.bounds.now c.args.picks.now) c.args.tree.now.values.items c.args.tree.now.links.items c.requires.kept
-        c.edge_of_pick-edge.result.right c.edge_of_pick-edge.result.left c.edge_of_pick-edge.result.why c.begin_cycle.new.cycle.items
-        (walked c.args.tree.now.links.items c.deref-2.result.now c.edge_of_pick-edge.result.right c.edge_of_pick-edge.result.left 0
-        (c.edge_of_pick-edge.result.why ∷ []) c.begin_cycle.new.cycle.items c.deref-2.ensures.value c.if-begin_cycle.ensures.walked) in
+    c.edge_of_pick-edge.result.right c.edge_of_pick-edge.result.left c.edge_of_pick-edge.result.why c.begin_cycle.new.cycle.items
+    (walked c.args.tree.now.links.items c.deref-2.result.now c.edge_of_pick-edge.result.right c.edge_of_pick-edge.result.left 0
+    (c.edge_of_pick-edge.result.why ∷ []) c.begin_cycle.new.cycle.items c.deref-2.ensures.value c.if-begin_cycle.ensures.walked) in
     omega (arith, few, c.begin_cycle.new.cycle.ok.0)
 
 pub returns-in_default-clause-cycle : goal.returns-in_default-clause-cycle
@@ -80,10 +80,10 @@ returns-in_default-clause-cycle c =
     rw c.note.ensures.items (cycle_from_floor (demands_of c.args.bounds.now c.args.picks.now) c.args.tree.now.values.items c.args.tree.now.links.items c.requires.kept
     c.edge_of_pick-edge.result c.begin_cycle.new.cycle.items (c.edge_of_pick-edge.result.left - 1) (get_or c.args.bounds.now (c.edge_of_pick-edge.result.left - 1) no_bounds) b
     (walked c.args.tree.now.links.items c.deref-2.result.now c.edge_of_pick-edge.result.right c.edge_of_pick-edge.result.left 0
-        (c.edge_of_pick-edge.result.why ∷ []) c.begin_cycle.new.cycle.items c.deref-2.ensures.value c.if-begin_cycle.ensures.walked)
+    (c.edge_of_pick-edge.result.why ∷ []) c.begin_cycle.new.cycle.items c.deref-2.ensures.value c.if-begin_cycle.ensures.walked)
     read.0 read.1
     (subst (λ (xs : List ℕ). (pos (slice_index xs c.edge_of_pick-edge.result.right) +ℤ c.edge_of_pick-edge.result.most) <ℤ pos (get_or c.args.bounds.now (c.edge_of_pick-edge.result.left - 1) no_bounds).floor)
-        c.deref-3.ensures.value (c.in_default.ensures.below refl)))
+    c.deref-3.ensures.value (c.in_default.ensures.below refl)))
 
 pub returns-clause-kept : goal.returns-clause-kept
 returns-clause-kept c =
@@ -93,8 +93,8 @@ returns-clause-kept c =
     c.edge_of_pick-edge.result c.in-Some.value (c.edge_of_pick-edge.result.left - 1) (get_or c.args.bounds.now (c.edge_of_pick-edge.result.left - 1) no_bounds)
     (c.edge_of_pick-edge.result.why ∷ []) c.begin_cycle.new.cycle.items b
     (walked c.args.tree.now.links.items c.deref-2.result.now c.edge_of_pick-edge.result.right c.edge_of_pick-edge.result.left 0
-        (c.edge_of_pick-edge.result.why ∷ []) c.begin_cycle.new.cycle.items c.deref-2.ensures.value c.if-begin_cycle.ensures.walked)
+    (c.edge_of_pick-edge.result.why ∷ []) c.begin_cycle.new.cycle.items c.deref-2.ensures.value c.if-begin_cycle.ensures.walked)
     read.0 read.1
     (subst (λ (xs : List ℕ). pos c.in-Some.value ≡ (pos (slice_index xs c.edge_of_pick-edge.result.right) +ℤ c.edge_of_pick-edge.result.most))
-        c.deref-3.ensures.value c.in-Some.ensures.value)
+    c.deref-3.ensures.value c.in-Some.ensures.value)
     c.in-Some.ensures.above

@@ -5,7 +5,7 @@ use Rattle.tfpg_diff.proofs.settle.pass.Given as goal
 
 abbrev pub invariant-loop-place : goal.invariant-loop-place
 invariant-loop-place l = record {
-    kept : IsKept (demands_of l.bounds l.picks) l.tree.values.items l.tree.links.items;
-    passes : Passes (take l.place l.picks) l.initial.tree.values.items l.lowered l.tree.values.items;
-    capacity : vec_capacity l.initial.cycle ≤ vec_capacity l.cycle
+  kept : IsKept (demands_of l.bounds l.picks) l.tree.values.items l.tree.links.items;
+  passes : Passes (take l.place l.picks) l.initial.tree.values.items l.lowered l.tree.values.items;
+  capacity : vec_capacity l.initial.cycle ≤ vec_capacity l.cycle;
 }

@@ -5,8 +5,8 @@ use Rattle.tfpg_diff.proofs.settle.settle.Given as goal
 
 abbrev pub invariant-loop : goal.invariant-loop
 invariant-loop l = record {
-    kept : IsKept (demands_of l.bounds l.picks) l.tree.values.items l.tree.links.items;
-    capacity : vec_capacity l.initial.cycle ≤ vec_capacity l.cycle
+  kept : IsKept (demands_of l.bounds l.picks) l.tree.values.items l.tree.links.items;
+  capacity : vec_capacity l.initial.cycle ≤ vec_capacity l.cycle;
 }
 
 abbrev pub decreases-loop : goal.decreases-loop

@@ -8,14 +8,14 @@ pub note-requires : goal.note-requires
 note-requires c =
     let up : 0 < c.loop-stands.stands = omega arith in
     let few = length-walked c.args.links.now c.requires.labelled c.requires.rooted c.args.from c.args.sought c.loop-stands.stands
-        c.args.cycle.now.items c.loop-stands.cycle.items c.loop-stands.invariant.walked up c.loop-stands.invariant.inside in
+    c.args.cycle.now.items c.loop-stands.cycle.items c.loop-stands.invariant.walked up c.loop-stands.invariant.inside in
     omega (arith, few)
 
 pub loop-stands-smaller : goal.loop-stands-smaller
 loop-stands-smaller c =
     let up : 0 < c.loop-stands.stands = omega arith in
     let few = length-walked c.args.links.now c.requires.labelled c.requires.rooted c.args.from c.args.sought c.loop-stands.stands
-        c.args.cycle.now.items c.loop-stands.cycle.items c.loop-stands.invariant.walked up c.loop-stands.invariant.inside in
+    c.args.cycle.now.items c.loop-stands.cycle.items c.loop-stands.invariant.walked up c.loop-stands.invariant.inside in
     omega (arith, few, ap length c.note.ensures.items, length_push c.loop-stands.cycle.items (get_or c.args.links.now c.loop-stands.stands no_edge).why)
 
 pub loop-stands-preserved : goal.loop-stands-preserved
@@ -24,9 +24,9 @@ loop-stands-preserved c =
     let other : c.loop-stands.stands ≢ c.args.sought = omega arith in
     let at = link_read c.args.links.now c.loop-stands.stands c.loop-stands.invariant.inside in
     record {
-        walked = rw c.note.ensures.items (Walked-more c.args.links.now c.requires.labelled c.args.from c.args.sought c.loop-stands.stands
-            c.args.cycle.now.items c.loop-stands.cycle.items (get_or c.args.links.now c.loop-stands.stands no_edge)
-            c.loop-stands.invariant.walked up other at);
-        inside = link_right c.args.links.now c.requires.rooted c.loop-stands.stands (get_or c.args.links.now c.loop-stands.stands no_edge) up at;
-        capacity = omega arith
+      walked = rw c.note.ensures.items (Walked-more c.args.links.now c.requires.labelled c.args.from c.args.sought c.loop-stands.stands
+          c.args.cycle.now.items c.loop-stands.cycle.items (get_or c.args.links.now c.loop-stands.stands no_edge)
+          c.loop-stands.invariant.walked up other at);
+      inside = link_right c.args.links.now c.requires.rooted c.loop-stands.stands (get_or c.args.links.now c.loop-stands.stands no_edge) up at;
+      capacity = omega arith;
     }

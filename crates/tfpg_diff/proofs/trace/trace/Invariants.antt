@@ -5,9 +5,9 @@ use Rattle.tfpg_diff.proofs.trace.trace.Given as goal
 
 abbrev pub invariant-loop-stands : goal.invariant-loop-stands
 invariant-loop-stands l = record {
-    walked : Walked l.links l.from l.sought l.stands l.initial.cycle.items l.cycle.items;
-    inside : l.stands < length l.links;
-    capacity : vec_capacity l.initial.cycle ≤ vec_capacity l.cycle
+  walked : Walked l.links l.from l.sought l.stands l.initial.cycle.items l.cycle.items;
+  inside : l.stands < length l.links;
+  capacity : vec_capacity l.initial.cycle ≤ vec_capacity l.cycle;
 }
 
 abbrev pub decreases-loop-stands : goal.decreases-loop-stands

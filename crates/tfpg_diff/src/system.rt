@@ -1,0 +1,220 @@
+//! A system of difference constraints that always knows its latest solution.
+
+ghost use Rattle.std.specs.Prelude.{◌≡◌, ◌+◌, ◌-◌, ◌<◌, ◌≤◌, [], length, IfOk, OnOk, IsOk};
+ghost use Rattle.tfpg_diff.specs.Solution.{IsLatest};
+ghost use Rattle.tfpg_diff.specs.State.{unbounded_from, with_floor, with_ceiling, with_pick, popped_to, Adds};
+
+use crate::bounds::Bounds;
+use crate::edge::Edge;
+use crate::pick::Pick;
+use crate::relax::{begin_cycle, edge_of_pick, is_broken};
+use crate::settle::{ceiling_edge, save, settle, start};
+use crate::trace::note;
+use crate::tree::Tree;
+use crate::why::{Conflict, Why};
+use std::alloc::Global;
+use std::marker::Model;
+use std::mem;
+use std::sync::ledger::Ledger;
+use tfpg_base::{Constraint, NoMemory, Steps};
+
+/// What the demands on some variables come to.
+#[derive(Drop)]
+pub struct System {
+    bounds: Vec<Bounds>,
+    picks: Vec<Pick>,
+    tree: Tree,
+    backup: Tree,
+    cycle: Vec<Why>,
+}
+
+impl Model for System {
+    ghost use Rattle.std.specs.Prelude.{◌-◌, vec_len, vec_capacity};
+    ghost use Rattle.tfpg_diff.specs.State.{State};
+
+    ghost Value = { State };
+
+    ghost use Rattle.tfpg_diff.specs.Kept.{IsSettled, demands_of};
+
+    ghost view = { λ s. record { demands = demands_of s.bounds.items s.picks.items; spare = vec_capacity s.picks - vec_len s.picks; cycle = s.cycle.items } };
+
+    ghost invariant = { λ s. IsSettled s.bounds.items s.picks.items s.tree.values.items s.tree.links.items s.backup.values.items s.backup.links.items (vec_capacity s.cycle) };
+}
+
+impl System {
+    /// Makes room for so many more picks. After want of memory the system is as before.
+    pub fn reserve(&mut self, picks: u32) -> Result<(), NoMemory>
+        ensures ok { OnOk result (picks ≤ self.new.spare) }
+        ensures same { self.new.demands ≡ self.old.demands }
+        ensures spare { self.old.spare ≤ self.new.spare }
+        ensures succeeds { picks ≤ self.old.spare → IsOk result }
+    {
+        self.picks.reserve(picks as usize)?;
+        Ok(())
+    }
+
+    /// Lends the latest solution: the time of each variable, in milliseconds.
+    pub fn solution(&self) -> &[u64]
+        ensures { IsLatest self.now.demands result.now }
+    {
+        &self.tree.values[1..]
+    }
+
+    /// Lends the tags of the negative cycle that the last conflict found.
+    pub fn cycle(&self) -> &[Why]
+        ensures { result.now ≡ self.now.cycle }
+    {
+        self.cycle.as_slice()
+    }
+
+    /// The variable is at least that. A bound that is not tighter than the present one changes nothing.
+    ///
+    /// Conflict comes exactly where there would be no solution. The system is then as before, and
+    /// [`System::cycle`] lends the reason. It costs one comparison, and at a conflict a walk along the links.
+    pub fn raise<L: Ledger>(
+        &mut self,
+        variable: u32,
+        least: u64,
+        tag: u64,
+        work: &mut Steps<L>,
+    ) -> Result<(), Conflict>
+        requires { variable < length self.old.demands.bounds }
+        ensures adds { Adds self.old (with_floor self.old.demands variable least tag) result self.new }
+        ensures variables { length self.new.demands.bounds ≡ length self.old.demands.bounds }
+        ensures spare { self.old.spare ≤ self.new.spare }
+        ensures step { work.new ≡ work.old + 1 }
+    {
+        work.tick();
+        self.add_floor(variable, least, tag)
+    }
+
+    /// The variable is at most that. A bound that is not tighter than the present one changes nothing.
+    ///
+    /// Conflict comes exactly where there would be no solution. The system is then as before, and
+    /// [`System::cycle`] lends the reason. Where the value of the variable is above the bound it costs at most
+    /// one pass over the picks for each number.
+    pub fn lower<L: Ledger>(
+        &mut self,
+        variable: u32,
+        most: u64,
+        tag: u64,
+        work: &mut Steps<L>,
+    ) -> Result<(), Conflict>
+        requires { variable < length self.old.demands.bounds }
+        ensures adds { Adds self.old (with_ceiling self.old.demands variable most tag) result self.new }
+        ensures variables { length self.new.demands.bounds ≡ length self.old.demands.bounds }
+        ensures spare { self.old.spare ≤ self.new.spare }
+        ensures step { work.new ≡ work.old + 1 }
+    {
+        work.tick();
+        self.add_ceiling(variable, most, tag)
+    }
+
+    /// Puts a constraint on the stack. Its bound may be any number.
+    ///
+    /// Conflict comes exactly where there would be no solution. The system is then as before, and
+    /// [`System::cycle`] lends the reason. Where the values break the constraint it costs at most one pass over
+    /// the picks for each number.
+    pub fn push<L: Ledger>(
+        &mut self,
+        constraint: Constraint,
+        tag: u64,
+        work: &mut Steps<L>,
+    ) -> Result<(), Conflict>
+        requires spare { 1 ≤ self.old.spare }
+        requires left { constraint.left ≤ length self.old.demands.bounds }
+        requires right { constraint.right ≤ length self.old.demands.bounds }
+        ensures adds { Adds self.old (with_pick self.old.demands constraint tag) result self.new }
+        ensures spare { self.old.spare ≤ self.new.spare + 1 }
+        ensures step { work.new ≡ work.old + 1 }
+    {
+        work.tick();
+        self.add_pick(Pick { constraint, tag })
+    }
+
+    fn add_floor(&mut self, variable: u32, least: u64, tag: u64) -> Result<(), Conflict>
+        requires { variable < length self.old.demands.bounds }
+        ensures adds { Adds self.old (with_floor self.old.demands variable least tag) result self.new }
+        ensures variables { length self.new.demands.bounds ≡ length self.old.demands.bounds }
+        ensures spare { self.new.spare ≡ self.old.spare }
+    {
+        let place = variable as usize;
+        let old = self.bounds[place];
+        if least <= old.floor {
+            return Ok(());
+        }
+        if self.tree.values[place + 1] < least {
+            begin_cycle(
+                &self.tree.links,
+                variable + 1,
+                0,
+                Why::Given(tag),
+                &mut self.cycle,
+            );
+            return Err(Conflict);
+        }
+        self.bounds[place] = Bounds {
+            floor: least,
+            floor_why: Why::Given(tag),
+            ..old
+        };
+        Ok(())
+    }
+
+    fn add_ceiling(&mut self, variable: u32, most: u64, tag: u64) -> Result<(), Conflict>
+        requires { variable < length self.old.demands.bounds }
+        ensures adds { Adds self.old (with_ceiling self.old.demands variable most tag) result self.new }
+        ensures variables { length self.new.demands.bounds ≡ length self.old.demands.bounds }
+        ensures spare { self.new.spare ≡ self.old.spare }
+    {
+        let place = variable as usize;
+        let old = self.bounds[place];
+        if old.ceiling <= most {
+            return Ok(());
+        }
+        if most < old.floor {
+            self.cycle.clear();
+            note(&mut self.cycle, Why::Given(tag));
+            note(&mut self.cycle, old.floor_why);
+            return Err(Conflict);
+        }
+        let tighter = Bounds {
+            ceiling: most,
+            ceiling_why: Why::Given(tag),
+            ..old
+        };
+        self.bounds[place] = tighter;
+        if self.tree.values[place + 1] <= most {
+            return Ok(());
+        }
+        save(&self.tree, &mut self.backup);
+        self.tree.values[place + 1] = most;
+        self.tree.links[place + 1] = ceiling_edge(variable, tighter);
+        if settle(&self.bounds, &self.picks, &mut self.tree, &mut self.cycle).is_err() {
+            mem::swap(&mut self.tree, &mut self.backup);
+            self.bounds[place] = old;
+            return Err(Conflict);
+        }
+        Ok(())
+    }
+
+    fn add_pick(&mut self, pick: Pick) -> Result<(), Conflict>
+        requires spare { 1 ≤ self.old.spare }
+        requires left { pick.constraint.left ≤ length self.old.demands.bounds }
+        requires right { pick.constraint.right ≤ length self.old.demands.bounds }
+        ensures adds { Adds self.old (with_pick self.old.demands pick.constraint pick.tag) result self.new }
+        ensures spare { self.old.spare ≤ self.new.spare + 1 }
+    {
+        let _ = self.picks.push(pick);
+        if !is_broken(&self.tree.values, edge_of_pick(&pick)) {
+            return Ok(());
+        }
+        save(&self.tree, &mut self.backup);
+        if settle(&self.bounds, &self.picks, &mut self.tree, &mut self.cycle).is_err() {
+            mem::swap(&mut self.tree, &mut self.backup);
+            let _ = self.picks.pop();
+            return Err(Conflict);
+        }
+        Ok(())
+    }
+}
