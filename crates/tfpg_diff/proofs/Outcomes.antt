@@ -1,29 +1,56 @@
 -- What a settled system answers: there is a solution, or there is none.
-use Rattle.std.proofs.Common.{◌≡◌, ◌≢◌, ℕ, ◌+◌, ◌<◌, ◌≤◌, true, false, Bool, List, ◌∷◌, [], length, drop, get_or, set, Some, refl, sym, ◌∙◌, ap, subst, arith}
-use Rattle.std.specs.Prelude.{slice_get, slice_index, ◌↔◌}
+use Rattle.std.proofs.Common.{◌≡◌, ◌≢◌, ℕ, ◌+◌, ◌<◌, ◌≤◌, true, false, Bool, List, ◌∷◌, ◌++◌, [], length, drop, get_or, set, Some, refl, sym, ◌∙◌, ap, subst, arith, inl, inr}
+use Rattle.std.specs.Prelude.{slice_get, slice_index, pos, ◌+ℤ◌, ◌≤ℤ◌, ◌<ℤ◌}
 use Rattle.std.proofs.lemmas.Bool.{false≢true}
-use Rattle.std.proofs.lemmas.Option.{slice_get_read}
-use Rattle.std.proofs.lemmas.List.{length-set}
+use Rattle.std.proofs.lemmas.Option.{slice_get_read, slice_get_within}
+use Rattle.std.proofs.lemmas.List.{length-set, get_or-set_same}
+use Rattle.std.proofs.lemmas.List.Elements.{Contains-push}
+use Rattle.std.proofs.lemmas.Int.{ints}
 use Rattle.tfpg_diff.specs.declared.edge.Edge.{Edge}
 use Rattle.tfpg_diff.specs.declared.why.Why.{Why}
 use Rattle.tfpg_diff.specs.declared.why.Why.TheVariants.{Given}
 use Rattle.tfpg_diff.specs.declared.bounds.Bounds.{Bounds}
 use Rattle.tfpg_diff.specs.declared.pick.Pick.{Pick}
-use Rattle.tfpg_diff.specs.Demands.{Demands, Bounded}
+use Rattle.tfpg_diff.specs.Demands.{Demands, Bounded, ceiling_of}
 use Rattle.tfpg_diff.specs.Solution.{IsSolution, IsLatest, HasSolution, HasNoSolution}
 use Rattle.tfpg_diff.specs.Cycle.{NamesNegativeCycle}
 use Rattle.tfpg_diff.specs.State.{with_floor, with_ceiling}
 use Rattle.tfpg_diff.specs.Kept.{IsKept, IsSound, IsWithin, IsSettled, MeetsPicks, Walked, demands_of}
 use Rattle.tfpg_diff.proofs.Latest.{IsLatest-kept}
 use Rattle.tfpg_diff.proofs.Totals.{HasNoSolution-cycle}
-use Rattle.tfpg_diff.proofs.Bounding.{under, over, IsKept-floor, cycle_from_raised}
-use Rattle.tfpg_diff.proofs.Changes.{IsSound-set}
+use Rattle.tfpg_diff.proofs.Bounding.{under, over, ceiling_pick, IsKept-floor, IsKept-ceiling, cycle_from_raised, cycle_from_ceiling}
+use Rattle.tfpg_diff.proofs.Changes.{IsSound-set, IsKept-pick}
+use Rattle.tfpg_diff.proofs.Lowering.{IsBroken, IsKept-lowered}
+use Rattle.tfpg_diff.proofs.Walks.{Walked-none}
 use Rattle.tfpg_diff.proofs.Updates.{with_floor-tighter, with_floor-looser, with_ceiling-tighter, with_ceiling-looser}
 use Rattle.tfpg_diff.proofs.Relaxing.{floor-kept}
 
 -- values that are kept and meet the picks are a solution
 pub HasSolution-kept : (demands : Demands) (values : List ℕ) (links : List Edge) → IsKept demands values links → MeetsPicks values demands.picks → HasSolution demands
 HasSolution-kept demands values links kept met = (drop 1 values, (IsLatest-kept demands values links kept met).solution)
+
+-- the same demands, as the code reads them
+pub demands_read : (bounds now_bounds : List Bounds) (picks now_picks : List Pick) → now_bounds ≡ bounds → now_picks ≡ picks →
+    demands_of now_bounds now_picks ≡ demands_of bounds picks
+demands_read bounds now_bounds picks now_picks same_bounds same_picks =
+    ap (λ (bs : List Bounds). demands_of bs now_picks) same_bounds ∙ ap (λ (ps : List Pick). demands_of bounds ps) same_picks
+
+-- what is kept and meets the picks is settled, as the code reads the demands
+pub IsSettled-read : (bounds now_bounds : List Bounds) (picks now_picks : List Pick) → now_bounds ≡ bounds → now_picks ≡ picks →
+    (values : List ℕ) (links : List Edge) (backup_values : List ℕ) (backup_links : List Edge) (capacity : ℕ) →
+    IsSound (demands_of bounds picks) → IsKept (demands_of now_bounds now_picks) values links → MeetsPicks values now_picks →
+    length backup_values ≡ length now_bounds + 1 → length backup_links ≡ length now_bounds + 1 → length bounds + 3 ≤ capacity →
+    IsSettled bounds picks values links backup_values backup_links capacity
+IsSettled-read bounds now_bounds picks now_picks same_bounds same_picks values links backup_values backup_links capacity sound kept met bv bl room =
+    let same = ap length same_bounds in
+    record {
+        sound = sound;
+        kept = subst (λ (d : Demands). IsKept d values links) (demands_read bounds now_bounds picks now_picks same_bounds same_picks) kept;
+        met = subst (λ (ps : List Pick). MeetsPicks values ps) same_picks met;
+        backup_values_len = omega arith;
+        backup_links_len = omega arith;
+        room = room
+    }
 
 module _ (bounds : List Bounds) (picks : List Pick) (values : List ℕ) (links : List Edge) (backup_values : List ℕ) (backup_links : List Edge) (capacity : ℕ)
     (settled : IsSettled bounds picks values links backup_values backup_links capacity)
@@ -82,12 +109,12 @@ module _ (bounds : List Bounds) (picks : List Pick) (values : List ℕ) (links :
       let l = settled.backup_links_len in
       let r = settled.room in
       record {
-          sound = IsSound-set bounds picks v (over old least tag) settled.sound low;
-          kept = IsKept-floor bounds picks v old at least tag values links tighter high settled.kept;
-          met = settled.met;
-          backup_values_len = omega arith;
-          backup_links_len = omega arith;
-          room = omega arith
+        sound = IsSound-set bounds picks v (over old least tag) settled.sound low;
+        kept = IsKept-floor bounds picks v old at least tag values links tighter high settled.kept;
+        met = settled.met;
+        backup_values_len = omega arith;
+        backup_links_len = omega arith;
+        room = omega arith;
       }
 
   -- and has the lengthened demands
@@ -106,3 +133,92 @@ module _ (bounds : List Bounds) (picks : List Pick) (values : List ℕ) (links :
       adds_conflict (with_floor demands v least tag) tags
       (subst (λ (d : Demands). NamesNegativeCycle d tags) (with_floor-set v old least tag at tighter)
       (cycle_from_raised bounds picks v old at least tag values links tags high settled.kept walked))
+
+  -- demands stay sound under a lower ceiling
+  pub IsSound-ceiling : (v : ℕ) (old : Bounds) (most tag : ℕ) → slice_get bounds v ≡ Some old → most < old.ceiling →
+      IsSound (demands_of (set bounds v (under old most tag)) picks)
+  IsSound-ceiling v old most tag at tighter =
+      IsSound-set bounds picks v (under old most tag) settled.sound (let low = settled.sound.ceilings v old at in omega arith)
+
+  -- what is kept is kept under a lower ceiling that the value is not above
+  IsKept-ceiling_high : (v : ℕ) (old : Bounds) (most tag : ℕ) → slice_get bounds v ≡ Some old → most < old.ceiling → slice_index values (v + 1) ≤ most →
+      IsKept (demands_of (set bounds v (under old most tag)) picks) values links
+  IsKept-ceiling_high v old most tag at tighter high =
+      let was : IsWithin old (slice_index values (v + 1)) = settled.kept.within v old at in
+      IsKept-ceiling bounds picks v old at most tag values links tighter was.above high
+      (IsKept-pick bounds picks (ceiling_pick v most tag) values links settled.kept)
+
+  -- a system stays settled under a lower ceiling that the value is not above
+  pub IsSettled-ceiling : (v : ℕ) (old : Bounds) (most tag : ℕ) → slice_get bounds v ≡ Some old → most < old.ceiling → slice_index values (v + 1) ≤ most →
+      IsSettled (set bounds v (under old most tag)) picks values links backup_values backup_links capacity
+  IsSettled-ceiling v old most tag at tighter high =
+      let same : length (set bounds v (under old most tag)) ≡ length bounds = length-set bounds v (under old most tag) in
+      let b = settled.backup_values_len in
+      let l = settled.backup_links_len in
+      let r = settled.room in
+      record {
+          sound = IsSound-ceiling v old most tag at tighter;
+          kept = IsKept-ceiling_high v old most tag at tighter high;
+          met = settled.met;
+          backup_values_len = omega arith;
+          backup_links_len = omega arith;
+          room = omega arith
+      }
+
+  -- and has the lengthened demands
+  pub adds_ceiling : (v : ℕ) (old : Bounds) (most tag : ℕ) → slice_get bounds v ≡ Some old → most < old.ceiling → slice_index values (v + 1) ≤ most →
+      (demands_of (set bounds v (under old most tag)) picks ≡ with_ceiling demands v most tag) × HasSolution (with_ceiling demands v most tag)
+  adds_ceiling v old most tag at tighter high =
+      let is = with_ceiling-set v old most tag at tighter in
+      let s = IsSettled-ceiling v old most tag at tighter high in
+      (is, subst HasSolution is (HasSolution-kept (demands_of (set bounds v (under old most tag)) picks) values links s.kept s.met))
+
+  -- a ceiling below the floor is a negative cycle
+  pub adds_ceiling_below_floor : (v : ℕ) (old : Bounds) (most tag : ℕ) → slice_get bounds v ≡ Some old → most < old.ceiling → most < old.floor →
+      (demands_of bounds picks ≡ demands) × HasNoSolution (with_ceiling demands v most tag)
+      × NamesNegativeCycle (with_ceiling demands v most tag) (Given tag ∷ old.floor_why ∷ [])
+  adds_ceiling_below_floor v old most tag at tighter low =
+      adds_conflict (with_ceiling demands v most tag) (Given tag ∷ old.floor_why ∷ [])
+      (subst (λ (d : Demands). NamesNegativeCycle d (Given tag ∷ old.floor_why ∷ [])) (with_ceiling-set v old most tag at tighter)
+      (cycle_from_ceiling bounds picks v old at most tag low))
+
+  -- the value of the variable becomes the lower ceiling, and the ceiling its link
+  pub IsKept-ceiling_low : (v : ℕ) (old : Bounds) (most tag : ℕ) → slice_get bounds v ≡ Some old → most < old.ceiling → old.floor ≤ most →
+      most < slice_index values (v + 1) →
+      IsKept (demands_of (set bounds v (under old most tag)) picks) (set values (v + 1) most) (set links (v + 1) (ceiling_of v (under old most tag)))
+  IsKept-ceiling_low v old most tag at tighter above low =
+      let pick : Pick = ceiling_pick v most tag in
+      let edge : Edge = ceiling_of v (under old most tag) in
+      let more : Demands = demands_of bounds (picks ++ pick ∷ []) in
+      let kept : IsKept more values links = IsKept-pick bounds picks pick values links settled.kept in
+      let inside : v < length bounds = slice_get_within bounds v old at in
+      let zero_stays = settled.kept.zero_stays in
+      let broken : IsBroken more values edge = record {
+          demanded = inr (inr (pick, Contains-push picks pick, refl));
+          left = omega arith;
+          right = omega arith;
+          broken = omega (arith, ints)
+      } in
+      let here : slice_index (set values (v + 1) most) (v + 1) ≡ most =
+          get_or-set_same values (v + 1) most 0 (let k = settled.kept.values_len in omega arith) in
+      IsKept-ceiling bounds picks v old at most tag (set values (v + 1) most) (set links (v + 1) edge) tighter (omega arith) (omega arith)
+      (IsKept-lowered more values links kept edge most v old [] [] broken (Walked-none links 0 (v + 1) []) at refl (omega (arith, ints)) above)
+
+  -- a system whose parts were put back is settled as before
+  pub IsSettled-restored : (bounds' : List Bounds) (picks' : List Pick) (values' : List ℕ) (links' : List Edge) (backup_values' : List ℕ)
+      (backup_links' : List Edge) (capacity' : ℕ) → bounds' ≡ bounds → picks' ≡ picks → values' ≡ values → links' ≡ links →
+      length backup_values' ≡ length bounds + 1 → length backup_links' ≡ length bounds + 1 → capacity ≤ capacity' →
+      IsSettled bounds' picks' values' links' backup_values' backup_links' capacity'
+  IsSettled-restored bounds' picks' values' links' backup_values' backup_links' capacity' same_bounds same_picks same_values same_links bv bl room =
+      let back : IsSettled bounds picks values links backup_values' backup_links' capacity' = record {
+          sound = settled.sound;
+          kept = settled.kept;
+          met = settled.met;
+          backup_values_len = bv;
+          backup_links_len = bl;
+          room = (let r = settled.room in omega arith)
+      } in
+      subst (λ (bs : List Bounds). IsSettled bs picks' values' links' backup_values' backup_links' capacity') (sym same_bounds)
+      (subst (λ (ps : List Pick). IsSettled bounds ps values' links' backup_values' backup_links' capacity') (sym same_picks)
+      (subst (λ (vs : List ℕ). IsSettled bounds picks vs links' backup_values' backup_links' capacity') (sym same_values)
+      (subst (λ (es : List Edge). IsSettled bounds picks values es backup_values' backup_links' capacity') (sym same_links) back)))

@@ -13,6 +13,7 @@ use crate::pick::Pick;
 use crate::relax::relax;
 use crate::tree::Tree;
 use crate::why::{Conflict, Why};
+use std::mem;
 
 /// Tests each pick once. Answers whether any was broken.
 ///
@@ -104,4 +105,37 @@ pub fn save(tree: &Tree, into: &mut Tree)
 {
     into.values.copy_from_slice(&tree.values);
     into.links.copy_from_slice(&tree.links);
+}
+
+/// Lowers values until they meet every pick, and puts the backup in their place where that can't be.
+///
+/// Conflict comes where there is no solution; the tags of a negative cycle then stand in `cycle`.
+pub fn settle_or_restore(
+    bounds: &[Bounds],
+    picks: &[Pick],
+    tree: &mut Tree,
+    backup: &mut Tree,
+    cycle: &mut Vec<Why>,
+) -> Result<(), Conflict>
+    requires sound { IsSound (demands_of bounds.now picks.now) }
+    requires kept { IsKept (demands_of bounds.now picks.now) tree.old.values.items tree.old.links.items }
+    requires room { length bounds.now + 3 ≤ vec_capacity cycle.old }
+    requires backup_values { length backup.old.values.items ≡ length bounds.now + 1 }
+    requires backup_links { length backup.old.links.items ≡ length bounds.now + 1 }
+    ensures kept { OnOk result (IsKept (demands_of bounds.now picks.now) tree.new.values.items tree.new.links.items) }
+    ensures met { OnOk result (MeetsPicks tree.new.values.items picks.now) }
+    ensures values { OnErr result (tree.new.values.items ≡ backup.old.values.items) }
+    ensures links { OnErr result (tree.new.links.items ≡ backup.old.links.items) }
+    ensures cycle { OnErr result (NamesNegativeCycle (demands_of bounds.now picks.now) cycle.new.items) }
+    ensures backup_values { length backup.new.values.items ≡ length bounds.now + 1 }
+    ensures backup_links { length backup.new.links.items ≡ length bounds.now + 1 }
+    ensures capacity { vec_capacity cycle.old ≤ vec_capacity cycle.new }
+{
+    match settle(bounds, picks, tree, cycle) {
+        Ok(()) => Ok(()),
+        Err(Conflict) => {
+            mem::swap(tree, backup);
+            Err(Conflict)
+        }
+    }
 }

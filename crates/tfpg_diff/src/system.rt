@@ -8,13 +8,12 @@ use crate::bounds::Bounds;
 use crate::edge::Edge;
 use crate::pick::Pick;
 use crate::relax::{begin_cycle, edge_of_pick, is_broken};
-use crate::settle::{ceiling_edge, save, settle, start};
+use crate::settle::{ceiling_edge, save, settle_or_restore};
 use crate::trace::note;
 use crate::tree::Tree;
 use crate::why::{Conflict, Why};
 use std::alloc::Global;
 use std::marker::Model;
-use std::mem;
 use std::sync::ledger::Ledger;
 use tfpg_base::{Constraint, NoMemory, Steps};
 
@@ -190,12 +189,19 @@ impl System {
         save(&self.tree, &mut self.backup);
         self.tree.values[place + 1] = most;
         self.tree.links[place + 1] = ceiling_edge(variable, tighter);
-        if settle(&self.bounds, &self.picks, &mut self.tree, &mut self.cycle).is_err() {
-            mem::swap(&mut self.tree, &mut self.backup);
-            self.bounds[place] = old;
-            return Err(Conflict);
+        match settle_or_restore(
+            &self.bounds,
+            &self.picks,
+            &mut self.tree,
+            &mut self.backup,
+            &mut self.cycle,
+        ) {
+            Ok(()) => Ok(()),
+            Err(Conflict) => {
+                self.bounds[place] = old;
+                Err(Conflict)
+            }
         }
-        Ok(())
     }
 
     fn add_pick(&mut self, pick: Pick) -> Result<(), Conflict>
@@ -210,11 +216,18 @@ impl System {
             return Ok(());
         }
         save(&self.tree, &mut self.backup);
-        if settle(&self.bounds, &self.picks, &mut self.tree, &mut self.cycle).is_err() {
-            mem::swap(&mut self.tree, &mut self.backup);
-            let _ = self.picks.pop();
-            return Err(Conflict);
+        match settle_or_restore(
+            &self.bounds,
+            &self.picks,
+            &mut self.tree,
+            &mut self.backup,
+            &mut self.cycle,
+        ) {
+            Ok(()) => Ok(()),
+            Err(Conflict) => {
+                let _ = self.picks.pop();
+                Err(Conflict)
+            }
         }
-        Ok(())
     }
 }

@@ -60,7 +60,7 @@ returns-then-index-least-clause-adds c =
     (omega (arith, read, c.if-index-least.true))
     (subst (λ (links : List Edge). Walked links (c.args.variable + 1) 0 0 (Given c.args.tag ∷ []) c.begin_cycle.new.cycle.items) c.deref.ensures.value
     (subst (λ (stands : ℕ). Walked c.deref.result.now (c.args.variable + 1) 0 stands (Given c.args.tag ∷ []) c.begin_cycle.new.cycle.items)
-        (either_zero c.begin_cycle.result) c.begin_cycle.ensures.walked))
+    (either_zero c.begin_cycle.result) c.begin_cycle.ensures.walked))
 
 pub invariant_of-self-2 : goal.invariant_of-self-2
 invariant_of-self-2 c =
