@@ -4,22 +4,22 @@ use Rattle.std.specs.Prelude.{slice_get, slice_index, pos, ◌+ℤ◌, ◌≤ℤ
 use Rattle.std.proofs.lemmas.Bool.{false≢true}
 use Rattle.std.proofs.lemmas.Option.{slice_get_read, slice_get_within}
 use Rattle.std.proofs.lemmas.List.{length-set, get_or-set_same}
-use Rattle.std.proofs.lemmas.List.Elements.{Contains-push}
+use Rattle.std.proofs.lemmas.List.Elements.{Contains-push, All-push}
 use Rattle.std.proofs.lemmas.Int.{ints}
 use Rattle.tfpg_diff.specs.declared.edge.Edge.{Edge}
 use Rattle.tfpg_diff.specs.declared.why.Why.{Why}
 use Rattle.tfpg_diff.specs.declared.why.Why.TheVariants.{Given}
 use Rattle.tfpg_diff.specs.declared.bounds.Bounds.{Bounds}
 use Rattle.tfpg_diff.specs.declared.pick.Pick.{Pick}
-use Rattle.tfpg_diff.specs.Demands.{Demands, Bounded, ceiling_of}
-use Rattle.tfpg_diff.specs.Solution.{IsSolution, IsLatest, HasSolution, HasNoSolution}
+use Rattle.tfpg_diff.specs.Demands.{Demands, Bounded, ceiling_of, edge_of}
+use Rattle.tfpg_diff.specs.Solution.{Meets, IsSolution, IsLatest, HasSolution, HasNoSolution}
 use Rattle.tfpg_diff.specs.Cycle.{NamesNegativeCycle}
-use Rattle.tfpg_diff.specs.State.{with_floor, with_ceiling}
+use Rattle.tfpg_diff.specs.State.{with_floor, with_ceiling, with_pick}
 use Rattle.tfpg_diff.specs.Kept.{IsKept, IsSound, IsWithin, IsSettled, MeetsPicks, Walked, demands_of}
 use Rattle.tfpg_diff.proofs.Latest.{IsLatest-kept}
 use Rattle.tfpg_diff.proofs.Totals.{HasNoSolution-cycle}
 use Rattle.tfpg_diff.proofs.Bounding.{under, over, ceiling_pick, IsKept-floor, IsKept-ceiling, cycle_from_raised, cycle_from_ceiling}
-use Rattle.tfpg_diff.proofs.Changes.{IsSound-set, IsKept-pick}
+use Rattle.tfpg_diff.proofs.Changes.{IsSound-set, IsSound-pick, IsKept-pick}
 use Rattle.tfpg_diff.proofs.Lowering.{IsBroken, IsKept-lowered}
 use Rattle.tfpg_diff.proofs.Walks.{Walked-none}
 use Rattle.tfpg_diff.proofs.Updates.{with_floor-tighter, with_floor-looser, with_ceiling-tighter, with_ceiling-looser}
@@ -222,3 +222,34 @@ module _ (bounds : List Bounds) (picks : List Pick) (values : List ℕ) (links :
       (subst (λ (ps : List Pick). IsSettled bounds ps values' links' backup_values' backup_links' capacity') (sym same_picks)
       (subst (λ (vs : List ℕ). IsSettled bounds picks vs links' backup_values' backup_links' capacity') (sym same_values)
       (subst (λ (es : List Edge). IsSettled bounds picks values es backup_values' backup_links' capacity') (sym same_links) back)))
+
+  -- the demands with one more pick
+  pub with_pick-seen : (pick : Pick) → demands_of bounds (picks ++ pick ∷ []) ≡ with_pick demands pick.constraint pick.tag
+  with_pick-seen pick = ap (λ (d : Demands). with_pick d pick.constraint pick.tag) seen
+
+  -- demands stay sound with one more pick
+  pub IsSound-more : (pick : Pick) → pick.constraint.left ≤ length demands.bounds → pick.constraint.right ≤ length demands.bounds →
+      IsSound (demands_of bounds (picks ++ pick ∷ []))
+  IsSound-more pick left right =
+      let same = ap (λ (d : Demands). length d.bounds) seen in
+      IsSound-pick bounds picks pick settled.sound (omega arith) (omega arith)
+
+  -- a system stays settled with one more pick that the values meet
+  pub IsSettled-pick : (pick : Pick) → pick.constraint.left ≤ length demands.bounds → pick.constraint.right ≤ length demands.bounds →
+      Meets values (edge_of pick) → IsSettled bounds (picks ++ pick ∷ []) values links backup_values backup_links capacity
+  IsSettled-pick pick left right met = record {
+      sound = IsSound-more pick left right;
+      kept = IsKept-pick bounds picks pick values links settled.kept;
+      met = All-push (λ (p : Pick). Meets values (edge_of p)) picks pick settled.met met;
+      backup_values_len = settled.backup_values_len;
+      backup_links_len = settled.backup_links_len;
+      room = settled.room
+  }
+
+  -- and has the lengthened demands
+  pub adds_pick : (pick : Pick) → pick.constraint.left ≤ length demands.bounds → pick.constraint.right ≤ length demands.bounds →
+      Meets values (edge_of pick) →
+      (demands_of bounds (picks ++ pick ∷ []) ≡ with_pick demands pick.constraint pick.tag) × HasSolution (with_pick demands pick.constraint pick.tag)
+  adds_pick pick left right met =
+      let s = IsSettled-pick pick left right met in
+      (with_pick-seen pick, subst HasSolution (with_pick-seen pick) (HasSolution-kept (demands_of bounds (picks ++ pick ∷ [])) values links s.kept s.met))
