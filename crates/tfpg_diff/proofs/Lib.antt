@@ -10,3 +10,4 @@ pub mod Changes
 pub mod Bounding
 pub mod Updates
 pub mod Outcomes
+pub mod Fresh

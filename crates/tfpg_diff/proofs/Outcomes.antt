@@ -44,12 +44,12 @@ pub IsSettled-read : (bounds now_bounds : List Bounds) (picks now_picks : List P
 IsSettled-read bounds now_bounds picks now_picks same_bounds same_picks values links backup_values backup_links capacity sound kept met bv bl room =
     let same = ap length same_bounds in
     record {
-        sound = sound;
-        kept = subst (λ (d : Demands). IsKept d values links) (demands_read bounds now_bounds picks now_picks same_bounds same_picks) kept;
-        met = subst (λ (ps : List Pick). MeetsPicks values ps) same_picks met;
-        backup_values_len = omega arith;
-        backup_links_len = omega arith;
-        room = room
+      sound = sound;
+      kept = subst (λ (d : Demands). IsKept d values links) (demands_read bounds now_bounds picks now_picks same_bounds same_picks) kept;
+      met = subst (λ (ps : List Pick). MeetsPicks values ps) same_picks met;
+      backup_values_len = omega arith;
+      backup_links_len = omega arith;
+      room = room;
     }
 
 module _ (bounds : List Bounds) (picks : List Pick) (values : List ℕ) (links : List Edge) (backup_values : List ℕ) (backup_links : List Edge) (capacity : ℕ)
@@ -157,12 +157,12 @@ module _ (bounds : List Bounds) (picks : List Pick) (values : List ℕ) (links :
       let l = settled.backup_links_len in
       let r = settled.room in
       record {
-          sound = IsSound-ceiling v old most tag at tighter;
-          kept = IsKept-ceiling_high v old most tag at tighter high;
-          met = settled.met;
-          backup_values_len = omega arith;
-          backup_links_len = omega arith;
-          room = omega arith
+        sound = IsSound-ceiling v old most tag at tighter;
+        kept = IsKept-ceiling_high v old most tag at tighter high;
+        met = settled.met;
+        backup_values_len = omega arith;
+        backup_links_len = omega arith;
+        room = omega arith;
       }
 
   -- and has the lengthened demands
@@ -194,13 +194,13 @@ module _ (bounds : List Bounds) (picks : List Pick) (values : List ℕ) (links :
       let inside : v < length bounds = slice_get_within bounds v old at in
       let zero_stays = settled.kept.zero_stays in
       let broken : IsBroken more values edge = record {
-          demanded = inr (inr (pick, Contains-push picks pick, refl));
-          left = omega arith;
-          right = omega arith;
-          broken = omega (arith, ints)
+        demanded = inr (inr (pick, Contains-push picks pick, refl));
+        left = omega arith;
+        right = omega arith;
+        broken = omega (arith, ints);
       } in
       let here : slice_index (set values (v + 1) most) (v + 1) ≡ most =
-          get_or-set_same values (v + 1) most 0 (let k = settled.kept.values_len in omega arith) in
+      get_or-set_same values (v + 1) most 0 (let k = settled.kept.values_len in omega arith) in
       IsKept-ceiling bounds picks v old at most tag (set values (v + 1) most) (set links (v + 1) edge) tighter (omega arith) (omega arith)
       (IsKept-lowered more values links kept edge most v old [] [] broken (Walked-none links 0 (v + 1) []) at refl (omega (arith, ints)) above)
 
@@ -211,12 +211,12 @@ module _ (bounds : List Bounds) (picks : List Pick) (values : List ℕ) (links :
       IsSettled bounds' picks' values' links' backup_values' backup_links' capacity'
   IsSettled-restored bounds' picks' values' links' backup_values' backup_links' capacity' same_bounds same_picks same_values same_links bv bl room =
       let back : IsSettled bounds picks values links backup_values' backup_links' capacity' = record {
-          sound = settled.sound;
-          kept = settled.kept;
-          met = settled.met;
-          backup_values_len = bv;
-          backup_links_len = bl;
-          room = (let r = settled.room in omega arith)
+        sound = settled.sound;
+        kept = settled.kept;
+        met = settled.met;
+        backup_values_len = bv;
+        backup_links_len = bl;
+        room = (let r = settled.room in omega arith);
       } in
       subst (λ (bs : List Bounds). IsSettled bs picks' values' links' backup_values' backup_links' capacity') (sym same_bounds)
       (subst (λ (ps : List Pick). IsSettled bounds ps values' links' backup_values' backup_links' capacity') (sym same_picks)
@@ -238,12 +238,12 @@ module _ (bounds : List Bounds) (picks : List Pick) (values : List ℕ) (links :
   pub IsSettled-pick : (pick : Pick) → pick.constraint.left ≤ length demands.bounds → pick.constraint.right ≤ length demands.bounds →
       Meets values (edge_of pick) → IsSettled bounds (picks ++ pick ∷ []) values links backup_values backup_links capacity
   IsSettled-pick pick left right met = record {
-      sound = IsSound-more pick left right;
-      kept = IsKept-pick bounds picks pick values links settled.kept;
-      met = All-push (λ (p : Pick). Meets values (edge_of p)) picks pick settled.met met;
-      backup_values_len = settled.backup_values_len;
-      backup_links_len = settled.backup_links_len;
-      room = settled.room
+    sound = IsSound-more pick left right;
+    kept = IsKept-pick bounds picks pick values links settled.kept;
+    met = All-push (λ (p : Pick). Meets values (edge_of p)) picks pick settled.met met;
+    backup_values_len = settled.backup_values_len;
+    backup_links_len = settled.backup_links_len;
+    room = settled.room;
   }
 
   -- and has the lengthened demands

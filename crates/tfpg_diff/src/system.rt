@@ -4,11 +4,11 @@ ghost use Rattle.std.specs.Prelude.{◌≡◌, ◌+◌, ◌-◌, ◌<◌, ◌≤
 ghost use Rattle.tfpg_diff.specs.Solution.{IsLatest};
 ghost use Rattle.tfpg_diff.specs.State.{unbounded_from, with_floor, with_ceiling, with_pick, popped_to, Adds};
 
-use crate::bounds::Bounds;
+use crate::bounds::{Bounds, unbounded};
 use crate::edge::Edge;
 use crate::pick::Pick;
 use crate::relax::{begin_cycle, edge_of_pick, is_broken};
-use crate::settle::{ceiling_edge, save, settle_or_restore};
+use crate::settle::{ceiling_edge, save, settle, settle_or_restore, start};
 use crate::trace::note;
 use crate::tree::Tree;
 use crate::why::{Conflict, Why};
@@ -41,6 +41,27 @@ impl Model for System {
 }
 
 impl System {
+    /// A system of so many variables, of which nothing is known: each is at least 0 and at most `NEVER`.
+    ///
+    /// All the memory that later calls want is taken here, but that of picks.
+    pub fn new(alloc: Global, count: u32) -> Result<System, NoMemory>
+        ensures { IfOk result (λ system. system.demands ≡ record { bounds = unbounded_from 0 count; picks = [] }) }
+    {
+        let numbers = count as usize + 1;
+        let bounds = unbounded(alloc, count)?;
+        let mut tree = Tree::new(alloc, numbers)?;
+        let backup = Tree::new(alloc, numbers)?;
+        let cycle = Vec::with_capacity(alloc, numbers + 2)?;
+        start(&bounds, &mut tree);
+        Ok(System {
+            bounds,
+            picks: Vec::new(alloc),
+            tree,
+            backup,
+            cycle,
+        })
+    }
+
     /// Makes room for so many more picks. After want of memory the system is as before.
     pub fn reserve(&mut self, picks: u32) -> Result<(), NoMemory>
         ensures ok { OnOk result (picks ≤ self.new.spare) }
@@ -129,6 +150,20 @@ impl System {
     {
         work.tick();
         self.add_pick(Pick { constraint, tag })
+    }
+
+    /// Takes the picks after the first so many off the stack. The bounds stay. It costs a fresh computation.
+    pub fn pop_to(&mut self, len: u64)
+        requires { len ≤ length self.old.demands.picks }
+        ensures demands { self.new.demands ≡ popped_to self.old.demands len }
+        ensures spare { self.old.spare ≤ self.new.spare }
+    {
+        self.picks.truncate(len as usize);
+        start(&self.bounds, &mut self.tree);
+        match settle(&self.bounds, &self.picks, &mut self.tree, &mut self.cycle) {
+            Ok(()) => {}
+            Err(Conflict) => unreachable!(),
+        }
     }
 
     fn add_floor(&mut self, variable: u32, least: u64, tag: u64) -> Result<(), Conflict>

@@ -73,8 +73,8 @@ pub returns-then-most-old-clause-adds : goal.returns-then-most-old-clause-adds
 returns-then-most-old-clause-adds c =
     let a = (goal.at.returns-then-most-old-clause-adds c).After-index-old in
     let tags : c.note-then-most-old.new.cycle.items ≡ Given c.args.tag ∷ c.index-old.result.now.floor_why ∷ [] =
-        c.note-then-most-old.ensures.items
-        ∙ ap (λ (ws : List Why). ws ++ c.index-old.result.now.floor_why ∷ []) (c.note.ensures.items ∙ ap (λ (ws : List Why). ws ++ Given c.args.tag ∷ []) c.clear.ensures.items) in
+    c.note-then-most-old.ensures.items
+    ∙ ap (λ (ws : List Why). ws ++ c.index-old.result.now.floor_why ∷ []) (c.note.ensures.items ∙ ap (λ (ws : List Why). ws ++ Given c.args.tag ∷ []) c.clear.ensures.items) in
     rw tags (outcome.adds_ceiling_below_floor c.self.inside.bounds.items c.self.inside.picks.items c.self.inside.tree.values.items c.self.inside.tree.links.items
     c.self.inside.backup.values.items c.self.inside.backup.links.items (vec_capacity c.self.inside.cycle) c.self.invariant c.args.self.now.demands (seen a)
     c.args.variable c.index-old.result.now c.args.most c.args.tag (at a) c.if-old-most.false c.if-most-old.true)
@@ -113,7 +113,7 @@ settle_or_restore-requires-clause-kept c =
     subst (λ (d : Demands). IsKept d new (set c.self.inside.tree.links.items (c.args.variable + 1) c.ceiling_edge.result))
     (sym (lengthened (goal.at.settle_or_restore-requires-clause-kept c).After-deref-2))
     (subst (λ (e : Edge). IsKept (demands_of (set c.self.inside.bounds.items c.args.variable (under c.index-old.result.now c.args.most c.args.tag)) c.self.inside.picks.items)
-        new (set c.self.inside.tree.links.items (c.args.variable + 1) e)) (sym c.ceiling_edge.ensures)
+    new (set c.self.inside.tree.links.items (c.args.variable + 1) e)) (sym c.ceiling_edge.ensures)
     (outcome.IsKept-ceiling_low c.self.inside.bounds.items c.self.inside.picks.items c.self.inside.tree.values.items c.self.inside.tree.links.items
     c.self.inside.backup.values.items c.self.inside.backup.links.items (vec_capacity c.self.inside.cycle) c.self.invariant c.args.self.now.demands (seen a)
     c.args.variable c.index-old.result.now c.args.most c.args.tag (at a) c.if-old-most.false c.if-most-old.false (omega (arith, read, c.if-index-most.false))))
@@ -144,10 +144,12 @@ invariant_of-self-in-Err c =
 pub returns-in-Ok-clause-adds : goal.returns-in-Ok-clause-adds
 returns-in-Ok-clause-adds c =
     let is = written (goal.at.returns-in-Ok-clause-adds c).After-index-old c.if-old-most.false in
-    let same = lengthened (goal.at.returns-in-Ok-clause-adds c).After-deref-2 in
-    (is, subst HasSolution (same ∙ is)
-        (outcome.HasSolution-kept (demands_of c.deref.result.now c.deref-2.result.now) c.settle_or_restore.new.tree.values.items c.settle_or_restore.new.tree.links.items
-            c.in-Ok.ensures.kept c.in-Ok.ensures.met))
+    let same = lengthened (goal.at.returns-in-Ok-clause-adds c).After-deref-2 in (
+      is,
+      subst HasSolution (same ∙ is)
+          (outcome.HasSolution-kept (demands_of c.deref.result.now c.deref-2.result.now) c.settle_or_restore.new.tree.values.items c.settle_or_restore.new.tree.links.items
+          c.in-Ok.ensures.kept c.in-Ok.ensures.met),
+    )
 
 pub returns-in-Err-clause-adds : goal.returns-in-Err-clause-adds
 returns-in-Err-clause-adds c =

@@ -43,7 +43,7 @@ pub invariant_of-self : goal.invariant_of-self
 invariant_of-self c =
     let a = (goal.at.invariant_of-self c).After-push in
     subst (λ (picks : List Pick). IsSettled c.self.inside.bounds.items picks c.self.inside.tree.values.items c.self.inside.tree.links.items
-        c.self.inside.backup.values.items c.self.inside.backup.links.items (vec_capacity c.self.inside.cycle)) (sym (pushed a))
+    c.self.inside.backup.values.items c.self.inside.backup.links.items (vec_capacity c.self.inside.cycle)) (sym (pushed a))
     (outcome.IsSettled-pick c.self.inside.bounds.items c.self.inside.picks.items c.self.inside.tree.values.items c.self.inside.tree.links.items
     c.self.inside.backup.values.items c.self.inside.backup.links.items (vec_capacity c.self.inside.cycle) c.self.invariant c.args.self.now.demands (seen a)
     c.args.pick c.requires.left c.requires.right (met (goal.at.invariant_of-self c).After-is_broken (c.is_broken.ensures.met c.if-not-is_broken.true)))
@@ -76,7 +76,7 @@ popped c rest is =
     let own = c.push.new.self.ok.0 in
     is ∙ ap (take (vec_len c.push.new.self - 1)) p
     ∙ take_at c.self.inside.picks.items (c.args.pick ∷ []) (vec_len c.push.new.self - 1)
-        (omega (arith, len, own, length-append c.self.inside.picks.items (c.args.pick ∷ [])))
+    (omega (arith, len, own, length-append c.self.inside.picks.items (c.args.pick ∷ [])))
 
 pub invariant_of-self-in-Err : goal.invariant_of-self-in-Err
 invariant_of-self-in-Err c =
@@ -94,19 +94,22 @@ returns-in-Ok-clause-adds c =
     let a = (goal.at.returns-in-Ok-clause-adds c).After-push in
     let p = pushed a in
     let is = outcome.with_pick-seen c.self.inside.bounds.items c.self.inside.picks.items c.self.inside.tree.values.items c.self.inside.tree.links.items
-        c.self.inside.backup.values.items c.self.inside.backup.links.items (vec_capacity c.self.inside.cycle) c.self.invariant c.args.self.now.demands (seen a) c.args.pick in
-    let same = lengthened (goal.at.returns-in-Ok-clause-adds c).After-deref-3 p in
-    (ap (λ (ps : List Pick). demands_of c.self.inside.bounds.items ps) p ∙ is,
-     subst HasSolution (same ∙ is)
-        (outcome.HasSolution-kept (demands_of c.deref-2.result.now c.deref-3.result.now) c.settle_or_restore.new.tree.values.items c.settle_or_restore.new.tree.links.items
-            c.in-Ok.ensures.kept c.in-Ok.ensures.met))
+    c.self.inside.backup.values.items c.self.inside.backup.links.items (vec_capacity c.self.inside.cycle) c.self.invariant c.args.self.now.demands (seen a) c.args.pick in
+    let same = lengthened (goal.at.returns-in-Ok-clause-adds c).After-deref-3 p in (
+      ap (λ (ps : List Pick). demands_of c.self.inside.bounds.items ps) p ∙ is,
+      subst HasSolution (same ∙ is)
+          (outcome.HasSolution-kept (demands_of c.deref-2.result.now c.deref-3.result.now) c.settle_or_restore.new.tree.values.items c.settle_or_restore.new.tree.links.items
+          c.in-Ok.ensures.kept c.in-Ok.ensures.met),
+    )
 
 pub returns-in-Err-clause-adds : goal.returns-in-Err-clause-adds
 returns-in-Err-clause-adds c =
     let a = (goal.at.returns-in-Err-clause-adds c).After-push in
     let is = outcome.with_pick-seen c.self.inside.bounds.items c.self.inside.picks.items c.self.inside.tree.values.items c.self.inside.tree.links.items
-        c.self.inside.backup.values.items c.self.inside.backup.links.items (vec_capacity c.self.inside.cycle) c.self.invariant c.args.self.now.demands (seen a) c.args.pick in
+    c.self.inside.backup.values.items c.self.inside.backup.links.items (vec_capacity c.self.inside.cycle) c.self.invariant c.args.self.now.demands (seen a) c.args.pick in
     let same = lengthened (goal.at.returns-in-Err-clause-adds c).After-deref-3 (pushed a) in
-    let cycle = subst (λ (d : Demands). NamesNegativeCycle d c.settle_or_restore.new.cycle.items) (same ∙ is) c.in-Err.ensures.cycle in
-    (ap (λ (ps : List Pick). demands_of c.self.inside.bounds.items ps) (popped a c.pop.new.self.items c.pop.ensures.rest) ∙ seen a,
-     HasNoSolution-cycle (with_pick c.args.self.now.demands c.args.pick.constraint c.args.pick.tag) c.settle_or_restore.new.cycle.items cycle, cycle)
+    let cycle = subst (λ (d : Demands). NamesNegativeCycle d c.settle_or_restore.new.cycle.items) (same ∙ is) c.in-Err.ensures.cycle in (
+      ap (λ (ps : List Pick). demands_of c.self.inside.bounds.items ps) (popped a c.pop.new.self.items c.pop.ensures.rest) ∙ seen a,
+      HasNoSolution-cycle (with_pick c.args.self.now.demands c.args.pick.constraint c.args.pick.tag) c.settle_or_restore.new.cycle.items cycle,
+      cycle,
+    )
