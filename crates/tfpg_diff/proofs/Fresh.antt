@@ -45,33 +45,32 @@ pub IsSettled-new : (bounds now : List Bounds) (picks : List Pick) (count : ℕ)
 IsSettled-new bounds now picks count values links backup_values backup_links capacity same is none few start bv bl room =
     let len : length bounds ≡ count = ap length is ∙ length-unbounded_from 0 count in
     let widths : (v : ℕ) (b : Bounds) → slice_get bounds v ≡ Some b → (b.floor ≡ 0) × (b.ceiling ≡ never) =
-        λ v b at. widest_from 0 count v b (sym (ap (λ (bs : List Bounds). slice_get bs v) is) ∙ at) in
+    λ v b at. widest_from 0 count v b (sym (ap (λ (bs : List Bounds). slice_get bs v) is) ∙ at) in
     let begun : IsStart bounds values links (length bounds) = subst (λ (bs : List Bounds). IsStart bs values links (length bs)) same start in
     subst (λ (ps : List Pick). IsSettled bounds ps values links backup_values backup_links capacity) (sym none)
     (record {
-        sound = record {
-            few = omega arith;
-            ceilings = λ v b at. (let w = widths v b at in omega (arith, w.1));
-            lefts = All-nil (λ (pick : Pick). pick.constraint.left ≤ length bounds);
-            rights = All-nil (λ (pick : Pick). pick.constraint.right ≤ length bounds)
-        };
-        kept = IsKept-start bounds [] values links begun (λ v b at. (let w = widths v b at in omega (arith, w.0)));
-        met = All-nil (λ (pick : Pick). Meets values (edge_of pick));
-        backup_values_len = omega arith;
-        backup_links_len = omega arith;
-        room = omega arith
+      sound = record {
+        few = omega arith;
+        ceilings = λ v b at. (let w = widths v b at in omega (arith, w.1));
+        lefts = All-nil (λ (pick : Pick). pick.constraint.left ≤ length bounds);
+        rights = All-nil (λ (pick : Pick). pick.constraint.right ≤ length bounds);
+      };
+      kept = IsKept-start bounds [] values links begun (λ v b at. (let w = widths v b at in omega (arith, w.0)));
+      met = All-nil (λ (pick : Pick). Meets values (edge_of pick));
+      backup_values_len = omega arith;
+      backup_links_len = omega arith;
+      room = omega arith;
     })
 
 module _ (bounds : List Bounds) (picks : List Pick) (values : List ℕ) (links : List Edge) (backup_values : List ℕ) (backup_links : List Edge) (capacity : ℕ)
     (settled : IsSettled bounds picks values links backup_values backup_links capacity) where
-
   -- a fresh start with other picks
   pub IsKept-fresh : (others : List Pick) (values' : List ℕ) (links' : List Edge) → IsStart bounds values' links' (length bounds) →
       IsKept (demands_of bounds others) values' links'
   IsKept-fresh others values' links' start =
       IsKept-start bounds others values' links' start
       (λ v b at. (let w : IsWithin b (slice_index values (v + 1)) = settled.kept.within v b at in
-          let above = w.above in let below = w.below in omega arith))
+      let above = w.above in let below = w.below in omega arith))
 
   -- with fewer picks there is no negative cycle
   pub no_cycle-fewer : (len : ℕ) (tags : List Why) → NamesNegativeCycle (demands_of bounds (take len picks)) tags → ⊥

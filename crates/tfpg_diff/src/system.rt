@@ -1,8 +1,8 @@
 //! A system of difference constraints that always knows its latest solution.
 
-ghost use Rattle.std.specs.Prelude.{◌≡◌, ◌+◌, ◌-◌, ◌<◌, ◌≤◌, [], length, IfOk, OnOk, IsOk};
+ghost use Rattle.std.specs.Prelude.{◌≡◌, ◌+◌, ◌-◌, ◌<◌, ◌≤◌, [], length, All, IfOk, OnOk, IsOk};
 ghost use Rattle.tfpg_diff.specs.Solution.{IsLatest};
-ghost use Rattle.tfpg_diff.specs.State.{unbounded_from, with_floor, with_ceiling, with_pick, popped_to, Adds};
+ghost use Rattle.tfpg_diff.specs.State.{never, unbounded_from, with_floor, with_ceiling, with_pick, popped_to, Adds};
 
 use crate::bounds::{Bounds, unbounded};
 use crate::edge::Edge;
@@ -66,6 +66,7 @@ impl System {
     pub fn reserve(&mut self, picks: u32) -> Result<(), NoMemory>
         ensures ok { OnOk result (picks ≤ self.new.spare) }
         ensures same { self.new.demands ≡ self.old.demands }
+        ensures cycle { self.new.cycle ≡ self.old.cycle }
         ensures spare { self.old.spare ≤ self.new.spare }
         ensures succeeds { picks ≤ self.old.spare → IsOk result }
     {
@@ -73,14 +74,15 @@ impl System {
         Ok(())
     }
 
-    /// Lends the latest solution: the time of each variable, in milliseconds.
+    /// Lends the latest solution: the time of each variable, in milliseconds, at most `10^12 + 1`.
     pub fn solution(&self) -> &[u64]
-        ensures { IsLatest self.now.demands result.now }
+        ensures latest { IsLatest self.now.demands result.now }
+        ensures within { All (λ time. time ≤ never) result.now }
     {
         &self.tree.values[1..]
     }
 
-    /// Lends the tags of the negative cycle that the last conflict found.
+    /// Lends the tags of the negative cycle that the last call found, where its answer was Conflict.
     pub fn cycle(&self) -> &[Why]
         ensures { result.now ≡ self.now.cycle }
     {
@@ -158,7 +160,11 @@ impl System {
         ensures demands { self.new.demands ≡ popped_to self.old.demands len }
         ensures spare { self.old.spare ≤ self.new.spare }
     {
-        self.picks.truncate(len as usize);
+        let len = len as usize;
+        if len == self.picks.len() {
+            return;
+        }
+        self.picks.truncate(len);
         start(&self.bounds, &mut self.tree);
         match settle(&self.bounds, &self.picks, &mut self.tree, &mut self.cycle) {
             Ok(()) => {}
