@@ -7,6 +7,8 @@ mod pick;
 mod relax;
 mod settle;
 mod system;
+#[cfg(test)]
+mod tests;
 mod trace;
 mod tree;
 mod why;

@@ -45,7 +45,8 @@ impl System {
     ///
     /// All the memory that later calls want is taken here, but that of picks.
     pub fn new(alloc: Global, count: u32) -> Result<System, NoMemory>
-        ensures { IfOk result (λ system. system.demands ≡ record { bounds = unbounded_from 0 count; picks = [] }) }
+        ensures demands { IfOk result (λ system. system.demands ≡ record { bounds = unbounded_from 0 count; picks = [] }) }
+        ensures count { IfOk result (λ system. length system.demands.bounds ≡ count) }
     {
         let numbers = count as usize + 1;
         let bounds = unbounded(alloc, count)?;

@@ -36,3 +36,6 @@ invariant_of-result c =
     c.deref.ensures.value c.in_ok-bounds.ensures c.new-3.ensures.items (omega arith) c.start.ensures
     (omega (arith, c.in_ok-backup.ensures.values, c.in_ok-backup.backup.values.ok.0)) (omega (arith, c.in_ok-backup.ensures.links, c.in_ok-backup.backup.links.ok.0))
     (omega (arith, c.in_ok-cycle.ensures.capacity))
+
+pub returns-clause-count : goal.returns-clause-count
+returns-clause-count c = ap length c.in_ok-bounds.ensures ∙ length-unbounded_from 0 c.args.count
