@@ -1,11 +1,11 @@
 -- A lower ceiling, a higher floor, and the start from the ceilings.
-use Rattle.std.proofs.Common.{◌≡◌, ◌≢◌, ℕ, zero, suc, ◌+◌, ◌-◌, ◌<◌, ◌≤◌, List, [], ◌∷◌, ◌++◌, length, get_or, set, Some, Option, refl, sym, ◌∙◌, ap, subst, arith, inl, inr, ⊎_elim, ◌⊎◌}
-use Rattle.std.specs.Prelude.{slice_get, slice_index, AllPairs, All, Contains, ℤ, pos, neg_ℤ, ◌+ℤ◌, ◌≤ℤ◌, ◌<ℤ◌}
+use Rattle.std.proofs.Common.{◌≡◌, ◌≢◌, ℕ, zero, suc, ◌+◌, ◌-◌, ◌<◌, ◌≤◌, List, [], ◌∷◌, ◌++◌, length, get_or, set, Some, refl, sym, ◌∙◌, ap, subst, arith, inl, inr, ⊎_elim}
+use Rattle.std.specs.Prelude.{slice_get, slice_index, Contains, pos}
 use Rattle.std.proofs.lemmas.Int.{ints}
 use Rattle.std.proofs.lemmas.Bool.{cases_eq, cases_lt}
 use Rattle.std.proofs.lemmas.Option.{same_Some, slice_get_within, slice_get-get_or}
 use Rattle.std.proofs.lemmas.List.{length-set, get_or_past}
-use Rattle.std.proofs.lemmas.List.Elements.{All-nil, All-cons, Contains-append_left, Contains-push, Contains-push_cases}
+use Rattle.std.proofs.lemmas.List.Elements.{All-nil, All-cons, Contains-push_cases}
 use Rattle.tfpg_diff.specs.declared.edge.Edge.{Edge}
 use Rattle.tfpg_diff.specs.declared.why.Why.{Why}
 use Rattle.tfpg_diff.specs.declared.why.Why.TheVariants.{Given}
@@ -13,9 +13,8 @@ use Rattle.tfpg_diff.specs.declared.bounds.Bounds.{Bounds}
 use Rattle.tfpg_diff.specs.declared.pick.Pick.{Pick}
 use Rattle.tfpg_diff.specs.Demands.{Demands, Demanded, Bounded, floor_of, ceiling_of, edge_of}
 use Rattle.tfpg_diff.specs.Solution.{Meets, IsSolution}
-use Rattle.tfpg_diff.specs.Cycle.{Leads, total_of, IsNegativeCycle, NamesNegativeCycle}
-use Rattle.tfpg_diff.specs.State.{never}
-use Rattle.tfpg_diff.specs.Kept.{Climbs, IsRooted, Walked, IsLink, IsWithin, IsKept, IsSound, IsStart, demands_of}
+use Rattle.tfpg_diff.specs.Cycle.{NamesNegativeCycle}
+use Rattle.tfpg_diff.specs.Kept.{IsRooted, Walked, IsLink, IsWithin, IsKept, IsStart, demands_of}
 use Rattle.tfpg_diff.proofs.Lists.{AllPairs-cons}
 use Rattle.tfpg_diff.proofs.Lowering.{cycle_from_links}
 use Rattle.tfpg_diff.proofs.Relaxing.{no_bounds}

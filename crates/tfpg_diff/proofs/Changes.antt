@@ -1,17 +1,14 @@
 -- What stays true where the demands change: one more pick, a lower ceiling, a higher floor, fewer picks.
-use Rattle.std.proofs.Common.{◌≡◌, ◌≢◌, ℕ, zero, suc, ◌+◌, ◌-◌, ◌<◌, ◌≤◌, List, [], ◌∷◌, ◌++◌, length, get_or, set, take, map, Some, Option, refl, sym, ◌∙◌, ap, subst, arith, inl, inr, ⊎_elim, ◌⊎◌, length-append}
-use Rattle.std.specs.Prelude.{slice_get, slice_index, AllPairs, All, Contains, ℤ, pos, neg_ℤ, ◌+ℤ◌, ◌≤ℤ◌, ◌<ℤ◌}
-use Rattle.std.proofs.lemmas.Int.{ints}
+use Rattle.std.proofs.Common.{◌≡◌, ◌≢◌, ℕ, ◌+◌, ◌<◌, ◌≤◌, List, [], ◌∷◌, ◌++◌, length, set, take, Some, refl, sym, ◌∙◌, ap, subst, arith, inl, inr, ⊎_elim, ◌⊎◌}
+use Rattle.std.specs.Prelude.{slice_get, slice_index, All}
 use Rattle.std.proofs.lemmas.Bool.{cases_eq}
 use Rattle.std.proofs.lemmas.Option.{same_Some, slice_get_within}
-use Rattle.std.proofs.lemmas.List.{length-set, length-take}
-use Rattle.std.proofs.lemmas.List.Elements.{All-nil, All-cons, All-push, All-take, All-weaker, Contains-append_left, Contains-push, Contains-push_cases}
+use Rattle.std.proofs.lemmas.List.{length-set}
+use Rattle.std.proofs.lemmas.List.Elements.{All-push, All-take, Contains-append_left}
 use Rattle.tfpg_diff.specs.declared.edge.Edge.{Edge}
-use Rattle.tfpg_diff.specs.declared.why.Why.{Why}
-use Rattle.tfpg_diff.specs.declared.why.Why.TheVariants.{Given}
 use Rattle.tfpg_diff.specs.declared.bounds.Bounds.{Bounds}
 use Rattle.tfpg_diff.specs.declared.pick.Pick.{Pick}
-use Rattle.tfpg_diff.specs.Demands.{Demands, Demanded, Bounded, floor_of, ceiling_of, edge_of}
+use Rattle.tfpg_diff.specs.Demands.{Demands, Demanded, Bounded}
 use Rattle.tfpg_diff.specs.Solution.{Meets, IsSolution}
 use Rattle.tfpg_diff.specs.State.{never}
 use Rattle.tfpg_diff.specs.Kept.{IsLink, IsWithin, IsKept, IsSound, demands_of}

@@ -1,17 +1,17 @@
 -- A new system, and a fresh computation of an old one.
-use Rattle.std.proofs.Common.{◌≡◌, ℕ, zero, suc, ◌+◌, ◌^◌, ◌<◌, ◌≤◌, List, [], ◌∷◌, ◌++◌, length, take, Some, refl, sym, ◌∙◌, ap, subst, arith, add-one}
-use Rattle.std.specs.Prelude.{slice_get, slice_index, All}
+use Rattle.std.proofs.Common.{◌≡◌, ℕ, zero, suc, ◌+◌, ◌^◌, ◌<◌, ◌≤◌, List, [], ◌∷◌, ◌++◌, length, take, Some, refl, sym, ◌∙◌, ap, subst, arith}
+use Rattle.std.specs.Prelude.{slice_get, slice_index}
 use Rattle.std.proofs.lemmas.Option.{same_Some, none-some}
 use Rattle.std.proofs.lemmas.List.Elements.{All-nil}
 use Rattle.tfpg_diff.specs.declared.edge.Edge.{Edge}
 use Rattle.tfpg_diff.specs.declared.why.Why.{Why}
 use Rattle.tfpg_diff.specs.declared.bounds.Bounds.{Bounds}
 use Rattle.tfpg_diff.specs.declared.pick.Pick.{Pick}
-use Rattle.tfpg_diff.specs.Demands.{Demands, Bounded, edge_of}
-use Rattle.tfpg_diff.specs.Solution.{Meets, IsSolution, HasSolution, HasNoSolution}
+use Rattle.tfpg_diff.specs.Demands.{edge_of}
+use Rattle.tfpg_diff.specs.Solution.{Meets}
 use Rattle.tfpg_diff.specs.Cycle.{NamesNegativeCycle}
 use Rattle.tfpg_diff.specs.State.{never, widest, unbounded_from}
-use Rattle.tfpg_diff.specs.Kept.{IsKept, IsSound, IsStart, IsSettled, IsWithin, demands_of}
+use Rattle.tfpg_diff.specs.Kept.{IsKept, IsStart, IsSettled, IsWithin, demands_of}
 use Rattle.tfpg_diff.proofs.Totals.{HasNoSolution-cycle}
 use Rattle.tfpg_diff.proofs.Changes.{IsSolution-take}
 use Rattle.tfpg_diff.proofs.Bounding.{IsKept-start}

@@ -1,14 +1,13 @@
 -- Where values that are kept meet the picks, they are the latest solution.
-use Rattle.std.proofs.Common.{◌≡◌, ℕ, zero, suc, ◌+◌, ◌<◌, ◌≤◌, List, [], ◌∷◌, length, drop, refl, sym, ap, subst, arith, inl, inr}
-use Rattle.std.specs.Prelude.{slice_index, ℤ, pos, ◌+ℤ◌, ◌≤ℤ◌, Contains}
+use Rattle.std.proofs.Common.{◌≡◌, ℕ, suc, ◌+◌, ◌<◌, ◌≤◌, List, [], ◌∷◌, length, drop, sym, ap, subst, arith, inl, inr}
+use Rattle.std.specs.Prelude.{slice_index}
 use Rattle.std.proofs.lemmas.Int.{ints}
 use Rattle.std.proofs.lemmas.List.{length-drop}
 use Rattle.std.proofs.lemmas.List.Elements.{All-contains}
 use Rattle.tfpg_diff.specs.declared.edge.Edge.{Edge}
 use Rattle.tfpg_diff.specs.declared.pick.Pick.{Pick}
-use Rattle.tfpg_diff.specs.declared.bounds.Bounds.{Bounds}
-use Rattle.tfpg_diff.specs.Demands.{Demands, Demanded, Bounded, floor_of, ceiling_of, edge_of}
-use Rattle.tfpg_diff.specs.Solution.{Meets, IsSolution, IsLatest}
+use Rattle.tfpg_diff.specs.Demands.{Demands, Demanded, floor_of, ceiling_of, edge_of}
+use Rattle.tfpg_diff.specs.Solution.{Meets, IsLatest}
 use Rattle.tfpg_diff.specs.Kept.{IsKept, IsWithin, MeetsPicks}
 
 -- values are zero in front of the others

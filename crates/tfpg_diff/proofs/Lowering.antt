@@ -1,20 +1,20 @@
 -- A broken constraint closes a negative cycle, or lowers a value and keeps what is kept.
-use Rattle.std.proofs.Common.{◌≡◌, ◌≢◌, ℕ, zero, suc, ◌+◌, ◌<◌, ◌≤◌, List, [], ◌∷◌, ◌++◌, length, get_or, set, map, Some, Option, refl, sym, ◌∙◌, ap, subst, arith, sum, ⊎_elim, inl, inr, length-append, append_assoc}
-use Rattle.std.specs.Prelude.{slice_get, slice_index, AllPairs, All, ℤ, pos, neg_ℤ, ◌+ℤ◌, ◌≤ℤ◌, ◌<ℤ◌}
+use Rattle.std.proofs.Common.{◌≡◌, ◌≢◌, ℕ, ◌+◌, ◌<◌, ◌≤◌, List, [], ◌∷◌, ◌++◌, length, set, Some, refl, sym, ◌∙◌, ap, subst, arith, sum, ⊎_elim, inl, inr}
+use Rattle.std.specs.Prelude.{slice_get, slice_index, AllPairs, All, pos, ◌+ℤ◌, ◌<ℤ◌}
 use Rattle.std.proofs.lemmas.Int.{ints}
 use Rattle.std.proofs.lemmas.Bool.{cases_eq, cases_lt}
-use Rattle.std.proofs.lemmas.Option.{same_Some, slice_get_within}
-use Rattle.std.proofs.lemmas.List.{set_past, length-set, get_or-set_same, get_or-set_other, map_push, append-nil}
+use Rattle.std.proofs.lemmas.Option.{same_Some}
+use Rattle.std.proofs.lemmas.List.{set_past, length-set, get_or-set_same, get_or-set_other, map_push}
 use Rattle.std.proofs.lemmas.List.Sums.{sum_by-set}
 use Rattle.std.proofs.lemmas.List.Quantifiers.{all_pairs_push}
-use Rattle.std.proofs.lemmas.List.Elements.{All-nil, All-cons, All-push, All-weaker, All-get_or}
+use Rattle.std.proofs.lemmas.List.Elements.{All-cons, All-push, All-weaker}
 use Rattle.tfpg_diff.specs.declared.edge.Edge.{Edge}
 use Rattle.tfpg_diff.specs.declared.why.Why.{Why}
 use Rattle.tfpg_diff.specs.declared.bounds.Bounds.{Bounds}
-use Rattle.tfpg_diff.specs.Demands.{Demands, Demanded, Bounded, floor_of, ceiling_of, edge_of}
-use Rattle.tfpg_diff.specs.Solution.{Meets, IsSolution}
-use Rattle.tfpg_diff.specs.Cycle.{Leads, total_of, IsNegativeCycle, NamesNegativeCycle}
-use Rattle.tfpg_diff.specs.Kept.{Climbs, IsRooted, IsLabelled, IsWalk, Walked, IsLink, IsWithin, IsKept}
+use Rattle.tfpg_diff.specs.Demands.{Demands, Demanded, Bounded, floor_of}
+use Rattle.tfpg_diff.specs.Solution.{Meets}
+use Rattle.tfpg_diff.specs.Cycle.{NamesNegativeCycle}
+use Rattle.tfpg_diff.specs.Kept.{Climbs, IsLabelled, IsWalk, Walked, IsLink, IsWithin, IsKept}
 use Rattle.tfpg_diff.proofs.Lists.{AllPairs-cons, AllPairs-front, slice_get-set_other, slice_get-set_same}
 use Rattle.tfpg_diff.proofs.Climb.{Climbs-append, Climbs-simple, Climbs-at, IsOwnLink, IsRooted-set}
 use Rattle.tfpg_diff.proofs.Totals.{total_of-append, total_of-Climbs, IsTight, Leads-Climbs, Leads-append}

@@ -1,7 +1,6 @@
 -- What a settled system answers: there is a solution, or there is none.
-use Rattle.std.proofs.Common.{◌≡◌, ◌≢◌, ℕ, ◌+◌, ◌<◌, ◌≤◌, true, false, Bool, List, ◌∷◌, ◌++◌, [], length, drop, get_or, set, Some, refl, sym, ◌∙◌, ap, subst, arith, inl, inr}
-use Rattle.std.specs.Prelude.{slice_get, slice_index, pos, ◌+ℤ◌, ◌≤ℤ◌, ◌<ℤ◌}
-use Rattle.std.proofs.lemmas.Bool.{false≢true}
+use Rattle.std.proofs.Common.{◌≡◌, ℕ, ◌+◌, ◌<◌, ◌≤◌, List, ◌∷◌, ◌++◌, [], length, drop, get_or, set, Some, refl, sym, ◌∙◌, ap, subst, arith, inr}
+use Rattle.std.specs.Prelude.{slice_get, slice_index}
 use Rattle.std.proofs.lemmas.Option.{slice_get_read, slice_get_within}
 use Rattle.std.proofs.lemmas.List.{length-set, get_or-set_same}
 use Rattle.std.proofs.lemmas.List.Elements.{Contains-push, All-push}
@@ -11,8 +10,8 @@ use Rattle.tfpg_diff.specs.declared.why.Why.{Why}
 use Rattle.tfpg_diff.specs.declared.why.Why.TheVariants.{Given}
 use Rattle.tfpg_diff.specs.declared.bounds.Bounds.{Bounds}
 use Rattle.tfpg_diff.specs.declared.pick.Pick.{Pick}
-use Rattle.tfpg_diff.specs.Demands.{Demands, Bounded, ceiling_of, edge_of}
-use Rattle.tfpg_diff.specs.Solution.{Meets, IsSolution, IsLatest, HasSolution, HasNoSolution}
+use Rattle.tfpg_diff.specs.Demands.{Demands, ceiling_of, edge_of}
+use Rattle.tfpg_diff.specs.Solution.{Meets, HasSolution, HasNoSolution}
 use Rattle.tfpg_diff.specs.Cycle.{NamesNegativeCycle}
 use Rattle.tfpg_diff.specs.State.{with_floor, with_ceiling, with_pick}
 use Rattle.tfpg_diff.specs.Kept.{IsKept, IsSound, IsWithin, IsSettled, MeetsPicks, Walked, demands_of}
@@ -23,7 +22,6 @@ use Rattle.tfpg_diff.proofs.Changes.{IsSound-set, IsSound-pick, IsKept-pick}
 use Rattle.tfpg_diff.proofs.Lowering.{IsBroken, IsKept-lowered}
 use Rattle.tfpg_diff.proofs.Walks.{Walked-none}
 use Rattle.tfpg_diff.proofs.Updates.{with_floor-tighter, with_floor-looser, with_ceiling-tighter, with_ceiling-looser}
-use Rattle.tfpg_diff.proofs.Relaxing.{floor-kept}
 
 -- values that are kept and meet the picks are a solution
 pub HasSolution-kept : (demands : Demands) (values : List ℕ) (links : List Edge) → IsKept demands values links → MeetsPicks values demands.picks → HasSolution demands

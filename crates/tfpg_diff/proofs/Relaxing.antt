@@ -1,7 +1,6 @@
 -- What the test of a pick knows of it and of the values.
-use Rattle.std.proofs.Common.{◌≡◌, ◌≢◌, ℕ, zero, suc, ◌+◌, ◌-◌, ◌<◌, ◌≤◌, List, [], ◌∷◌, ◌++◌, length, length-append, get_or, map, Some, Option, refl, sym, ◌∙◌, ap, subst, arith, inl, inr, ⊎_elim}
-use Rattle.std.specs.Prelude.{slice_get, slice_index, All, Contains, ℤ, pos, ◌+ℤ◌, ◌≤ℤ◌, ◌<ℤ◌}
-use Rattle.std.proofs.lemmas.Int.{ints}
+use Rattle.std.proofs.Common.{◌≡◌, ℕ, zero, suc, ◌+◌, ◌-◌, ◌<◌, ◌≤◌, List, [], ◌∷◌, length, length-append, get_or, map, ap, subst, arith, inr}
+use Rattle.std.specs.Prelude.{slice_index, All, pos, ◌+ℤ◌, ◌<ℤ◌}
 use Rattle.std.proofs.lemmas.Option.{slice_get-get_or}
 use Rattle.std.proofs.lemmas.List.{get_or_default, length-map}
 use Rattle.std.proofs.lemmas.List.Elements.{Contains-get_or}
@@ -10,7 +9,7 @@ use Rattle.tfpg_diff.specs.declared.pick.Pick.{Pick}
 use Rattle.tfpg_diff.specs.declared.bounds.Bounds.{Bounds}
 use Rattle.tfpg_diff.specs.declared.why.Why.{Why}
 use Rattle.tfpg_diff.specs.declared.why.Why.TheVariants.{Floor}
-use Rattle.tfpg_diff.specs.Demands.{Demands, Demanded, Bounded, edge_of}
+use Rattle.tfpg_diff.specs.Demands.{Demands, Bounded, edge_of}
 use Rattle.std.specs.List.{HoldsAt}
 use Rattle.tfpg_diff.specs.Solution.{Meets}
 use Rattle.tfpg_diff.specs.State.{never}

@@ -1,13 +1,13 @@
 -- Sums of bounds: along a way of links they are at most what the values fall, and along a chain of constraints that are
 -- met at least what the times fall. So a negative cycle leaves no solution.
-use Rattle.std.proofs.Common.{◌≡◌, ℕ, zero, suc, ◌+◌, ◌<◌, ◌≤◌, List, [], ◌∷◌, ◌++◌, length, get_or, Some, Option, refl, sym, ◌∙◌, ap, subst, arith}
-use Rattle.std.specs.Prelude.{slice_get, slice_index, All, ℤ, pos, ◌+ℤ◌, ◌≤ℤ◌, ◌<ℤ◌}
+use Rattle.std.proofs.Common.{◌≡◌, ℕ, ◌<◌, List, [], ◌∷◌, ◌++◌, Some, sym, subst, arith}
+use Rattle.std.specs.Prelude.{slice_get, slice_index, All, pos, ◌+ℤ◌, ◌≤ℤ◌}
 use Rattle.std.proofs.lemmas.Int.{ints}
 use Rattle.std.proofs.lemmas.List.Elements.{All-head, All-tail, All-weaker}
 use Rattle.tfpg_diff.specs.declared.edge.Edge.{Edge}
 use Rattle.tfpg_diff.specs.declared.why.Why.{Why}
 use Rattle.tfpg_diff.specs.Demands.{Demands, Demanded}
-use Rattle.tfpg_diff.specs.Solution.{Meets, IsSolution, HasNoSolution}
+use Rattle.tfpg_diff.specs.Solution.{Meets, HasNoSolution}
 use Rattle.tfpg_diff.specs.Cycle.{Leads, total_of, IsNegativeCycle, NamesNegativeCycle}
 use Rattle.tfpg_diff.specs.Kept.{Climbs}
 

@@ -1,12 +1,11 @@
 -- A change of the bounds of one variable is a write, or nothing where the new bound is not tighter.
-use Rattle.std.proofs.Common.{◌≡◌, ℕ, zero, suc, ◌+◌, ◌<◌, ◌≤◌, Bool, true, false, List, [], ◌∷◌, length, set, Some, Option, refl, sym, ◌∙◌, ap, subst, arith, lt-ltb, le-ltb}
-use Rattle.std.specs.Prelude.{slice_get, nat_lt}
+use Rattle.std.proofs.Common.{◌≡◌, ℕ, zero, suc, ◌<◌, ◌≤◌, List, [], ◌∷◌, set, Some, refl, sym, ◌∙◌, ap, lt-ltb, le-ltb}
+use Rattle.std.specs.Prelude.{slice_get}
 use Rattle.std.proofs.lemmas.Option.{same_Some, none-some}
 use Rattle.tfpg_diff.specs.declared.bounds.Bounds.{Bounds}
 use Rattle.tfpg_diff.specs.declared.pick.Pick.{Pick}
 use Rattle.tfpg_diff.specs.State.{raised, lowered, changed_at, with_floor, with_ceiling}
 use Rattle.tfpg_diff.specs.Kept.{demands_of}
-use Rattle.tfpg_diff.specs.Demands.{Demands}
 use Rattle.tfpg_diff.proofs.Bounding.{under, over}
 
 -- a change of one item is a write of the changed item

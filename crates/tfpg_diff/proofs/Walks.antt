@@ -1,6 +1,6 @@
 -- One more link on a walk, and why a walk ends.
-use Rattle.std.proofs.Common.{◌≡◌, ◌≢◌, ℕ, ◌+◌, ◌<◌, ◌≤◌, List, [], ◌∷◌, ◌++◌, length, get_or, map, Some, Option, refl, sym, ◌∙◌, ap, arith, length-append, append_assoc}
-use Rattle.std.specs.Prelude.{slice_get, All, pos}
+use Rattle.std.proofs.Common.{◌≡◌, ◌≢◌, ℕ, ◌+◌, ◌<◌, ◌≤◌, List, [], ◌∷◌, ◌++◌, length, get_or, map, Some, refl, sym, ◌∙◌, ap, arith, length-append, append_assoc}
+use Rattle.std.specs.Prelude.{slice_get, pos}
 use Rattle.std.proofs.lemmas.List.{map_push, append-nil, length-map}
 use Rattle.std.proofs.lemmas.Option.{slice_get_within, slice_get-get_or}
 use Rattle.std.proofs.lemmas.List.Elements.{All-nil, All-push}

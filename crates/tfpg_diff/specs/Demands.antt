@@ -1,7 +1,6 @@
 -- What a system demands of its variables: their bounds and the picks, each as a difference constraint with the tag that
 -- a cycle names it by. Number 0 is the constant zero, and the variable `v` is the number `v + 1`.
-use Rattle.std.specs.Prelude.{◌≡◌, ◌⊎◌, ℕ, ◌+◌, ℤ, pos, neg_ℤ, List, map, Contains, Some, slice_get}
-use Rattle.tfpg_diff.specs.declared.why.Why.{Why}
+use Rattle.std.specs.Prelude.{◌≡◌, ◌⊎◌, ℕ, ◌+◌, pos, neg_ℤ, List, Contains, Some, slice_get}
 use Rattle.tfpg_diff.specs.declared.why.Why.TheVariants.{Given}
 use Rattle.tfpg_diff.specs.declared.bounds.Bounds.{Bounds}
 use Rattle.tfpg_diff.specs.declared.pick.Pick.{Pick}

@@ -9,7 +9,7 @@ use Rattle.tfpg_diff.specs.Demands.{Demands}
 use Rattle.tfpg_diff.specs.Solution.{HasSolution, HasNoSolution}
 use Rattle.tfpg_diff.specs.Cycle.{NamesNegativeCycle}
 
--- What a system demands, for how many more picks it has room, and the tags that it lends since the last conflict.
+-- What a system demands, for how many more picks it has room, and the tags that it lends after a conflict.
 pub record State : Type 0 where
   pub demands : Demands
   pub spare : ℕ

@@ -41,9 +41,10 @@ impl Model for System {
 }
 
 impl System {
-    /// A system of so many variables, of which nothing is known: each is at least 0 and at most `NEVER`.
+    /// A system of so many variables, of which nothing is known: each is at least 0 and at most one past the
+    /// last millisecond, `10^12 + 1`.
     ///
-    /// All the memory that later calls want is taken here, but that of picks.
+    /// All the memory that later calls want is taken here, but that of picks: about 150 bytes for each variable.
     pub fn new(alloc: Global, count: u32) -> Result<System, NoMemory>
         ensures demands { IfOk result (λ system. system.demands ≡ record { bounds = unbounded_from 0 count; picks = [] }) }
         ensures count { IfOk result (λ system. length system.demands.bounds ≡ count) }
@@ -90,7 +91,8 @@ impl System {
         self.cycle.as_slice()
     }
 
-    /// The variable is at least that. A bound that is not tighter than the present one changes nothing.
+    /// The variable is at least that. A bound that is not tighter than the present one changes nothing. The call
+    /// counts as one step.
     ///
     /// Conflict comes exactly where there would be no solution. The system is then as before, and
     /// [`System::cycle`] lends the reason. It costs one comparison, and at a conflict a walk along the links.
@@ -111,7 +113,8 @@ impl System {
         self.add_floor(variable, least, tag)
     }
 
-    /// The variable is at most that. A bound that is not tighter than the present one changes nothing.
+    /// The variable is at most that. A bound that is not tighter than the present one changes nothing. The call
+    /// counts as one step.
     ///
     /// Conflict comes exactly where there would be no solution. The system is then as before, and
     /// [`System::cycle`] lends the reason. Where the value of the variable is above the bound it costs at most
@@ -133,7 +136,7 @@ impl System {
         self.add_ceiling(variable, most, tag)
     }
 
-    /// Puts a constraint on the stack. Its bound may be any number.
+    /// Puts a constraint on the stack. Its bound may be any number. The call counts as one step.
     ///
     /// Conflict comes exactly where there would be no solution. The system is then as before, and
     /// [`System::cycle`] lends the reason. Where the values break the constraint it costs at most one pass over

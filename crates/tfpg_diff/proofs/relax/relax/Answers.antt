@@ -1,15 +1,13 @@
 -- A pick that is broken closes a cycle or lowers a value.
-use Rattle.std.proofs.Common.{arith, ◌≡◌, ◌≢◌, ℕ, ◌+◌, ◌-◌, ◌<◌, ◌≤◌, length, get_or, Some, sym, ap, subst, refl, List, ◌∷◌, [], ⊎_elim, ◌∙◌}
-use Rattle.std.specs.Prelude.{slice_index, slice_get, pos, ◌+ℤ◌, ◌<ℤ◌, ◌≤ℤ◌, vec_len, vec_capacity, All}
-use Rattle.std.proofs.lemmas.Int.{ints}
+use Rattle.std.proofs.Common.{arith, ◌≡◌, ◌≢◌, ℕ, ◌-◌, ◌<◌, ◌≤◌, get_or, sym, subst, refl, List, ◌∷◌, [], ⊎_elim, ◌∙◌}
+use Rattle.std.specs.Prelude.{slice_index, pos, ◌+ℤ◌, ◌<ℤ◌}
 use Rattle.std.proofs.lemmas.Bool.{cases_eq, false≢true}
 use Rattle.std.proofs.lemmas.List.Elements.{All-same}
 use Rattle.tfpg_diff.specs.declared.edge.Edge.{Edge}
 use Rattle.tfpg_diff.specs.declared.why.Why.{Why}
-use Rattle.tfpg_diff.specs.Kept.{demands_of, IsKept, IsRooted, IsLabelled, Walked}
-use Rattle.tfpg_diff.specs.Cycle.{NamesNegativeCycle}
+use Rattle.tfpg_diff.specs.Kept.{demands_of, IsRooted, IsLabelled, Walked}
 use Rattle.tfpg_diff.specs.State.{never}
-use Rattle.tfpg_diff.proofs.Lowering.{IsBroken, cycle_from_met, cycle_from_floor, IsKept-lowered, sum-lowered, Labelled-kept}
+use Rattle.tfpg_diff.proofs.Lowering.{IsBroken, cycle_from_met, cycle_from_floor, IsKept-lowered, Labelled-kept}
 use Rattle.tfpg_diff.proofs.Relaxing.{small-kept, IsBroken-pick, Bounded-read, no_bounds, no_pick, length-cycle, floor-kept}
 use Rattle.tfpg_diff.proofs.relax.relax.Goals as goal
 use Rattle.tfpg_diff.proofs.relax.relax.Goals.{Else-not-is_broken, Else-begin_cycle}

@@ -1,5 +1,5 @@
 -- The picks that were tested are met, or the values sum up to less.
-use Rattle.std.proofs.Common.{◌+◌, ◌≤◌, length, take, vec_capacity}
+use Rattle.std.proofs.Common.{◌≤◌, take, vec_capacity}
 use Rattle.tfpg_diff.specs.Kept.{IsKept, Passes, demands_of}
 use Rattle.tfpg_diff.proofs.settle.pass.Given as goal
 

@@ -1,5 +1,4 @@
 -- The variables so far have their upper bounds.
-use Rattle.std.proofs.Common.{◌≡◌, ◌+◌, length, vec_len}
 use Rattle.tfpg_diff.specs.Kept.{IsStart}
 use Rattle.tfpg_diff.proofs.settle.start.Given as goal
 

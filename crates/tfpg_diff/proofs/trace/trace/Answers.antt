@@ -1,6 +1,6 @@
 -- A walk that is not at zero has room for one more link.
 use Rattle.std.proofs.lemmas.List.{length_push}
-use Rattle.std.proofs.Common.{arith, ap, ◌<◌, ◌≢◌, ◌+◌, length, get_or}
+use Rattle.std.proofs.Common.{arith, ap, ◌<◌, ◌≢◌, length, get_or}
 use Rattle.tfpg_diff.proofs.Walks.{Walked-more, length-walked, link_right, link_read, no_edge}
 use Rattle.tfpg_diff.proofs.trace.trace.Goals as goal
 

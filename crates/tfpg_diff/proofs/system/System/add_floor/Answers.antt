@@ -1,9 +1,8 @@
 -- A floor that is not tighter changes nothing, one above the value closes a cycle, and any other is written.
-use Rattle.std.proofs.Common.{◌≡◌, ℕ, ◌+◌, ◌<◌, ◌≤◌, Bool, true, false, List, ◌∷◌, [], length, get_or, cond, Some, refl, sym, ◌∙◌, ap, subst, arith}
+use Rattle.std.proofs.Common.{◌≡◌, ℕ, ◌+◌, Bool, true, false, List, ◌∷◌, [], length, Some, refl, sym, ap, subst, arith}
 use Rattle.std.specs.Prelude.{slice_get, slice_index, vec_capacity, if◌then◌else◌}
 use Rattle.std.proofs.lemmas.List.{get_or_read_under}
 use Rattle.tfpg_diff.specs.declared.edge.Edge.{Edge}
-use Rattle.tfpg_diff.specs.declared.why.Why.{Why}
 use Rattle.tfpg_diff.specs.declared.why.Why.TheVariants.{Given}
 use Rattle.tfpg_diff.specs.Demands.{Demands}
 use Rattle.tfpg_diff.specs.State.{State}

@@ -1,9 +1,8 @@
 -- A new system is settled at its ceilings.
-use Rattle.std.proofs.Common.{◌≡◌, ℕ, ◌+◌, ◌<◌, List, length, Some, refl, sym, ◌∙◌, ap, subst, arith}
+use Rattle.std.proofs.Common.{◌≡◌, List, length, sym, ◌∙◌, ap, arith}
 use Rattle.std.specs.Prelude.{slice_get, vec_capacity}
 use Rattle.tfpg_diff.specs.declared.bounds.Bounds.{Bounds}
-use Rattle.tfpg_diff.specs.State.{unbounded_from, never}
-use Rattle.tfpg_diff.specs.Kept.{IsStart}
+use Rattle.tfpg_diff.specs.State.{unbounded_from}
 use Rattle.tfpg_diff.proofs.Fresh.{length-unbounded_from, widest_from, IsSettled-new}
 use Rattle.tfpg_diff.proofs.system.System.new.Goals as goal
 use Rattle.tfpg_diff.proofs.system.System.new.Goals.{After-deref}

@@ -1,11 +1,10 @@
 -- A fresh computation with fewer picks, which meets no negative cycle.
-use Rattle.std.proofs.Common.{◌≡◌, ℕ, List, length, take, refl, sym, ◌∙◌, ap, subst}
+use Rattle.std.proofs.Common.{List, length, take, sym, ◌∙◌, subst}
 use Rattle.std.specs.Prelude.{vec_capacity}
 use Rattle.tfpg_diff.specs.declared.bounds.Bounds.{Bounds}
-use Rattle.tfpg_diff.specs.declared.pick.Pick.{Pick}
 use Rattle.tfpg_diff.specs.Demands.{Demands}
 use Rattle.tfpg_diff.specs.Cycle.{NamesNegativeCycle}
-use Rattle.tfpg_diff.specs.Kept.{IsKept, IsStart, demands_of}
+use Rattle.tfpg_diff.specs.Kept.{IsKept, IsStart}
 use Rattle.tfpg_diff.proofs.Outcomes.{demands_read}
 use Rattle.tfpg_diff.proofs.Fresh.{IsKept-fresh, no_cycle-fewer}
 use Rattle.tfpg_diff.proofs.system.System.pop_to.Goals as goal
