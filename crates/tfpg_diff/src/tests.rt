@@ -61,6 +61,36 @@ fn a_solution_where_the_second_may_be_9(rt: HostRuntime) -> Result<(), Fail> {
     Ok(())
 }
 
+/// Two pushes that contradict each other by one millisecond, over values near 10^12.
+fn off_by_one<L: Ledger>(alloc: Global, blank: Blank) -> Result<bool, Fail>
+    requires name { blank.name ≡ L.name }
+    requires parts { blank.parts ≡ L.parts }
+    requires some { 0 < blank.parts }
+{
+    let mut work = Steps::<L>::new(blank);
+    let mut system = System::new(alloc, 2)?;
+    system.reserve(1)?;
+    let before = Constraint {
+        left: 1,
+        right: 2,
+        most: -1,
+    };
+    let _ = system.push(before, 1, &mut work);
+    system.reserve(1)?;
+    let not_before = Constraint {
+        left: 2,
+        right: 1,
+        most: 0,
+    };
+    Ok(system.push(not_before, 2, &mut work).is_ok())
+}
+
+#[test]
+fn nothing_is_counted_down_by_ones(rt: HostRuntime) -> Result<(), Fail> {
+    assert!(rt; !off_by_one::<Brand>(rt.alloc(), Blank::new(1))?);
+    Ok(())
+}
+
 /// Variables from 0 to 7, lower bounds of some, and picks. The latest solution, or None where the last pick
 /// leaves none.
 struct Case {
