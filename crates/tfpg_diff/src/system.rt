@@ -176,6 +176,7 @@ impl System {
         }
     }
 
+    /// Raises a lower bound.
     fn add_floor(&mut self, variable: u32, least: u64, tag: u64) -> Result<(), Conflict>
         requires { variable < length self.old.demands.bounds }
         ensures adds { Adds self.old (with_floor self.old.demands variable least tag) result self.new }
@@ -205,6 +206,7 @@ impl System {
         Ok(())
     }
 
+    /// Lowers an upper bound.
     fn add_ceiling(&mut self, variable: u32, most: u64, tag: u64) -> Result<(), Conflict>
         requires { variable < length self.old.demands.bounds }
         ensures adds { Adds self.old (with_ceiling self.old.demands variable most tag) result self.new }
@@ -249,6 +251,7 @@ impl System {
         }
     }
 
+    /// Pushes a pick, for which there is room.
     fn add_pick(&mut self, pick: Pick) -> Result<(), Conflict>
         requires spare { 1 ≤ self.old.spare }
         requires left { pick.constraint.left ≤ length self.old.demands.bounds }

@@ -9,7 +9,7 @@ use std::marker::Brand;
 use std::process::Abort;
 use std::sync::ledger::{Blank, Ledger};
 use std::test::Fail;
-use tfpg_base::{Constraint, Steps};
+use tfpg_base::{Constraint, NoMemory, Steps};
 
 /// Two variables, of which the second is at least 4 after the first: that fits only if the second may be 9.
 fn second_after_first<L: Ledger>(
@@ -187,8 +187,8 @@ static CASES: [Case; 14] = [
     },
 ];
 
-/// Adds what the case says, and compares the solution.
-fn answers<L: Ledger>(rt: &impl Abort, alloc: Global, blank: Blank, case: &Case) -> Result<(), Fail>
+/// The latest solution of what the case adds, or None where something conflicts.
+fn solved<L: Ledger>(alloc: Global, blank: Blank, case: &Case) -> Result<Option<Vec<u64>>, NoMemory>
     requires name { blank.name ≡ L.name }
     requires parts { blank.parts ≡ L.parts }
     requires some { 0 < blank.parts }
@@ -196,30 +196,30 @@ fn answers<L: Ledger>(rt: &impl Abort, alloc: Global, blank: Blank, case: &Case)
     let mut work = Steps::<L>::new(blank);
     let mut system = System::new(alloc, case.count)?;
     for variable in 0..case.count {
-        assert!(rt; system.lower(variable, 7, 1, &mut work).is_ok());
+        if system.lower(variable, 7, 1, &mut work).is_err() {
+            return Ok(None);
+        }
     }
     for (variable, least) in case.floors {
-        assert!(rt; *variable < case.count);
-        assert!(rt; system.raise(*variable, *least, 2, &mut work).is_ok());
+        if *variable >= case.count || system.raise(*variable, *least, 2, &mut work).is_err() {
+            return Ok(None);
+        }
     }
-    let mut fits = true;
     for (left, right, most) in case.picks {
-        assert!(rt; fits);
-        assert!(rt; *left <= case.count);
-        assert!(rt; *right <= case.count);
         system.reserve(1)?;
+        if *left > case.count || *right > case.count {
+            return Ok(None);
+        }
         let constraint = Constraint {
             left: *left,
             right: *right,
             most: *most,
         };
-        fits = system.push(constraint, 3, &mut work).is_ok();
+        if system.push(constraint, 3, &mut work).is_err() {
+            return Ok(None);
+        }
     }
-    assert_eq!(rt; fits, case.latest.is_some());
-    if let Some(times) = case.latest {
-        assert_eq!(rt; system.solution(), times);
-    }
-    Ok(())
+    Ok(Some(Vec::from_slice(alloc, system.solution())?))
 }
 
 #[test]
@@ -227,7 +227,11 @@ fn small_systems_have_the_solutions_that_trying_all_times_gives(
     rt: HostRuntime,
 ) -> Result<(), Fail> {
     for case in &CASES {
-        answers::<Brand>(&rt, rt.alloc(), Blank::new(1), case)?;
+        let found = solved::<Brand>(rt.alloc(), Blank::new(1), case)?;
+        assert_eq!(rt; found.is_some(), case.latest.is_some());
+        if let (Some(found), Some(latest)) = (&found, case.latest) {
+            assert_eq!(rt; found.as_slice(), latest);
+        }
     }
     Ok(())
 }
