@@ -1,0 +1,13 @@
+pub mod Lists
+pub mod Climb
+pub mod Totals
+pub mod Walks
+pub mod Lowering
+pub mod Latest
+pub mod Relaxing
+pub mod Passing
+pub mod Changes
+pub mod Bounding
+pub mod Updates
+pub mod Outcomes
+pub mod Fresh

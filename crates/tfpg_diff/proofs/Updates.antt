@@ -1,0 +1,65 @@
+-- A change of the bounds of one variable is a write, or nothing where the new bound is not tighter.
+use Rattle.std.proofs.Common.{◌≡◌, ℕ, zero, suc, ◌<◌, ◌≤◌, List, [], ◌∷◌, set, Some, refl, sym, ◌∙◌, ap, lt-ltb, le-ltb}
+use Rattle.std.specs.Prelude.{slice_get}
+use Rattle.std.proofs.lemmas.Option.{same_Some, none-some}
+use Rattle.tfpg_diff.specs.declared.bounds.Bounds.{Bounds}
+use Rattle.tfpg_diff.specs.declared.pick.Pick.{Pick}
+use Rattle.tfpg_diff.specs.State.{raised, lowered, changed_at, with_floor, with_ceiling}
+use Rattle.tfpg_diff.specs.Kept.{demands_of}
+use Rattle.tfpg_diff.proofs.Bounding.{under, over}
+
+-- a change of one item is a write of the changed item
+pub changed_at-set : (change : Bounds → Bounds) (bounds : List Bounds) (v : ℕ) (old : Bounds) → slice_get bounds v ≡ Some old →
+    changed_at change bounds v ≡ set bounds v (change old)
+changed_at-set change [] v old at = absurd (none-some old at)
+changed_at-set change (b ∷ bs) zero old at = ap (λ (c : Bounds). change c ∷ bs) (same_Some b old at)
+changed_at-set change (b ∷ bs) (suc v) old at = ap (λ (cs : List Bounds). b ∷ cs) (changed_at-set change bs v old at)
+
+-- a write of what stands there changes nothing
+pub set_same : (bounds : List Bounds) (v : ℕ) (old : Bounds) → slice_get bounds v ≡ Some old → set bounds v old ≡ bounds
+set_same [] v old at = refl
+set_same (b ∷ bs) zero old at = ap (λ (c : Bounds). c ∷ bs) (sym (same_Some b old at))
+set_same (b ∷ bs) (suc v) old at = ap (λ (cs : List Bounds). b ∷ cs) (set_same bs v old at)
+
+-- a tighter ceiling
+lowered_tighter : (most tag : ℕ) (old : Bounds) → most < old.ceiling → lowered most tag old ≡ under old most tag
+lowered_tighter most tag old tighter = rw (lt-ltb most old.ceiling tighter)
+
+-- a ceiling that is not tighter
+lowered_looser : (most tag : ℕ) (old : Bounds) → old.ceiling ≤ most → lowered most tag old ≡ old
+lowered_looser most tag old looser = rw (le-ltb most old.ceiling looser)
+
+-- a tighter floor
+raised_tighter : (least tag : ℕ) (old : Bounds) → old.floor < least → raised least tag old ≡ over old least tag
+raised_tighter least tag old tighter = rw (lt-ltb old.floor least tighter)
+
+-- a floor that is not tighter
+raised_looser : (least tag : ℕ) (old : Bounds) → least ≤ old.floor → raised least tag old ≡ old
+raised_looser least tag old looser = rw (le-ltb old.floor least looser)
+
+module _ (bounds : List Bounds) (picks : List Pick) (v : ℕ) (old : Bounds) (at_v : slice_get bounds v ≡ Some old) where
+  -- the demands with a tighter ceiling
+  pub with_ceiling-tighter : (most tag : ℕ) → most < old.ceiling →
+      with_ceiling (demands_of bounds picks) v most tag ≡ demands_of (set bounds v (under old most tag)) picks
+  with_ceiling-tighter most tag tighter =
+      ap (λ (bs : List Bounds). demands_of bs picks)
+      (changed_at-set (lowered most tag) bounds v old at_v ∙ ap (set bounds v) (lowered_tighter most tag old tighter))
+
+  -- the demands with a ceiling that is not tighter
+  pub with_ceiling-looser : (most tag : ℕ) → old.ceiling ≤ most → with_ceiling (demands_of bounds picks) v most tag ≡ demands_of bounds picks
+  with_ceiling-looser most tag looser =
+      ap (λ (bs : List Bounds). demands_of bs picks)
+      (changed_at-set (lowered most tag) bounds v old at_v ∙ ap (set bounds v) (lowered_looser most tag old looser) ∙ set_same bounds v old at_v)
+
+  -- the demands with a tighter floor
+  pub with_floor-tighter : (least tag : ℕ) → old.floor < least →
+      with_floor (demands_of bounds picks) v least tag ≡ demands_of (set bounds v (over old least tag)) picks
+  with_floor-tighter least tag tighter =
+      ap (λ (bs : List Bounds). demands_of bs picks)
+      (changed_at-set (raised least tag) bounds v old at_v ∙ ap (set bounds v) (raised_tighter least tag old tighter))
+
+  -- the demands with a floor that is not tighter
+  pub with_floor-looser : (least tag : ℕ) → least ≤ old.floor → with_floor (demands_of bounds picks) v least tag ≡ demands_of bounds picks
+  with_floor-looser least tag looser =
+      ap (λ (bs : List Bounds). demands_of bs picks)
+      (changed_at-set (raised least tag) bounds v old at_v ∙ ap (set bounds v) (raised_looser least tag old looser) ∙ set_same bounds v old at_v)

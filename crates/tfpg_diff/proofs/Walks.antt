@@ -1,0 +1,66 @@
+-- One more link on a walk, and why a walk ends.
+use Rattle.std.proofs.Common.{◌≡◌, ◌≢◌, ℕ, ◌+◌, ◌<◌, ◌≤◌, List, [], ◌∷◌, ◌++◌, length, get_or, map, Some, refl, sym, ◌∙◌, ap, arith, length-append, append_assoc}
+use Rattle.std.specs.Prelude.{slice_get, pos}
+use Rattle.std.proofs.lemmas.List.{map_push, append-nil, length-map}
+use Rattle.std.proofs.lemmas.Option.{slice_get_within, slice_get-get_or}
+use Rattle.std.proofs.lemmas.List.Elements.{All-nil, All-push}
+use Rattle.tfpg_diff.specs.declared.edge.Edge.{Edge}
+use Rattle.tfpg_diff.specs.declared.why.Why.{Why}
+use Rattle.tfpg_diff.specs.declared.why.Why.TheVariants.{Floor}
+use Rattle.tfpg_diff.specs.Kept.{Climbs, IsRooted, IsLabelled, IsWalk, Walked}
+use Rattle.tfpg_diff.proofs.Climb.{Climbs-append, length-Climbs, length-Climbs_up, Climbs_right}
+
+-- a walk that has not begun
+pub Walked-none : (links : List Edge) (from sought : ℕ) (tags : List Why) → Walked links from sought from tags tags
+Walked-none links from sought tags =
+    ([], record { climbs = refl; avoids = All-nil (λ (edge : Edge). edge.left ≢ sought); tags = sym (append-nil tags) })
+
+-- one more link
+pub Walked-more : (links : List Edge) (labelled : IsLabelled links) (from sought stands : ℕ) (before after : List Why) (link : Edge) →
+    Walked links from sought stands before after → 0 < stands → stands ≢ sought → slice_get links stands ≡ Some link →
+    Walked links from sought link.right before (after ++ link.why ∷ [])
+Walked-more links labelled from sought stands before after link walked up other at =
+    let walk : IsWalk links from sought stands before after walked.0 = walked.1 in
+    let label : link.left ≡ stands = labelled stands link up at in (
+      walked.0 ++ link ∷ [],
+      record {
+        climbs = Climbs-append links from walked.0 stands (link ∷ []) link.right walk.climbs (up, at, refl);
+        avoids = All-push (λ (edge : Edge). edge.left ≢ sought) walked.0 link walk.avoids (λ same. other (sym label ∙ same));
+        tags = ap (λ (tags : List Why). tags ++ link.why ∷ []) walk.tags
+            ∙ append_assoc before (map (λ (edge : Edge). edge.why) walked.0) (link.why ∷ [])
+            ∙ ap (λ (tags : List Why). before ++ tags) (sym (map_push (λ (edge : Edge). edge.why) walked.0 link));
+      },
+    )
+
+-- a walk that is not at zero has fewer links than there are numbers
+pub length-walked : (links : List Edge) (labelled : IsLabelled links) (rooted : IsRooted links) (from sought stands : ℕ) (before after : List Why) →
+    Walked links from sought stands before after → 0 < stands → stands < length links →
+    length after < length before + length links
+length-walked links labelled rooted from sought stands before after walked up inside =
+    let walk : IsWalk links from sought stands before after walked.0 = walked.1 in
+    let rest = rooted stands inside in
+    let whole : Climbs links from (walked.0 ++ rest.0) 0 = Climbs-append links from walked.0 stands rest.0 0 walk.climbs rest.1 in
+    let bound : length (walked.0 ++ rest.0) ≤ length links = length-Climbs links labelled from (walked.0 ++ rest.0) whole in
+    let some : 0 < length rest.0 = length-Climbs_up links stands rest.0 rest.1 up in
+    omega (
+      arith,
+      length-append walked.0 rest.0,
+      ap length walk.tags,
+      length-append before (map (λ (edge : Edge). edge.why) walked.0),
+      length-map walked.0 (λ (edge : Edge). edge.why),
+    )
+
+-- the right side of a link is a number
+pub link_right : (links : List Edge) (rooted : IsRooted links) (stands : ℕ) (link : Edge) →
+    0 < stands → slice_get links stands ≡ Some link → link.right < length links
+link_right links rooted stands link up at =
+    let rest = rooted stands (slice_get_within links stands link at) in
+    Climbs_right links stands link rest.0 rest.1 up at
+
+-- what the code reads past the end of the links
+abbrev pub no_edge : Edge
+no_edge = record { left = 0; right = 0; most = pos 0; why = Floor 0 }
+
+-- what the code reads is the link
+pub link_read : (links : List Edge) (stands : ℕ) → stands < length links → slice_get links stands ≡ Some (get_or links stands no_edge)
+link_read links stands inside = slice_get-get_or links stands no_edge inside

@@ -1,0 +1,7 @@
+-- The bounds of the variables so far.
+use Rattle.std.proofs.Common.{◌≡◌}
+use Rattle.tfpg_diff.specs.State.{unbounded_from}
+use Rattle.tfpg_diff.proofs.bounds.unbounded.Given as goal
+
+abbrev pub invariant-loop-variable : goal.invariant-loop-variable
+invariant-loop-variable l = l.bounds.items ≡ unbounded_from 0 l.variable

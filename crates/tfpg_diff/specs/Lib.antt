@@ -1,0 +1,5 @@
+pub mod Demands
+pub mod Solution
+pub mod Cycle
+pub mod State
+pub mod Kept

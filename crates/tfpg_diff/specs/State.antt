@@ -1,0 +1,68 @@
+-- What contracts see of a system, and what its calls change.
+use Rattle.std.specs.Prelude.{◌≡◌, Result, Ok, Err, ℕ, zero, suc, ◌+◌, ◌^◌, List, [], ◌∷◌, ◌++◌, take, nat_lt, if◌then◌else◌}
+use Rattle.tfpg_base.specs.declared.constraint.Constraint.{Constraint}
+use Rattle.tfpg_diff.specs.declared.why.Why.{Why}
+use Rattle.tfpg_diff.specs.declared.why.Why.TheVariants.{Floor, Ceiling, Given}
+use Rattle.tfpg_diff.specs.declared.why.Conflict.{Conflict}
+use Rattle.tfpg_diff.specs.declared.bounds.Bounds.{Bounds}
+use Rattle.tfpg_diff.specs.Demands.{Demands}
+use Rattle.tfpg_diff.specs.Solution.{HasSolution, HasNoSolution}
+use Rattle.tfpg_diff.specs.Cycle.{NamesNegativeCycle}
+
+-- What a system demands, for how many more picks it has room, and the tags that it lends after a conflict.
+pub record State : Type 0 where
+  pub demands : Demands
+  pub spare : ℕ
+  pub cycle : List Why
+
+-- one past the last millisecond: what a variable is at most
+abbrev pub never : ℕ
+never = 10 ^ 12 + 1
+
+-- the bounds of a variable that nothing is known of
+abbrev pub widest : ℕ → Bounds
+widest variable = record { floor = 0; floor_why = Floor variable; ceiling = never; ceiling_why = Ceiling variable }
+
+-- so many variables, from this one on, that nothing is known of
+abbrev pub unbounded_from : ℕ → ℕ → List Bounds
+unbounded_from first zero = []
+unbounded_from first (suc count) = widest first ∷ unbounded_from (first + 1) count
+
+-- the bounds with this lower bound, where it is tighter
+abbrev pub raised : ℕ → ℕ → Bounds → Bounds
+raised least tag bounds =
+    if nat_lt bounds.floor least then record bounds { floor = least; floor_why = Given tag } else bounds
+
+-- the bounds with this upper bound, where it is tighter
+abbrev pub lowered : ℕ → ℕ → Bounds → Bounds
+lowered most tag bounds =
+    if nat_lt most bounds.ceiling then record bounds { ceiling = most; ceiling_why = Given tag } else bounds
+
+-- the list with a change of one item
+abbrev pub changed_at : (Bounds → Bounds) → List Bounds → ℕ → List Bounds
+changed_at change [] place = []
+changed_at change (first ∷ others) zero = change first ∷ others
+changed_at change (first ∷ others) (suc place) = first ∷ changed_at change others place
+
+-- the demands with a lower bound of a variable
+abbrev pub with_floor : Demands → ℕ → ℕ → ℕ → Demands
+with_floor demands variable least tag = record { bounds = changed_at (raised least tag) demands.bounds variable; picks = demands.picks }
+
+-- the demands with an upper bound of a variable
+abbrev pub with_ceiling : Demands → ℕ → ℕ → ℕ → Demands
+with_ceiling demands variable most tag = record { bounds = changed_at (lowered most tag) demands.bounds variable; picks = demands.picks }
+
+-- the demands with one more pick
+abbrev pub with_pick : Demands → Constraint → ℕ → Demands
+with_pick demands constraint tag =
+    record { bounds = demands.bounds; picks = demands.picks ++ record { constraint = constraint; tag = tag } ∷ [] }
+
+-- the demands without the picks after so many
+abbrev pub popped_to : Demands → ℕ → Demands
+popped_to demands len = record { bounds = demands.bounds; picks = take len demands.picks }
+
+-- What adding to a system answers. Ok: the system demands all of it, and that has a solution. Conflict: all of it together has
+-- no solution; the system demands what it did, and lends the tags of a negative cycle among all of it.
+abbrev pub Adds : State → Demands → Result (Unit {0}) Conflict → State → Type 0
+Adds old lengthened (Ok done) new = (new.demands ≡ lengthened) × HasSolution lengthened
+Adds old lengthened (Err conflict) new = (new.demands ≡ old.demands) × HasNoSolution lengthened × NamesNegativeCycle lengthened new.cycle

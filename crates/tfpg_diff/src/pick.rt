@@ -1,0 +1,10 @@
+//! One constraint on the stack of a system.
+
+use tfpg_base::Constraint;
+
+/// A constraint that was pushed, with its tag.
+#[derive(Clone, Copy, Debug, PartialEq, Eq)]
+pub struct Pick {
+    pub constraint: Constraint,
+    pub tag: u64,
+}

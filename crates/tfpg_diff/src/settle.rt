@@ -1,0 +1,141 @@
+//! Values before any pick is tested, and after all of them are met.
+
+ghost use Rattle.std.specs.Prelude.{◌≡◌, ℕ, ◌+◌, ◌-◌, ◌^◌, ◌<◌, ◌≤◌, length, vec_len, vec_capacity, IfOk, OnOk, OnErr, Some, slice_get, slice_index};
+ghost use Rattle.tfpg_diff.specs.declared.bounds.Bounds.{Bounds as BoundsOf};
+ghost use Rattle.tfpg_diff.specs.Demands.{ceiling_of};
+ghost use Rattle.tfpg_diff.specs.Cycle.{NamesNegativeCycle};
+ghost use Rattle.tfpg_diff.specs.State.{never};
+ghost use Rattle.tfpg_diff.specs.Kept.{IsSound, IsKept, IsStart, MeetsPicks, Passes, demands_of};
+
+use crate::bounds::Bounds;
+use crate::edge::Edge;
+use crate::pick::Pick;
+use crate::relax::relax;
+use crate::tree::Tree;
+use crate::why::{Conflict, Why};
+use std::mem;
+
+/// Tests each pick once. Answers whether any was broken.
+///
+/// Conflict comes where that closes a negative cycle, whose tags then stand in `cycle`.
+fn pass(
+    bounds: &[Bounds],
+    picks: &[Pick],
+    tree: &mut Tree,
+    cycle: &mut Vec<Why>,
+) -> Result<bool, Conflict>
+    requires sound { IsSound (demands_of bounds.now picks.now) }
+    requires kept { IsKept (demands_of bounds.now picks.now) tree.old.values.items tree.old.links.items }
+    requires room { length bounds.now + 3 ≤ vec_capacity cycle.old }
+    ensures kept { IsKept (demands_of bounds.now picks.now) tree.new.values.items tree.new.links.items }
+    ensures passes { IfOk result (λ lowered. Passes picks.now tree.old.values.items lowered tree.new.values.items) }
+    ensures cycle { OnErr result (NamesNegativeCycle (demands_of bounds.now picks.now) cycle.new.items) }
+    ensures capacity { vec_capacity cycle.old ≤ vec_capacity cycle.new }
+{
+    let mut lowered = false;
+    for place in 0..picks.len() {
+        if relax(bounds, picks, place, tree, cycle)? {
+            lowered = true;
+        }
+    }
+    Ok(lowered)
+}
+
+/// Lowers values until they meet every pick.
+///
+/// Conflict comes where there is no solution; the tags of a negative cycle then stand in `cycle`. There are at
+/// most as many passes over the picks as there are numbers, and one more.
+pub fn settle(
+    bounds: &[Bounds],
+    picks: &[Pick],
+    tree: &mut Tree,
+    cycle: &mut Vec<Why>,
+) -> Result<(), Conflict>
+    requires sound { IsSound (demands_of bounds.now picks.now) }
+    requires kept { IsKept (demands_of bounds.now picks.now) tree.old.values.items tree.old.links.items }
+    requires room { length bounds.now + 3 ≤ vec_capacity cycle.old }
+    ensures kept { IsKept (demands_of bounds.now picks.now) tree.new.values.items tree.new.links.items }
+    ensures met { OnOk result (MeetsPicks tree.new.values.items picks.now) }
+    ensures cycle { OnErr result (NamesNegativeCycle (demands_of bounds.now picks.now) cycle.new.items) }
+    ensures capacity { vec_capacity cycle.old ≤ vec_capacity cycle.new }
+{
+    loop {
+        if !pass(bounds, picks, tree, cycle)? {
+            return Ok(());
+        }
+    }
+}
+
+/// The upper bound of a variable as a constraint. The bound is below 2^63.
+pub fn ceiling_edge(variable: u32, bounds: Bounds) -> Edge
+    requires variable { variable < 2 ^ 32 - 1 }
+    requires small { bounds.ceiling ≤ never }
+    ensures { result ≡ ceiling_of variable bounds }
+{
+    Edge {
+        left: variable + 1,
+        right: 0,
+        most: bounds.ceiling as i64,
+        why: bounds.ceiling_why,
+    }
+}
+
+/// Gives each variable the value of its upper bound, and that bound as its link.
+pub fn start(bounds: &[Bounds], tree: &mut Tree)
+    requires few { length bounds.now < 2 ^ 32 }
+    requires ceilings { (variable : ℕ) (limits : BoundsOf) → slice_get bounds.now variable ≡ Some limits → limits.ceiling ≤ never }
+    requires values { vec_len tree.old.values ≡ length bounds.now + 1 }
+    requires links { vec_len tree.old.links ≡ length bounds.now + 1 }
+    requires zero { slice_index tree.old.values.items 0 ≡ 0 }
+    ensures { IsStart bounds.now tree.new.values.items tree.new.links.items (length bounds.now) }
+{
+    for variable in 0..bounds.len() {
+        let limits = bounds[variable];
+        tree.values[variable + 1] = limits.ceiling;
+        tree.links[variable + 1] = ceiling_edge(variable as u32, limits);
+    }
+}
+
+/// Copies values and links. It allocates nothing.
+pub fn save(tree: &Tree, into: &mut Tree)
+    requires values { vec_len into.old.values ≡ vec_len tree.now.values }
+    requires links { vec_len into.old.links ≡ vec_len tree.now.links }
+    ensures values { into.new.values.items ≡ tree.now.values.items }
+    ensures links { into.new.links.items ≡ tree.now.links.items }
+{
+    into.values.copy_from_slice(&tree.values);
+    into.links.copy_from_slice(&tree.links);
+}
+
+/// Lowers values until they meet every pick, and puts the backup in their place where that can't be.
+///
+/// Conflict comes where there is no solution; the tags of a negative cycle then stand in `cycle`.
+pub fn settle_or_restore(
+    bounds: &[Bounds],
+    picks: &[Pick],
+    tree: &mut Tree,
+    backup: &mut Tree,
+    cycle: &mut Vec<Why>,
+) -> Result<(), Conflict>
+    requires sound { IsSound (demands_of bounds.now picks.now) }
+    requires kept { IsKept (demands_of bounds.now picks.now) tree.old.values.items tree.old.links.items }
+    requires room { length bounds.now + 3 ≤ vec_capacity cycle.old }
+    requires backup_values { length backup.old.values.items ≡ length bounds.now + 1 }
+    requires backup_links { length backup.old.links.items ≡ length bounds.now + 1 }
+    ensures kept { OnOk result (IsKept (demands_of bounds.now picks.now) tree.new.values.items tree.new.links.items) }
+    ensures met { OnOk result (MeetsPicks tree.new.values.items picks.now) }
+    ensures values { OnErr result (tree.new.values.items ≡ backup.old.values.items) }
+    ensures links { OnErr result (tree.new.links.items ≡ backup.old.links.items) }
+    ensures cycle { OnErr result (NamesNegativeCycle (demands_of bounds.now picks.now) cycle.new.items) }
+    ensures backup_values { length backup.new.values.items ≡ length bounds.now + 1 }
+    ensures backup_links { length backup.new.links.items ≡ length bounds.now + 1 }
+    ensures capacity { vec_capacity cycle.old ≤ vec_capacity cycle.new }
+{
+    match settle(bounds, picks, tree, cycle) {
+        Ok(()) => Ok(()),
+        Err(Conflict) => {
+            mem::swap(tree, backup);
+            Err(Conflict)
+        }
+    }
+}

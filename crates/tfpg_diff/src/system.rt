@@ -1,0 +1,281 @@
+//! A system of difference constraints that always knows its latest solution.
+
+ghost use Rattle.std.specs.Prelude.{◌≡◌, ◌+◌, ◌-◌, ◌<◌, ◌≤◌, [], length, All, IfOk, OnOk, IsOk};
+ghost use Rattle.tfpg_diff.specs.Solution.{IsLatest};
+ghost use Rattle.tfpg_diff.specs.State.{never, unbounded_from, with_floor, with_ceiling, with_pick, popped_to, Adds};
+
+use crate::bounds::{Bounds, unbounded};
+use crate::edge::Edge;
+use crate::pick::Pick;
+use crate::relax::{begin_cycle, edge_of_pick, is_broken};
+use crate::settle::{ceiling_edge, save, settle, settle_or_restore, start};
+use crate::trace::note;
+use crate::tree::Tree;
+use crate::why::{Conflict, Why};
+use std::alloc::Global;
+use std::marker::Model;
+use std::sync::ledger::Ledger;
+use tfpg_base::{Constraint, NoMemory, Steps};
+
+/// What the demands on some variables come to.
+#[derive(Drop)]
+pub struct System {
+    bounds: Vec<Bounds>,
+    picks: Vec<Pick>,
+    tree: Tree,
+    backup: Tree,
+    cycle: Vec<Why>,
+}
+
+impl Model for System {
+    ghost use Rattle.std.specs.Prelude.{◌-◌, vec_len, vec_capacity};
+    ghost use Rattle.tfpg_diff.specs.State.{State};
+
+    ghost Value = { State };
+
+    ghost use Rattle.tfpg_diff.specs.Kept.{IsSettled, demands_of};
+
+    ghost view = { λ s. record { demands = demands_of s.bounds.items s.picks.items; spare = vec_capacity s.picks - vec_len s.picks; cycle = s.cycle.items } };
+
+    ghost invariant = { λ s. IsSettled s.bounds.items s.picks.items s.tree.values.items s.tree.links.items s.backup.values.items s.backup.links.items (vec_capacity s.cycle) };
+}
+
+impl System {
+    /// A system of so many variables, of which nothing is known: each is at least 0 and at most one past the
+    /// last millisecond, `10^12 + 1`.
+    ///
+    /// All the memory that later calls want is taken here, but that of picks: about 150 bytes for each variable.
+    pub fn new(alloc: Global, count: u32) -> Result<System, NoMemory>
+        ensures demands { IfOk result (λ system. system.demands ≡ record { bounds = unbounded_from 0 count; picks = [] }) }
+        ensures count { IfOk result (λ system. length system.demands.bounds ≡ count) }
+    {
+        let numbers = count as usize + 1;
+        let bounds = unbounded(alloc, count)?;
+        let mut tree = Tree::new(alloc, numbers)?;
+        let backup = Tree::new(alloc, numbers)?;
+        let cycle = Vec::with_capacity(alloc, numbers + 2)?;
+        start(&bounds, &mut tree);
+        Ok(System {
+            bounds,
+            picks: Vec::new(alloc),
+            tree,
+            backup,
+            cycle,
+        })
+    }
+
+    /// Makes room for so many more picks. After want of memory the system is as before.
+    pub fn reserve(&mut self, picks: u32) -> Result<(), NoMemory>
+        ensures ok { OnOk result (picks ≤ self.new.spare) }
+        ensures same { self.new.demands ≡ self.old.demands }
+        ensures cycle { self.new.cycle ≡ self.old.cycle }
+        ensures spare { self.old.spare ≤ self.new.spare }
+        ensures succeeds { picks ≤ self.old.spare → IsOk result }
+    {
+        self.picks.reserve(picks as usize)?;
+        Ok(())
+    }
+
+    /// Lends the latest solution: the time of each variable, in milliseconds, at most `10^12 + 1`.
+    pub fn solution(&self) -> &[u64]
+        ensures latest { IsLatest self.now.demands result.now }
+        ensures within { All (λ time. time ≤ never) result.now }
+    {
+        &self.tree.values[1..]
+    }
+
+    /// Lends the tags of the negative cycle that the last call found, where its answer was Conflict.
+    pub fn cycle(&self) -> &[Why]
+        ensures { result.now ≡ self.now.cycle }
+    {
+        self.cycle.as_slice()
+    }
+
+    /// The variable is at least that. A bound that is not tighter than the present one changes nothing. The call
+    /// counts as one step.
+    ///
+    /// Conflict comes exactly where there would be no solution. The system is then as before, and
+    /// [`System::cycle`] lends the reason. It costs one comparison, and at a conflict a walk along the links.
+    pub fn raise<L: Ledger>(
+        &mut self,
+        variable: u32,
+        least: u64,
+        tag: u64,
+        work: &mut Steps<L>,
+    ) -> Result<(), Conflict>
+        requires { variable < length self.old.demands.bounds }
+        ensures adds { Adds self.old (with_floor self.old.demands variable least tag) result self.new }
+        ensures variables { length self.new.demands.bounds ≡ length self.old.demands.bounds }
+        ensures spare { self.old.spare ≤ self.new.spare }
+        ensures step { work.new ≡ work.old + 1 }
+    {
+        work.tick();
+        self.add_floor(variable, least, tag)
+    }
+
+    /// The variable is at most that. A bound that is not tighter than the present one changes nothing. The call
+    /// counts as one step.
+    ///
+    /// Conflict comes exactly where there would be no solution. The system is then as before, and
+    /// [`System::cycle`] lends the reason. Where the value of the variable is above the bound it costs at most
+    /// one pass over the picks for each number.
+    pub fn lower<L: Ledger>(
+        &mut self,
+        variable: u32,
+        most: u64,
+        tag: u64,
+        work: &mut Steps<L>,
+    ) -> Result<(), Conflict>
+        requires { variable < length self.old.demands.bounds }
+        ensures adds { Adds self.old (with_ceiling self.old.demands variable most tag) result self.new }
+        ensures variables { length self.new.demands.bounds ≡ length self.old.demands.bounds }
+        ensures spare { self.old.spare ≤ self.new.spare }
+        ensures step { work.new ≡ work.old + 1 }
+    {
+        work.tick();
+        self.add_ceiling(variable, most, tag)
+    }
+
+    /// Puts a constraint on the stack. Its bound may be any number. The call counts as one step.
+    ///
+    /// Conflict comes exactly where there would be no solution. The system is then as before, and
+    /// [`System::cycle`] lends the reason. Where the values break the constraint it costs at most one pass over
+    /// the picks for each number.
+    pub fn push<L: Ledger>(
+        &mut self,
+        constraint: Constraint,
+        tag: u64,
+        work: &mut Steps<L>,
+    ) -> Result<(), Conflict>
+        requires spare { 1 ≤ self.old.spare }
+        requires left { constraint.left ≤ length self.old.demands.bounds }
+        requires right { constraint.right ≤ length self.old.demands.bounds }
+        ensures adds { Adds self.old (with_pick self.old.demands constraint tag) result self.new }
+        ensures spare { self.old.spare ≤ self.new.spare + 1 }
+        ensures step { work.new ≡ work.old + 1 }
+    {
+        work.tick();
+        self.add_pick(Pick { constraint, tag })
+    }
+
+    /// Takes the picks after the first so many off the stack. The bounds stay. It costs a fresh computation.
+    pub fn pop_to(&mut self, len: u64)
+        requires { len ≤ length self.old.demands.picks }
+        ensures demands { self.new.demands ≡ popped_to self.old.demands len }
+        ensures spare { self.old.spare ≤ self.new.spare }
+    {
+        let len = len as usize;
+        if len == self.picks.len() {
+            return;
+        }
+        self.picks.truncate(len);
+        start(&self.bounds, &mut self.tree);
+        match settle(&self.bounds, &self.picks, &mut self.tree, &mut self.cycle) {
+            Ok(()) => {}
+            Err(Conflict) => unreachable!(),
+        }
+    }
+
+    /// Raises a lower bound.
+    fn add_floor(&mut self, variable: u32, least: u64, tag: u64) -> Result<(), Conflict>
+        requires { variable < length self.old.demands.bounds }
+        ensures adds { Adds self.old (with_floor self.old.demands variable least tag) result self.new }
+        ensures variables { length self.new.demands.bounds ≡ length self.old.demands.bounds }
+        ensures spare { self.new.spare ≡ self.old.spare }
+    {
+        let place = variable as usize;
+        let old = self.bounds[place];
+        if least <= old.floor {
+            return Ok(());
+        }
+        if self.tree.values[place + 1] < least {
+            begin_cycle(
+                &self.tree.links,
+                variable + 1,
+                0,
+                Why::Given(tag),
+                &mut self.cycle,
+            );
+            return Err(Conflict);
+        }
+        self.bounds[place] = Bounds {
+            floor: least,
+            floor_why: Why::Given(tag),
+            ..old
+        };
+        Ok(())
+    }
+
+    /// Lowers an upper bound.
+    fn add_ceiling(&mut self, variable: u32, most: u64, tag: u64) -> Result<(), Conflict>
+        requires { variable < length self.old.demands.bounds }
+        ensures adds { Adds self.old (with_ceiling self.old.demands variable most tag) result self.new }
+        ensures variables { length self.new.demands.bounds ≡ length self.old.demands.bounds }
+        ensures spare { self.new.spare ≡ self.old.spare }
+    {
+        let place = variable as usize;
+        let old = self.bounds[place];
+        if old.ceiling <= most {
+            return Ok(());
+        }
+        if most < old.floor {
+            self.cycle.clear();
+            note(&mut self.cycle, Why::Given(tag));
+            note(&mut self.cycle, old.floor_why);
+            return Err(Conflict);
+        }
+        let tighter = Bounds {
+            ceiling: most,
+            ceiling_why: Why::Given(tag),
+            ..old
+        };
+        self.bounds[place] = tighter;
+        if self.tree.values[place + 1] <= most {
+            return Ok(());
+        }
+        save(&self.tree, &mut self.backup);
+        self.tree.values[place + 1] = most;
+        self.tree.links[place + 1] = ceiling_edge(variable, tighter);
+        match settle_or_restore(
+            &self.bounds,
+            &self.picks,
+            &mut self.tree,
+            &mut self.backup,
+            &mut self.cycle,
+        ) {
+            Ok(()) => Ok(()),
+            Err(Conflict) => {
+                self.bounds[place] = old;
+                Err(Conflict)
+            }
+        }
+    }
+
+    /// Pushes a pick, for which there is room.
+    fn add_pick(&mut self, pick: Pick) -> Result<(), Conflict>
+        requires spare { 1 ≤ self.old.spare }
+        requires left { pick.constraint.left ≤ length self.old.demands.bounds }
+        requires right { pick.constraint.right ≤ length self.old.demands.bounds }
+        ensures adds { Adds self.old (with_pick self.old.demands pick.constraint pick.tag) result self.new }
+        ensures spare { self.old.spare ≤ self.new.spare + 1 }
+    {
+        let _ = self.picks.push(pick);
+        if !is_broken(&self.tree.values, edge_of_pick(&pick)) {
+            return Ok(());
+        }
+        save(&self.tree, &mut self.backup);
+        match settle_or_restore(
+            &self.bounds,
+            &self.picks,
+            &mut self.tree,
+            &mut self.backup,
+            &mut self.cycle,
+        ) {
+            Ok(()) => Ok(()),
+            Err(Conflict) => {
+                let _ = self.picks.pop();
+                Err(Conflict)
+            }
+        }
+    }
+}
