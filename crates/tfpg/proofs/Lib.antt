@@ -1,3 +1,6 @@
 pub mod EmptySet
 pub mod EmptyRounds
 pub mod Telling
+pub mod Putting
+pub mod Answering
+pub mod Turns

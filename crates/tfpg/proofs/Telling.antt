@@ -19,7 +19,6 @@ use Rattle.tfpg_evidence.specs.declared.step.Step.{Step}
 use Rattle.tfpg_evidence.specs.RoundOf.{Sizes, IsReasonOf, IsStepOf, IsFindingOf, IsRoundOf, IsRankedIn}
 use Rattle.tfpg_clause.specs.Trees.{Judged, IsRefutation}
 use Rattle.tfpg_hyp.specs.Rounds.{IsRound, steps_in, steps_so_far}
-use Rattle.tfpg_report.specs.Blocks.{sizes_of}
 use Rattle.tfpg_check.specs.Report.{Progress}
 use Rattle.tfpg.specs.Told.{rejection, ranking_round, rejecting_round}
 use Rattle.tfpg.specs.declared.diagnoser.Diagnoser.{Diagnoser}
@@ -29,14 +28,14 @@ use Rattle.tfpg.proofs.EmptyRounds.{ranks_empty, rejects_empty, steps-more}
 
 -- ---- the rounds name only what the graph has
 
-rejecting_is_of : (sizes : Sizes) (number line time : ℕ) (steps : List Step) → All (IsStepOf sizes) steps → IsRoundOf sizes (rejecting_round number line time steps)
+pub rejecting_is_of : (sizes : Sizes) (number line time : ℕ) (steps : List Step) → All (IsStepOf sizes) steps → IsRoundOf sizes (rejecting_round number line time steps)
 rejecting_is_of sizes number line time steps h = record {
   findings = All-cons (IsFindingOf sizes) (record { number = 0; set = []; steps = steps; status = Rejected }) [] (record { set = All-nil _; steps = h; status = tt }) (All-nil _);
   numbers_rise = λ i j d lt below. absurd (omega arith);
   order = All-nil _;
 }
 
-ranking_is_of : (sizes : Sizes) (number line time : ℕ) → IsRoundOf sizes (ranking_round number line time)
+pub ranking_is_of : (sizes : Sizes) (number line time : ℕ) → IsRoundOf sizes (ranking_round number line time)
 ranking_is_of sizes number line time =
     let finding : Finding = record { number = 0; set = []; steps = []; status = Ranked [] 0 1 1 } in
     record {
@@ -45,7 +44,7 @@ ranking_is_of sizes number line time =
       order = All-cons (IsRankedIn (finding ∷ [])) 0 [] (finding, refl, tt) (All-nil _);
     }
 
-rejection_is_of : (sizes : Sizes) (number time node : ℕ) → node < sizes.nodes → All (IsStepOf sizes) (rejection number time node ∷ [])
+pub rejection_is_of : (sizes : Sizes) (number time node : ℕ) → node < sizes.nodes → All (IsStepOf sizes) (rejection number time node ∷ [])
 rejection_is_of sizes number time node lt =
     All-cons (IsStepOf sizes) (rejection number time node) []
       (All-cons (IsReasonOf sizes) (Unreached node time) (Upto number ∷ []) lt (All-cons (IsReasonOf sizes) (Upto number) [] tt (All-nil _)))
@@ -86,7 +85,7 @@ monitored_is_some None h = absurd cc
 monitored_is_some (Some kind) h = refl
 
 -- a monitored node is a node
-monitored_in_graph : (graph : Tfpg) (node : ℕ) → IsTrue (is_monitored graph node) → node < length graph.nodes
+pub monitored_in_graph : (graph : Tfpg) (node : ℕ) → IsTrue (is_monitored graph node) → node < length graph.nodes
 monitored_in_graph graph node h = some_is_below (λ n. n.kind) graph.nodes node (monitored_is_some (kind_at graph node) h)
 
 item_at_end : {X : Type 0} (xs : List X) (x : X) → get_or (xs ++ x ∷ []) (length xs) x ≡ x
@@ -94,7 +93,7 @@ item_at_end [] x = refl
 item_at_end (y ∷ ys) x = item_at_end ys x
 
 -- what holds of all items holds of the last
-last_of_all : {X : Type 0} (P : X → Type 0) (xs : List X) (x : X) → All P (xs ++ x ∷ []) → P x
+pub last_of_all : {X : Type 0} (P : X → Type 0) (xs : List X) (x : X) → All P (xs ++ x ∷ []) → P x
 last_of_all P xs x h = subst P (item_at_end xs x) (h (length xs) x (omega (arith, length-append xs (x ∷ []))))
 
 -- ---- the three cases
@@ -102,7 +101,6 @@ last_of_all P xs x h = subst P (item_at_end xs x) (h (length xs) x (omega (arith
 -- what is told of an event, by a diagnoser that is then in this state
 pub record IsTold (graph : Tfpg) (log : Logbook) (rejected : Bool) (before : Progress) (line : ℕ) (round : Round) : Type 0 where
   pub is_round : IsRound graph 0 budget before.rounds log line round
-  pub of_graph : IsRoundOf (sizes_of graph) round
   pub settled : IsSettled graph log rejected (steps_so_far 0 (before.rounds ++ round ∷ []))
 
 -- the empty set was rejected before
@@ -115,7 +113,6 @@ told_again graph before event line valid h =
     let same : steps_so_far 0 before.rounds ++ [] ≡ steps_so_far 0 before.rounds = append-nil (steps_so_far 0 before.rounds) in
     record {
       is_round = rejects_empty graph budget before.rounds log line [] valid (subst (IsRefutation graph log []) (sym same) (refutes graph log (steps_so_far 0 before.rounds) stays));
-      of_graph = rejecting_is_of (sizes_of graph) (length log.events) line (now_of log) [] (All-nil _);
       settled = record { quiet = λ e. absurd cc; refuted = λ e. subst (IsRejection graph log) (sym (steps-more 0 before.rounds round ∙ same)) stays };
     }
 
@@ -137,7 +134,6 @@ told_by_alarm graph before time node line valid of_graph none =
     let rejects : IsRejection graph log judged = record { number = number; time = time; node = node; alarm = last; in_graph = in_graph; steps_are = refl } in
     record {
       is_round = rejects_empty graph budget before.rounds log line steps valid (subst (IsRefutation graph log []) (sym all) (refutes graph log judged rejects));
-      of_graph = rejecting_is_of (sizes_of graph) number line (now_of log) steps (rejection_is_of (sizes_of graph) number time node in_graph);
       settled = record { quiet = λ e. absurd cc; refuted = λ e. subst (IsRejection graph log) (sym (steps-more 0 before.rounds round ∙ all)) rejects };
     }
 
@@ -151,7 +147,6 @@ told_quietly graph before event line valid no_alarm quiet none =
     let still : (node : ℕ) → alarm_of log node ≡ None = λ node. still_quiet before.log.events event node no_alarm (quiet node) in
     record {
       is_round = ranks_empty graph budget before.rounds log line valid still none;
-      of_graph = ranking_is_of (sizes_of graph) (length log.events) line (now_of log);
       settled = record { quiet = λ e. (still, steps-more 0 before.rounds round ∙ append-nil (steps_so_far 0 before.rounds) ∙ none); refuted = λ e. absurd cc };
     }
 

@@ -12,15 +12,20 @@ use Rattle.tfpg_log.specs.Log.{Logbook, event_at, alarm_of, with_event, IsOf}
 use Rattle.tfpg_log.specs.AcceptedNow.{reply_now}
 use Rattle.tfpg_log.specs.LogOfLines.{log_after_reply}
 use Rattle.tfpg_clause.specs.Trees.{Judged}
-use Rattle.tfpg_evidence.specs.RoundOf.{IsRoundOf}
+use Rattle.tfpg_evidence.specs.RoundOf.{Sizes, IsRoundOf}
 use Rattle.tfpg_hyp.specs.Rounds.{steps_so_far, IsRound}
-use Rattle.tfpg_report.specs.Blocks.{Block, RefusedBlock, RoundBlock, block_text, sizes_of}
+use Rattle.tfpg_report.specs.Blocks.{Block, RefusedBlock, RoundBlock, block_text}
 use Rattle.tfpg_check.specs.Report.{Progress, IsBlock, after}
 use Rattle.tfpg_report.specs.declared.refused_line.RefusedLine.TheVariants.{Offer}
 use Rattle.tfpg.specs.declared.diagnoser.Diagnoser.{Diagnoser}
 use Rattle.tfpg.specs.declared.diagnoser.Told.{Told}
 use Rattle.tfpg.specs.declared.diagnoser.Told.TheVariants as told
 use Rattle.tfpg.specs.Told.{rejection}
+
+-- No panel is lost, since there are no panels yet.
+abbrev pub LosesNone : Block → Type 0
+LosesNone (RefusedBlock line cause) = Unit {0}
+LosesNone (RoundBlock round losses) = losses ≡ []
 
 -- the budget of the program, which the empty hypothesis never spends
 abbrev pub budget : ℕ
@@ -56,18 +61,12 @@ abbrev pub Tells : Tfpg → Progress → ℕ → List ℕ → Told → Type 0
 Tells graph before number line (told.Refused refusal) = reply_now graph before.log line ≡ Refused refusal
 Tells graph before number line (told.Round round) =
     (event : Event) × (reply_now graph before.log line ≡ Accepted event)
-    × IsRound graph 0 budget before.rounds (with_event before.log event) number round × IsRoundOf (sizes_of graph) round
+    × IsRound graph 0 budget before.rounds (with_event before.log event) number round
 
--- what was told as a block
-abbrev pub told_block : ℕ → Told → Block
-told_block number (told.Refused refusal) = RefusedBlock number (Offer refusal)
-told_block number (told.Round round) = RoundBlock round []
-
--- The line is what the reader of lines answered: its text, or a line that is too long.
-abbrev pub IsLineRead : Line → List ℕ → List ℕ → Type 0
-IsLineRead line.Text text read = (read ≡ text) × (length read ≤ longest_line)
-IsLineRead line.TooLong text read = longest_line < length read
-IsLineRead line.End text read = ⊥
+-- what is told names only what the graph has
+abbrev pub IsToldOf : Sizes → Told → Type 0
+IsToldOf sizes (told.Refused refusal) = Unit {0}
+IsToldOf sizes (told.Round round) = IsRoundOf sizes round
 
 -- how far a report has come after a line gave this
 abbrev pub after_told : Tfpg → Progress → List ℕ → Told → Progress
@@ -79,3 +78,11 @@ after_told graph before line (told.Round round) =
 pub record HasHeard (diagnoser : Diagnoser) (before : Progress) (event : Event) : Type 0 where
   pub log : diagnoser.log ≡ with_event before.log event
   pub settled : IsSettled diagnoser.graph before.log diagnoser.rejected (steps_so_far 0 before.rounds)
+
+-- The bytes are the block of a line, and the diagnoser has told it.
+pub record HasBlock (graph : Tfpg) (before : Progress) (number : ℕ) (line bytes : List ℕ) (diagnoser : Diagnoser) : Type 0 where
+  pub block : Block
+  pub is_block : IsBlock graph 0 budget before number line block
+  pub no_losses : LosesNone block
+  pub text : bytes ≡ block_text graph block
+  pub stands : StandsFor diagnoser (after graph before line block)

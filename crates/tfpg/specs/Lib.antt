@@ -3,3 +3,5 @@ pub mod Diagnoser
 pub mod Command
 pub mod Ends
 pub mod Run
+pub mod Course
+pub mod EndsOf

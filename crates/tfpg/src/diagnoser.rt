@@ -1,20 +1,22 @@
 //! The diagnosis of the one hypothesis that there is without failure modes: the empty set.
 
-ghost use Rattle.std.specs.Prelude.{◌≡◌, ◌∷◌, ◌++◌, [], IfOk, length};
+ghost use Rattle.std.specs.Prelude.{◌≡◌, ◌≤◌, ◌∷◌, ◌++◌, [], IfOk, length};
 ghost use Rattle.tfpg_graph.specs.Graph.{Tfpg};
 ghost use Rattle.tfpg_evidence.specs.RoundOf.{IsRoundOf};
-ghost use Rattle.tfpg_log.specs.Log.{with_event};
+ghost use Rattle.tfpg_log.specs.Log.{IsEventOf};
 ghost use Rattle.tfpg_hyp.specs.Rounds.{IsRound};
-ghost use Rattle.tfpg_report.specs.Blocks.{sizes_of};
-ghost use Rattle.tfpg_check.specs.Report.{Progress};
+ghost use Rattle.tfpg_graph.specs.Valid.{IsValid};
+ghost use Rattle.tfpg_report.specs.Blocks.{sizes_of, refused_text, round_text};
+ghost use Rattle.tfpg_check.specs.Report.{Progress, start};
 ghost use Rattle.tfpg.specs.Told.{ranking_round, rejecting_round, rejection};
-ghost use Rattle.tfpg.specs.Diagnoser.{budget, StandsFor, HasHeard, IsReady, Tells, after_told};
+ghost use Rattle.tfpg.specs.Diagnoser.{budget, StandsFor, HasHeard, IsReady, Tells, after_told, IsToldOf, HasBlock};
 
 use std::alloc::Global;
 use tfpg_base::{NoMemory, NumberList, Set, Trace};
 use tfpg_evidence::{Counts, Finding, Findings, Reason, Reasons, Round, Status, Step, StepList};
 use tfpg_graph::Graph;
 use tfpg_log::{Event, Log, Offered, Refusal};
+use tfpg_report::{RefusedLine, refused, render};
 
 /// What a line gives.
 #[derive(Drop)]
@@ -32,11 +34,45 @@ pub(crate) struct Diagnoser {
 }
 
 impl Diagnoser {
+    /// A diagnoser that has heard nothing.
+    pub(crate) fn new(alloc: Global, graph: Graph) -> Diagnoser
+        requires { IsValid graph }
+        ensures stands { StandsFor result start }
+        ensures graph { result.graph ≡ graph }
+        ensures ready { IsReady result }
+    {
+        Diagnoser {
+            graph,
+            log: Log::new(alloc),
+            rejected: false,
+        }
+    }
+
+    /// The block of a line of this number and text, for a line that is not too long.
+    pub(crate) fn answer(
+        &mut self,
+        alloc: Global,
+        number: u64,
+        text: &[u8],
+    ) -> Result<Vec<u8>, NoMemory>
+        requires { IsReady self.old }
+        ensures block { (before : Progress) → StandsFor self.old before → length text.now ≤ 4096
+            → IfOk result (λ block. HasBlock self.old.graph before number text.now block.items self.new) }
+        ensures graph { self.new.graph ≡ self.old.graph }
+        ensures ready { IsReady self.new }
+    {
+        match self.hear(alloc, number, text)? {
+            Told::Refused(refusal) => refused_block(alloc, number, RefusedLine::Offer(refusal)),
+            Told::Round(round) => round_block(alloc, &self.graph, &round),
+        }
+    }
+
     /// What a line of this number and text gives.
-    pub(crate) fn hear(&mut self, alloc: Global, line: u64, text: &[u8]) -> Result<Told, NoMemory>
+    fn hear(&mut self, alloc: Global, line: u64, text: &[u8]) -> Result<Told, NoMemory>
         requires { IsReady self.old }
         ensures told { (before : Progress) → StandsFor self.old before
             → IfOk result (λ told. Tells self.old.graph before line text.now told × StandsFor self.new (after_told self.old.graph before text.now told)) }
+        ensures of_graph { IfOk result (IsToldOf (sizes_of self.old.graph)) }
         ensures graph { self.new.graph ≡ self.old.graph }
         ensures ready { IsReady self.new }
     {
@@ -48,11 +84,12 @@ impl Diagnoser {
 
     /// The round of the log, whose last event is this one.
     fn tell(&mut self, alloc: Global, line: u64, event: Event) -> Result<Round, NoMemory>
-        requires { IsReady self.old }
+        requires ready { IsReady self.old }
+        requires event { IsEventOf self.old.graph event }
         ensures told { (before : Progress) → HasHeard self.old before event
             → IfOk result (λ round. IsRound self.old.graph 0 budget before.rounds self.old.log line round
-                × IsRoundOf (sizes_of self.old.graph) round
                 × StandsFor self.new (record { rounds = before.rounds ++ round ∷ []; log = self.old.log })) }
+        ensures of_graph { IfOk result (IsRoundOf (sizes_of self.old.graph)) }
         ensures graph { self.new.graph ≡ self.old.graph }
         ensures log { self.new.log ≡ self.old.log }
     {
@@ -70,6 +107,29 @@ impl Diagnoser {
             _ => rank(alloc, number, line, now),
         }
     }
+}
+
+/// The block of a refused line.
+pub(crate) fn refused_block(
+    alloc: Global,
+    number: u64,
+    cause: RefusedLine,
+) -> Result<Vec<u8>, NoMemory>
+    ensures { IfOk result (λ block. block.items ≡ refused_text number cause) }
+{
+    let mut block = Vec::new(alloc);
+    refused(number, cause, &mut block)?;
+    Ok(block)
+}
+
+/// The block of a round.
+fn round_block(alloc: Global, graph: &Graph, round: &Round) -> Result<Vec<u8>, NoMemory>
+    requires { IsRoundOf (sizes_of graph.now) round.now }
+    ensures { IfOk result (λ block. block.items ≡ round_text graph.now round.entry.now) }
+{
+    let mut block = Vec::new(alloc);
+    render(graph, round, &mut block)?;
+    Ok(block)
 }
 
 /// The step that rejects the empty set by the alarm of this event.

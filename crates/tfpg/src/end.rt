@@ -1,5 +1,10 @@
 //! How a run of the program ends.
 
+ghost use Rattle.std.specs.Prelude.{◌≡◌};
+ghost use Rattle.tfpg.specs.EndsOf.{end_of_fault};
+ghost use Rattle.tfpg.specs.declared.end.End.TheVariants as ends;
+
+use tfpg_base::{Failed, LineFault};
 use tfpg_graph::GraphCause;
 
 /// Why the words of the command line are refused.
@@ -27,4 +32,31 @@ pub enum End {
     TooMuchInput,
     /// Memory was asked for and not found.
     NoMemory,
+}
+
+impl From<LineFault> for End {
+    ghost from_gives = { λ fault e. e ≡ end_of_fault fault };
+
+    fn from(fault: LineFault) -> End {
+        match fault {
+            LineFault::ReadFault => End::ReadFault,
+            LineFault::TooMuchInput => End::TooMuchInput,
+        }
+    }
+}
+
+impl From<tfpg_base::NoMemory> for End {
+    ghost from_gives = { λ _ e. e ≡ ends.NoMemory };
+
+    fn from(_e: tfpg_base::NoMemory) -> End {
+        End::NoMemory
+    }
+}
+
+impl From<Failed> for End {
+    ghost from_gives = { λ _ e. e ≡ ends.WriteFault };
+
+    fn from(_e: Failed) -> End {
+        End::WriteFault
+    }
 }

@@ -1,7 +1,9 @@
 //! The program.
 #![tactic(auto)]
 
+mod course;
 mod diagnoser;
 mod end;
+mod output;
 
 fn main() {}

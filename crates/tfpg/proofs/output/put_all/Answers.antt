@@ -1,0 +1,15 @@
+use Rattle.std.proofs.Common.{◌≡◌, ◌≤◌, ◌++◌, take, drop, List, ℕ, arith, ◌∙◌, ap, sym}
+use Rattle.tfpg.proofs.Putting.{Puts-append, more_is_put}
+use Rattle.tfpg.proofs.output.put_all.Goals as goal
+
+pub loop-rest-preserved : goal.loop-rest-preserved
+loop-rest-preserved g c =
+    let front = c.loop-rest.invariant.front in
+    let rest = c.loop-rest.rest.now in
+    let count = c.in_ok-count.count in
+    record {
+      front = front ++ take count rest;
+      parts = more_is_put c.args.piece.now front rest count c.loop-rest.invariant.parts ∙ ap (λ (r : List ℕ). (front ++ take count rest) ++ r) (sym c.split_at.ensures.back);
+      puts = Puts-append _ _ _ front (take count rest) c.loop-rest.invariant.puts c.in_ok-count.ensures.put;
+      falls = omega (arith, c.loop-rest.invariant.falls, c.in_ok-count.ensures.never_falls);
+    }
