@@ -64,11 +64,22 @@ AreBlocks graph k budget before number (line ∷ lines) (block ∷ blocks) =
 abbrev pub report_text : Tfpg → ℕ → ℕ → List Block → List ℕ
 report_text graph k budget blocks = head_text k budget ++ flat_map (block_text graph) blocks
 
--- The bytes are a report of the graph, of sets of at most k failure modes, of this budget and of these lines.
-abbrev pub IsReport : Tfpg → ℕ → ℕ → List (List ℕ) → List ℕ → Type 0
-IsReport graph k budget lines bytes = (blocks : List Block) × AreBlocks graph k budget start 1 lines blocks × (bytes ≡ report_text graph k budget blocks)
+-- The bytes are a report of the graph, of sets of at most k failure modes, of this budget and of these lines, with these blocks.
+pub record IsReport (graph : Tfpg) (k budget : ℕ) (lines : List (List ℕ)) (blocks : List Block) (bytes : List ℕ) : Type 0 where
+  pub are_blocks : AreBlocks graph k budget start 1 lines blocks
+  pub text : bytes ≡ report_text graph k budget blocks
 
--- The bytes begin a report of the first of these lines.
-abbrev pub BeginsReport : Tfpg → ℕ → ℕ → List (List ℕ) → List ℕ → Type 0
-BeginsReport graph k budget lines bytes =
-    (count : ℕ) × (report more : List ℕ) × (count ≤ length lines) × IsReport graph k budget (take count lines) report × (report ≡ bytes ++ more)
+-- The bytes begin a report of the first of these lines, with these blocks.
+pub record BeginsReport (graph : Tfpg) (k budget : ℕ) (lines : List (List ℕ)) (blocks : List Block) (bytes : List ℕ) : Type 0 where
+  pub count : ℕ
+  pub within : count ≤ length lines
+  pub report : List ℕ
+  pub is_report : IsReport graph k budget (take count lines) blocks report
+  pub more : List ℕ
+  pub begins : report ≡ bytes ++ more
+
+-- how far a report has come after these lines with these blocks
+abbrev pub after_all : Tfpg → Progress → List (List ℕ) → List Block → Progress
+after_all graph before [] blocks = before
+after_all graph before (line ∷ lines) [] = before
+after_all graph before (line ∷ lines) (block ∷ blocks) = after_all graph (after graph before line block) lines blocks
