@@ -1,7 +1,9 @@
 -- One turn of a diagnosis after another.
-use Rattle.std.proofs.Common.{◌≡◌, ◌⊎◌, ℕ, ◌+◌, ◌<◌, ◌≤◌, Bool, true, false, List, [], ◌∷◌, ◌++◌, length, take, drop, Option, Some, None, Result, Ok, Err, refl, sym, ap, subst, ◌∙◌, arith, inl, inr, append_assoc}
+use Rattle.std.proofs.Common.{◌-◌, ◌^◌, ◌≡◌, ◌⊎◌, ℕ, ◌+◌, ◌<◌, ◌≤◌, Bool, true, false, List, [], ◌∷◌, ◌++◌, length, take, drop, Option, Some, None, Result, Ok, Err, refl, sym, ap, subst, ◌∙◌, arith, inl, inr, append_assoc}
 use Rattle.std.specs.Prelude.{flat_map, IsErrAnd, IfErr, OnErr}
-use Rattle.std.specs.List.{AllByRecursion}
+use Rattle.std.specs.List.{AllByRecursion, slice_split}
+use Rattle.std.proofs.lemmas.List.Splits.{length-slice_split}
+use Rattle.std.proofs.lemmas.List.Sums.{count_by-le-length}
 use Rattle.std.proofs.lemmas.List.{take-append-drop, append-nil, length-append, length-take, take_at, take-take}
 use Rattle.std.proofs.lemmas.List.Concat.{flat_map-append}
 use Rattle.tfpg_base.specs.declared.line.Line.{Line}
@@ -9,9 +11,10 @@ use Rattle.tfpg_base.specs.declared.line.Line.TheVariants as line
 use Rattle.tfpg_base.specs.declared.line.LineFault.{LineFault}
 use Rattle.tfpg_base.specs.declared.line.LineFault.TheVariants as fault
 use Rattle.tfpg_base.specs.Outside.{Rose, Takes, Puts, IsAtEnd}
-use Rattle.tfpg_base.specs.Lines.{Reading, Buffered, Continues, IsNext, with_bytes, with_line, lines_of, whole_lines, line_of_part, last_part, most_bytes}
+use Rattle.tfpg_base.specs.Lines.{Reading, Buffered, Continues, IsNext, with_bytes, with_line, lines_of, whole_lines, line_of_part, last_part, ends_line, most_bytes, new_reading}
+use Rattle.tfpg_base.specs.Lines as reader
 use Rattle.tfpg_base.proofs.LinesOf.{take-lines_of}
-use Rattle.tfpg_base.proofs.Taking.{Takes-append, Rose-later}
+use Rattle.tfpg_base.proofs.Taking.{Takes-append, Takes-nothing, Rose-later}
 use Rattle.tfpg_base.proofs.ReadingOn.{GaveLine, Continues-turn, Continues-text, Continues-too_long, Continues-end}
 use Rattle.tfpg_graph.specs.Graph.{Tfpg}
 use Rattle.tfpg_report.specs.declared.refused_line.RefusedLine.TheVariants.{TooLong}
@@ -24,8 +27,8 @@ use Rattle.tfpg.specs.declared.end.End.TheVariants as ends
 use Rattle.tfpg.specs.EndsOf.{end_of_fault}
 use Rattle.tfpg.specs.Diagnoser.{budget, StandsFor, HasBlock, LosesNone}
 use Rattle.tfpg.specs.Run.{Streams, Diagnoses}
-use Rattle.tfpg.specs.Course.{IsUnderWay}
-use Rattle.tfpg.proofs.Putting.{Puts-append, Puts-nothing}
+use Rattle.tfpg.specs.Course.{IsUnderWay, BeginsBadly}
+use Rattle.tfpg.proofs.Putting.{Puts-append, Puts-same}
 
 -- ---- one block more
 
@@ -198,6 +201,7 @@ module _ (graph : Tfpg) (before now : Streams) (lines : Buffered) (diagnoser : D
         record {
           reading = with_line (with_bytes reading gave.more) gave.first;
           takes = Takes-append before.left now.left left reading.taken gave.more under.takes gave.takes;
+          few = gave.next.few;
           stands = gave.stands;
           goes_on = gave.goes_on;
           front = front_with (lines_of taken) given gave.first gave.next.front;
@@ -211,6 +215,10 @@ module _ (graph : Tfpg) (before now : Streams) (lines : Buffered) (diagnoser : D
           input_faults = omega (arith, under.input_faults, falls);
           sink_faults = omega (arith, under.sink_faults, fell);
         }
+
+    -- it is one line on
+    pub gave_one_more : reader.number ≡ lines.number + 1
+    gave_one_more = omega (arith, gave.stands.number, under.stands.number, length-append under.reading.given (gave.first ∷ []))
 
     -- where only a front of the block is put, the diagnosis ends with what begins the report
     pub gave_front : (front rest : List ℕ) → bytes ≡ front ++ rest → Puts now.holds holds front → Rose now.sink_faults sink_faults
@@ -294,3 +302,73 @@ pub stopped_by : {T : Type 0} (result : Result T End) (F R : Type 0) (P : End �
     → (F → R → P ends.WriteFault) → IfErr result P
 stopped_by (Ok x) F R P e f r h = tt
 stopped_by (Err x) F R P e f r h = subst P (sym e) (h f r)
+
+-- ---- the whole course
+
+short_part : (part : List ℕ) → length (line_of_part part) ≤ 1
+short_part [] = omega arith
+short_part (byte ∷ bytes) = omega arith
+
+few_lines : (bytes : List ℕ) → length (lines_of bytes) ≤ length bytes + 1
+few_lines bytes =
+    let parts = slice_split ends_line bytes in
+    omega (arith, length-append (whole_lines bytes) (line_of_part (last_part bytes)), length-take (length parts - 1) parts, short_part (last_part bytes),
+      length-slice_split ends_line bytes, count_by-le-length ends_line bytes)
+
+-- no more lines are given than bytes may be taken, but for a last one
+pub few_given : (graph : Tfpg) (before now : Streams) (lines : Buffered) (diagnoser : Diagnoser) → IsUnderWay graph before now lines diagnoser → lines.number ≤ 2 ^ 32 + 1
+few_given graph before now lines diagnoser under =
+    let within = front_is_within (lines_of under.reading.taken) under.reading.given under.front in
+    omega (arith, within, few_lines under.reading.taken, under.few, under.stands.number)
+
+-- a diagnosis begins
+pub begins_under_way : (graph : Tfpg) (before : Streams) (lines : Buffered) (diagnoser : Diagnoser) (holds : Option (List ℕ)) (sink_faults : ℕ)
+    → reader.StandsFor lines new_reading → StandsFor diagnoser start → diagnoser.graph ≡ graph → Puts before.holds holds (head_text 0 budget) → before.sink_faults ≤ sink_faults
+    → IsUnderWay graph before (record { left = before.left; holds = holds; input_faults = before.input_faults; sink_faults = sink_faults }) lines diagnoser
+begins_under_way graph before lines diagnoser holds sink_faults stands told same puts fell = record {
+  reading = new_reading;
+  takes = Takes-nothing before.left;
+  few = omega arith;
+  stands = stands;
+  goes_on = inl refl;
+  front = refl;
+  blocks = [];
+  puts = Puts-same before.holds holds (head_text 0 budget) (report_text graph 0 budget []) (sym (append-nil (head_text 0 budget))) puts;
+  are_blocks = tt;
+  no_losses = tt;
+  told = told;
+  same_graph = same;
+  input_faults = omega arith;
+  sink_faults = fell;
+}
+
+-- a diagnosis that ends before its first line is whole
+pub begins_badly : (graph : Tfpg) (before : Streams) (holds : Option (List ℕ)) (sink_faults : ℕ) (end : End) → BeginsBadly before.holds holds before.sink_faults sink_faults end
+    → Diagnoses graph before (record { left = before.left; holds = holds; input_faults = before.input_faults; sink_faults = sink_faults }) end
+begins_badly graph before holds sink_faults ends.NoMemory h = record {
+  taken = [];
+  takes = Takes-nothing before.left;
+  put = [];
+  puts = h;
+  blocks = [];
+  no_losses = tt;
+  ends = begins graph [] [] [] refl tt [] (report_text graph 0 budget []) refl;
+}
+begins_badly graph before holds sink_faults ends.WriteFault h = record {
+  taken = [];
+  takes = Takes-nothing before.left;
+  put = h.0;
+  puts = h.3;
+  blocks = [];
+  no_losses = tt;
+  ends = (h.4, begins graph [] [] [] refl tt h.0 h.1 (append-nil (head_text 0 budget) ∙ h.2));
+}
+begins_badly graph before holds sink_faults ends.Done h = absurd h
+begins_badly graph before holds sink_faults (ends.Usage cause) h = absurd h
+begins_badly graph before holds sink_faults (ends.Graph line cause) h = absurd h
+begins_badly graph before holds sink_faults ends.ReadFault h = absurd h
+begins_badly graph before holds sink_faults ends.TooMuchInput h = absurd h
+
+-- one line on, fewer are left
+pub falls_short : (number after : ℕ) → number ≤ 2 ^ 32 + 1 → after ≡ number + 1 → 2 ^ 32 + 2 - after < 2 ^ 32 + 2 - number
+falls_short number after le e = omega arith

@@ -5,7 +5,7 @@ use Rattle.tfpg.specs.declared.course.Turn.TheVariants.{Answered}
 use Rattle.tfpg.specs.EndsOf.{end_of_fault}
 use Rattle.tfpg.specs.Course.{LeadsTo}
 use Rattle.tfpg.proofs.Putting.{Puts-same}
-use Rattle.tfpg.proofs.Turns.{err_is, stopped_by, ends_by_fault, met_end, met_text, met_long, answered_text, answered_long, gave_without_memory, gave_block, gave_front}
+use Rattle.tfpg.proofs.Turns.{err_is, stopped_by, ends_by_fault, met_end, met_text, met_long, answered_text, answered_long, gave_without_memory, gave_block, gave_one_more, gave_front}
 use Rattle.tfpg.proofs.course.take_turn.Goals as goal
 
 pub returns-in_err-next-clause-stopped : goal.returns-in_err-next-clause-stopped
@@ -27,9 +27,11 @@ pub returns-in_ok-block-in-TooLong-clause-turn : goal.returns-in_ok-block-in-Too
 returns-in_ok-block-in-TooLong-clause-turn g c graph before under =
     let answered = answered_long graph before _ c.args.lines.now c.args.diagnoser.now _ _ c.next.new.self under c.in_ok-next.field-0 (c.in_ok-next.ensures.answer under.reading under.stands)
       c.number.result c.in_ok-block-in-TooLong.block.items c.in-TooLong.is c.in_ok-block-in-TooLong.ensures in
-    IfOk-weaker c.put_block.result _ _ (λ turn h. subst (LeadsTo graph before _ c.next.new.self c.args.diagnoser.now) (sym h.0)
+    IfOk-weaker c.put_block.result _ _ (λ turn h. subst (LeadsTo graph before _ c.args.lines.now.number c.next.new.self c.args.diagnoser.now) (sym h.0)
       (gave_block graph before _ c.args.lines.now c.args.diagnoser.now _ _ c.next.new.self under c.in_ok-next.ensures.never_falls answered.gave
-        c.number.result c.in_ok-block-in-TooLong.block.items c.args.diagnoser.now _ _ c.number.ensures answered.block (Puts-same _ _ _ _ c.deref.ensures.value h.1) c.put_block.ensures.never_falls under.same_graph)) c.put_block.ensures.put
+        c.number.result c.in_ok-block-in-TooLong.block.items c.args.diagnoser.now _ _ c.number.ensures answered.block (Puts-same _ _ _ _ c.deref.ensures.value h.1) c.put_block.ensures.never_falls under.same_graph,
+       gave_one_more graph before _ c.args.lines.now c.args.diagnoser.now _ _ c.next.new.self under c.in_ok-next.ensures.never_falls answered.gave
+        c.number.result c.in_ok-block-in-TooLong.block.items c.args.diagnoser.now (g.K.Sink.holds c.put_block.new.out) (g.K.Sink.faults c.put_block.new.out) c.number.ensures answered.block)) c.put_block.ensures.put
 
 pub returns-in_ok-block-in-TooLong-clause-stopped : goal.returns-in_ok-block-in-TooLong-clause-stopped
 returns-in_ok-block-in-TooLong-clause-stopped g c graph before under =
@@ -49,10 +51,12 @@ pub returns-in_ok-block-in-Text-clause-turn : goal.returns-in_ok-block-in-Text-c
 returns-in_ok-block-in-Text-clause-turn g c graph before under =
     let answered = answered_text graph before _ c.args.lines.now c.args.diagnoser.now _ _ c.next.new.self under c.in_ok-next.field-0 (c.in_ok-next.ensures.answer under.reading under.stands)
       c.number-in-Text.result c.text.result.now c.in_ok-block-in-Text.block.items c.answer.new.self c.in-Text.is c.text.ensures c.in_ok-block-in-Text.ensures.block in
-    IfOk-weaker c.put_block-in-Text.result _ _ (λ turn h. subst (LeadsTo graph before _ c.next.new.self c.answer.new.self) (sym h.0)
+    IfOk-weaker c.put_block-in-Text.result _ _ (λ turn h. subst (LeadsTo graph before _ c.args.lines.now.number c.next.new.self c.answer.new.self) (sym h.0)
       (gave_block graph before _ c.args.lines.now c.args.diagnoser.now _ _ c.next.new.self under c.in_ok-next.ensures.never_falls answered.gave
         c.number-in-Text.result c.in_ok-block-in-Text.block.items c.answer.new.self _ _ c.number-in-Text.ensures answered.block (Puts-same _ _ _ _ c.deref-in-Text.ensures.value h.1) c.put_block-in-Text.ensures.never_falls
-        (c.in_ok-block-in-Text.ensures.graph ∙ under.same_graph))) c.put_block-in-Text.ensures.put
+        (c.in_ok-block-in-Text.ensures.graph ∙ under.same_graph),
+       gave_one_more graph before _ c.args.lines.now c.args.diagnoser.now _ _ c.next.new.self under c.in_ok-next.ensures.never_falls answered.gave
+        c.number-in-Text.result c.in_ok-block-in-Text.block.items c.answer.new.self (g.K.Sink.holds c.put_block-in-Text.new.out) (g.K.Sink.faults c.put_block-in-Text.new.out) c.number-in-Text.ensures answered.block)) c.put_block-in-Text.ensures.put
 
 pub returns-in_ok-block-in-Text-clause-stopped : goal.returns-in_ok-block-in-Text-clause-stopped
 returns-in_ok-block-in-Text-clause-stopped g c graph before under =
