@@ -11,11 +11,13 @@ mod declared;
 mod edge;
 mod graph;
 mod kind;
+mod line_shape;
 mod new_edge;
 mod new_node;
-mod reading;
 mod reader;
-mod line_shape;
+mod reading;
+#[cfg(test)]
+mod tests;
 mod word_value;
 
 pub use cause::{GraphCause, GraphFault, GraphRefusal};
