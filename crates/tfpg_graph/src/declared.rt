@@ -13,7 +13,7 @@ use std::marker::Model;
 use tfpg_base::NoMemory;
 
 /// Nodes, edges and modes, in the order of their lines.
-#[derive(Drop)]
+#[derive(Debug, Drop)]
 pub(crate) struct Declared {
     nodes: IndexMap<Vec<u8>, Kind>,
     edges: Vec<Edge>,

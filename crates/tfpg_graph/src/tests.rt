@@ -47,70 +47,53 @@ fn reads_a_small_text_and_looks_it_up(rt: HostRuntime) -> Result<(), Fail> {
     Ok(())
 }
 
+/// Texts that are read: with no line end at the end, with nodes in any order, and at the limits of numbers.
+const SMALL: [&[u8]; 3] = [
+    b"tfpg 1\nmode N\nend",
+    b"tfpg 1\nmode N\nor B hidden\nfailure F 0\nedge F B 1 inf *\nend\n",
+    b"tfpg 1\nmode N\nfailure F 1000000\nor A watch 1000000000000\nedge F A 1000000000000 1000000000000 *\nend\n",
+];
+
+/// Texts that are refused: those that spell no valid graph, and those that are not read so far.
+const REFUSED: [&[u8]; 23] = [
+    TWO_MODES,
+    b"",
+    b"\n",
+    b"tfpg 1\nmode N\n",
+    b"tfpg 1\nmode N\nend\n\n",
+    b"tfpg 1\nmode N\nend\nend\n",
+    b"tfpg 1\n# none\nmode N\nend\n",
+    b"tfpg 2\nmode N\nend\n",
+    b"tfpg 1\nmode 1\nend\n",
+    b"tfpg 1\nmode  N\nend\n",
+    b"tfpg 1\nend\n",
+    b"tfpg 1\nmode N\nfailure F 1\nfailure F 2\nend\n",
+    b"tfpg 1\nmode N\nfailure F 1000001\nend\n",
+    b"tfpg 1\nmode N\nfailure F 01\nend\n",
+    b"tfpg 1\nmode N\nfailure F 1\nor A watch 0\nend\n",
+    b"tfpg 1\nmode N\nfailure F 1\nor A watch 0\nedge F A 3 1 *\nend\n",
+    b"tfpg 1\nmode N\nfailure F 1\nor A watch 0\nedge F A 0 1 *\nend\n",
+    b"tfpg 1\nmode N\nfailure F 1\nor A watch 0\nedge F A 1 1 N\nend\n",
+    b"tfpg 1\nmode N\nfailure F 1\nor A watch 0\nedge G A 1 1 *\nend\n",
+    b"tfpg 1\nmode N\nfailure F 1\nor A watch 0\nedge F A 1 1 *\nedge F A 2 2 *\nend\n",
+    b"tfpg 1\nmode N\nor A watch 0\nedge A A 1 1 *\nend\n",
+    b"tfpg 1\nmode N\nfailure F 1\nfailure G 1\nedge F G 1 1 *\nend\n",
+    b"tfpg 1\nmode N\nfailure F 1\nand A watch 0\nedge F A 1 1 *\nend\n",
+];
+
 #[test]
-fn reads_small_texts_alone(rt: HostRuntime) -> Result<(), Fail> {
-    for (text, is_read) in [
-        (TWO_ALARMS, true),
-        (b"tfpg 1\nmode N\nend".as_slice(), true),
-        (
-            b"tfpg 1\nmode N\nor B hidden\nfailure F 0\nedge F B 1 inf *\nend\n",
-            true,
-        ),
-        (
-            b"tfpg 1\nmode N\nfailure F 1000000\nor A watch 1000000000000\nedge F A 1000000000000 1000000000000 *\nend\n",
-            true,
-        ),
-        (TWO_MODES, false),
-        (b"", false),
-        (b"\n", false),
-        (b"tfpg 1\nmode N\n", false),
-        (b"tfpg 1\nmode N\nend\n\n", false),
-        (b"tfpg 1\nmode N\nend\nend\n", false),
-        (b"tfpg 1\n# none\nmode N\nend\n", false),
-        (b"tfpg 2\nmode N\nend\n", false),
-        (b"tfpg 1\nmode 1\nend\n", false),
-        (b"tfpg 1\nmode  N\nend\n", false),
-        (b"tfpg 1\nend\n", false),
-        (b"tfpg 1\nmode N\nfailure F 1\nfailure F 2\nend\n", false),
-        (b"tfpg 1\nmode N\nfailure F 1000001\nend\n", false),
-        (b"tfpg 1\nmode N\nfailure F 01\nend\n", false),
-        (b"tfpg 1\nmode N\nfailure F 1\nor A watch 0\nend\n", false),
-        (
-            b"tfpg 1\nmode N\nfailure F 1\nor A watch 0\nedge F A 3 1 *\nend\n",
-            false,
-        ),
-        (
-            b"tfpg 1\nmode N\nfailure F 1\nor A watch 0\nedge F A 0 1 *\nend\n",
-            false,
-        ),
-        (
-            b"tfpg 1\nmode N\nfailure F 1\nor A watch 0\nedge F A 1 1 N\nend\n",
-            false,
-        ),
-        (
-            b"tfpg 1\nmode N\nfailure F 1\nor A watch 0\nedge G A 1 1 *\nend\n",
-            false,
-        ),
-        (
-            b"tfpg 1\nmode N\nfailure F 1\nor A watch 0\nedge F A 1 1 *\nedge F A 2 2 *\nend\n",
-            false,
-        ),
-        (
-            b"tfpg 1\nmode N\nor A watch 0\nedge A A 1 1 *\nend\n",
-            false,
-        ),
-        (
-            b"tfpg 1\nmode N\nfailure F 1\nfailure G 1\nedge F G 1 1 *\nend\n",
-            false,
-        ),
-    ] {
+fn reads_each_small_text(rt: HostRuntime) {
+    for text in SMALL {
+        assert!(rt; read(rt.alloc(), text).is_ok(), "in {text:?}");
+    }
+}
+
+#[test]
+fn refuses_each_other_text(rt: HostRuntime) {
+    for text in REFUSED {
         match read(rt.alloc(), text) {
-            Ok(_) => assert!(rt; is_read, "in {text:?}"),
-            Err(refusal) => {
-                assert!(rt; !is_read, "in {text:?}");
-                assert_eq!(rt; refusal, NOT_BUILT, "in {text:?}");
-            }
+            Ok(_) => panic!(rt; "read {text:?}"),
+            Err(refusal) => assert_eq!(rt; refusal, NOT_BUILT, "in {text:?}"),
         }
     }
-    Ok(())
 }
