@@ -1,6 +1,7 @@
 //! Timed failure propagation graphs: failure modes and discrepancies as nodes, propagations with their delays and
 //! system modes as edges.
 //!
+//! - [`read`] reads the text of a graph.
 //! - [`Graph`] is a valid graph with its look-ups.
 //! - [`Kind`] and [`Edge`] are its parts.
 //! - [`GraphCause`] says what is wrong with a text that spells no valid graph.
