@@ -1,15 +1,15 @@
 -- A name that is new goes behind the others.
-use Rattle.std.proofs.Common.{◌≡◌, ℕ, suc, Bool, true, false, cond, ◌||◌, List, [], ◌∷◌, ◌++◌, map, Option, Some, None, position, refl, ap, sym, ◌∙◌, Vec, Global}
+use Rattle.std.proofs.Common.{◌≡◌, ℕ, Bool, false, cond, ◌||◌, List, [], ◌∷◌, ◌++◌, map, None, position, refl, ap, ◌∙◌, Vec, Global}
+use Rattle.std.proofs.lemmas.List.{map_push}
 use Rattle.std.specs.List.{list_any}
 use Rattle.std.specs.Map.{keys_of}
-use Rattle.std.specs.Option.{option_map}
 use Rattle.std.specs.Str.{bytes_eq}
 use Rattle.indexmap.specs.IndexMap.{insert_entry}
 use Rattle.indexmap.specs.IndexSet.{insert_key}
 use Rattle.tfpg_graph.specs.declared.declared.Declared.TheInside.{Inside}
 use Rattle.tfpg_graph.specs.declared.kind.Kind.{Kind}
-use Rattle.tfpg_graph.specs.Graph.{node_named, mode_named}
-use Rattle.tfpg_graph.specs.Indexes.{graph_of}
+use Rattle.tfpg_graph.specs.Graph.{Tfpg, node_named, mode_named}
+use Rattle.tfpg_graph.specs.Indexes.{graph_of, with_node, with_mode}
 use Rattle.tfpg_graph.proofs.Positions.{position-cons_none}
 use Rattle.tfpg_graph.proofs.Named.{index_of-node, index_of-mode}
 
@@ -29,13 +29,20 @@ insert_entry-last eq (entry ∷ entries) key value none =
     ap (λ b. cond b ((entry.0, value) ∷ entries) (entry ∷ insert_entry eq entries key value)) first.0
     ∙ ap (λ es. entry ∷ es) (insert_entry-last eq entries key value first.1)
 
-module _ (d : Inside) (key : Vec ℕ Global) where
-  -- a new node's name goes last
-  pub insert_entry-node : (kind : Kind) → node_named (graph_of d) key.items ≡ None
-      → insert_entry (λ a b. bytes_eq a.items b.items) d.nodes.entries key kind ≡ d.nodes.entries ++ (key, kind) ∷ []
-  insert_entry-node kind new = insert_entry-last (λ a b. bytes_eq a.items b.items) d.nodes.entries key kind (index_of-node d key.items ∙ new)
+module _ (d : Inside) (graph : Tfpg) (seen : graph_of d ≡ graph) (key : Vec ℕ Global) (name : List ℕ) (named : key.items ≡ name) where
+  -- a new node's name goes last, and so does the node
+  pub nodes-insert : (kind : Kind) → node_named graph name ≡ None
+      → map (λ entry. record { name = entry.0.items; kind = entry.1 }) (insert_entry (λ a b. bytes_eq a.items b.items) d.nodes.entries key kind) ≡ (with_node graph name kind).nodes
+  nodes-insert kind new =
+      ap (map (λ entry. record { name = entry.0.items; kind = entry.1 }))
+      (insert_entry-last (λ a b. bytes_eq a.items b.items) d.nodes.entries key kind (index_of-node d key.items ∙ (λ i. node_named (seen i) (named i)) ∙ new))
+      ∙ map_push (λ entry. record { name = entry.0.items; kind = entry.1 }) d.nodes.entries (key, kind)
+      ∙ (λ i. (seen i).nodes ++ record { name = named i; kind = kind } ∷ [])
 
-  -- a new mode's name goes last
-  pub insert_key-mode : mode_named (graph_of d) key.items ≡ None → insert_key (λ a b. bytes_eq a.items b.items) d.modes.keys key ≡ d.modes.keys ++ key ∷ []
-  insert_key-mode new =
-      ap (λ b. cond b d.modes.keys (d.modes.keys ++ key ∷ [])) (list_any-none (λ other. bytes_eq key.items other.items) d.modes.keys (index_of-mode d key.items ∙ new))
+  -- a new mode goes last
+  pub modes-insert : mode_named graph name ≡ None → map (λ mode. mode.items) (insert_key (λ a b. bytes_eq a.items b.items) d.modes.keys key) ≡ (with_mode graph name).modes
+  modes-insert new =
+      ap (λ b. map (λ mode. mode.items) (cond b d.modes.keys (d.modes.keys ++ key ∷ [])))
+      (list_any-none (λ other. bytes_eq key.items other.items) d.modes.keys (index_of-mode d key.items ∙ (λ i. mode_named (seen i) (named i)) ∙ new))
+      ∙ map_push (λ mode. mode.items) d.modes.keys key
+      ∙ (λ i. (seen i).modes ++ named i ∷ [])

@@ -1,5 +1,5 @@
 -- The edge from one node to another, sought among the edges into the other.
-use Rattle.std.proofs.Common.{◌≡◌, ℕ, ◌+◌, ◌<◌, ◌==◌, Bool, true, false, cond, List, ◌∷◌, length, get_or, drop, find, Option, Some, None, slice_get, refl, ap, sym, ◌∙◌, zero-add}
+use Rattle.std.proofs.Common.{◌≡◌, ℕ, ◌+◌, ◌<◌, ◌==◌, Bool, true, false, cond, List, length, get_or, drop, find, Option, Some, None, slice_get, refl, ap, ◌∙◌, zero-add}
 use Rattle.std.specs.Option.{option_map, option_map_or}
 use Rattle.std.proofs.lemmas.List.{at_drop_more}
 use Rattle.tfpg_graph.specs.declared.edge.Edge.{Edge}
@@ -21,7 +21,7 @@ option_map-zero (Some i) = ap Some (zero-add i)
 pub find-leaving : (graph : Tfpg) (source target : ℕ) → find (is_leaving graph source) (incoming graph target) ≡ edge_from_to graph source target
 find-leaving graph source target =
     find-numbers_from (λ edge. edge.target == target) (λ edge. edge.source == source) (is_leaving graph source) 0 graph.edges
-      (λ i edge at. ap (is_leaving graph source) (zero-add i) ∙ is_leaving-edge graph source i edge at)
+    (λ i edge at. ap (is_leaving graph source) (zero-add i) ∙ is_leaving-edge graph source i edge at)
     ∙ option_map-zero (edge_from_to graph source target)
 
 module _ (test : ℕ → Bool) (xs : List ℕ) (i : ℕ) (within : i < length xs) where

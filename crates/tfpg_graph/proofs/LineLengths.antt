@@ -1,5 +1,5 @@
 -- No line of a canonical text is too long.
-use Rattle.std.proofs.Common.{◌≡◌, ℕ, suc, zero, ◌+◌, ◌<◌, ◌≤◌, ◌^◌, List, [], ◌∷◌, ◌++◌, length, map, slice_get, All, IsTrue, Option, Some, None, IfSome, unwrap_or, codes, refl, ap, sym, ◌∙◌, subst, arith}
+use Rattle.std.proofs.Common.{ℕ, suc, zero, ◌≤◌, List, [], ◌∷◌, ◌++◌, length, slice_get, All, IsTrue, Option, Some, None, IfSome, unwrap_or, codes, arith}
 use Rattle.std.specs.Prelude.{decimal}
 use Rattle.std.specs.Option.{option_map}
 use Rattle.std.specs.List.{list_all}
@@ -52,8 +52,14 @@ short_edge graph edge named valid =
     let source = unwrap_or (name_at graph edge.source) [] in
     let target = unwrap_or (name_at graph edge.target) [] in
     let tail = tmax_word edge.tmax ++ 32 ∷ codes "*" in
-    omega (arith,
-      length-append source (32 ∷ (target ++ 32 ∷ (decimal edge.tmin ++ 32 ∷ tail))), short_name_in graph.nodes edge.source named,
-      length-append target (32 ∷ (decimal edge.tmin ++ 32 ∷ tail)), short_name_in graph.nodes edge.target named,
-      length-append (decimal edge.tmin) (32 ∷ tail), number_short edge.tmin valid.least,
-      length-append (tmax_word edge.tmax) (32 ∷ codes "*"), short_tmax edge.tmax edge.tmin valid.most)
+    omega (
+      arith,
+      length-append source (32 ∷ (target ++ 32 ∷ (decimal edge.tmin ++ 32 ∷ tail))),
+      short_name_in graph.nodes edge.source named,
+      length-append target (32 ∷ (decimal edge.tmin ++ 32 ∷ tail)),
+      short_name_in graph.nodes edge.target named,
+      length-append (decimal edge.tmin) (32 ∷ tail),
+      number_short edge.tmin valid.least,
+      length-append (tmax_word edge.tmax) (32 ∷ codes "*"),
+      short_tmax edge.tmax edge.tmin valid.most,
+    )

@@ -1,6 +1,6 @@
 -- The lines of a text are the parts round its line ends, but for a last part with no byte.
-use Rattle.std.proofs.Common.{◌≡◌, ◌≢◌, ℕ, suc, ◌+◌, ◌-◌, ◌<◌, ◌≤◌, ◌==◌, Bool, true, false, cond, ◌⊎◌, ⊎_elim, inl, inr, List, [], ◌∷◌, ◌++◌, length, take, get_or, refl, ap, sym, ◌∙◌, subst, arith, append_assoc}
-use Rattle.std.specs.List.{slice_split, onto_first, join_with_byte}
+use Rattle.std.proofs.Common.{◌≡◌, ◌≢◌, ℕ, ◌-◌, ◌<◌, ◌==◌, Bool, true, false, cond, ◌⊎◌, ⊎_elim, inl, inr, List, [], ◌∷◌, ◌++◌, length, take, get_or, refl, ap, sym, ◌∙◌, arith, append_assoc}
+use Rattle.std.specs.List.{onto_first, join_with_byte}
 use Rattle.std.proofs.lemmas.List.{take_more, take_all, take_at, get_or_at, length_push, append-nil}
 use Rattle.std.proofs.lemmas.List.Splits.{length-slice_split, join_with_byte-slice_split}
 use Rattle.tfpg_base.specs.Lines.{parts_of, whole_lines, last_part, line_of_part, lines_of}
@@ -40,9 +40,9 @@ lines_of-ended bytes =
     ∙ (λ i. take (before i) (parts_of bytes ++ [] ∷ []) ++ line_of_part (get_or (parts_of bytes ++ [] ∷ []) (before i) []))
     ∙ (λ i. take_at (parts_of bytes) ([] ∷ []) (length (parts_of bytes)) refl i ++ line_of_part (get_or_at (parts_of bytes) [] [] [] (length (parts_of bytes)) refl i))
     ∙ append-nil (parts_of bytes)
-    where
-      before : length (parts_of bytes ++ [] ∷ []) - 1 ≡ length (parts_of bytes)
-      before = omega (arith, length_push (parts_of bytes) [])
+  where
+    before : length (parts_of bytes ++ [] ∷ []) - 1 ≡ length (parts_of bytes)
+    before = omega (arith, length_push (parts_of bytes) [])
 
 -- parts of which the last is empty, joined: nothing, or bytes that end with a line end
 join-last_empty : (parts : List (List ℕ)) → (join_with_byte 10 (parts ++ [] ∷ []) ≡ []) ⊎ ((front : List ℕ) × (join_with_byte 10 (parts ++ [] ∷ []) ≡ front ++ 10 ∷ []))
@@ -61,10 +61,11 @@ line_of_part-some (byte ∷ bytes) some = refl
 pub lines_of-unended : (bytes : List ℕ) → bytes ≢ [] → ((front : List ℕ) → bytes ≢ front ++ 10 ∷ []) → lines_of bytes ≡ parts_of bytes
 lines_of-unended bytes some unended =
     ap (λ last. whole_lines bytes ++ last) (line_of_part-some (last_part bytes) last_some) ∙ parts_of-last bytes
-    where
-      joined : join_with_byte 10 (whole_lines bytes ++ last_part bytes ∷ []) ≡ bytes
-      joined = ap (join_with_byte 10) (parts_of-last bytes) ∙ join_with_byte-slice_split 10 bytes
-      last_some : last_part bytes ≢ []
-      last_some empty =
-          let seen = ap (λ last. join_with_byte 10 (whole_lines bytes ++ last ∷ [])) (sym empty) ∙ joined in
-          ⊎_elim (λ none. some (sym seen ∙ none)) (λ front. unended front.0 (sym seen ∙ front.1)) (join-last_empty (whole_lines bytes))
+  where
+    joined : join_with_byte 10 (whole_lines bytes ++ last_part bytes ∷ []) ≡ bytes
+    joined = ap (join_with_byte 10) (parts_of-last bytes) ∙ join_with_byte-slice_split 10 bytes
+
+    last_some : last_part bytes ≢ []
+    last_some empty =
+        let seen = ap (λ last. join_with_byte 10 (whole_lines bytes ++ last ∷ [])) (sym empty) ∙ joined in
+        ⊎_elim (λ none. some (sym seen ∙ none)) (λ front. unended front.0 (sym seen ∙ front.1)) (join-last_empty (whole_lines bytes))

@@ -1,5 +1,5 @@
 -- What is declared stays valid so far, and indexed, when one thing more is declared.
-use Rattle.std.proofs.Common.{◌≡◌, ◌≢◌, ℕ, suc, ◌+◌, ◌<◌, ◌≤◌, ◌==◌, Bool, true, false, cond, List, [], ◌∷◌, ◌++◌, map, length, get_or, Option, Some, None, position, All, AllPairs, IsTrue, refl, ap, sym, ◌∙◌, subst, arith, slice_get, set, ◌&&◌, ⊎_elim}
+use Rattle.std.proofs.Common.{◌≡◌, ◌≢◌, ℕ, ◌+◌, ◌<◌, ◌≤◌, ◌==◌, Bool, true, false, cond, List, [], ◌∷◌, ◌++◌, map, length, get_or, Option, Some, None, position, All, IsTrue, refl, ap, sym, ◌∙◌, subst, arith, set, ◌&&◌, ⊎_elim}
 use Rattle.std.specs.Str.{bytes_eq}
 use Rattle.std.proofs.lemmas.Bool.{cases_lt, cases_eq, eq-eqb, ne_eqb, and_from, false≢true}
 use Rattle.std.proofs.lemmas.List.{length_push, length-set, append-nil}
@@ -24,33 +24,37 @@ module _ (d : Inside) (graph : Tfpg) (seen : graph_of d ≡ graph) where
   -- and the other way round
   pub IsDeclared-seen : IsIndexed graph (map (λ row. row.items) d.incoming.items) d.failures.items d.places.items → IsValidSoFar graph → IsDeclared d
   IsDeclared-seen indexed so_far = record {
-      indexed = subst (λ g. IsIndexed g (map (λ row. row.items) d.incoming.items) d.failures.items d.places.items) (sym seen) indexed;
-      so_far = subst IsValidSoFar (sym seen) so_far;
-    }
+    indexed = subst (λ g. IsIndexed g (map (λ row. row.items) d.incoming.items) d.failures.items d.places.items) (sym seen) indexed;
+    so_far = subst IsValidSoFar (sym seen) so_far;
+  }
 
 -- ---- a mode
 
 pub IsIndexed-with_mode : (graph : Tfpg) (name : List ℕ) (rows : List (List ℕ)) (failed : List ℕ) (places : List (Option ℕ)) → IsIndexed graph rows failed places → IsIndexed (with_mode graph name) rows failed places
 IsIndexed-with_mode graph name rows failed places is = record {
-    row_count = is.row_count; row_is = is.row_is; failed_are = is.failed_are; place_count = is.place_count; place_is = is.place_is;
-  }
+  row_count = is.row_count;
+  row_is = is.row_is;
+  failed_are = is.failed_are;
+  place_count = is.place_count;
+  place_is = is.place_is;
+}
 
 pub IsValidSoFar-with_mode : (graph : Tfpg) (name : List ℕ) → graph.edges ≡ [] → IsTrue (is_name name) → mode_named graph name ≡ None → length graph.modes < 64 → IsValidSoFar graph → IsValidSoFar (with_mode graph name)
 IsValidSoFar-with_mode graph name none named new room is = record {
-    node_names = is.node_names;
-    nodes_differ = is.nodes_differ;
-    node_numbers = is.node_numbers;
-    mode_names = All-push (λ mode. IsTrue (is_name mode)) graph.modes name is.mode_names named;
-    modes_differ = all_pairs_push (λ a b. a ≢ b) graph.modes name is.modes_differ
+  node_names = is.node_names;
+  nodes_differ = is.nodes_differ;
+  node_numbers = is.node_numbers;
+  mode_names = All-push (λ mode. IsTrue (is_name mode)) graph.modes name is.mode_names named;
+  modes_differ = all_pairs_push (λ a b. a ≢ b) graph.modes name is.modes_differ
       (λ k d within. bytes_eq-false (get_or graph.modes k d) name (All-get_or (λ mode. bytes_eq mode name ≡ false) graph.modes k d within (All-none (λ mode. bytes_eq mode name) graph.modes new)));
-    edges = All-same (IsValidEdge (with_mode graph name)) graph.edges [] none (All-nil (IsValidEdge (with_mode graph name)));
-    edges_differ = is.edges_differ;
-    few_nodes = is.few_nodes;
-    few_failures = is.few_failures;
-    few_edges = is.few_edges;
-    few_modes = omega (arith, length_push graph.modes name);
-    few_incoming = is.few_incoming;
-  }
+  edges = All-same (IsValidEdge (with_mode graph name)) graph.edges [] none (All-nil (IsValidEdge (with_mode graph name)));
+  edges_differ = is.edges_differ;
+  few_nodes = is.few_nodes;
+  few_failures = is.few_failures;
+  few_edges = is.few_edges;
+  few_modes = omega (arith, length_push graph.modes name);
+  few_incoming = is.few_incoming;
+}
 
 -- ---- a node
 
@@ -72,8 +76,8 @@ old_place false node other failed before = ap (position (λ f. f == other)) (app
 new_place : (failure : Bool) (node : ℕ) (failed : List ℕ) → All (λ f. f < node) failed → position (λ f. f == node) (with_failure failure node failed) ≡ cond failure (Some (length failed)) None
 new_place true node failed below =
     position-push_yes (λ f. f == node) failed node
-      (position-All_fail (λ f. f == node) failed (All-weaker (λ f. f < node) (λ f. (f == node) ≡ false) (λ f lt. ne_eqb f node (λ e. omega (arith, e, lt))) failed below))
-      (eq-eqb node node refl)
+    (position-All_fail (λ f. f == node) failed (All-weaker (λ f. f < node) (λ f. (f == node) ≡ false) (λ f lt. ne_eqb f node (λ e. omega (arith, e, lt))) failed below))
+    (eq-eqb node node refl)
 new_place false node failed below =
     ap (position (λ f. f == node)) (append-nil failed)
     ∙ position-All_fail (λ f. f == node) failed (All-weaker (λ f. f < node) (λ f. (f == node) ≡ false) (λ f lt. ne_eqb f node (λ e. omega (arith, e, lt))) failed below)
@@ -89,19 +93,19 @@ module _ (graph : Tfpg) (name : List ℕ) (kind : Kind) where
   pub IsIndexed-with_node : (rows : List (List ℕ)) (failed : List ℕ) (places : List (Option ℕ)) → graph.edges ≡ [] → IsIndexed graph rows failed places
       → IsIndexed (with_node graph name kind) (rows ++ [] ∷ []) (with_failure (is_failure kind) (length graph.nodes) failed) (places ++ cond (is_failure kind) (Some (length failed)) None ∷ [])
   IsIndexed-with_node rows failed places none is = record {
-      row_count = length_push rows [] ∙ ap (λ n. n + 1) is.row_count ∙ sym (length_push graph.nodes new_node);
-      row_is = λ node within. ⊎_elim
+    row_count = length_push rows [] ∙ ap (λ n. n + 1) is.row_count ∙ sym (length_push graph.nodes new_node);
+    row_is = λ node within. ⊎_elim
         (λ lt. slice_get-push_before rows [] node (omega (arith, is.row_count)) ∙ is.row_is node lt)
         (λ ge. slice_get-push_last rows [] node (omega (arith, is.row_count, length_push graph.nodes new_node)) ∙ ap Some (sym (ap (numbers_from 0 (λ edge. edge.target == node)) none)))
         (cases_lt node (length graph.nodes));
-      failed_are = ap (with_failure (is_failure kind) (length graph.nodes)) is.failed_are ∙ sym (failures-with_node graph name kind);
-      place_count = length_push places _ ∙ ap (λ n. n + 1) is.place_count ∙ sym (length_push graph.nodes new_node);
-      place_is = λ node within. ⊎_elim
+    failed_are = ap (with_failure (is_failure kind) (length graph.nodes)) is.failed_are ∙ sym (failures-with_node graph name kind);
+    place_count = length_push places _ ∙ ap (λ n. n + 1) is.place_count ∙ sym (length_push graph.nodes new_node);
+    place_is = λ node within. ⊎_elim
         (λ lt. slice_get-push_before places _ node (omega (arith, is.place_count)) ∙ is.place_is node lt
-          ∙ ap Some (sym (ap (position (λ f. f == node)) (failures-with_node graph name kind) ∙ old_place (is_failure kind) (length graph.nodes) node (failures graph) lt)))
+        ∙ ap Some (sym (ap (position (λ f. f == node)) (failures-with_node graph name kind) ∙ old_place (is_failure kind) (length graph.nodes) node (failures graph) lt)))
         (λ ge. slice_get-push_last places _ node (omega (arith, is.place_count, length_push graph.nodes new_node)) ∙ ap Some (last_place node (omega (arith, length_push graph.nodes new_node))))
         (cases_lt node (length graph.nodes));
-    }
+  }
     where
       last_place : (node : ℕ) → node ≡ length graph.nodes → cond (is_failure kind) (Some (length failed)) None ≡ place_of_failure (with_node graph name kind) node
       last_place node last =
@@ -116,7 +120,7 @@ module _ (graph : Tfpg) (name : List ℕ) (kind : Kind) where
       record {
         node_names = All-push (λ n. IsTrue (is_name n.name)) graph.nodes new_node is.node_names named;
         nodes_differ = all_pairs_push (λ a b. a.name ≢ b.name) graph.nodes new_node is.nodes_differ
-          (λ k d within. bytes_eq-false (get_or graph.nodes k d).name name (All-get_or (λ n. bytes_eq n.name name ≡ false) graph.nodes k d within (All-none (λ n. bytes_eq n.name name) graph.nodes new)));
+            (λ k d within. bytes_eq-false (get_or graph.nodes k d).name name (All-get_or (λ n. bytes_eq n.name name ≡ false) graph.nodes k d within (All-none (λ n. bytes_eq n.name name) graph.nodes new)));
         node_numbers = All-push (λ n. HasValidNumber n.kind) graph.nodes new_node is.node_numbers number;
         mode_names = is.mode_names;
         modes_differ = is.modes_differ;
@@ -164,22 +168,28 @@ module _ (graph : Tfpg) (edge : Edge) where
   pub IsIndexed-with_edge : (rows : List (List ℕ)) (failed : List ℕ) (places : List (Option ℕ)) → edge.target < length graph.nodes → IsIndexed graph rows failed places
       → IsIndexed (with_edge graph edge) (set rows edge.target (incoming graph edge.target ++ length graph.edges ∷ [])) failed places
   IsIndexed-with_edge rows failed places target is = record {
-      row_count = length-set rows edge.target _ ∙ is.row_count;
-      row_is = λ node within. ⊎_elim
+    row_count = length-set rows edge.target _ ∙ is.row_count;
+    row_is = λ node within. ⊎_elim
         (λ same. slice_get-set_same rows edge.target node _ (omega (arith, is.row_count)) same ∙ ap Some (sym (incoming-target node same)))
         (λ differs. slice_get-set_other rows edge.target node _ (omega (arith, is.row_count)) differs ∙ is.row_is node within ∙ ap Some (sym (incoming-other node differs)))
         (cases_eq node edge.target);
-      failed_are = is.failed_are;
-      place_count = is.place_count;
-      place_is = is.place_is;
-    }
+    failed_are = is.failed_are;
+    place_count = is.place_count;
+    place_is = is.place_is;
+  }
 
   -- an edge is as valid with one edge more
   IsValidEdge-with_edge : (e : Edge) → IsValidEdge graph e → IsValidEdge (with_edge graph edge) e
   IsValidEdge-with_edge e is = record {
-      source = is.source; target = is.target; into_discrepancy = is.into_discrepancy; no_self_edge = is.no_self_edge;
-      least = is.least; most = is.most; some_mode = is.some_mode; own_modes = is.own_modes;
-    }
+    source = is.source;
+    target = is.target;
+    into_discrepancy = is.into_discrepancy;
+    no_self_edge = is.no_self_edge;
+    least = is.least;
+    most = is.most;
+    some_mode = is.some_mode;
+    own_modes = is.own_modes;
+  }
 
   differs_from_new : (e : Edge) → ((e.source == edge.source) && (e.target == edge.target)) ≡ false → IsSamePair e edge → ⊥
   differs_from_new e fails same = false≢true (sym fails ∙ and_from _ _ (eq-eqb e.source edge.source same.0) (eq-eqb e.target edge.target same.1))
@@ -193,22 +203,22 @@ module _ (graph : Tfpg) (edge : Edge) where
   pub IsValidSoFar-with_edge : IsValidEdge graph edge → edge_from_to graph edge.source edge.target ≡ None → length graph.edges < 2048 → length (incoming graph edge.target) < 32
       → IsValidSoFar graph → IsValidSoFar (with_edge graph edge)
   IsValidSoFar-with_edge valid new room incoming_room is = record {
-      node_names = is.node_names;
-      nodes_differ = is.nodes_differ;
-      node_numbers = is.node_numbers;
-      mode_names = is.mode_names;
-      modes_differ = is.modes_differ;
-      edges = All-push (IsValidEdge (with_edge graph edge)) graph.edges edge
+    node_names = is.node_names;
+    nodes_differ = is.nodes_differ;
+    node_numbers = is.node_numbers;
+    mode_names = is.mode_names;
+    modes_differ = is.modes_differ;
+    edges = All-push (IsValidEdge (with_edge graph edge)) graph.edges edge
         (All-weaker (IsValidEdge graph) (IsValidEdge (with_edge graph edge)) IsValidEdge-with_edge graph.edges is.edges) (IsValidEdge-with_edge edge valid);
-      edges_differ = all_pairs_push (λ a b. IsSamePair a b → ⊥) graph.edges edge is.edges_differ
+    edges_differ = all_pairs_push (λ a b. IsSamePair a b → ⊥) graph.edges edge is.edges_differ
         (λ k d within. differs_from_new (get_or graph.edges k d)
-          (All-get_or (λ e. ((e.source == edge.source) && (e.target == edge.target)) ≡ false) graph.edges k d within (All-none (λ e. (e.source == edge.source) && (e.target == edge.target)) graph.edges new)));
-      few_nodes = is.few_nodes;
-      few_failures = is.few_failures;
-      few_edges = omega (arith, length_push graph.edges edge);
-      few_modes = is.few_modes;
-      few_incoming = λ node. few_incoming_with_edge incoming_room node (is.few_incoming node);
-    }
+        (All-get_or (λ e. ((e.source == edge.source) && (e.target == edge.target)) ≡ false) graph.edges k d within (All-none (λ e. (e.source == edge.source) && (e.target == edge.target)) graph.edges new)));
+    few_nodes = is.few_nodes;
+    few_failures = is.few_failures;
+    few_edges = omega (arith, length_push graph.edges edge);
+    few_modes = is.few_modes;
+    few_incoming = λ node. few_incoming_with_edge incoming_room node (is.few_incoming node);
+  }
 
 module _ (d e : Inside) (graph : Tfpg) (edge : Edge) (before : graph_of d ≡ graph) (after : graph_of e ≡ with_edge graph edge) where
   pub IsDeclared-with_edge : IsDeclared d

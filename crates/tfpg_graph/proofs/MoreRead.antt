@@ -1,11 +1,10 @@
 -- What is read stays that of a small text with one line more, and the lines that were read are those that declared it.
-use Rattle.std.proofs.Common.{◌≡◌, ℕ, ◌≤◌, ◌⊎◌, ⊎_elim, List, [], ◌∷◌, ◌++◌, map, length, All, IsTrue, not, refl, ap, sym, ◌∙◌, subst, append_assoc}
+use Rattle.std.proofs.Common.{◌≡◌, ℕ, ◌≤◌, ◌⊎◌, ⊎_elim, List, [], ◌∷◌, ◌++◌, map, length, IsTrue, not, ap, sym, ◌∙◌, subst, append_assoc}
 use Rattle.std.proofs.lemmas.List.{map_push}
 use Rattle.std.proofs.lemmas.List.Elements.{All-push}
 use Rattle.tfpg_graph.specs.declared.kind.Kind.{Kind}
 use Rattle.tfpg_graph.specs.declared.edge.Edge.{Edge as GraphEdge}
-use Rattle.tfpg_graph.specs.declared.reader.Section.{Section}
-use Rattle.tfpg_graph.specs.declared.reader.Section.TheVariants.{Nodes, Edges, Ended}
+use Rattle.tfpg_graph.specs.declared.reader.Section.TheVariants.{Nodes, Edges}
 use Rattle.tfpg_graph.specs.Graph.{Tfpg, is_and}
 use Rattle.tfpg_graph.specs.Text.{header, mode_line, node_line, edge_line, modes_word}
 use Rattle.tfpg_graph.specs.Indexes.{with_node, with_edge}
@@ -22,20 +21,20 @@ pub IsSmallSoFar-with_node : (progress : Progress) (name : List ℕ) (kind : Kin
     → graph ≡ with_node progress.graph name kind → IsSmallSoFar progress → IsSmallSoFar (record { section = Nodes; graph = graph })
 IsSmallSoFar-with_node progress name kind graph nodes no_and grown is =
     let more : IsSmallSoFar (record { section = Nodes; graph = with_node progress.graph name kind }) = record {
-          declared = subst (λ s. IsDeclaredBy s progress.graph) nodes is.declared;
-          no_and = All-push (λ node. IsTrue (not (is_and node.kind))) progress.graph.nodes (record { name = name; kind = kind }) is.no_and no_and;
-          takes_time = is.takes_time;
-        } in
+      declared = subst (λ s. IsDeclaredBy s progress.graph) nodes is.declared;
+      no_and = All-push (λ node. IsTrue (not (is_and node.kind))) progress.graph.nodes (record { name = name; kind = kind }) is.no_and no_and;
+      takes_time = is.takes_time;
+    } in
     subst (λ g. IsSmallSoFar (record { section = Nodes; graph = g })) (sym grown) more
 
 pub IsSmallSoFar-with_edge : (progress : Progress) (edge : GraphEdge) (graph : Tfpg) → (progress.section ≡ Nodes) ⊎ (progress.section ≡ Edges) → 1 ≤ edge.tmin
     → graph ≡ with_edge progress.graph edge → IsSmallSoFar progress → IsSmallSoFar (record { section = Edges; graph = graph })
 IsSmallSoFar-with_edge progress edge graph section takes_time grown is =
     let more : IsSmallSoFar (record { section = Edges; graph = with_edge progress.graph edge }) = record {
-          declared = one_mode progress section is;
-          no_and = is.no_and;
-          takes_time = All-push (λ e. 1 ≤ e.tmin) progress.graph.edges edge is.takes_time takes_time;
-        } in
+      declared = one_mode progress section is;
+      no_and = is.no_and;
+      takes_time = All-push (λ e. 1 ≤ e.tmin) progress.graph.edges edge is.takes_time takes_time;
+    } in
     subst (λ g. IsSmallSoFar (record { section = Edges; graph = g })) (sym grown) more
 
 -- the lines up to a section of nodes or of edges are those that declare the graph

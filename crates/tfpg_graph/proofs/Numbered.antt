@@ -1,5 +1,5 @@
 -- The numbers of the items that pass a test.
-use Rattle.std.proofs.Common.{◌≡◌, ℕ, suc, ◌+◌, ◌<◌, ◌≤◌, Bool, true, false, cond, List, [], ◌∷◌, ◌++◌, length, All, Option, Some, None, position, slice_get, refl, ap, sym, ◌∙◌, subst, arith, ◌&&◌, filter}
+use Rattle.std.proofs.Common.{◌≡◌, ℕ, suc, ◌+◌, ◌<◌, ◌≤◌, Bool, true, false, cond, List, [], ◌∷◌, ◌++◌, length, All, Option, Some, None, position, slice_get, refl, ap, sym, ◌∙◌, arith, ◌&&◌}
 use Rattle.std.specs.List.{find, AllByRecursion}
 use Rattle.std.specs.Option.{option_map}
 use Rattle.std.proofs.lemmas.List.Elements.{All-from_recursion}
@@ -40,12 +40,13 @@ module _ {X : Type 0} (p : X → Bool) where
   find-numbers_from t q n [] same = refl
   find-numbers_from t q n (x ∷ xs) same =
       by (p x) (t x) (ap q (omega arith) ∙ same 0 x refl)
-          (find-numbers_from t q (n + 1) xs (λ i y at. ap q (omega arith) ∙ same (suc i) y at) ∙ shifted (position (λ y. t y && p y) xs))
+      (find-numbers_from t q (n + 1) xs (λ i y at. ap q (omega arith) ∙ same (suc i) y at) ∙ shifted (position (λ y. t y && p y) xs))
       ∙ ap (option_map (λ i. n + i)) (sym (position-cons (λ y. t y && p y) x xs))
     where
       shifted : (o : Option ℕ) → option_map (λ i. n + 1 + i) o ≡ option_map (λ i. n + i) (option_map suc o)
       shifted None = refl
       shifted (Some i) = ap Some (omega arith)
+
       by : (b c : Bool) → q n ≡ c → find q (numbers_from (n + 1) p xs) ≡ option_map (λ i. n + i) (option_map suc (position (λ y. t y && p y) xs))
           → find q (cond b (n ∷ numbers_from (n + 1) p xs) (numbers_from (n + 1) p xs)) ≡ option_map (λ i. n + i) (cond (c && b) (Some 0) (option_map suc (position (λ y. t y && p y) xs)))
       by true true e rest = ap (λ d. cond d (Some n) (find q (numbers_from (n + 1) p xs))) e ∙ ap Some (omega arith)

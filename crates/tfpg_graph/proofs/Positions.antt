@@ -1,5 +1,5 @@
 -- The first place at which a test passes.
-use Rattle.std.proofs.Common.{◌≡◌, ◌≢◌, ℕ, suc, ◌+◌, ◌<◌, ◌≤◌, Bool, true, false, cond, not, nat_lt, List, [], ◌∷◌, ◌++◌, length, map, get_or, set, slice_get, Option, Some, None, position, All, refl, ap, sym, ◌∙◌, arith, tests, rules}
+use Rattle.std.proofs.Common.{◌≡◌, ◌≢◌, ℕ, suc, ◌+◌, ◌<◌, Bool, true, false, cond, not, nat_lt, List, [], ◌∷◌, ◌++◌, length, map, get_or, set, slice_get, Option, Some, None, position, All, refl, ap, sym, ◌∙◌, arith}
 use Rattle.std.specs.List.{position_or_len, AllByRecursion}
 use Rattle.std.specs.Option.{option_map}
 use Rattle.std.specs.Str.{bytes_eq}
@@ -53,7 +53,7 @@ module _ {X : Type 0} where
   -- one more that is the first to pass stands at the end
   pub position-push_yes : (p : X → Bool) (xs : List X) (y : X) → position p xs ≡ None → p y ≡ true → position p (xs ++ y ∷ []) ≡ Some (length xs)
   position-push_yes p [] y none passes = position-cons p y [] ∙ ap (λ b. cond b (Some 0) None) passes
-  position-push_yes p (x ∷ xs) y none passes = 
+  position-push_yes p (x ∷ xs) y none passes =
       let later = not_first (p x) (position p xs) (sym (position-cons p x xs) ∙ none) in
       position-cons p x (xs ++ y ∷ []) ∙ (λ i. cond (later.0 i) (Some 0) (option_map suc (position-push_yes p xs y later.1 passes i)))
 

@@ -1,5 +1,5 @@
 -- A small text spells its graph.
-use Rattle.std.proofs.Common.{◌≡◌, ℕ, ◌+◌, ◌-◌, ◌<◌, ◌≤◌, ◌^◌, ◌==◌, Bool, true, cond, not, filter, List, [], ◌∷◌, ◌++◌, length, map, All, IsTrue, codes, refl, ap, sym, ◌∙◌, subst, inl, arith}
+use Rattle.std.proofs.Common.{◌≡◌, ℕ, ◌-◌, ◌<◌, ◌≤◌, ◌^◌, ◌==◌, Bool, true, cond, not, filter, List, [], ◌∷◌, ◌++◌, length, map, All, IsTrue, codes, refl, ap, sym, subst, inl, arith}
 use Rattle.std.specs.List.{AllZip}
 use Rattle.std.proofs.lemmas.Bool.{eq-eqb, cond-true}
 use Rattle.std.proofs.lemmas.List.Elements.{All-head, All-tail, All-map, All-append, All-cons, All-nil, All-weaker, All-same}
@@ -8,9 +8,9 @@ use Rattle.tfpg_base.specs.Lines.{lines_of, longest_line}
 use Rattle.tfpg_graph.specs.declared.kind.Kind.{Kind}
 use Rattle.tfpg_graph.specs.declared.kind.Kind.TheVariants.{Failure, Or, And}
 use Rattle.tfpg_graph.specs.declared.edge.Edge.{Edge}
-use Rattle.tfpg_graph.specs.Graph.{Tfpg, Node}
-use Rattle.tfpg_graph.specs.Text.{line_of, header, mode_line, node_words, node_line, edge_line, modes_word, all_modes, SpellsEdge, SpellsLines, Spells, is_skipped, canonical_lines}
-use Rattle.tfpg_graph.specs.Valid.{IsValidEdge, HasValidNumber}
+use Rattle.tfpg_graph.specs.Graph.{Tfpg}
+use Rattle.tfpg_graph.specs.Text.{line_of, header, mode_line, node_words, node_line, edge_line, modes_word, all_modes, SpellsEdge, Spells, is_skipped, canonical_lines}
+use Rattle.tfpg_graph.specs.Valid.{IsValidEdge}
 use Rattle.tfpg_graph.specs.Small.{IsSmallText}
 use Rattle.tfpg_graph.proofs.LineLengths.{short_mode, short_node, short_edge}
 
@@ -52,10 +52,10 @@ All-behind : (P : List ℕ → Type 0) (graph : Tfpg) → All (λ mode. P (mode_
     → All (λ edge. P (edge_line graph edge (modes_word graph edge.modes))) graph.edges → P (codes "end") → All P (lines_behind graph)
 All-behind P graph modes nodes edges end =
     All-append P (map mode_line graph.modes ++ map node_line graph.nodes ++ edge_lines_of graph) (codes "end" ∷ [])
-      (All-append P (map mode_line graph.modes ++ map node_line graph.nodes) (edge_lines_of graph)
-        (All-append P (map mode_line graph.modes) (map node_line graph.nodes) (All-map P mode_line graph.modes modes) (All-map P node_line graph.nodes nodes))
-        (All-map P (λ edge. edge_line graph edge (modes_word graph edge.modes)) graph.edges edges))
-      (All-cons P (codes "end") [] end (All-nil P))
+    (All-append P (map mode_line graph.modes ++ map node_line graph.nodes) (edge_lines_of graph)
+    (All-append P (map mode_line graph.modes) (map node_line graph.nodes) (All-map P mode_line graph.modes modes) (All-map P node_line graph.nodes nodes))
+    (All-map P (λ edge. edge_line graph edge (modes_word graph edge.modes)) graph.edges edges))
+    (All-cons P (codes "end") [] end (All-nil P))
 
 -- none of them is skipped
 kept : (graph : Tfpg) → filter (λ line. not (is_skipped line)) (lines_behind graph) ≡ lines_behind graph
@@ -70,23 +70,23 @@ module _ (text : List ℕ) (graph : Tfpg) (small : IsSmallText text graph) where
   short : All (λ line. length line ≤ longest_line) (canonical_lines graph)
   short = All-cons (λ line. length line ≤ longest_line) header (lines_behind graph) (omega arith)
       (All-behind (λ line. length line ≤ longest_line) graph
-        (All-weaker (λ mode. IsTrue (is_name mode)) (λ mode. length (mode_line mode) ≤ longest_line) short_mode graph.modes small.valid.mode_names)
-        (λ k d within. short_node _ _ (small.valid.node_names k d within) (small.valid.node_numbers k d within))
-        (All-weaker (IsValidEdge graph) (λ edge. length (edge_line graph edge (modes_word graph edge.modes)) ≤ longest_line)
-          (λ edge valid. subst (λ word. length (edge_line graph edge word) ≤ longest_line) (sym (starred edge valid)) (short_edge graph edge small.valid.node_names valid))
-          graph.edges small.valid.edges)
-        (omega arith))
+      (All-weaker (λ mode. IsTrue (is_name mode)) (λ mode. length (mode_line mode) ≤ longest_line) short_mode graph.modes small.valid.mode_names)
+      (λ k d within. short_node _ _ (small.valid.node_names k d within) (small.valid.node_numbers k d within))
+      (All-weaker (IsValidEdge graph) (λ edge. length (edge_line graph edge (modes_word graph edge.modes)) ≤ longest_line)
+      (λ edge valid. subst (λ word. length (edge_line graph edge word) ≤ longest_line) (sym (starred edge valid)) (short_edge graph edge small.valid.node_names valid))
+      graph.edges small.valid.edges)
+      (omega arith))
 
   spelled_edges : AllZip (SpellsEdge graph) graph.edges (edge_lines_of graph)
   spelled_edges = AllZip-map (SpellsEdge graph) (λ edge. edge_line graph edge (modes_word graph edge.modes)) graph.edges
       (All-weaker (IsValidEdge graph) (λ edge. SpellsEdge graph edge (edge_line graph edge (modes_word graph edge.modes)))
-        (λ edge valid. (modes_word graph edge.modes, inl (starred edge valid, all_modes-edge graph edge small.one_mode valid), refl))
-        graph.edges small.valid.edges)
+      (λ edge valid. (modes_word graph edge.modes, inl (starred edge valid, all_modes-edge graph edge small.one_mode valid), refl))
+      graph.edges small.valid.edges)
 
   pub Spells-small : Spells text graph
   Spells-small = record {
-      behind = lines_behind graph;
-      lines = small.lines;
-      said = record { edge_lines = edge_lines_of graph; edges = spelled_edges; all = kept graph };
-      short = All-same (λ line. length line ≤ longest_line) (lines_of text) (canonical_lines graph) small.lines short;
-    }
+    behind = lines_behind graph;
+    lines = small.lines;
+    said = record { edge_lines = edge_lines_of graph; edges = spelled_edges; all = kept graph };
+    short = All-same (λ line. length line ≤ longest_line) (lines_of text) (canonical_lines graph) small.lines short;
+  }

@@ -1,10 +1,9 @@
 -- What a word that is read as a number is.
-use Rattle.std.proofs.Common.{◌≡◌, ℕ, ◌<◌, ◌≤◌, ◌^◌, subst, List, Option, Some, None, refl, ap, sym, ◌∙◌, leb, cond, true, false, Bool, arith}
+use Rattle.std.proofs.Common.{◌≡◌, ℕ, ◌<◌, ◌≤◌, ◌^◌, subst, List, Option, Some, None, refl, ap, leb, cond, true, false, Bool, arith}
 use Rattle.std.specs.Prelude.{decimal}
 use Rattle.std.proofs.lemmas.Bool.{leb-true}
 use Rattle.tfpg_base.specs.Words.{number_of, number_up_to}
-use Rattle.tfpg_base.specs.declared.word.Number.{Number}
-use Rattle.tfpg_base.specs.declared.word.Number.TheVariants.{Value, TooLarge, NotANumber}
+use Rattle.tfpg_base.specs.declared.word.Number.TheVariants.{Value, TooLarge}
 use Rattle.tfpg_base.proofs.Numbers.{decimal-number_of}
 
 value_within : (most number n : ℕ) (b : Bool) → leb n most ≡ b → cond b (Value n) TooLarge ≡ Value number → (n ≡ number) × (number ≤ most)

@@ -4,7 +4,7 @@ use Rattle.tfpg_base.specs.Words.{is_name}
 use Rattle.tfpg_graph.specs.declared.kind.Kind.{Kind}
 use Rattle.tfpg_graph.specs.declared.edge.Edge.{Edge}
 use Rattle.tfpg_graph.specs.declared.declared.Declared.TheInside.{Inside}
-use Rattle.tfpg_graph.specs.Graph.{Tfpg, Node, is_failure, is_kind_at, failures, incoming, place_of_failure}
+use Rattle.tfpg_graph.specs.Graph.{Tfpg, is_failure, is_kind_at, failures, incoming, place_of_failure}
 use Rattle.tfpg_graph.specs.Valid.{HasValidNumber, IsValidEdge, IsSamePair}
 
 -- before anything is declared
@@ -57,10 +57,10 @@ pub record IsValidSoFar (graph : Tfpg) : Type 0 where
 -- the graph that is declared
 abbrev pub graph_of : Inside → Tfpg
 graph_of d = record {
-    nodes = map (λ entry. record { name = entry.0.items; kind = entry.1 }) d.nodes.entries;
-    edges = d.edges.items;
-    modes = map (λ name. name.items) d.modes.keys;
-  }
+  nodes = map (λ entry. record { name = entry.0.items; kind = entry.1 }) d.nodes.entries;
+  edges = d.edges.items;
+  modes = map (λ name. name.items) d.modes.keys;
+}
 
 -- what holds of all that is declared
 pub record IsDeclared (d : Inside) : Type 0 where

@@ -6,8 +6,9 @@ pub mod Reach
 pub mod Valid
 pub mod Text
 pub mod Small
+-- What the contracts of the reader's own parts cite, and no public contract does.
 pub mod Indexes
 pub mod Shapes
+pub mod NewNode
 pub mod NewEdge
 pub mod Progress
-pub mod NewNode

@@ -1,9 +1,9 @@
 -- What is tested of a line that declares an edge. For now one mode is declared, and each edge takes some time.
-use Rattle.std.specs.Prelude.{◌≡◌, ◌≢◌, ℕ, ◌<◌, ◌≤◌, List, length, Option, Some, None, IfSome, IsTrue, not, decimal}
+use Rattle.std.specs.Prelude.{◌≡◌, ◌≢◌, ℕ, ◌<◌, ◌≤◌, length, Option, None, IfSome, IsTrue, not}
 use Rattle.tfpg_graph.specs.declared.edge.Edge.{Edge}
 use Rattle.tfpg_graph.specs.declared.line_shape.EdgeWords.{EdgeWords}
-use Rattle.tfpg_graph.specs.Graph.{Tfpg, is_kind_at, is_failure, name_at, incoming, edge_from_to}
-use Rattle.tfpg_graph.specs.Text.{line_of, edge_line, modes_word, tmax_word}
+use Rattle.tfpg_graph.specs.Graph.{Tfpg, is_kind_at, is_failure, incoming, edge_from_to}
+use Rattle.tfpg_graph.specs.Text.{line_of, edge_line, modes_word}
 use Rattle.tfpg_graph.specs.Valid.{IsValidEdge, most_time}
 use Rattle.tfpg_graph.specs.Shapes.{edge_words}
 

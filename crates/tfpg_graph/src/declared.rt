@@ -13,13 +13,16 @@ use std::marker::Model;
 use tfpg_base::NoMemory;
 
 /// Nodes, edges and modes, in the order of their lines.
-#[derive(Drop)]
+#[derive(Debug, Drop)]
 pub(crate) struct Declared {
     nodes: IndexMap<Vec<u8>, Kind>,
     edges: Vec<Edge>,
     modes: IndexSet<Vec<u8>>,
+    /// For each node the numbers of the edges into it, rising.
     incoming: Vec<Vec<u32>>,
+    /// The nodes that are failure modes, rising.
     failures: Vec<u32>,
+    /// For each node its place among these, where it is one.
     places: Vec<Option<u32>>,
 }
 

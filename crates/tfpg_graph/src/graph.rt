@@ -14,7 +14,7 @@ use std::marker::Model;
 /// Nodes, edges and modes are numbered from 0 in the order of their lines; the failure modes among the nodes have
 /// positions from 0, in the order of their numbers. No look-up takes memory. Those by number take constant time, those
 /// by name one look-up in a map.
-#[derive(Drop)]
+#[derive(Debug, Drop)]
 pub struct Graph {
     declared: Declared,
 }

@@ -1,6 +1,7 @@
 //! Timed failure propagation graphs: failure modes and discrepancies as nodes, propagations with their delays and
 //! system modes as edges.
 //!
+//! - [`read`] reads the text of a graph.
 //! - [`Graph`] is a valid graph with its look-ups.
 //! - [`Kind`] and [`Edge`] are its parts.
 //! - [`GraphCause`] says what is wrong with a text that spells no valid graph.
@@ -11,11 +12,13 @@ mod declared;
 mod edge;
 mod graph;
 mod kind;
+mod line_shape;
 mod new_edge;
 mod new_node;
-mod reading;
 mod reader;
-mod line_shape;
+mod reading;
+#[cfg(test)]
+mod tests;
 mod word_value;
 
 pub use cause::{GraphCause, GraphFault, GraphRefusal};

@@ -18,10 +18,15 @@ use tfpg_base::read_name;
 /// Which lines may come next.
 #[derive(Clone, Copy)]
 pub(crate) enum Section {
+    /// The header.
     Header,
+    /// The line of the mode.
     Modes,
+    /// The line of a node or of an edge, or the end.
     Nodes,
+    /// The line of an edge, or the end.
     Edges,
+    /// None.
     Ended,
 }
 

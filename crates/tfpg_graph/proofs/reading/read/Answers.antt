@@ -1,4 +1,4 @@
-use Rattle.std.proofs.Common.{rules, ◌≡◌, ◌==◌, map, sym, ap, ◌∙◌, tests, IfOk}
+use Rattle.std.proofs.Common.{rules, ◌==◌, sym, ◌∙◌, tests, IfOk}
 use Rattle.std.proofs.lemmas.Iterator.Splits.{YieldsList-from_slice_split}
 use Rattle.std.proofs.lemmas.Iterator.Consumers.{YieldsList-end}
 use Rattle.std.proofs.lemmas.Result.{IfOk-weaker}

@@ -1,4 +1,4 @@
-use Rattle.std.proofs.Common.{rules, ◌≡◌, ap, ◌∙◌, map, set, length, ◌++◌, ◌∷◌, [], sym, refl}
+use Rattle.std.proofs.Common.{rules, ◌≡◌, ap, ◌∙◌, map, set, length, ◌++◌, ◌∷◌, [], refl}
 use Rattle.std.proofs.lemmas.List.{map-set}
 use Rattle.tfpg_graph.specs.Graph.{incoming}
 use Rattle.tfpg_graph.proofs.Named.{row-incoming}
@@ -17,5 +17,5 @@ row_seen c =
 pub invariant_of-declared : goal.invariant_of-declared
 invariant_of-declared c =
     IsDeclared-with_edge c.declared.inside _ c.args.self c.args.edge c.declared.view_is (search rules) c.declared.invariant
-      (map-set (λ row. row.items) c.declared.inside.incoming.items c.args.edge.target c.push-2.new.self ∙ ap (set (map (λ row. row.items) c.declared.inside.incoming.items) c.args.edge.target) (row_seen c))
-      refl refl c.requires.valid c.requires.new c.requires.room c.requires.incoming_room
+    (map-set (λ row. row.items) c.declared.inside.incoming.items c.args.edge.target c.push-2.new.self ∙ ap (set (map (λ row. row.items) c.declared.inside.incoming.items) c.args.edge.target) (row_seen c))
+    refl refl c.requires.valid c.requires.new c.requires.room c.requires.incoming_room

@@ -1,8 +1,6 @@
 use Rattle.std.proofs.Common.{rules, ◌≡◌, ap, ◌∙◌, map, ◌++◌, ◌∷◌, []}
-use Rattle.std.proofs.lemmas.List.{map_push}
-use Rattle.tfpg_graph.specs.Graph.{mode_named}
 use Rattle.tfpg_graph.specs.Indexes.{with_mode}
-use Rattle.tfpg_graph.proofs.Inserts.{insert_key-mode}
+use Rattle.tfpg_graph.proofs.Inserts.{modes-insert}
 use Rattle.tfpg_graph.proofs.MoreDeclared.{IsDeclared-seen, IsDeclared-seen_as, IsIndexed-with_mode, IsValidSoFar-with_mode}
 use Rattle.tfpg_graph.proofs.declared.Declared.with_mode.Goals as goal
 use Rattle.tfpg_graph.proofs.declared.Declared.with_mode.Goals.{In_ok-insert}
@@ -10,11 +8,9 @@ use Rattle.tfpg_graph.proofs.declared.Declared.with_mode.Goals.{In_ok-insert}
 -- the modes are seen as those before, and the new one
 modes_seen : (c : In_ok-insert) → map (λ name. name.items) c.insert.new.self.keys ≡ c.args.self.modes ++ c.args.name.now ∷ []
 modes_seen c =
-    let key = c.in_ok-name.name in
-    let named : key.items ≡ c.args.name.now = search rules in
-    let absent = (λ i. mode_named (c.declared.view_is i) (named i)) ∙ c.requires.new in
-    ap (map (λ name. name.items)) (c.in_ok-insert.ensures.keys ∙ insert_key-mode c.declared.inside key absent)
-    ∙ map_push (λ name. name.items) c.declared.inside.modes.keys key ∙ (λ i. (c.declared.view_is i).modes ++ named i ∷ [])
+    let named : c.in_ok-name.name.items ≡ c.args.name.now = search rules in
+    ap (map (λ name. name.items)) c.in_ok-insert.ensures.keys
+    ∙ modes-insert c.declared.inside c.args.self c.declared.view_is c.in_ok-name.name c.args.name.now named c.requires.new
 
 pub returns : goal.returns
 returns c = λ i. record { nodes = (c.declared.view_is i).nodes; edges = (c.declared.view_is i).edges; modes = modes_seen c i }

@@ -1,8 +1,8 @@
-use Rattle.std.proofs.Common.{rules, ◌≡◌, ap, ◌∙◌, map, length, cond, ◌++◌, ◌∷◌, [], Some, None, subst, sym}
+use Rattle.std.proofs.Common.{rules, ◌≡◌, ap, ◌∙◌, map, length, cond, ◌++◌, ◌∷◌, [], Some, None, sym}
 use Rattle.std.proofs.lemmas.List.{map_push, length-map}
-use Rattle.tfpg_graph.specs.Graph.{node_named, is_failure}
+use Rattle.tfpg_graph.specs.Graph.{is_failure}
 use Rattle.tfpg_graph.specs.Indexes.{with_node}
-use Rattle.tfpg_graph.proofs.Inserts.{insert_entry-node}
+use Rattle.tfpg_graph.proofs.Inserts.{nodes-insert}
 use Rattle.tfpg_graph.proofs.MoreDeclared.{with_failure, IsDeclared-with_node}
 use Rattle.tfpg_graph.proofs.declared.Declared.with_node.Goals as goal
 use Rattle.tfpg_graph.proofs.declared.Declared.with_node.Goals.{In_ok-push-2}
@@ -10,12 +10,9 @@ use Rattle.tfpg_graph.proofs.declared.Declared.with_node.Goals.{In_ok-push-2}
 -- the nodes are seen as those before, and the new one
 nodes_seen : (c : In_ok-push-2) → map (λ entry. record { name = entry.0.items; kind = entry.1 }) c.insert.new.self.entries ≡ (with_node c.args.self c.args.name.now c.args.kind).nodes
 nodes_seen c =
-    let key = c.in_ok-name.name in
-    let named : key.items ≡ c.args.name.now = search rules in
-    let absent = (λ i. node_named (c.self.view_is i) (named i)) ∙ c.requires.new in
-    ap (map (λ entry. record { name = entry.0.items; kind = entry.1 })) (c.in_ok-insert.ensures.entries ∙ insert_entry-node c.self.inside key c.args.kind absent)
-    ∙ map_push (λ entry. record { name = entry.0.items; kind = entry.1 }) c.self.inside.nodes.entries (key, c.args.kind)
-    ∙ (λ i. (c.self.view_is i).nodes ++ record { name = named i; kind = c.args.kind } ∷ [])
+    let named : c.in_ok-name.name.items ≡ c.args.name.now = search rules in
+    ap (map (λ entry. record { name = entry.0.items; kind = entry.1 })) c.in_ok-insert.ensures.entries
+    ∙ nodes-insert c.self.inside c.args.self c.self.view_is c.in_ok-name.name c.args.name.now named c.args.kind c.requires.new
 
 more_rows : (c : In_ok-push-2) → map (λ row. row.items) c.push.new.self.items ≡ map (λ row. row.items) c.self.inside.incoming.items ++ [] ∷ []
 more_rows c =

@@ -1,4 +1,4 @@
-use Rattle.std.proofs.Common.{rules, ap, ◌∙◌, ◌≡◌, ◌⊎◌, subst, sym}
+use Rattle.std.proofs.Common.{rules, ◌≡◌, ◌⊎◌, subst, sym}
 use Rattle.tfpg_graph.specs.declared.reader.Section.TheVariants.{Nodes, Edges}
 use Rattle.tfpg_graph.specs.NewEdge.{SpellsNewEdge}
 use Rattle.tfpg_graph.proofs.MoreRead.{IsSmallSoFar-with_edge, lines_read-with_edge}
