@@ -1,7 +1,7 @@
 //! The texts of the blocks, by the shapes of the lines of a report.
 
-ghost use Rattle.std.specs.Prelude.{◌≡◌, IfOk};
-ghost use Rattle.tfpg_evidence.specs.RoundOf.{IsFindingOf, IsRankedStatus, IsRoundOf};
+ghost use Rattle.std.specs.Prelude.{◌≡◌, All, IfOk};
+ghost use Rattle.tfpg_evidence.specs.RoundOf.{IsFindingOf, IsRankedStatus, IsReasonOf, IsRoundOf, IsStepOf};
 
 use super::*;
 use std::alloc::Global;
@@ -89,23 +89,72 @@ fn ranked(alloc: Global) -> Result<Finding, NoMemory>
     })
 }
 
-/// A budget that was spent leaves both failure modes together open.
-fn unsettled(alloc: Global) -> Finding
-    ensures { IsFindingOf (record { nodes = 3; edges = 2; failures = 2 }) result × (result.number ≡ 3) }
+/// A reason of each kind.
+fn each_reason(alloc: Global) -> Result<Reasons, NoMemory>
+    ensures { IfOk result (All (IsReasonOf (record { nodes = 3; edges = 2; failures = 2 }))) }
 {
-    Finding {
+    let reasons = vec![in alloc;
+        Reason::Zero { node: 0 },
+        Reason::Top { node: 1 },
+        Reason::Unreached {
+            node: 2,
+            horizon: 34
+        },
+        Reason::From { event: 1 },
+        Reason::Upto { event: 2 },
+        Reason::Quiet { event: 3, node: 2 },
+        Reason::Pick { split: 4, place: 5 },
+    ]?;
+    Ok(Reasons::from_vec(reasons))
+}
+
+/// A step of each kind.
+fn each_step(alloc: Global) -> Result<StepList, NoMemory>
+    ensures { IfOk result (All (IsStepOf (record { nodes = 3; edges = 2; failures = 2 }))) }
+{
+    let steps = vec![in alloc;
+        Step::Split(ClauseName::OrMay {
+            node: 2,
+            span: 0,
+            horizon: 30
+        }),
+        Step::Split(ClauseName::AndMay {
+            edge: 1,
+            span: 1,
+            horizon: 31
+        }),
+        Step::Split(ClauseName::OrMust {
+            edge: 0,
+            span: 2,
+            horizon: 32
+        }),
+        Step::Split(ClauseName::AndMust {
+            node: 2,
+            span: 3,
+            horizon: 33
+        }),
+        Step::Cycle(each_reason(alloc)?),
+    ]?;
+    Ok(StepList::from_vec(steps))
+}
+
+/// Both failure modes together, left open with a step of each kind.
+fn unsettled(alloc: Global) -> Result<Finding, NoMemory>
+    ensures { IfOk result (λ finding. IsFindingOf (record { nodes = 3; edges = 2; failures = 2 }) finding × (finding.number ≡ 3)) }
+{
+    Ok(Finding {
         number: 3,
         set: Set::empty().with(1).with(0),
-        steps: StepList::new(alloc),
+        steps: each_step(alloc)?,
         status: Status::Open,
-    }
+    })
 }
 
 /// The round of an alarm of A at 30.
 fn round_of_alarm(alloc: Global) -> Result<Round, NoMemory>
     ensures { IfOk result (λ round. IsRoundOf (record { nodes = 3; edges = 2; failures = 2 }) round) }
 {
-    let findings = vec![in alloc; rejected(alloc)?, ranked(alloc)?, unsettled(alloc)]?;
+    let findings = vec![in alloc; rejected(alloc)?, ranked(alloc)?, unsettled(alloc)?]?;
     let order = vec![in alloc; 1]?;
     Ok(Round {
         number: 1,
@@ -123,7 +172,7 @@ fn round_of_alarm(alloc: Global) -> Result<Round, NoMemory>
 }
 
 #[test]
-fn a_round_with_each_status(rt: HostRuntime) -> Result<(), Fail> {
+fn a_round_with_each_kind_of_line(rt: HostRuntime) -> Result<(), Fail> {
     let text = b"tfpg 1\n\
         mode N\n\
         failure F1 3\n\
@@ -150,6 +199,19 @@ fn a_round_with_each_status(rt: HostRuntime) -> Result<(), Fail> {
         cycle 2\n\
         why pick 1 1\n\
         why from 1\n\
+        hyp 3\n\
+        split ormay A 0 30\n\
+        split andmay F2 A 1 31\n\
+        split ormust F1 A 2 32\n\
+        split andmust A 3 33\n\
+        cycle 7\n\
+        why zero F1\n\
+        why top F2\n\
+        why unreached A 34\n\
+        why from 1\n\
+        why upto 2\n\
+        why quiet 3 A\n\
+        why pick 4 5\n\
         ranked 1 cost 3 robust 1/2 set F1\n\
         at F1 20\n\
         at A 30\n\

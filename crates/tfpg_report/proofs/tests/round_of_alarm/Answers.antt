@@ -1,5 +1,4 @@
 use Rattle.std.proofs.Common.{◌≡◌, ℕ, ◌<◌, List, [], ◌∷◌, All, Some, refl, sym, ap, subst, ◌∙◌, arith}
-use Rattle.std.specs.List.{AllPairs}
 use Rattle.std.proofs.lemmas.List.Elements.{All-nil, All-cons, All-same}
 use Rattle.tfpg_base.proofs.Elements.{AllPairs-cons}
 use Rattle.tfpg_evidence.specs.declared.finding.Finding.{Finding}
@@ -32,7 +31,7 @@ round_of_three sizes round a b d e o fa fb fd ab bd ranked =
 
 pub returns : goal.returns
 returns c =
-    round_of_three _ _ c.in_ok-rejected.field-0 c.in_ok-ranked.field-0 c.unsettled.result
+    round_of_three _ _ c.in_ok-rejected.field-0 c.in_ok-ranked.field-0 c.in_ok-unsettled.field-0
     (c.from_vec.ensures ∙ c.in_ok-findings.ensures.items)
     (c.from_vec-2.ensures ∙ c.in_ok-order.ensures.items ∙ ap (λ (n : ℕ). n ∷ []) (sym c.in_ok-ranked.ensures.1))
-    c.in_ok-rejected.ensures.0 c.in_ok-ranked.ensures.0 c.unsettled.ensures.0 (omega (arith, c.in_ok-rejected.ensures.1, c.in_ok-ranked.ensures.1)) (omega (arith, c.in_ok-ranked.ensures.1, c.unsettled.ensures.1)) c.in_ok-ranked.ensures.2
+    c.in_ok-rejected.ensures.0 c.in_ok-ranked.ensures.0 c.in_ok-unsettled.ensures.0 (omega (arith, c.in_ok-rejected.ensures.1, c.in_ok-ranked.ensures.1)) (omega (arith, c.in_ok-ranked.ensures.1, c.in_ok-unsettled.ensures.1)) c.in_ok-ranked.ensures.2
