@@ -8,6 +8,7 @@ use itoa::Buffer;
 use tfpg_base::NoMemory;
 
 /// Appends the first line of a report on sets of at most `k` failure modes, with this budget.
+/// Where memory is wanting, a part of the line may stand behind the old bytes.
 pub fn head(k: u32, budget: u64, into: &mut Vec<u8>) -> Result<(), NoMemory>
     ensures { Appends result into.old.items into.new.items (head_text k budget) }
 {

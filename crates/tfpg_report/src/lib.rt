@@ -20,6 +20,8 @@ mod set_line;
 mod split_line;
 mod step_lines;
 mod steps_block;
+#[cfg(test)]
+mod tests;
 mod text_line;
 
 pub use first_line::head;
