@@ -8,9 +8,11 @@
 #![tactic(auto)]
 
 mod event;
+mod log;
 mod refusal;
 mod span;
 
 pub use event::{Event, Offered};
+pub use log::Log;
 pub use refusal::Refusal;
 pub use span::{Span, Window};
