@@ -10,5 +10,5 @@ pub mod Accepted
 pub mod AcceptedNow
 pub mod LogOfLines
 pub mod LogInside
-pub mod Shapes
+pub mod LogLine
 pub mod Judged

@@ -9,6 +9,7 @@
 
 mod event;
 mod log;
+mod log_line;
 mod refusal;
 mod span;
 

@@ -1,1 +1,0 @@
--- What the code reads of a line, as the definition of accepted lines says it.
