@@ -1,3 +1,4 @@
 pub mod Events
 pub mod Indexes
 pub mod LogLines
+pub mod Judgements

@@ -11,6 +11,7 @@ mod event;
 mod log;
 mod log_line;
 mod refusal;
+mod reply;
 mod span;
 
 pub use event::{Event, Offered};
