@@ -82,9 +82,10 @@ pub indexed_alarm : (events : List Event) (alarms longer : List (Option ℕ)) (c
 indexed_alarm events alarms longer changes time alarmed index room same lt first = record {
   few = omega (arith, length_push events (Alarm time alarmed), room);
   alarms_are = λ node. elim (eqb_tells alarmed node) [
-    inl it ↦ get_or-set_at longer alarmed node (Some time) None (sym it.1) lt
-      ∙ sym (alarm_among-push events (Alarm time alarmed) node ∙ at_alarm (eqb alarmed node) time (alarm_among events node) it.0 (ap (alarm_among events) (sym it.1) ∙ first)) |
-    inr other ↦ get_or-set_other longer alarmed node (Some time) None (λ e. other.1 (sym e)) ∙ same node ∙ index.alarms_are node
-      ∙ sym (alarm_among-push events (Alarm time alarmed) node ∙ beside_alarm (eqb alarmed node) time (alarm_among events node) other.0) ];
+    | inl it ↦ get_or-set_at longer alarmed node (Some time) None (sym it.1) lt
+        ∙ sym (alarm_among-push events (Alarm time alarmed) node ∙ at_alarm (eqb alarmed node) time (alarm_among events node) it.0 (ap (alarm_among events) (sym it.1) ∙ first))
+    | inr other ↦ get_or-set_other longer alarmed node (Some time) None (λ e. other.1 (sym e)) ∙ same node ∙ index.alarms_are node
+        ∙ sym (alarm_among-push events (Alarm time alarmed) node ∙ beside_alarm (eqb alarmed node) time (alarm_among events node) other.0)
+  ];
   changes_are = omega (arith, index.changes_are, sum_by_push (λ e. cond (is_mode_change e) 1 0) events (Alarm time alarmed));
 }

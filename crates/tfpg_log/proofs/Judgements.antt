@@ -1,9 +1,9 @@
 -- The tests of a line, group by group, come to what the definition of accepted lines says of all of them.
-use Rattle.std.proofs.Common.{◌≡◌, ℕ, List, [], ◌∷◌, ◌++◌, Option, Some, None, Result, Ok, Err, refl, sym, ap, ◌∙◌}
+use Rattle.std.proofs.Common.{◌≡◌, ℕ, List, [], ◌∷◌, ◌++◌, Option, Some, None, Ok, Err, refl, sym, ap, ◌∙◌}
 use Rattle.std.specs.Str.Parse.{digits_value}
 use Rattle.tfpg_graph.specs.Graph.{Tfpg}
 use Rattle.tfpg_log.specs.declared.event.Event.{Event}
-use Rattle.tfpg_log.specs.declared.event.Offered.TheVariants.{Accepted, Refused}
+use Rattle.tfpg_log.specs.declared.event.Offered.TheVariants.{Refused}
 use Rattle.tfpg_log.specs.declared.refusal.Refusal.{Refusal}
 use Rattle.tfpg_log.specs.Log.{Logbook, now_of}
 use Rattle.tfpg_log.specs.Accepted.{Said, said_by, first_refusal, refusals, event_of, acceptance_of, reply_to_said, reply_to_shape, reply_to}
@@ -45,7 +45,7 @@ reply-time_refused graph log line time said now refusal shape at e =
     let refused : first_refusal (time_refusals now time) ≡ Some refusal = is_refused (first_refusal (time_refusals now time)) (digits_value 10 time) refusal (sym e) in
     ap (reply_to_shape graph log) shape
     ∙ ap (reply_to_said graph log time said)
-        (first-refused (time_refusals (now_of log) time) (said_refusals graph log said) refusal (ap (λ n. first_refusal (time_refusals n time)) (sym at) ∙ refused))
+    (first-refused (time_refusals (now_of log) time) (said_refusals graph log said) refusal (ap (λ n. first_refusal (time_refusals n time)) (sym at) ∙ refused))
 
 -- A line with a right time is judged by what it says.
 pub reply-judged : (graph : Tfpg) (log : Logbook) (line time : List ℕ) (said : Said) (now number : ℕ) → said_by line ≡ Some (time, said) → now ≡ now_of log
@@ -55,5 +55,5 @@ reply-judged graph log line time said now number shape at e =
     ap (reply_to_shape graph log) shape
     ∙ said-judged graph log time said (first_refusal (refusals graph log time said))
     ∙ ap (λ first. offered_by (judged first (event_of graph (digits_value 10 time) said)))
-        (first-passed (time_refusals (now_of log) time) (said_refusals graph log said) (ap (λ n. first_refusal (time_refusals n time)) (sym at) ∙ passed.0))
+    (first-passed (time_refusals (now_of log) time) (said_refusals graph log said) (ap (λ n. first_refusal (time_refusals n time)) (sym at) ∙ passed.0))
     ∙ ap (λ n. offered_by (judged_event graph log n said)) passed.1

@@ -2,3 +2,4 @@ pub mod Events
 pub mod Indexes
 pub mod LogLines
 pub mod Judgements
+pub mod Accepting

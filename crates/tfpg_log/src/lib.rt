@@ -7,6 +7,7 @@
 //! edge, the propagation rules, and which sets of failure modes fit the log.
 #![tactic(auto)]
 
+mod built;
 mod event;
 mod log;
 mod log_line;

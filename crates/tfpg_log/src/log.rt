@@ -1,16 +1,20 @@
 //! The log of accepted lines, with its look-ups.
 
-ghost use Rattle.std.specs.Prelude.{◌≡◌, ◌≤◌, ◌<◌, ℕ, length, Some, OnOk, OnErr, nat_le, count_by, vec_len};
+ghost use Rattle.std.specs.Prelude.{◌≡◌, ◌≤◌, ◌<◌, ℕ, length, Some, None, IfOk, OnOk, OnErr, nat_le, count_by, vec_len};
 ghost use Rattle.tfpg_log.specs.Log.{IsOf, now_of, event_at, alarm_of, with_event, is_mode_change};
 ghost use Rattle.tfpg_log.specs.Accepted.{most_events, most_mode_changes};
-ghost use Rattle.tfpg_log.specs.LogOfLines.{new_log};
+ghost use Rattle.tfpg_log.specs.LogOfLines.{new_log, log_after_reply};
+ghost use Rattle.tfpg_log.specs.AcceptedNow.{reply_now};
 ghost use Rattle.tfpg_log.specs.LogInside.{AreSameAlarms, IsNoSecondAlarm};
 ghost use Rattle.tfpg_graph.specs.Graph.{Tfpg};
 
-use crate::event::Event;
+use crate::built::built_so_far;
+use crate::event::{Event, Offered};
+use crate::reply::reply;
 use std::alloc::Global;
 use std::marker::Model;
 use tfpg_base::NoMemory;
+use tfpg_graph::Graph;
 
 /// How many events a log takes.
 const MOST_EVENTS: usize = 16_384;
@@ -87,6 +91,26 @@ impl Log {
         match self.alarms.get(node as usize) {
             Some(alarm) => *alarm,
             None => None,
+        }
+    }
+
+    /// What becomes of the line: it is accepted, and then its event is the last, or it is refused, and then the log stays
+    /// as it was, as it does where there is no memory for the event. Takes time in the length of the line, which may have
+    /// any length, and at most one look-up by name.
+    pub fn offer(&mut self, graph: &Graph, line: &[u8]) -> Result<Offered, NoMemory>
+        requires { IsOf graph.now self.old }
+        ensures reply { IfOk result (λ reply. reply ≡ reply_now graph.now self.old line.now) }
+        ensures log { IfOk result (λ reply. self.new ≡ log_after_reply self.old reply) }
+        ensures err { OnErr result (self.new ≡ self.old) }
+        ensures of { IsOf graph.now self.new }
+    {
+        let offered = built_so_far(reply(graph, self, line));
+        match offered {
+            Offered::Accepted(event) => {
+                self.accept(event)?;
+                Ok(offered)
+            }
+            Offered::Refused(_) => Ok(offered),
         }
     }
 

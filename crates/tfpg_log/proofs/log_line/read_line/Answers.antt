@@ -12,4 +12,4 @@ pub returns : goal.returns
 returns c =
     let are = c.as_slice-words.ensures ∙ c.in_ok-words.ensures in
     c.line_of.ensures ∙ ap shape_of are
-      ∙ sym (said_by-words c.args.line.now (has_empty c.args.line.now c.as_slice-words.result.now are ∙ sym c.has_empty_word.ensures ∙ c.if-has_empty_word.false))
+    ∙ sym (said_by-words c.args.line.now (has_empty c.args.line.now c.as_slice-words.result.now are ∙ sym c.has_empty_word.ensures ∙ c.if-has_empty_word.false))
