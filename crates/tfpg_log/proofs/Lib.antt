@@ -3,3 +3,5 @@ pub mod Indexes
 pub mod LogLines
 pub mod Judgements
 pub mod Accepting
+pub mod AndNodes
+pub mod NoFailures

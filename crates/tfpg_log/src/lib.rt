@@ -9,6 +9,7 @@
 
 mod built;
 mod event;
+mod laws;
 mod log;
 mod log_line;
 mod refusal;
@@ -16,6 +17,7 @@ mod reply;
 mod span;
 
 pub use event::{Event, Offered};
+pub use laws::nothing_without_failures;
 pub use log::Log;
 pub use refusal::Refusal;
 pub use span::{Span, Window};
