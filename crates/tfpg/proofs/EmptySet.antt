@@ -1,14 +1,12 @@
 -- The empty set of failure modes: what it reaches, what it explains, and what rejects it.
 use Rattle.std.proofs.Common.{eq-eqb, ◌≡◌, ◌≢◌, ℕ, zero, suc, ◌+◌, ◌<◌, Bool, true, false, cond, eqb, ltb, leb, List, [], ◌∷◌, length, get_or, take, Option, Some, None, refl, sym, ap, subst, ◌∙◌, arith, pos}
-use Rattle.std.specs.Prelude.{IsTrue, is_some, option_and_then, option_map, not, slice_get, filter}
+use Rattle.std.specs.Prelude.{slice_get}
 use Rattle.std.proofs.lemmas.Bool.{false≢true}
 use Rattle.std.proofs.lemmas.Int.{ints}
 use Rattle.std.proofs.lemmas.List.Elements.{All-nil}
 use Rattle.std.proofs.lemmas.List.{nil_from_length}
 use Rattle.tfpg_graph.specs.declared.edge.Edge.{Edge}
-use Rattle.tfpg_graph.specs.declared.kind.Kind.{Kind}
-use Rattle.tfpg_graph.specs.declared.kind.Kind.TheVariants.{Failure, Or, And}
-use Rattle.tfpg_graph.specs.Graph.{Tfpg, numbers_from, is_kind_at, is_and, is_failure, kind_at}
+use Rattle.tfpg_graph.specs.Graph.{Tfpg}
 use Rattle.tfpg_graph.specs.Reach.{IsClosed, IsReach}
 use Rattle.tfpg_graph.specs.Valid.{IsValid}
 use Rattle.tfpg_log.specs.declared.event.Event.{Event}
