@@ -16,24 +16,14 @@ use Rattle.tfpg_evidence.specs.declared.step.Step.{Step}
 use Rattle.tfpg_clause.specs.Trees.{Judged, IsRefutation, IsPartial}
 use Rattle.tfpg_hyp.specs.Rounds.{IsRound, IsFinding, IsOrder, IsRankedPart, steps_in, steps_so_far, place_at}
 use Rattle.tfpg_hyp.specs.declared.place.Place.{Place}
+use Rattle.tfpg.specs.Told.{ranking_round, rejecting_round}
 use Rattle.tfpg.proofs.EmptySet.{reach-empty, explains-empty, nothing_is_partial, table-empty}
 
 -- the finding on the empty set
-abbrev pub finding_of : List Step → Status → Finding
+abbrev finding_of : List Step → Status → Finding
 finding_of steps status = record { number = 0; set = []; steps = steps; status = status }
 
--- a round of the empty set alone
-abbrev pub round_of : ℕ → ℕ → ℕ → List Step → Status → List ℕ → Counts → Round
-round_of number line time steps status order counts =
-    record { number = number; line = line; now = time; findings = finding_of steps status ∷ []; order = order; counts = counts }
-
-abbrev pub ranked_counts : Counts
-ranked_counts = record { ranked = 1; covered = 0; rejected = 0; unsettled = 0 }
-
-abbrev pub rejected_counts : Counts
-rejected_counts = record { ranked = 0; covered = 0; rejected = 1; unsettled = 0 }
-
-abbrev pub best : Status
+abbrev best : Status
 best = Ranked [] 0 1 1
 
 -- the empty set has no proper part
@@ -84,9 +74,9 @@ order-none steps = record {
 -- A round without an alarm so far ranks the empty set.
 pub ranks_empty : (graph : Tfpg) (budget : ℕ) (rounds : List Round) (log : Logbook) (line : ℕ) → IsValid graph → ((node : ℕ) → alarm_of log node ≡ None)
     → steps_so_far 0 rounds ≡ []
-    → IsRound graph 0 budget rounds log line (round_of (length log.events) line (now_of log) [] best (0 ∷ []) ranked_counts)
+    → IsRound graph 0 budget rounds log line (ranking_round (length log.events) line (now_of log))
 ranks_empty graph budget rounds log line valid quiet so_far =
-    let round = round_of (length log.events) line (now_of log) [] best (0 ∷ []) ranked_counts in
+    let round = ranking_round (length log.events) line (now_of log) in
     let steps : steps_so_far 0 (rounds ++ round ∷ []) ≡ [] = steps-more 0 rounds round ∙ append-nil (steps_so_far 0 rounds) ∙ so_far in
     record {
       number = refl;
@@ -116,9 +106,9 @@ ranks_empty graph budget rounds log line valid quiet so_far =
 -- A round whose steps, with those of the rounds before, refute the empty set rejects it.
 pub rejects_empty : (graph : Tfpg) (budget : ℕ) (rounds : List Round) (log : Logbook) (line : ℕ) (steps : List Step) → IsValid graph
     → IsRefutation graph log [] (steps_so_far 0 rounds ++ map (λ step. record { seen = length log.events; step = step }) steps)
-    → IsRound graph 0 budget rounds log line (round_of (length log.events) line (now_of log) steps Rejected [] rejected_counts)
+    → IsRound graph 0 budget rounds log line (rejecting_round (length log.events) line (now_of log) steps)
 rejects_empty graph budget rounds log line steps valid refuted =
-    let round = round_of (length log.events) line (now_of log) steps Rejected [] rejected_counts in
+    let round = rejecting_round (length log.events) line (now_of log) steps in
     record {
       number = refl;
       line_is = refl;

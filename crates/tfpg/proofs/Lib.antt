@@ -1,2 +1,3 @@
 pub mod EmptySet
 pub mod EmptyRounds
+pub mod Telling

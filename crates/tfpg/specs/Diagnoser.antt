@@ -1,24 +1,30 @@
 -- What a diagnoser of the empty hypothesis stands for.
-use Rattle.std.specs.Prelude.{◌≡◌, ℕ, ◌<◌, List, [], ◌∷◌, length, Bool, true, false, Some, None}
+use Rattle.std.specs.Prelude.{◌≡◌, ℕ, ◌<◌, ◌≤◌, List, [], ◌∷◌, ◌++◌, length, Bool, true, false, Option, Some, None}
+use Rattle.tfpg_base.specs.Lines.{longest_line}
+use Rattle.tfpg_base.specs.declared.line.Line.{Line}
+use Rattle.tfpg_base.specs.declared.line.Line.TheVariants as line
 use Rattle.tfpg_graph.specs.Graph.{Tfpg}
+use Rattle.tfpg_graph.specs.Valid.{IsValid}
+use Rattle.tfpg_log.specs.declared.event.Event.{Event}
 use Rattle.tfpg_log.specs.declared.event.Event.TheVariants.{Alarm}
-use Rattle.tfpg_log.specs.Log.{Logbook, event_at, alarm_of}
-use Rattle.tfpg_evidence.specs.declared.reason.Reason.TheVariants.{Unreached, Upto}
-use Rattle.tfpg_evidence.specs.declared.step.Step.TheVariants.{Cycle}
+use Rattle.tfpg_log.specs.declared.event.Offered.TheVariants.{Accepted, Refused}
+use Rattle.tfpg_log.specs.Log.{Logbook, event_at, alarm_of, with_event, IsOf}
+use Rattle.tfpg_log.specs.AcceptedNow.{reply_now}
+use Rattle.tfpg_log.specs.LogOfLines.{log_after_reply}
 use Rattle.tfpg_clause.specs.Trees.{Judged}
-use Rattle.tfpg_hyp.specs.Rounds.{steps_so_far}
-use Rattle.tfpg_check.specs.Report.{Progress}
+use Rattle.tfpg_evidence.specs.RoundOf.{IsRoundOf}
+use Rattle.tfpg_hyp.specs.Rounds.{steps_so_far, IsRound}
+use Rattle.tfpg_report.specs.Blocks.{Block, RefusedBlock, RoundBlock, block_text, sizes_of}
+use Rattle.tfpg_check.specs.Report.{Progress, IsBlock, after}
+use Rattle.tfpg_report.specs.declared.refused_line.RefusedLine.TheVariants.{Offer}
+use Rattle.tfpg.specs.declared.diagnoser.Diagnoser.{Diagnoser}
+use Rattle.tfpg.specs.declared.diagnoser.Told.{Told}
+use Rattle.tfpg.specs.declared.diagnoser.Told.TheVariants as told
+use Rattle.tfpg.specs.Told.{rejection}
 
--- what contracts see of a diagnoser: its graph, its log, and whether the empty set is rejected
-pub record Standing : Type 0 where
-  pub graph : Tfpg
-  pub log : Logbook
-  pub rejected : Bool
-
--- The one step that rejects the empty set: no failure, so the node is never reached up to now; yet the alarm says that it was
--- active by then.
-abbrev pub rejection : ℕ → ℕ → ℕ → Judged
-rejection number time node = record { seen = number; step = Cycle (Unreached node time ∷ Upto number ∷ []) }
+-- the budget of the program, which the empty hypothesis never spends
+abbrev pub budget : ℕ
+budget = 1000
 
 -- The steps are the rejection by some alarm of the log.
 pub record IsRejection (graph : Tfpg) (log : Logbook) (steps : List Judged) : Type 0 where
@@ -27,10 +33,49 @@ pub record IsRejection (graph : Tfpg) (log : Logbook) (steps : List Judged) : Ty
   pub node : ℕ
   pub alarm : event_at log number ≡ Some (Alarm time node)
   pub in_graph : node < length graph.nodes
-  pub steps_are : steps ≡ rejection number time node ∷ []
+  pub steps_are : steps ≡ record { seen = number; step = rejection number time node } ∷ []
 
--- The diagnoser has told these rounds.
-pub record StandsFor (diagnoser : Standing) (progress : Progress) : Type 0 where
+-- Whether the empty set is rejected goes with the log and with the steps so far: there is no alarm and no step; or there is the
+-- rejection by some alarm.
+pub record IsSettled (graph : Tfpg) (log : Logbook) (rejected : Bool) (steps : List Judged) : Type 0 where
+  pub quiet : rejected ≡ false → ((node : ℕ) → alarm_of log node ≡ None) × (steps ≡ [])
+  pub refuted : rejected ≡ true → IsRejection graph log steps
+
+-- The diagnoser has told the rounds of this progress.
+pub record StandsFor (diagnoser : Diagnoser) (progress : Progress) : Type 0 where
   pub log : diagnoser.log ≡ progress.log
-  pub quiet : diagnoser.rejected ≡ false → ((node : ℕ) → alarm_of diagnoser.log node ≡ None) × (steps_so_far 0 progress.rounds ≡ [])
-  pub refuted : diagnoser.rejected ≡ true → IsRejection diagnoser.graph diagnoser.log (steps_so_far 0 progress.rounds)
+  pub settled : IsSettled diagnoser.graph diagnoser.log diagnoser.rejected (steps_so_far 0 progress.rounds)
+
+-- the diagnoser is of a valid graph, and its log is of that graph
+pub record IsReady (diagnoser : Diagnoser) : Type 0 where
+  pub valid : IsValid diagnoser.graph
+  pub of_graph : IsOf diagnoser.graph diagnoser.log
+
+-- What a diagnoser tells of a line: the log's refusal, or a round of the lengthened log.
+abbrev pub Tells : Tfpg → Progress → ℕ → List ℕ → Told → Type 0
+Tells graph before number line (told.Refused refusal) = reply_now graph before.log line ≡ Refused refusal
+Tells graph before number line (told.Round round) =
+    (event : Event) × (reply_now graph before.log line ≡ Accepted event)
+    × IsRound graph 0 budget before.rounds (with_event before.log event) number round × IsRoundOf (sizes_of graph) round
+
+-- what was told as a block
+abbrev pub told_block : ℕ → Told → Block
+told_block number (told.Refused refusal) = RefusedBlock number (Offer refusal)
+told_block number (told.Round round) = RoundBlock round []
+
+-- The line is what the reader of lines answered: its text, or a line that is too long.
+abbrev pub IsLineRead : Line → List ℕ → List ℕ → Type 0
+IsLineRead line.Text text read = (read ≡ text) × (length read ≤ longest_line)
+IsLineRead line.TooLong text read = longest_line < length read
+IsLineRead line.End text read = ⊥
+
+-- how far a report has come after a line gave this
+abbrev pub after_told : Tfpg → Progress → List ℕ → Told → Progress
+after_told graph before line (told.Refused refusal) = before
+after_told graph before line (told.Round round) =
+    record { rounds = before.rounds ++ round ∷ []; log = log_after_reply before.log (reply_now graph before.log line) }
+
+-- The diagnoser's log has one event more than the progress, and for the rest it stands for it.
+pub record HasHeard (diagnoser : Diagnoser) (before : Progress) (event : Event) : Type 0 where
+  pub log : diagnoser.log ≡ with_event before.log event
+  pub settled : IsSettled diagnoser.graph before.log diagnoser.rejected (steps_so_far 0 before.rounds)

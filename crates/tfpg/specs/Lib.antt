@@ -1,1 +1,5 @@
+pub mod Told
 pub mod Diagnoser
+pub mod Command
+pub mod Ends
+pub mod Run

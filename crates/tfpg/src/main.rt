@@ -1,4 +1,7 @@
 //! The program.
 #![tactic(auto)]
 
+mod diagnoser;
+mod end;
+
 fn main() {}

@@ -1,7 +1,8 @@
 -- One call that appends after another.
-use Rattle.std.proofs.Common.{◌≡◌, ℕ, List, [], ◌++◌, sym, ap, ◌∙◌, append_assoc}
-use Rattle.std.proofs.lemmas.List.{append-nil}
+use Rattle.std.proofs.Common.{◌≡◌, ℕ, ◌+◌, ◌<◌, ◌≤◌, List, [], ◌++◌, length, get_or, take, sym, ap, ◌∙◌, append_assoc}
+use Rattle.std.proofs.lemmas.List.{append-nil, take_more, take_all, flat_map_more}
 use Rattle.std.specs.Prelude.{Result, Ok, Err, IsErr}
+use Rattle.std.specs.List.{flat_map}
 use Rattle.tfpg_base.specs.declared.no_memory.NoMemory.{NoMemory}
 use Rattle.tfpg_base.specs.Append.{Appends}
 
@@ -21,3 +22,24 @@ appended_after old mid new a b e h = h ∙ ap (λ (t : List ℕ). t ++ b) e ∙ 
 pub Appends-err : (result : Result (Unit {0}) NoMemory) (old new text : List ℕ) → IsErr result → (rest : List ℕ) × (new ≡ old ++ rest) → Appends result old new text
 Appends-err (Ok done) old new text e h = absurd cc
 Appends-err (Err wanting) old new text e h = h
+
+-- an error of a call behind a text that was appended
+pub Appends-err_after : (result : Result (Unit {0}) NoMemory) (old mid new a text : List ℕ) → IsErr result → mid ≡ old ++ a → (rest : List ℕ) × (new ≡ mid ++ rest) → Appends result old new text
+Appends-err_after result old mid new a text e h k = Appends-err result old new text e (kept_after old mid new a h k)
+
+-- a last call behind a text that was appended, whose answer is handed on
+pub Appends-after : (result : Result (Unit {0}) NoMemory) (old mid new a b : List ℕ) → mid ≡ old ++ a → Appends result mid new b → Appends result old new (a ++ b)
+Appends-after (Ok done) old mid new a b e h = appended_after old mid new a b e h
+Appends-after (Err wanting) old mid new a b e h = kept_after old mid new a e h
+
+-- the texts of the items before a place, and behind them that of the item there
+pub appended_more : {X : Type 0} (f : X → List ℕ) (xs : List X) (place : ℕ) (d : X) (old mid new : List ℕ) → place < length xs
+    → mid ≡ old ++ flat_map f (take place xs) → new ≡ mid ++ f (get_or xs place d) → new ≡ old ++ flat_map f (take (place + 1) xs)
+appended_more f xs place d old mid new lt e h =
+    h ∙ ap (λ (t : List ℕ). t ++ f (get_or xs place d)) e ∙ flat_map_more f old (take place xs) (get_or xs place d)
+    ∙ ap (λ ys. old ++ flat_map f ys) (sym (take_more xs place d lt))
+
+-- the texts of all items
+pub appended_all : {X : Type 0} (f : X → List ℕ) (xs : List X) (place : ℕ) (old new : List ℕ) → length xs ≤ place
+    → new ≡ old ++ flat_map f (take place xs) → new ≡ old ++ flat_map f xs
+appended_all f xs place old new le e = e ∙ ap (λ ys. old ++ flat_map f ys) (take_all place xs le)

@@ -8,7 +8,7 @@ use Rattle.tfpg_base.specs.declared.line.Line.{Line}
 use Rattle.tfpg_base.specs.declared.line.Line.TheVariants as line
 use Rattle.tfpg_base.specs.declared.line.LineFault.{LineFault}
 use Rattle.tfpg_base.specs.declared.line.LineFault.TheVariants as fault
-use Rattle.tfpg_base.specs.Outside.{Takes, IsAtEnd}
+use Rattle.tfpg_base.specs.Outside.{IsAtEnd}
 use Rattle.tfpg_base.specs.Lines.{Reading, Buffered, HasNoLineEnd, StandsFor, IsGoingOn, IsNext, Answers, Continues, with_bytes, with_line, ended_by, ended_behind, next_whole, whole_lines, lines_of, with_line_end, most_bytes}
 use Rattle.tfpg_base.specs.LineSearch.{BeginsWith, IsLast, IsGiven, IsEnded, Found, Took, Searched}
 use Rattle.tfpg_base.proofs.LinesOf.{whole_lines-behind, lines_of-behind, whole_lines-line, lines_of-line, whole_lines-none, lines_of-none}
@@ -181,15 +181,6 @@ module _ (reading : Reading) (bytes : List ℕ) (lines : ℕ) (now : Buffered) (
       ∙ ap (λ lines. reading.given ++ lines) (whole_lines-none first found.2)
       ∙ append-nil reading.given in
       (all, count, found.5.text, StandsFor-ended (Err fault.TooMuchInput) found.5 (λ e. absurd (cc)))
-
--- nothing is taken where nothing changed
-pub Takes-nothing : (left : Option (List ℕ)) → Takes left left []
-Takes-nothing None = tt
-Takes-nothing (Some rest) = (rest, refl, refl)
-
--- equal bytes were taken
-pub Takes-same : (before after : Option (List ℕ)) (bytes same : List ℕ) → bytes ≡ same → Takes before after bytes → Takes before after same
-Takes-same before after bytes same is takes = subst (λ b. Takes before after b) is takes
 
 -- the reader stands for the history also when it lends nothing any more
 StandsFor-lends_none : (old now : Buffered) (reading : Reading) (answer : Result Line LineFault) → reading.ended ≡ Some answer → now.number ≡ old.number → now.taken ≡ old.taken → now.ended ≡ old.ended → StandsFor old reading → StandsFor now reading

@@ -4,7 +4,9 @@ pub mod Numbers
 pub mod Separators
 pub mod Sets
 pub mod Traces
+pub mod Taking
 pub mod LinesOf
+pub mod ReadingOn
 mod Histories
-mod Ranges
 mod Searches
+mod Ranges

@@ -1,11 +1,11 @@
 -- Laws of the lines of bytes: what a line at the front changes, and what stands behind lines with their line ends.
-use Rattle.std.proofs.Common.{◌≡◌, ◌⊎◌, inl, inr, ℕ, suc, ◌-◌, ◌<◌, Bool, true, false, List, [], ◌∷◌, ◌++◌, length, take, get_or, None, refl, ap, ◌∙◌, sym, subst, arith, append_assoc, append-nil}
+use Rattle.std.proofs.Common.{◌≡◌, ℕ, suc, ◌-◌, ◌<◌, Bool, true, false, List, [], ◌∷◌, ◌++◌, length, take, get_or, refl, ap, ◌∙◌, sym, subst, arith, append_assoc, append-nil}
 use Rattle.std.specs.List.{All, flat_map}
 use Rattle.std.proofs.lemmas.Bool.{eqb-true}
 use Rattle.std.proofs.lemmas.List.{take_at}
 use Rattle.std.proofs.lemmas.List.Splits.{slice_split_none, slice_split_at, length-slice_split}
 use Rattle.std.proofs.lemmas.List.Elements.{All-nil, All-cons, All-head, All-tail}
-use Rattle.tfpg_base.specs.Lines.{Reading, IsNext, with_line, ended_behind, ends_line, parts_of, whole_lines, last_part, line_of_part, lines_of, HasNoLineEnd, with_line_end}
+use Rattle.tfpg_base.specs.Lines.{ends_line, parts_of, whole_lines, last_part, line_of_part, lines_of, HasNoLineEnd, with_line_end}
 
 -- there is always a part
 parts_of_some : (bytes : List ℕ) → 0 < length (parts_of bytes)
@@ -163,7 +163,3 @@ module _ (bytes : List ℕ) where
   take-lines_of more =
       ap (take (length (whole_lines bytes))) (lines_of-append more)
       ∙ take_at (whole_lines bytes) (lines_of (last_part bytes ++ more)) (length (whole_lines bytes)) refl
-
--- a history goes on behind a line, or the source has ended
-pub with_line-ended : (reading : Reading) (line : List ℕ) (source_ended : Type 0) → IsNext reading line source_ended → ((with_line reading line).ended ≡ None) ⊎ source_ended
-with_line-ended reading line source_ended next = elim next.whole [ inl whole ↦ inl (ap ended_behind whole) | inr ended ↦ inr ended ]

@@ -8,21 +8,11 @@ use Rattle.tfpg_base.specs.declared.line.Line.{Line}
 use Rattle.tfpg_base.specs.declared.line.Line.TheVariants as line
 use Rattle.tfpg_base.specs.declared.line.LineFault.{LineFault}
 use Rattle.tfpg_base.specs.declared.line.LineFault.TheVariants as fault
-use Rattle.tfpg_base.specs.Outside.{Takes, IsAtEnd, Rose}
+use Rattle.tfpg_base.specs.Outside.{Takes, IsAtEnd}
 use Rattle.tfpg_base.specs.Lines.{Buffered, Reading, StandsFor, Continues, HasNoLineEnd, ends_line, longest_line, most_bytes}
 use Rattle.tfpg_base.specs.LineSearch.{IsAtLineEnd, kind_of, lent_of, IsGiven, IsEnded, GivesLast, Found, Took, Refilled, IsRefilled, Searched}
-use Rattle.tfpg_base.proofs.Histories.{Takes-nothing, Continues-found}
-
--- what was taken in two turns
-Takes-append : (before mid after : Option (List ℕ)) (first second : List ℕ) → Takes before mid first → Takes mid after second → Takes before after (first ++ second)
-Takes-append None mid after first second one two = tt
-Takes-append (Some had) mid after first second one two =
-    let later : Takes (Some one.0) after second = subst (λ left. Takes left after second) one.1 two in
-    (later.0, later.1, one.2 ∙ ap (λ rest. first ++ rest) later.2 ∙ sym (append_assoc first second later.0))
-
--- a count that rose in a later turn rose in the call
-pub Rose-later : (before mid after : ℕ) → before ≤ mid → Rose mid after → Rose before after
-Rose-later before mid after h rose = elim rose [ inl above ↦ inl (omega arith) | inr last ↦ inr last ]
+use Rattle.tfpg_base.proofs.Taking.{Takes-nothing, Takes-append}
+use Rattle.tfpg_base.proofs.Histories.{Continues-found}
 
 -- Bytes that were taken so far, none of which ends a line, nor does one that waited before.
 pub record SoFar (old : Buffered) (before mid : Option (List ℕ)) (taken : ℕ) : Type 0 where

@@ -1,7 +1,11 @@
 -- What contracts see of the sources, sinks and shelves in memory.
-use Rattle.std.specs.Prelude.{◌≡◌, ◌<◌, ◌≤◌, ◌^◌, ℕ, List, ◌++◌, length, Option, Some, Result, Ok, Err}
+use Rattle.std.specs.Prelude.{◌≡◌, ◌<◌, ◌≤◌, ◌^◌, ◌+◌, ◌-◌, ℕ, min, List, ◌++◌, length, Option, Some, Result, Ok, Err}
 use Rattle.tfpg_base.specs.declared.outside.ShelfFault.{ShelfFault}
 use Rattle.tfpg_base.specs.declared.outside.ShelfFault.TheVariants as faults
+
+-- the count after one more, which stands still at the last value of its type
+abbrev pub count_after : ℕ → ℕ
+count_after count = min (count + 1) (2 ^ 64 - 1)
 
 -- Bytes to give: those that are left, the most that one call gives, the numbers of the calls that are to fail,
 -- how many calls came, and how many failed.

@@ -6,3 +6,8 @@ pub mod Inserts
 pub mod MoreDeclared
 pub mod WordValues
 pub mod MoreRead
+pub mod Complete
+pub mod Lines
+pub mod SmallText
+pub mod LineLengths
+pub mod Spelled

@@ -13,12 +13,13 @@ mod graph;
 mod kind;
 mod new_edge;
 mod new_node;
+mod reading;
 mod reader;
 mod line_shape;
 mod word_value;
-mod words;
 
 pub use cause::{GraphCause, GraphFault, GraphRefusal};
 pub use edge::Edge;
 pub use graph::Graph;
 pub use kind::Kind;
+pub use reading::read;

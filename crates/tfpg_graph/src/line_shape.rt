@@ -4,7 +4,7 @@ ghost use Rattle.std.specs.Prelude.{◌≡◌, ◌∷◌, map, codes, IfSome};
 ghost use Rattle.tfpg_graph.specs.Text.{line_of};
 ghost use Rattle.tfpg_graph.specs.Shapes.{shape_words, lag_words};
 
-use crate::words::split_words;
+use tfpg_base::Words;
 
 /// The shape of a line: its keyword, and its other words unread.
 #[derive(Clone, Copy)]
@@ -37,7 +37,7 @@ pub(crate) struct EdgeWords<'a> {
 pub(crate) fn shape_of_line(line: &[u8]) -> Option<LineShape<'_>>
     ensures { IfSome result (λ shape. line.now ≡ line_of (shape_words shape)) }
 {
-    let words = split_words(line)?;
+    let words = Words::of(line)?;
     shape_of(words.as_slice())
 }
 

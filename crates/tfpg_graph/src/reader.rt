@@ -66,6 +66,23 @@ impl Reader {
         self.take_shape(alloc, shape)
     }
 
+    /// The graph of a text whose lines are all read. Takes time in the number of nodes.
+    pub(crate) fn end(self) -> Result<Graph, GraphRefusal>
+        ensures read { IfOk result (λ graph. lines_read self ≡ canonical_lines graph) }
+        ensures small { IfOk result IsSmallGraph }
+        ensures refused { IfErr result MayRefuse }
+    {
+        let Reader { section, declared } = self;
+        match section {
+            Section::Ended => {}
+            _ => return Err(GraphRefusal::NOT_BUILT),
+        }
+        if declared.without_incoming().is_some() {
+            return Err(GraphRefusal::NOT_BUILT);
+        }
+        Ok(Graph::new(declared))
+    }
+
     fn take_shape(self, alloc: Global, shape: LineShape<'_>) -> Result<Reader, GraphRefusal>
         ensures read { IfOk result (λ reader. lines_read reader ≡ lines_read self ++ line_of (shape_words shape.entry) ∷ []) }
         ensures refused { IfErr result MayRefuse }

@@ -28,11 +28,13 @@ and_by (Some (Failure rarity)) h = absurd cc
 and_by (Some (Or lag)) h = absurd cc
 and_by (Some (And lag)) h = (refl, refl)
 
-some_is_below : {X Y : Type 0} (f : X → Y) (xs : List X) (i : ℕ) → is_some (option_map f (slice_get xs i)) ≡ true → i < length xs
+-- what stands at a place says that the place is in the list
+pub some_is_below : {X Y : Type 0} (f : X → Y) (xs : List X) (i : ℕ) → is_some (option_map f (slice_get xs i)) ≡ true → i < length xs
 some_is_below f [] i h = absurd cc
 some_is_below f (x ∷ xs) zero h = omega arith
 some_is_below f (x ∷ xs) (suc i) h = omega (arith, some_is_below f xs i h)
 
+-- an AND node of a valid graph has an edge into it
 pub and_node_has_edge : (graph : Tfpg) (node : ℕ) → IsValid graph → IsTrue (is_kind_at is_and graph node) → HasFirst node graph.edges
 and_node_has_edge graph node valid h =
     let kind = and_by (kind_at graph node) h in

@@ -1,1 +1,5 @@
 pub mod Joined
+pub mod Failures
+pub mod Members
+pub mod Findings
+pub mod Rendered

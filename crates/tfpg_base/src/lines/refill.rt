@@ -71,6 +71,7 @@ fn wanted(taken: u64, free: usize) -> usize
     ensures within { result ≤ free }
     ensures few { taken < most_bytes → taken + result ≤ most_bytes }
     ensures one { taken ≡ most_bytes → result ≡ 1 }
+    ensures all { taken + free ≤ most_bytes → result ≡ free }
 {
     let left = MOST - taken;
     if left < free as u64 {

@@ -1,6 +1,7 @@
 //! The calls that are to fail.
 
-ghost use Rattle.std.specs.Prelude.{◌≡◌, ◌≤◌};
+ghost use Rattle.std.specs.Prelude.{◌≡◌, ◌≤◌, ◌↔◌, IsTrue, Contains};
+ghost use Rattle.tfpg_base.specs.Memory.{count_after};
 ghost use Rattle.std.specs.Bool.{OnFalse, OnTrue};
 ghost use Rattle.tfpg_base.specs.Outside.{Rose};
 
@@ -27,10 +28,13 @@ impl<'a> FailingCalls<'a> {
 
     /// Counts a call, and says whether it is to fail. That counts as a fault.
     pub fn next_fails(&mut self) -> bool
-        ensures failed { OnTrue result (Rose self.old.faults self.new.faults) }
+        ensures counted { self.new.calls ≡ count_after self.old.calls }
+        ensures fails { IsTrue result ↔ Contains self.old.failing.now self.new.calls }
+        ensures failed { OnTrue result (self.new.faults ≡ count_after self.old.faults) }
         ensures went_on { OnFalse result (self.new.faults ≡ self.old.faults) }
+        ensures rose { OnTrue result (Rose self.old.faults self.new.faults) }
         ensures never_falls { self.old.faults ≤ self.new.faults }
-        ensures failing { self.new.failing.now ≡ self.old.failing.now }
+        ensures same_failing { self.new.failing.now ≡ self.old.failing.now }
     {
         self.calls = self.calls.saturating_add(1);
         let fails = self.failing.contains(&self.calls);
@@ -42,9 +46,11 @@ impl<'a> FailingCalls<'a> {
 
     /// Counts a fault.
     pub fn raise(&mut self)
+        ensures counted { self.new.faults ≡ count_after self.old.faults }
         ensures rose { Rose self.old.faults self.new.faults }
         ensures never_falls { self.old.faults ≤ self.new.faults }
-        ensures failing { self.new.failing.now ≡ self.old.failing.now }
+        ensures same_calls { self.new.calls ≡ self.old.calls }
+        ensures same_failing { self.new.failing.now ≡ self.old.failing.now }
     {
         self.faults = self.faults.saturating_add(1);
     }

@@ -4,13 +4,13 @@ use Rattle.tfpg_base.proofs.Appended.{Appends-err, kept_after, kept_same}
 use Rattle.tfpg_report.proofs.Joined.{line_goes_on, line_ends}
 use Rattle.tfpg_report.proofs.text_line.put_line.Goals as goal
 
-pub returns-in_err-put_word : goal.returns-in_err-put_word
-returns-in_err-put_word c =
-    Appends-err _ _ _ _ c.from_residual.ensures.0 (kept_after _ _ _ _ c.loop-place.invariant c.in_err-put_word.ensures)
+pub returns-in_err-put_part : goal.returns-in_err-put_part
+returns-in_err-put_part c =
+    Appends-err _ _ _ _ c.from_residual.ensures.0 (kept_after _ _ _ _ c.loop-place.invariant c.in_err-put_part.ensures)
 
 pub loop-place-preserved : goal.loop-place-preserved
 loop-place-preserved c =
-    line_goes_on (λ w. w.now) c.args.words.now c.loop-place.place _ _ _ _ c.loop-place-test.true c.loop-place.invariant c.in_ok-put_word.ensures
+    line_goes_on (λ w. w.now) c.args.words.now c.loop-place.place _ _ _ _ c.loop-place-test.true c.loop-place.invariant c.in_ok-put_part.ensures
 
 pub returns-in_err-push : goal.returns-in_err-push
 returns-in_err-push c =

@@ -5,7 +5,8 @@ use Rattle.tfpg_base.specs.declared.line.LineFault.{LineFault}
 use Rattle.tfpg_base.specs.Outside.{Rose}
 use Rattle.tfpg_base.specs.Lines.{HasNoLineEnd}
 use Rattle.tfpg_base.specs.LineSearch.{IsAtLineEnd, Searched}
-use Rattle.tfpg_base.proofs.Searches.{IsReading-start, IsReading-more, Searched-read, Searched-given_last, Searched-fault, Searched-further, behind_seen, Rose-later}
+use Rattle.tfpg_base.proofs.Searches.{IsReading-start, IsReading-more, Searched-read, Searched-given_last, Searched-fault, Searched-further, behind_seen}
+use Rattle.tfpg_base.proofs.Taking.{Rose-later}
 use Rattle.tfpg_base.proofs.lines.Lines.read_line.Goals as goal
 
 pub loop-self-init : goal.loop-self-init

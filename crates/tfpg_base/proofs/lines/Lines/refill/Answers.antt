@@ -1,7 +1,7 @@
 use Rattle.std.proofs.Common.{◌≡◌, ℕ, ◌+◌, ◌≤◌, List, [], ◌∷◌, ◌++◌, length, slice_range, ap, ◌∙◌, refl, arith, Ok, Result}
 use Rattle.tfpg_base.specs.declared.outside.Failed.{Failed}
 use Rattle.tfpg_base.specs.Lines.{Buffered, most_bytes}
-use Rattle.tfpg_base.proofs.Histories.{Takes-same}
+use Rattle.tfpg_base.proofs.Taking.{Takes-same}
 use Rattle.tfpg_base.proofs.Ranges.{slice_range-longer, length-slice_range-written, one_element, only_one}
 use Rattle.tfpg_base.proofs.lines.Lines.refill.Goals as goal
 

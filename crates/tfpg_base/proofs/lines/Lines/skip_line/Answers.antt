@@ -5,7 +5,8 @@ use Rattle.tfpg_base.specs.declared.line.LineFault.{LineFault}
 use Rattle.tfpg_base.specs.Outside.{Rose}
 use Rattle.tfpg_base.specs.Lines.{HasNoLineEnd}
 use Rattle.tfpg_base.specs.LineSearch.{Searched}
-use Rattle.tfpg_base.proofs.Searches.{SoFar-more, Searched-long, Searched-long_last, Searched-fault, Rose-later}
+use Rattle.tfpg_base.proofs.Searches.{SoFar-more, Searched-long, Searched-long_last, Searched-fault}
+use Rattle.tfpg_base.proofs.Taking.{Rose-later}
 use Rattle.tfpg_base.proofs.lines.Lines.skip_line.Goals as goal
 
 pub returns-in_err-refill-clause-searched : goal.returns-in_err-refill-clause-searched

@@ -1,0 +1,56 @@
+-- The status and the line for each end of the program.
+use Rattle.std.specs.Prelude.{ℕ, List, [], ◌∷◌, codes, decimal, Option, Some, None}
+use Rattle.tfpg_graph.specs.Text.{line_of}
+use Rattle.tfpg_graph.specs.declared.cause.GraphCause.{GraphCause}
+use Rattle.tfpg_graph.specs.declared.cause.GraphCause.TheVariants as graph
+use Rattle.tfpg.specs.declared.end.End.{End}
+use Rattle.tfpg.specs.declared.end.End.TheVariants.{Done, Usage, Graph, ReadFault, WriteFault, TooMuchInput, NoMemory}
+use Rattle.tfpg.specs.declared.end.UsageCause.{UsageCause}
+use Rattle.tfpg.specs.declared.end.UsageCause.TheVariants as usage
+
+abbrev pub status_of : End → ℕ
+status_of Done = 0
+status_of (Usage cause) = 2
+status_of (Graph line cause) = 3
+status_of ReadFault = 5
+status_of WriteFault = 6
+status_of TooMuchInput = 7
+status_of NoMemory = 8
+
+abbrev pub usage_name : UsageCause → List ℕ
+usage_name usage.NotBuilt = codes "NotBuilt"
+
+-- the name of a cause
+abbrev pub graph_cause_name : GraphCause → List ℕ
+graph_cause_name graph.BadHeader = codes "BadHeader"
+graph_cause_name graph.BadLine = codes "BadLine"
+graph_cause_name graph.BadName = codes "BadName"
+graph_cause_name graph.DuplicateName = codes "DuplicateName"
+graph_cause_name graph.UnknownName = codes "UnknownName"
+graph_cause_name graph.BadNumber = codes "BadNumber"
+graph_cause_name graph.NumberTooLarge = codes "NumberTooLarge"
+graph_cause_name graph.MinOverMax = codes "MinOverMax"
+graph_cause_name graph.EdgeIntoFailure = codes "EdgeIntoFailure"
+graph_cause_name graph.SelfEdge = codes "SelfEdge"
+graph_cause_name graph.DuplicateEdge = codes "DuplicateEdge"
+graph_cause_name graph.NoModes = codes "NoModes"
+graph_cause_name graph.NoIncoming = codes "NoIncoming"
+graph_cause_name graph.ZeroCycle = codes "ZeroCycle"
+graph_cause_name graph.TooManyNodes = codes "TooManyNodes"
+graph_cause_name graph.TooManyFailures = codes "TooManyFailures"
+graph_cause_name graph.TooManyEdges = codes "TooManyEdges"
+graph_cause_name graph.TooManyModes = codes "TooManyModes"
+graph_cause_name graph.TooManyIncoming = codes "TooManyIncoming"
+graph_cause_name graph.MissingEnd = codes "MissingEnd"
+graph_cause_name graph.AfterEnd = codes "AfterEnd"
+graph_cause_name graph.NotBuilt = codes "NotBuilt"
+
+-- what is said of an end; nothing of one that is done
+abbrev pub line_of_end : End → List ℕ
+line_of_end Done = []
+line_of_end (Usage cause) = line_of (codes "usage" ∷ usage_name cause ∷ [])
+line_of_end (Graph line cause) = line_of (codes "graph" ∷ decimal line ∷ graph_cause_name cause ∷ [])
+line_of_end ReadFault = codes "read fault"
+line_of_end WriteFault = codes "write fault"
+line_of_end TooMuchInput = codes "too much input"
+line_of_end NoMemory = codes "no memory"

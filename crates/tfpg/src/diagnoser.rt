@@ -1,0 +1,154 @@
+//! The diagnosis of the one hypothesis that there is without failure modes: the empty set.
+
+ghost use Rattle.std.specs.Prelude.{◌≡◌, ◌∷◌, ◌++◌, [], IfOk, length};
+ghost use Rattle.tfpg_graph.specs.Graph.{Tfpg};
+ghost use Rattle.tfpg_evidence.specs.RoundOf.{IsRoundOf};
+ghost use Rattle.tfpg_log.specs.Log.{with_event};
+ghost use Rattle.tfpg_hyp.specs.Rounds.{IsRound};
+ghost use Rattle.tfpg_report.specs.Blocks.{sizes_of};
+ghost use Rattle.tfpg_check.specs.Report.{Progress};
+ghost use Rattle.tfpg.specs.Told.{ranking_round, rejecting_round, rejection};
+ghost use Rattle.tfpg.specs.Diagnoser.{budget, StandsFor, HasHeard, IsReady, Tells, after_told};
+
+use std::alloc::Global;
+use tfpg_base::{NoMemory, NumberList, Set, Trace};
+use tfpg_evidence::{Counts, Finding, Findings, Reason, Reasons, Round, Status, Step, StepList};
+use tfpg_graph::Graph;
+use tfpg_log::{Event, Log, Offered, Refusal};
+
+/// What a line gives.
+#[derive(Drop)]
+pub(crate) enum Told {
+    Refused(Refusal),
+    Round(Round),
+}
+
+/// A graph, its log so far, and whether the empty set is rejected.
+#[derive(Drop)]
+pub(crate) struct Diagnoser {
+    pub(crate) graph: Graph,
+    pub(crate) log: Log,
+    pub(crate) rejected: bool,
+}
+
+impl Diagnoser {
+    /// What a line of this number and text gives.
+    pub(crate) fn hear(&mut self, alloc: Global, line: u64, text: &[u8]) -> Result<Told, NoMemory>
+        requires { IsReady self.old }
+        ensures told { (before : Progress) → StandsFor self.old before
+            → IfOk result (λ told. Tells self.old.graph before line text.now told × StandsFor self.new (after_told self.old.graph before text.now told)) }
+        ensures graph { self.new.graph ≡ self.old.graph }
+        ensures ready { IsReady self.new }
+    {
+        match self.log.offer(&self.graph, text)? {
+            Offered::Refused(refusal) => Ok(Told::Refused(refusal)),
+            Offered::Accepted(event) => Ok(Told::Round(self.tell(alloc, line, event)?)),
+        }
+    }
+
+    /// The round of the log, whose last event is this one.
+    fn tell(&mut self, alloc: Global, line: u64, event: Event) -> Result<Round, NoMemory>
+        requires { IsReady self.old }
+        ensures told { (before : Progress) → HasHeard self.old before event
+            → IfOk result (λ round. IsRound self.old.graph 0 budget before.rounds self.old.log line round
+                × IsRoundOf (sizes_of self.old.graph) round
+                × StandsFor self.new (record { rounds = before.rounds ++ round ∷ []; log = self.old.log })) }
+        ensures graph { self.new.graph ≡ self.old.graph }
+        ensures log { self.new.log ≡ self.old.log }
+    {
+        let number = self.log.len();
+        let now = self.log.now();
+        if self.rejected {
+            return reject(alloc, number, line, now, StepList::new(alloc));
+        }
+        match event {
+            Event::Alarm { time, node } => {
+                self.rejected = true;
+                let steps = refute(alloc, number, time, node)?;
+                reject(alloc, number, line, now, steps)
+            }
+            _ => rank(alloc, number, line, now),
+        }
+    }
+}
+
+/// The step that rejects the empty set by the alarm of this event.
+fn refute(alloc: Global, event: u32, time: u64, node: u32) -> Result<StepList, NoMemory>
+    ensures { IfOk result (λ steps. steps ≡ rejection event time node ∷ []) }
+{
+    let mut reasons = Reasons::new(alloc);
+    reasons.push(Reason::Unreached {
+        node,
+        horizon: time,
+    })?;
+    reasons.push(Reason::Upto { event })?;
+    let mut steps = StepList::new(alloc);
+    steps.push(Step::Cycle(reasons))?;
+    Ok(steps)
+}
+
+/// A round that ranks the empty set, with the empty trace.
+fn rank(alloc: Global, number: u32, line: u64, now: u64) -> Result<Round, NoMemory>
+    ensures { IfOk result (λ round. round ≡ ranking_round number line now) }
+{
+    let status = Status::Ranked {
+        trace: Trace::new(alloc),
+        cost: 0,
+        alarmed: 1,
+        monitored: 1,
+    };
+    let mut order = NumberList::new(alloc);
+    order.push(0)?;
+    Ok(Round {
+        number,
+        line,
+        now,
+        findings: find(alloc, StepList::new(alloc), status)?,
+        order,
+        counts: Counts {
+            ranked: 1,
+            covered: 0,
+            rejected: 0,
+            unsettled: 0,
+        },
+    })
+}
+
+/// A round in which the empty set is rejected, with these steps.
+fn reject(
+    alloc: Global,
+    number: u32,
+    line: u64,
+    now: u64,
+    steps: StepList,
+) -> Result<Round, NoMemory>
+    ensures { IfOk result (λ round. round ≡ rejecting_round number line now steps) }
+{
+    Ok(Round {
+        number,
+        line,
+        now,
+        findings: find(alloc, steps, Status::Rejected)?,
+        order: NumberList::new(alloc),
+        counts: Counts {
+            ranked: 0,
+            covered: 0,
+            rejected: 1,
+            unsettled: 0,
+        },
+    })
+}
+
+/// The one finding, on the empty set.
+fn find(alloc: Global, steps: StepList, status: Status) -> Result<Findings, NoMemory>
+    ensures { IfOk result (λ findings. findings ≡ record { number = 0; set = []; steps = steps; status = status } ∷ []) }
+{
+    let mut findings = Findings::new(alloc);
+    findings.push(Finding {
+        number: 0,
+        set: Set::empty(),
+        steps,
+        status,
+    })?;
+    Ok(findings)
+}

@@ -1,0 +1,84 @@
+//! The lines of the open hypotheses and of those that a round rejected.
+
+ghost use Rattle.std.specs.Prelude.{◌≡◌, ◌++◌, All, flat_map};
+ghost use Rattle.tfpg_base.specs.Append.{Appends};
+ghost use Rattle.tfpg_evidence.specs.RoundOf.{IsFindingOf};
+ghost use Rattle.tfpg_report.specs.Blocks.{hypothesis_words, open_text, rejected_text, sizes_of, text_line};
+
+use crate::set_line::put_set_line;
+use itoa::Buffer;
+use tfpg_base::NoMemory;
+use tfpg_evidence::{Finding, Status};
+use tfpg_graph::Graph;
+
+/// Appends the lines of the open hypotheses.
+pub(crate) fn put_all_open(
+    graph: &Graph,
+    findings: &[Finding],
+    into: &mut Vec<u8>,
+) -> Result<(), NoMemory>
+    requires { All (IsFindingOf (sizes_of graph.now)) findings.now }
+    ensures { Appends result into.old.items into.new.items
+        (flat_map (λ finding. open_text graph.now finding finding.status) findings.now) }
+{
+    for finding in findings {
+        put_open(graph, finding, into)?;
+    }
+    Ok(())
+}
+
+/// Appends the lines of the hypotheses that the round rejected.
+pub(crate) fn put_all_rejected(
+    graph: &Graph,
+    findings: &[Finding],
+    into: &mut Vec<u8>,
+) -> Result<(), NoMemory>
+    requires { All (IsFindingOf (sizes_of graph.now)) findings.now }
+    ensures { Appends result into.old.items into.new.items
+        (flat_map (λ finding. rejected_text graph.now finding finding.status) findings.now) }
+{
+    for finding in findings {
+        put_rejected(graph, finding, into)?;
+    }
+    Ok(())
+}
+
+/// Appends the line of a hypothesis, where it is open.
+fn put_open(graph: &Graph, finding: &Finding, into: &mut Vec<u8>) -> Result<(), NoMemory>
+    requires { IsFindingOf (sizes_of graph.now) finding.now }
+    ensures { Appends result into.old.items into.new.items (open_text graph.now finding.now finding.now.status) }
+{
+    match &finding.status {
+        Status::Open => put_hypothesis(graph, b"open ", finding, into),
+        _ => Ok(()),
+    }
+}
+
+/// Appends the line of a hypothesis, where it is rejected by a step of this round.
+fn put_rejected(graph: &Graph, finding: &Finding, into: &mut Vec<u8>) -> Result<(), NoMemory>
+    requires { IsFindingOf (sizes_of graph.now) finding.now }
+    ensures { Appends result into.old.items into.new.items (rejected_text graph.now finding.now finding.now.status) }
+{
+    match &finding.status {
+        Status::Rejected if !finding.steps.as_slice().is_empty() => {
+            put_hypothesis(graph, b"rejected ", finding, into)
+        }
+        _ => Ok(()),
+    }
+}
+
+/// Appends the line of a hypothesis: how it stands with a space behind, its number and its set.
+fn put_hypothesis(
+    graph: &Graph,
+    stands: &[u8],
+    finding: &Finding,
+    into: &mut Vec<u8>,
+) -> Result<(), NoMemory>
+    requires { IsFindingOf (sizes_of graph.now) finding.now }
+    ensures { Appends result into.old.items into.new.items
+        (stands.now ++ text_line (hypothesis_words graph.now finding.now)) }
+{
+    let mut digits = Buffer::new();
+    let number = digits.format(finding.number).as_bytes();
+    put_set_line(graph, &[stands, number, b" set "], finding.set, into)
+}

@@ -1,0 +1,27 @@
+//! The line of a panel that was lost.
+
+ghost use Rattle.std.specs.Prelude.{◌≡◌, codes, if◌then◌else◌};
+ghost use Rattle.tfpg_base.specs.Append.{Appends};
+ghost use Rattle.tfpg_report.specs.Blocks.{lost_text};
+
+use crate::text_line::put_line;
+use itoa::Buffer;
+use tfpg_base::NoMemory;
+
+/// Appends the line of a panel that was lost at the round before, or that found no memory. Panels count from 1.
+pub fn lost(panel: u64, memory: bool, into: &mut Vec<u8>) -> Result<(), NoMemory>
+    ensures { Appends result into.old.items into.new.items (lost_text (record { panel = panel; no_memory = memory })) }
+{
+    let mut digits = Buffer::new();
+    put_line(
+        into,
+        &[b"panel", digits.format(panel).as_bytes(), why_lost(memory)],
+    )
+}
+
+/// The word for why a panel was lost.
+fn why_lost(memory: bool) -> &'static [u8]
+    ensures { result.now ≡ (if memory then codes "memory" else codes "lost") }
+{
+    if memory { b"memory" } else { b"lost" }
+}

@@ -1,0 +1,35 @@
+//! The names that a graph gives its parts, as words of a line.
+
+ghost use Rattle.std.specs.Prelude.{◌≡◌, ◌<◌, ◌∷◌, [], length};
+ghost use Rattle.tfpg_graph.specs.Graph.{failures};
+ghost use Rattle.tfpg_report.specs.Blocks.{edge_words, name_word};
+ghost use Rattle.tfpg_report.specs.Pieces.{failure_word};
+
+use tfpg_graph::Graph;
+
+/// The name of a node.
+pub(crate) fn node_name(graph: &Graph, node: u32) -> &[u8]
+    requires { node < length graph.now.nodes }
+    ensures { result.now ≡ name_word graph.now node }
+{
+    graph.name(node)
+}
+
+/// The names of the nodes that an edge leaves and enters.
+pub(crate) fn edge_names(graph: &Graph, edge: u32) -> (&[u8], &[u8])
+    requires { edge < length graph.now.edges }
+    ensures { edge_words graph.now edge ≡ result.0.now ∷ result.1.now ∷ [] }
+{
+    let nodes = graph.node_count();
+    let edge = graph.edge(edge);
+    prove!(edge.source < nodes && edge.target < nodes);
+    (node_name(graph, edge.source), node_name(graph, edge.target))
+}
+
+/// The name of the failure mode at a position.
+pub(crate) fn failure_name(graph: &Graph, place: u32) -> &[u8]
+    requires { place < length (failures graph.now) }
+    ensures { result.now ≡ failure_word graph.now place }
+{
+    graph.name(graph.failure_node(place))
+}

@@ -1,0 +1,141 @@
+//! The lines of the ranked hypotheses.
+
+ghost use Rattle.std.specs.Prelude.{◌≡◌, ◌<◌, All, AllPairs, flat_map, length};
+ghost use Rattle.std.specs.Option.{option_copied};
+ghost use Rattle.tfpg_base.specs.Append.{Appends};
+ghost use Rattle.tfpg_evidence.specs.RoundOf.{IsFindingOf, finding_numbered};
+ghost use Rattle.tfpg_report.specs.Blocks.{findings_at, ranked_text, sizes_of};
+ghost use Rattle.tfpg_report.specs.Pieces.{activation_text, numbered_text, ranked_line};
+
+use crate::names::node_name;
+use crate::set_line::put_set_line;
+use crate::text_line::put_line;
+use itoa::Buffer;
+use tfpg_base::{Activation, NoMemory};
+use tfpg_evidence::{Finding, Status};
+use tfpg_graph::Graph;
+
+/// Appends the lines of the ranked hypotheses of these numbers, in their order. Costs for each the logarithm of the count of
+/// findings, besides its text.
+pub(crate) fn put_all_ranked(
+    graph: &Graph,
+    findings: &[Finding],
+    order: &[u32],
+    into: &mut Vec<u8>,
+) -> Result<(), NoMemory>
+    requires findings { All (IsFindingOf (sizes_of graph.now)) findings.now }
+    requires rising { AllPairs (λ earlier later. earlier.number < later.number) findings.now }
+    ensures { Appends result into.old.items into.new.items
+        (flat_map (λ finding. ranked_text graph.now finding finding.status) (findings_at findings.now order.now)) }
+{
+    for number in order {
+        put_numbered(graph, findings, *number, into)?;
+    }
+    Ok(())
+}
+
+/// Appends the lines of the hypothesis of a number, where it is ranked.
+fn put_numbered(
+    graph: &Graph,
+    findings: &[Finding],
+    number: u32,
+    into: &mut Vec<u8>,
+) -> Result<(), NoMemory>
+    requires findings { All (IsFindingOf (sizes_of graph.now)) findings.now }
+    requires rising { AllPairs (λ earlier later. earlier.number < later.number) findings.now }
+    ensures { Appends result into.old.items into.new.items (numbered_text graph.now findings.now number) }
+{
+    match finding_of(findings, number) {
+        Some(finding) => put_ranked(graph, finding, into),
+        None => Ok(()),
+    }
+}
+
+/// The finding of a number.
+fn finding_of(findings: &[Finding], number: u32) -> Option<&Finding>
+    requires { AllPairs (λ earlier later. earlier.number < later.number) findings.now }
+    ensures { option_copied result ≡ finding_numbered findings.now number }
+{
+    match findings.binary_search_by_key(&number, |finding| finding.number) {
+        Ok(place) => Some(&findings[place]),
+        Err(_) => None,
+    }
+}
+
+/// Appends the lines of a hypothesis, where it is ranked.
+fn put_ranked(graph: &Graph, finding: &Finding, into: &mut Vec<u8>) -> Result<(), NoMemory>
+    requires { IsFindingOf (sizes_of graph.now) finding.now }
+    ensures { Appends result into.old.items into.new.items (ranked_text graph.now finding.now finding.now.status) }
+{
+    match &finding.status {
+        Status::Ranked {
+            trace,
+            cost,
+            alarmed,
+            monitored,
+        } => {
+            put_ranked_line(graph, finding, *cost, *alarmed, *monitored, into)?;
+            put_activations(graph, trace.as_slice(), into)
+        }
+        _ => Ok(()),
+    }
+}
+
+/// Appends the first line of a ranked hypothesis.
+fn put_ranked_line(
+    graph: &Graph,
+    finding: &Finding,
+    cost: u64,
+    alarmed: u32,
+    monitored: u32,
+    into: &mut Vec<u8>,
+) -> Result<(), NoMemory>
+    requires { IsFindingOf (sizes_of graph.now) finding.now }
+    ensures { Appends result into.old.items into.new.items (ranked_line graph.now finding.now cost alarmed monitored) }
+{
+    let mut number_digits = Buffer::new();
+    let mut cost_digits = Buffer::new();
+    let mut alarmed_digits = Buffer::new();
+    let mut monitored_digits = Buffer::new();
+    let number = number_digits.format(finding.number).as_bytes();
+    let cost = cost_digits.format(cost).as_bytes();
+    let alarmed = alarmed_digits.format(alarmed).as_bytes();
+    let monitored = monitored_digits.format(monitored).as_bytes();
+    put_set_line(
+        graph,
+        &[
+            b"ranked ",
+            number,
+            b" cost ",
+            cost,
+            b" robust ",
+            alarmed,
+            b"/",
+            monitored,
+            b" set ",
+        ],
+        finding.set,
+        into,
+    )
+}
+
+/// Appends the lines of the activations.
+fn put_activations(graph: &Graph, trace: &[Activation], into: &mut Vec<u8>) -> Result<(), NoMemory>
+    requires { All (λ activation. activation.node < length graph.now.nodes) trace.now }
+    ensures { Appends result into.old.items into.new.items (flat_map (activation_text graph.now) trace.now) }
+{
+    for activation in trace {
+        put_activation(graph, *activation, into)?;
+    }
+    Ok(())
+}
+
+/// Appends the line of an activation.
+fn put_activation(graph: &Graph, activation: Activation, into: &mut Vec<u8>) -> Result<(), NoMemory>
+    requires { activation.node < length graph.now.nodes }
+    ensures { Appends result into.old.items into.new.items (activation_text graph.now activation) }
+{
+    let mut digits = Buffer::new();
+    let time = digits.format(activation.time).as_bytes();
+    put_line(into, &[b"at", node_name(graph, activation.node), time])
+}

@@ -1,0 +1,51 @@
+//! The line of a reason.
+
+ghost use Rattle.std.specs.Prelude.{◌≡◌};
+ghost use Rattle.tfpg_base.specs.Append.{Appends};
+ghost use Rattle.tfpg_evidence.specs.RoundOf.{IsReasonOf};
+ghost use Rattle.tfpg_report.specs.Blocks.{sizes_of};
+ghost use Rattle.tfpg_report.specs.Pieces.{reason_text};
+
+use crate::names::node_name;
+use crate::text_line::put_line;
+use itoa::Buffer;
+use tfpg_base::NoMemory;
+use tfpg_evidence::Reason;
+use tfpg_graph::Graph;
+
+/// Appends the line of a reason.
+pub(crate) fn put_reason(graph: &Graph, reason: Reason, into: &mut Vec<u8>) -> Result<(), NoMemory>
+    requires { IsReasonOf (sizes_of graph.now) reason }
+    ensures { Appends result into.old.items into.new.items (reason_text graph.now reason) }
+{
+    let mut digits = Buffer::new();
+    match reason {
+        Reason::Zero { node } => put_line(into, &[b"why", b"zero", node_name(graph, node)]),
+        Reason::Top { node } => put_line(into, &[b"why", b"top", node_name(graph, node)]),
+        Reason::Unreached { node, horizon } => {
+            let horizon = digits.format(horizon).as_bytes();
+            put_line(
+                into,
+                &[b"why", b"unreached", node_name(graph, node), horizon],
+            )
+        }
+        Reason::From { event } => put_line(
+            into,
+            &[b"why", b"from", digits.format(event).as_bytes()],
+        ),
+        Reason::Upto { event } => put_line(
+            into,
+            &[b"why", b"upto", digits.format(event).as_bytes()],
+        ),
+        Reason::Quiet { event, node } => {
+            let event = digits.format(event).as_bytes();
+            put_line(into, &[b"why", b"quiet", event, node_name(graph, node)])
+        }
+        Reason::Pick { split, place } => {
+            let mut place_digits = Buffer::new();
+            let split = digits.format(split).as_bytes();
+            let place = place_digits.format(place).as_bytes();
+            put_line(into, &[b"why", b"pick", split, place])
+        }
+    }
+}

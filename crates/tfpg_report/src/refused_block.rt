@@ -1,0 +1,75 @@
+//! The block of a line that was refused.
+
+ghost use Rattle.std.specs.Prelude.{◌≡◌, ◌∷◌, codes, decimal};
+ghost use Rattle.tfpg_base.specs.Append.{Appends};
+ghost use Rattle.tfpg_report.specs.Blocks.{refusal_name, refusal_time, refused_text, text_line, time_words};
+
+use crate::RefusedLine;
+use crate::text_line::put_line;
+use itoa::Buffer;
+use tfpg_base::NoMemory;
+use tfpg_log::Refusal;
+
+/// Appends the block of a line that was refused. Lines count from 1.
+pub fn refused(line: u64, cause: RefusedLine, into: &mut Vec<u8>) -> Result<(), NoMemory>
+    ensures { Appends result into.old.items into.new.items (refused_text line cause) }
+{
+    match cause {
+        RefusedLine::TooLong => {
+            let mut digits = Buffer::new();
+            put_line(
+                into,
+                &[b"refused", digits.format(line).as_bytes(), b"TooLong"],
+            )
+        }
+        RefusedLine::Offer(refusal) => put_refusal(line, refusal, into),
+    }
+}
+
+/// Appends the block of a line that the log refused.
+fn put_refusal(line: u64, refusal: Refusal, into: &mut Vec<u8>) -> Result<(), NoMemory>
+    ensures { Appends result into.old.items into.new.items
+        (text_line (codes "refused" ∷ decimal line ∷ refusal_name refusal ∷ time_words (refusal_time refusal))) }
+{
+    let mut line_digits = Buffer::new();
+    let line_word = line_digits.format(line).as_bytes();
+    match time_of(refusal) {
+        None => put_line(into, &[b"refused", line_word, name_of(refusal)]),
+        Some(time) => {
+            let mut time_digits = Buffer::new();
+            let time_word = time_digits.format(time).as_bytes();
+            put_line(into, &[b"refused", line_word, name_of(refusal), time_word])
+        }
+    }
+}
+
+/// The name of a refusal.
+fn name_of(refusal: Refusal) -> &'static [u8]
+    ensures { result.now ≡ refusal_name refusal }
+{
+    match refusal {
+        Refusal::BadLine => b"BadLine",
+        Refusal::BadNumber => b"BadNumber",
+        Refusal::TimeTooLarge => b"TimeTooLarge",
+        Refusal::TimeBack { .. } => b"TimeBack",
+        Refusal::UnknownName => b"UnknownName",
+        Refusal::NotMonitored => b"NotMonitored",
+        Refusal::NotAMode => b"NotAMode",
+        Refusal::SecondAlarm { .. } => b"SecondAlarm",
+        Refusal::SilentAfterAlarm { .. } => b"SilentAfterAlarm",
+        Refusal::LogFull => b"LogFull",
+        Refusal::ModesFull => b"ModesFull",
+        Refusal::NotBuilt => b"NotBuilt",
+    }
+}
+
+/// The time that a refusal carries, in milliseconds.
+fn time_of(refusal: Refusal) -> Option<u64>
+    ensures { result ≡ refusal_time refusal }
+{
+    match refusal {
+        Refusal::TimeBack { last } => Some(last),
+        Refusal::SecondAlarm { first } | Refusal::SilentAfterAlarm { first } => Some(first),
+        _ => None,
+    }
+}

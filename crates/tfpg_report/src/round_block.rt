@@ -1,0 +1,71 @@
+//! The block of a round.
+
+ghost use Rattle.std.specs.Prelude.{◌≡◌, ◌∷◌, [], codes, decimal};
+ghost use Rattle.tfpg_base.specs.Append.{Appends};
+ghost use Rattle.tfpg_evidence.specs.RoundOf.{IsRoundOf};
+ghost use Rattle.tfpg_report.specs.Blocks.{counts_text, round_text, sizes_of, text_line};
+
+use crate::hypothesis_lines::{put_all_open, put_all_rejected};
+use crate::ranked_lines::put_all_ranked;
+use crate::steps_block::put_all_steps;
+use crate::text_line::put_line;
+use itoa::Buffer;
+use tfpg_base::NoMemory;
+use tfpg_evidence::{Counts, Round};
+use tfpg_graph::Graph;
+
+/// Appends the block of a round of the graph.
+pub fn render(graph: &Graph, round: &Round, into: &mut Vec<u8>) -> Result<(), NoMemory>
+    requires { IsRoundOf (sizes_of graph.now) round.now }
+    ensures { Appends result into.old.items into.new.items (round_text graph.now round.entry.now) }
+{
+    let findings = round.findings.as_slice();
+    put_round_line(round.number, round.line, round.now, into)?;
+    put_all_steps(graph, findings, into)?;
+    put_all_ranked(graph, findings, round.order.as_slice(), into)?;
+    put_all_open(graph, findings, into)?;
+    put_all_rejected(graph, findings, into)?;
+    put_counts(round.counts, into)
+}
+
+/// Appends the first line of a round.
+fn put_round_line(number: u32, line: u64, now: u64, into: &mut Vec<u8>) -> Result<(), NoMemory>
+    ensures { Appends result into.old.items into.new.items
+        (text_line (codes "round" ∷ decimal number ∷ decimal line ∷ decimal now ∷ [])) }
+{
+    let mut number_digits = Buffer::new();
+    let mut line_digits = Buffer::new();
+    let mut now_digits = Buffer::new();
+    let number = number_digits.format(number).as_bytes();
+    let line = line_digits.format(line).as_bytes();
+    let now = now_digits.format(now).as_bytes();
+    put_line(into, &[b"round", number, line, now])
+}
+
+/// Appends the line of the counts.
+fn put_counts(counts: Counts, into: &mut Vec<u8>) -> Result<(), NoMemory>
+    ensures { Appends result into.old.items into.new.items (counts_text counts) }
+{
+    let mut ranked_digits = Buffer::new();
+    let mut covered_digits = Buffer::new();
+    let mut rejected_digits = Buffer::new();
+    let mut open_digits = Buffer::new();
+    let ranked = ranked_digits.format(counts.ranked).as_bytes();
+    let covered = covered_digits.format(counts.covered).as_bytes();
+    let rejected = rejected_digits.format(counts.rejected).as_bytes();
+    let unsettled = open_digits.format(counts.unsettled).as_bytes();
+    put_line(
+        into,
+        &[
+            b"counts",
+            b"ranked",
+            ranked,
+            b"covered",
+            covered,
+            b"rejected",
+            rejected,
+            b"open",
+            unsettled,
+        ],
+    )
+}

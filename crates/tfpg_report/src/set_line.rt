@@ -1,0 +1,68 @@
+//! A line that ends with a set.
+
+ghost use Rattle.std.specs.Prelude.{◌≡◌, ◌<◌, ◌++◌, ◌∷◌, [], All, flat_map, length, map};
+ghost use Rattle.std.specs.List.{join_with_byte};
+ghost use Rattle.tfpg_base.specs.Append.{Appends};
+ghost use Rattle.tfpg_graph.specs.Graph.{failures};
+ghost use Rattle.tfpg_report.specs.Blocks.{set_word};
+ghost use Rattle.tfpg_report.specs.Pieces.{failure_word};
+
+use crate::names::failure_name;
+use crate::text_line::put_part;
+use tfpg_base::{NoMemory, Set};
+use tfpg_graph::Graph;
+
+/// Appends the pieces, a set and a line end.
+pub(crate) fn put_set_line(
+    graph: &Graph,
+    pieces: &[&[u8]],
+    set: Set,
+    into: &mut Vec<u8>,
+) -> Result<(), NoMemory>
+    requires { All (λ place. place < length (failures graph.now)) set }
+    ensures { Appends result into.old.items into.new.items
+        (flat_map (λ piece. piece.now) pieces.now ++ set_word graph.now set ++ 10 ∷ []) }
+{
+    put_pieces(pieces, into)?;
+    put_set(graph, set, into)?;
+    into.push(b'\n')?;
+    Ok(())
+}
+
+/// Appends the pieces one after another.
+fn put_pieces(pieces: &[&[u8]], into: &mut Vec<u8>) -> Result<(), NoMemory>
+    ensures { Appends result into.old.items into.new.items (flat_map (λ piece. piece.now) pieces.now) }
+{
+    for piece in pieces {
+        into.extend_from_slice(piece)?;
+    }
+    Ok(())
+}
+
+/// Appends a set: a hyphen for the empty one, else the names of its members with commas between.
+fn put_set(graph: &Graph, set: Set, into: &mut Vec<u8>) -> Result<(), NoMemory>
+    requires { All (λ place. place < length (failures graph.now)) set }
+    ensures { Appends result into.old.items into.new.items (set_word graph.now set) }
+{
+    if set.is_empty() {
+        into.push(b'-')?;
+        return Ok(());
+    }
+    put_members(graph, set, into)
+}
+
+/// Appends the names of the members with commas between.
+fn put_members(graph: &Graph, set: Set, into: &mut Vec<u8>) -> Result<(), NoMemory>
+    requires { All (λ place. place < length (failures graph.now)) set }
+    ensures { Appends result into.old.items into.new.items
+        (join_with_byte 44 (map (failure_word graph.now) set)) }
+{
+    let mut is_first = true;
+    for place in 0..graph.failure_count() {
+        if set.has(place) {
+            put_part(into, b',', is_first, failure_name(graph, place))?;
+            is_first = false;
+        }
+    }
+    Ok(())
+}
