@@ -10,7 +10,8 @@ use tfpg_graph::{Graph, read};
 
 /// A failure mode, two monitored discrepancies and a hidden one.
 fn graph(alloc: Global) -> Result<Graph, Fail> {
-    let text = b"tfpg 1\nmode N\nfailure F 1\nor A watch 0\nor B hidden\nor C watch 7\nedge F A 1 3 *\nedge F B 2 inf *\nedge B C 9 9 *\nend\n";
+    let text =
+        b"tfpg 1\nmode N\nfailure F 1\nor A watch 0\nor B hidden\nor C watch 7\nedge F A 1 3 *\nedge F B 2 inf *\nedge B C 9 9 *\nend\n";
     Ok(read(alloc, text)?)
 }
 
@@ -36,55 +37,66 @@ fn takes_alarms_and_ticks(rt: HostRuntime) -> Result<(), Fail> {
     Ok(())
 }
 
-/// The replies of a log whose last event is an alarm of A at 10.
+/// Lines that a log refuses whose last event is an alarm of A at 10.
+const REFUSED: [(&[u8], Refusal); 22] = [
+    (b"", Refusal::BadLine),
+    (b"11", Refusal::BadLine),
+    (b"11  tick", Refusal::BadLine),
+    (b" 11 tick", Refusal::BadLine),
+    (b"11 tick ", Refusal::BadLine),
+    (b"11 tick C", Refusal::BadLine),
+    (b"11 alarm", Refusal::BadLine),
+    (b"11 alarm C C", Refusal::BadLine),
+    (b"11 Alarm C", Refusal::BadLine),
+    (b"1 2 3 4 5 6 7 8 9 10", Refusal::BadLine),
+    (b"011 tick", Refusal::BadNumber),
+    (b"eleven alarm X", Refusal::BadNumber),
+    (b"1000000000001 tick", Refusal::TimeTooLarge),
+    (b"99999999999999999999 alarm X", Refusal::TimeTooLarge),
+    (b"9 tick", Refusal::TimeBack { last: 10 }),
+    (b"9 alarm X", Refusal::TimeBack { last: 10 }),
+    (b"11 silent X", Refusal::UnknownName),
+    (b"11 alarm F", Refusal::NotMonitored),
+    (b"11 silent B", Refusal::NotMonitored),
+    (b"11 mode B", Refusal::NotAMode),
+    (b"11 alarm A", Refusal::SecondAlarm { first: 10 }),
+    (b"11 silent A", Refusal::SilentAfterAlarm { first: 10 }),
+];
+
+/// Lines that it accepts.
+const ACCEPTED: [(&[u8], Event); 5] = [
+    (b"10 tick", Event::Tick { time: 10 }),
+    (b"10 alarm C", Event::Alarm { time: 10, node: 3 }),
+    (b"11 silent C", Event::Silent { time: 11, node: 3 }),
+    (b"11 sweep", Event::Sweep { time: 11 }),
+    (
+        b"1000000000000 mode N",
+        Event::Mode {
+            time: 1_000_000_000_000,
+            mode: 0,
+        },
+    ),
+];
+
 #[test]
 fn replies_to_each_line(rt: HostRuntime) -> Result<(), Fail> {
     let graph = graph(rt.alloc())?;
     let mut log = Log::new(rt.alloc());
     let alarm = Event::Alarm { time: 10, node: 1 };
     assert_eq!(rt; log.offer(&graph, b"10 alarm A")?, Offered::Accepted(alarm));
-    let refused: [(&[u8], Refusal); 22] = [
-        (b"", Refusal::BadLine),
-        (b"11", Refusal::BadLine),
-        (b"11  tick", Refusal::BadLine),
-        (b" 11 tick", Refusal::BadLine),
-        (b"11 tick ", Refusal::BadLine),
-        (b"11 tick C", Refusal::BadLine),
-        (b"11 alarm", Refusal::BadLine),
-        (b"11 alarm C C", Refusal::BadLine),
-        (b"11 Alarm C", Refusal::BadLine),
-        (b"1 2 3 4 5 6 7 8 9 10", Refusal::BadLine),
-        (b"011 tick", Refusal::BadNumber),
-        (b"eleven alarm X", Refusal::BadNumber),
-        (b"1000000000001 tick", Refusal::TimeTooLarge),
-        (b"99999999999999999999 alarm X", Refusal::TimeTooLarge),
-        (b"9 tick", Refusal::TimeBack { last: 10 }),
-        (b"9 alarm X", Refusal::TimeBack { last: 10 }),
-        (b"11 silent X", Refusal::UnknownName),
-        (b"11 alarm F", Refusal::NotMonitored),
-        (b"11 silent B", Refusal::NotMonitored),
-        (b"11 mode A", Refusal::NotAMode),
-        (b"11 alarm A", Refusal::SecondAlarm { first: 10 }),
-        (b"11 silent A", Refusal::SilentAfterAlarm { first: 10 }),
-    ];
-    for (line, refusal) in refused {
-        assert_eq!(rt; reply(&graph, &log, line), Offered::Refused(refusal), "at {line:?}");
+    for (line, refusal) in &REFUSED {
+        assert_eq!(rt;
+            reply(&graph, &log, *line),
+            Offered::Refused(*refusal),
+            "at {line:?}"
+        );
     }
-    let accepted: [(&[u8], Event); 5] = [
-        (b"10 tick", Event::Tick { time: 10 }),
-        (b"10 alarm C", Event::Alarm { time: 10, node: 3 }),
-        (b"11 silent C", Event::Silent { time: 11, node: 3 }),
-        (b"11 sweep", Event::Sweep { time: 11 }),
-        (
-            b"1000000000000 mode N",
-            Event::Mode {
-                time: 1_000_000_000_000,
-                mode: 0,
-            },
-        ),
-    ];
-    for (line, event) in accepted {
-        assert_eq!(rt; reply(&graph, &log, line), Offered::Accepted(event), "at {line:?}");
+    for (line, event) in &ACCEPTED {
+        assert_eq!(rt;
+            reply(&graph, &log, *line),
+            Offered::Accepted(*event),
+            "at {line:?}"
+        );
     }
     Ok(())
 }
