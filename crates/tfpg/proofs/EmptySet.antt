@@ -1,14 +1,12 @@
 -- The empty set of failure modes: what it reaches, what it explains, and what rejects it.
 use Rattle.std.proofs.Common.{eq-eqb, ◌≡◌, ◌≢◌, ℕ, zero, suc, ◌+◌, ◌<◌, Bool, true, false, cond, eqb, ltb, leb, List, [], ◌∷◌, length, get_or, take, Option, Some, None, refl, sym, ap, subst, ◌∙◌, arith, pos}
-use Rattle.std.specs.Prelude.{IsTrue, is_some, option_and_then, option_map, not, slice_get, filter}
+use Rattle.std.specs.Prelude.{slice_get}
 use Rattle.std.proofs.lemmas.Bool.{false≢true}
 use Rattle.std.proofs.lemmas.Int.{ints}
 use Rattle.std.proofs.lemmas.List.Elements.{All-nil}
 use Rattle.std.proofs.lemmas.List.{nil_from_length}
 use Rattle.tfpg_graph.specs.declared.edge.Edge.{Edge}
-use Rattle.tfpg_graph.specs.declared.kind.Kind.{Kind}
-use Rattle.tfpg_graph.specs.declared.kind.Kind.TheVariants.{Failure, Or, And}
-use Rattle.tfpg_graph.specs.Graph.{Tfpg, numbers_from, is_kind_at, is_and, is_failure, kind_at}
+use Rattle.tfpg_graph.specs.Graph.{Tfpg}
 use Rattle.tfpg_graph.specs.Reach.{IsClosed, IsReach}
 use Rattle.tfpg_graph.specs.Valid.{IsValid}
 use Rattle.tfpg_log.specs.declared.event.Event.{Event}
@@ -21,43 +19,13 @@ use Rattle.tfpg_clause.specs.Trees.{Judged, Leaf, IsRefutation, IsPartial, IsClo
 use Rattle.tfpg_clause.specs.Trees.{steps_of}
 use Rattle.tfpg_clause.specs.Bounds.{at_least, at_most}
 use Rattle.tfpg_evidence.specs.declared.reason.Reason.TheVariants.{Unreached, Upto}
+use Rattle.tfpg_log.proofs.AndNodes.{and_node_has_edge}
 use Rattle.tfpg_log.proofs.Events.{now-first_events, event_at-first_events}
 use Rattle.std.proofs.lemmas.Bool.{lt-ltb, le-leb}
 use Rattle.std.proofs.lemmas.List.Elements.{All-cons}
 use Rattle.tfpg.specs.Diagnoser.{IsRejection}
 
 -- ---- what it reaches
-
--- where some edge enters a node, there is an edge into it
-abbrev HasFirst : ℕ → List Edge → Type 0
-HasFirst node edges = (edge : Edge) × (others : List Edge) × (filter (λ e. eqb e.target node) edges ≡ edge ∷ others)
-
-first_by : (node : ℕ) (edge : Edge) (edges : List Edge) (b : Bool) → eqb edge.target node ≡ b → (b ≡ false → HasFirst node edges) → HasFirst node (edge ∷ edges)
-first_by node edge edges true h others = (edge, filter (λ x. eqb x.target node) edges, rw h refl)
-first_by node edge edges false h others = let more = others refl in (more.0, more.1, rw h more.2)
-
-first_edge : (number node : ℕ) (edges : List Edge) → numbers_from number (λ edge. eqb edge.target node) edges ≢ [] → HasFirst node edges
-first_edge number node [] some = absurd (some refl)
-first_edge number node (edge ∷ edges) some =
-    first_by node edge edges _ refl (λ h. first_edge (number + 1) node edges (λ none. some (rw h none)))
-
--- an AND node is a node, and no failure mode
-and_by : (kind : Option Kind) → IsTrue (is_some (option_and_then (λ k. cond (is_and k) (Some k) None) kind))
-    → IsTrue (not (is_some (option_and_then (λ k. cond (is_failure k) (Some k) None) kind))) × (is_some kind ≡ true)
-and_by None h = absurd cc
-and_by (Some (Failure rarity)) h = absurd cc
-and_by (Some (Or lag)) h = absurd cc
-and_by (Some (And lag)) h = (refl, refl)
-
-pub some_is_below : {X Y : Type 0} (f : X → Y) (xs : List X) (i : ℕ) → is_some (option_map f (slice_get xs i)) ≡ true → i < length xs
-some_is_below f [] i h = absurd cc
-some_is_below f (x ∷ xs) zero h = omega arith
-some_is_below f (x ∷ xs) (suc i) h = omega (arith, some_is_below f xs i h)
-
-pub and_node_has_edge : (graph : Tfpg) (node : ℕ) → IsValid graph → IsTrue (is_kind_at is_and graph node) → HasFirst node graph.edges
-and_node_has_edge graph node valid h =
-    let kind = and_by (kind_at graph node) h in
-    first_edge 0 node graph.edges (valid.has_incoming node (some_is_below (λ n. n.kind) graph.nodes node kind.1) kind.0)
 
 -- the test that passes no node is closed for the empty set
 pub nothing_is_closed : (graph : Tfpg) → IsValid graph → IsClosed graph [] (λ node. false)

@@ -23,7 +23,8 @@ use Rattle.tfpg_check.specs.Report.{Progress}
 use Rattle.tfpg.specs.Told.{rejection, ranking_round, rejecting_round}
 use Rattle.tfpg.specs.declared.diagnoser.Diagnoser.{Diagnoser}
 use Rattle.tfpg.specs.Diagnoser.{budget, IsRejection, IsSettled, IsReady, HasHeard}
-use Rattle.tfpg.proofs.EmptySet.{refutes, some_is_below}
+use Rattle.tfpg.proofs.EmptySet.{refutes}
+use Rattle.tfpg_log.proofs.AndNodes.{some_is_below}
 use Rattle.tfpg.proofs.EmptyRounds.{ranks_empty, rejects_empty, steps-more}
 
 -- ---- the rounds name only what the graph has

@@ -9,3 +9,6 @@ pub mod Spans
 pub mod Accepted
 pub mod AcceptedNow
 pub mod LogOfLines
+pub mod LogInside
+pub mod LogLine
+pub mod Judged

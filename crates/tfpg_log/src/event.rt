@@ -1,5 +1,7 @@
 //! What a line of the log says.
 
+ghost use Rattle.std.specs.Prelude.{◌≡◌};
+
 use crate::Refusal;
 
 /// An accepted line. Times are in milliseconds, from 0 to 10^12, and never fall from one event to the next.
@@ -15,6 +17,23 @@ pub enum Event {
     Tick { time: u64 },
     /// The system's mode changed. It holds from the next millisecond on.
     Mode { time: u64, mode: u32 },
+}
+
+impl Event {
+    ghost use Rattle.tfpg_log.specs.Log.{time_of_event};
+
+    /// When it was, in milliseconds.
+    pub fn time(self) -> u64
+        ensures { result ≡ time_of_event self }
+    {
+        match self {
+            Event::Alarm { time, .. }
+            | Event::Silent { time, .. }
+            | Event::Sweep { time }
+            | Event::Tick { time }
+            | Event::Mode { time, .. } => time,
+        }
+    }
 }
 
 /// What became of a line.

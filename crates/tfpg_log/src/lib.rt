@@ -1,16 +1,27 @@
 //! The log of alarms, silences and mode changes, and what it means for a trace to explain it.
 //!
-//! - [`Event`] is what a line of the log says, once it is accepted.
+//! - [`Log`] is the log of accepted lines, with its look-ups.
+//! - [`Event`] is what a line of the log says, once it is accepted, and [`Offered`] what becomes of a line.
 //! - [`Refusal`] says why a line is refused.
+//! - [`nothing_without_failures`] is a law: without a failure mode nothing becomes active.
 //!
 //! Its definitions, in `specs/`, are those that every crate above stands on: the mode of an instant, the age of an
 //! edge, the propagation rules, and which sets of failure modes fit the log.
 #![tactic(auto)]
 
+mod built;
 mod event;
+mod laws;
+mod log;
+mod log_line;
 mod refusal;
+mod reply;
 mod span;
+#[cfg(test)]
+mod tests;
 
 pub use event::{Event, Offered};
+pub use laws::nothing_without_failures;
+pub use log::Log;
 pub use refusal::Refusal;
 pub use span::{Span, Window};
