@@ -1,10 +1,14 @@
 //! How a run of the program ends.
 
-ghost use Rattle.std.specs.Prelude.{◌≡◌};
+ghost use Rattle.std.specs.Prelude.{◌≡◌, ◌++◌, ◌∷◌, [], codes, decimal};
+ghost use Rattle.tfpg_base.specs.Append.{Appends};
+ghost use Rattle.tfpg_graph.specs.Text.{line_of};
+ghost use Rattle.tfpg.specs.Ends.{graph_cause_name, line_of_end, status_of, usage_name};
 ghost use Rattle.tfpg.specs.EndsOf.{end_of_fault};
 ghost use Rattle.tfpg.specs.declared.end.End.TheVariants as ends;
 
-use tfpg_base::{Failed, LineFault};
+use itoa::Buffer;
+use tfpg_base::{Failed, LineFault, NoMemory};
 use tfpg_graph::GraphCause;
 
 /// Why the words of the command line are refused.
@@ -34,6 +38,38 @@ pub enum End {
     NoMemory,
 }
 
+impl End {
+    /// The status with which the program exits.
+    pub fn status(&self) -> u8
+        ensures { result ≡ status_of self.now }
+    {
+        match self {
+            End::Done => 0,
+            End::Usage { .. } => 2,
+            End::Graph { .. } => 3,
+            End::ReadFault => 5,
+            End::WriteFault => 6,
+            End::TooMuchInput => 7,
+            End::NoMemory => 8,
+        }
+    }
+
+    /// Appends what is said of the end, without a line end: nothing where all went well.
+    pub fn line(&self, into: &mut Vec<u8>) -> Result<(), NoMemory>
+        ensures { Appends result into.old.items into.new.items (line_of_end self.now) }
+    {
+        match self {
+            End::Done => Ok(()),
+            End::Usage { cause } => put_usage(*cause, into),
+            End::Graph { line, cause } => put_graph(*line, *cause, into),
+            End::ReadFault => put(b"read fault", into),
+            End::WriteFault => put(b"write fault", into),
+            End::TooMuchInput => put(b"too much input", into),
+            End::NoMemory => put(b"no memory", into),
+        }
+    }
+}
+
 impl From<LineFault> for End {
     ghost from_gives = { λ fault e. e ≡ end_of_fault fault };
 
@@ -45,10 +81,10 @@ impl From<LineFault> for End {
     }
 }
 
-impl From<tfpg_base::NoMemory> for End {
+impl From<NoMemory> for End {
     ghost from_gives = { λ _ e. e ≡ ends.NoMemory };
 
-    fn from(_e: tfpg_base::NoMemory) -> End {
+    fn from(_e: NoMemory) -> End {
         End::NoMemory
     }
 }
@@ -58,5 +94,78 @@ impl From<Failed> for End {
 
     fn from(_e: Failed) -> End {
         End::WriteFault
+    }
+}
+
+/// Appends what is said of words that are refused.
+fn put_usage(cause: UsageCause, into: &mut Vec<u8>) -> Result<(), NoMemory>
+    ensures { Appends result into.old.items into.new.items (line_of (codes "usage" ∷ usage_name cause ∷ [])) }
+{
+    put(b"usage", into)?;
+    put_next(usage_cause_word(cause), into)
+}
+
+/// Appends what is said of a graph that is refused.
+fn put_graph(line: u64, cause: GraphCause, into: &mut Vec<u8>) -> Result<(), NoMemory>
+    ensures { Appends result into.old.items into.new.items (line_of (codes "graph" ∷ decimal line ∷ graph_cause_name cause ∷ [])) }
+{
+    let mut digits = Buffer::new();
+    put(b"graph", into)?;
+    put_next(digits.format(line).as_bytes(), into)?;
+    put_next(graph_cause_word(cause), into)
+}
+
+/// Appends a word behind a space.
+fn put_next(word: &[u8], into: &mut Vec<u8>) -> Result<(), NoMemory>
+    ensures { Appends result into.old.items into.new.items (32 ∷ word.now) }
+{
+    put(b" ", into)?;
+    put(word, into)
+}
+
+/// Appends a text.
+fn put(text: &[u8], into: &mut Vec<u8>) -> Result<(), NoMemory>
+    ensures { Appends result into.old.items into.new.items text.now }
+{
+    into.extend_from_slice(text)?;
+    Ok(())
+}
+
+/// The name of why words are refused.
+fn usage_cause_word(cause: UsageCause) -> &'static [u8]
+    ensures { result.now ≡ usage_name cause }
+{
+    match cause {
+        UsageCause::NotBuilt => b"NotBuilt",
+    }
+}
+
+/// The name of what is wrong with a graph.
+fn graph_cause_word(cause: GraphCause) -> &'static [u8]
+    ensures { result.now ≡ graph_cause_name cause }
+{
+    match cause {
+        GraphCause::BadHeader => b"BadHeader",
+        GraphCause::BadLine => b"BadLine",
+        GraphCause::BadName => b"BadName",
+        GraphCause::DuplicateName => b"DuplicateName",
+        GraphCause::UnknownName => b"UnknownName",
+        GraphCause::BadNumber => b"BadNumber",
+        GraphCause::NumberTooLarge => b"NumberTooLarge",
+        GraphCause::MinOverMax => b"MinOverMax",
+        GraphCause::EdgeIntoFailure => b"EdgeIntoFailure",
+        GraphCause::SelfEdge => b"SelfEdge",
+        GraphCause::DuplicateEdge => b"DuplicateEdge",
+        GraphCause::NoModes => b"NoModes",
+        GraphCause::NoIncoming => b"NoIncoming",
+        GraphCause::ZeroCycle => b"ZeroCycle",
+        GraphCause::TooManyNodes => b"TooManyNodes",
+        GraphCause::TooManyFailures => b"TooManyFailures",
+        GraphCause::TooManyEdges => b"TooManyEdges",
+        GraphCause::TooManyModes => b"TooManyModes",
+        GraphCause::TooManyIncoming => b"TooManyIncoming",
+        GraphCause::MissingEnd => b"MissingEnd",
+        GraphCause::AfterEnd => b"AfterEnd",
+        GraphCause::NotBuilt => b"NotBuilt",
     }
 }

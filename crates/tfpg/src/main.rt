@@ -1,6 +1,7 @@
 //! The program.
 #![tactic(auto)]
 
+mod command;
 mod course;
 mod diagnoser;
 mod end;
