@@ -2,6 +2,7 @@ pub mod Told
 pub mod Diagnoser
 pub mod Command
 pub mod Ends
+pub mod Fetch
 pub mod Run
 pub mod Course
 pub mod EndsOf

@@ -4,12 +4,12 @@ ghost use Rattle.std.specs.Prelude.{◌≡◌, ◌++◌, ◌∷◌, [], codes, d
 ghost use Rattle.tfpg_base.specs.Append.{Appends};
 ghost use Rattle.tfpg_graph.specs.Text.{line_of};
 ghost use Rattle.tfpg.specs.Ends.{graph_cause_name, line_of_end, status_of, usage_name};
-ghost use Rattle.tfpg.specs.EndsOf.{end_of_fault};
+ghost use Rattle.tfpg.specs.EndsOf.{end_of_fault, end_of_shelf, end_of_refusal};
 ghost use Rattle.tfpg.specs.declared.end.End.TheVariants as ends;
 
 use itoa::Buffer;
-use tfpg_base::{Failed, LineFault, NoMemory};
-use tfpg_graph::GraphCause;
+use tfpg_base::{ShelfFault, Failed, LineFault, NoMemory};
+use tfpg_graph::{GraphCause, GraphRefusal};
 
 /// Why the words of the command line are refused.
 #[derive(Clone, Copy, Debug, PartialEq, Eq)]
@@ -167,5 +167,31 @@ fn graph_cause_word(cause: GraphCause) -> &'static [u8]
         GraphCause::MissingEnd => b"MissingEnd",
         GraphCause::AfterEnd => b"AfterEnd",
         GraphCause::NotBuilt => b"NotBuilt",
+    }
+}
+
+impl From<ShelfFault> for End {
+    ghost from_gives = { λ fault e. e ≡ end_of_shelf fault };
+
+    fn from(fault: ShelfFault) -> End {
+        match fault {
+            ShelfFault::Failed => End::ReadFault,
+            ShelfFault::TooLong => End::TooMuchInput,
+            ShelfFault::NoMemory => End::NoMemory,
+        }
+    }
+}
+
+impl From<GraphRefusal> for End {
+    ghost from_gives = { λ refusal e. e ≡ end_of_refusal refusal };
+
+    fn from(refusal: GraphRefusal) -> End {
+        match refusal {
+            GraphRefusal::Fault(fault) => End::Graph {
+                line: fault.line,
+                cause: fault.cause,
+            },
+            GraphRefusal::NoMemory => End::NoMemory,
+        }
     }
 }

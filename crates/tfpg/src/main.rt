@@ -5,6 +5,8 @@ mod command;
 mod course;
 mod diagnoser;
 mod end;
+mod fetching;
 mod output;
+mod run;
 
 fn main() {}

@@ -1,0 +1,62 @@
+//! The top call: from the words and the bytes of the outside to the bytes of a report.
+
+ghost use Rattle.std.specs.Prelude.{◌≡◌, map, string_bytes, OnOk, IfErr};
+ghost use Rattle.tfpg_base.specs.Outside.{Rose};
+ghost use Rattle.tfpg.specs.Command.{graph_word};
+ghost use Rattle.tfpg.specs.Fetch.{AsksOnly, AsksFor};
+ghost use Rattle.tfpg.specs.Run.{streams, RunEnds, DiagnosesNamed, StopsAt};
+
+use crate::command::graph_name;
+use crate::course::diagnose;
+use crate::end::{End, UsageCause};
+use crate::fetching::fetch_graph;
+use std::alloc::Global;
+use tfpg_base::{Shelf, Sink, Source};
+
+/// Does what the words say: reads the graph that they name, then takes the input line by line, and puts the block of each
+/// line before the next one is taken.
+pub fn run<F: Shelf, S: Source, K: Sink>(
+    alloc: Global,
+    words: &[String],
+    shelf: &mut F,
+    input: &mut S,
+    out: &mut K,
+) -> End
+    // Each end has its cause, and what was put by then is right.
+    ensures ends { RunEnds (map string_bytes words.now) (F.files shelf.old) (Rose (F.faults shelf.old) (F.faults shelf.new))
+        (streams (S.left input.old) (K.holds out.old) (S.faults input.old) (K.faults out.old))
+        (streams (S.left input.new) (K.holds out.new) (S.faults input.new) (K.faults out.new)) result }
+
+    // No answer comes from a file that the words do not name.
+    ensures asks { AsksOnly (graph_word (map string_bytes words.now)) (F.asked shelf.old) (F.asked shelf.new) }
+{
+    match graph_name(words) {
+        None => End::Usage {
+            cause: UsageCause::NotBuilt,
+        },
+        Some(name) => match diagnose_file(alloc, name, shelf, input, out) {
+            Ok(()) => End::Done,
+            Err(end) => end,
+        },
+    }
+}
+
+/// Diagnoses the graph of the file of this name.
+fn diagnose_file<F: Shelf, S: Source, K: Sink>(
+    alloc: Global,
+    name: &str,
+    shelf: &mut F,
+    input: &mut S,
+    out: &mut K,
+) -> Result<(), End>
+    ensures done { OnOk result (DiagnosesNamed (F.files shelf.old) name.now
+        (streams (S.left input.old) (K.holds out.old) (S.faults input.old) (K.faults out.old))
+        (streams (S.left input.new) (K.holds out.new) (S.faults input.new) (K.faults out.new)) End.Done) }
+    ensures stopped { IfErr result (StopsAt (F.files shelf.old) name.now (Rose (F.faults shelf.old) (F.faults shelf.new))
+        (streams (S.left input.old) (K.holds out.old) (S.faults input.old) (K.faults out.old))
+        (streams (S.left input.new) (K.holds out.new) (S.faults input.new) (K.faults out.new))) }
+    ensures asks { AsksFor name.now (F.asked shelf.old) (F.asked shelf.new) }
+{
+    let graph = fetch_graph(alloc, shelf, name)?;
+    diagnose(alloc, graph, input, out)
+}
