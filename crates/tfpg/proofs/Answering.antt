@@ -54,7 +54,7 @@ block_of_refusal graph before number line refusal t bytes diagnoser le e tells s
       no_losses = tt;
       text = text;
       stands = subst (StandsFor diagnoser) (sym (progress_same (before.rounds ++ []) before.rounds (log_after graph before.log line) before.log
-        (append-nil before.rounds) (short_log graph before.log line le ∙ ap (log_after_reply before.log) refused))) same;
+          (append-nil before.rounds) (short_log graph before.log line le ∙ ap (log_after_reply before.log) refused))) same;
     }
 
 -- the block of a round
@@ -69,11 +69,11 @@ block_of_round graph before number line round t bytes diagnoser le e tells stand
     record {
       block = block;
       is_block = subst (IsBlockOf graph 0 budget before number block) (sym (short_line graph before.log line (Accepted event) le tells_round.1))
-        (round, [], refl, tells_round.2, λ i j d lt below. absurd (omega arith));
+          (round, [], refl, tells_round.2, λ i j d lt below. absurd (omega arith));
       no_losses = refl;
       text = text ∙ sym (append-nil (round_text graph round));
       stands = subst (StandsFor diagnoser) (sym (progress_same (before.rounds ++ round ∷ []) (before.rounds ++ round ∷ []) (log_after graph before.log line)
-        (log_after_reply before.log (reply_now graph before.log line)) refl (short_log graph before.log line le))) same;
+          (log_after_reply before.log (reply_now graph before.log line)) refl (short_log graph before.log line le))) same;
     }
 
 -- the block of a line that is too long

@@ -48,8 +48,8 @@ ranking_is_of sizes number line time =
 pub rejection_is_of : (sizes : Sizes) (number time node : ℕ) → node < sizes.nodes → All (IsStepOf sizes) (rejection number time node ∷ [])
 rejection_is_of sizes number time node lt =
     All-cons (IsStepOf sizes) (rejection number time node) []
-      (All-cons (IsReasonOf sizes) (Unreached node time) (Upto number ∷ []) lt (All-cons (IsReasonOf sizes) (Upto number) [] tt (All-nil _)))
-      (All-nil _)
+    (All-cons (IsReasonOf sizes) (Unreached node time) (Upto number ∷ []) lt (All-cons (IsReasonOf sizes) (Upto number) [] tt (All-nil _)))
+    (All-nil _)
 
 -- ---- what an event changes
 
@@ -120,8 +120,8 @@ told_again graph before event line valid h =
 -- this alarm rejects it
 pub told_by_alarm : (graph : Tfpg) (before : Progress) (time node line : ℕ) → IsValid graph → IsOf graph (with_event before.log (Alarm time node)) → steps_so_far 0 before.rounds ≡ []
     → IsTold graph (with_event before.log (Alarm time node)) true before line
-        (rejecting_round (length (with_event before.log (Alarm time node)).events) line (now_of (with_event before.log (Alarm time node)))
-          (rejection (length (with_event before.log (Alarm time node)).events) time node ∷ []))
+    (rejecting_round (length (with_event before.log (Alarm time node)).events) line (now_of (with_event before.log (Alarm time node)))
+    (rejection (length (with_event before.log (Alarm time node)).events) time node ∷ []))
 told_by_alarm graph before time node line valid of_graph none =
     let log = with_event before.log (Alarm time node) in
     let number = length log.events in
@@ -157,7 +157,7 @@ told_along : (graph : Tfpg) (log log' : Logbook) (rejected rejected' : Bool) (be
     → IsTold graph log' rejected' before line round' → IsTold graph log rejected before line round
 told_along graph log log' rejected rejected' before line round round' a b e told =
     subst (λ (l : Logbook). IsTold graph l rejected before line round) (sym a)
-      (subst (λ (r : Bool). IsTold graph log' r before line round) (sym b) (subst (λ (r : Round). IsTold graph log' rejected' before line r) (sym e) told))
+    (subst (λ (r : Bool). IsTold graph log' r before line round) (sym b) (subst (λ (r : Round). IsTold graph log' rejected' before line r) (sym e) told))
 
 rejecting_along : (log log' : Logbook) (number line time : ℕ) (steps steps' : List Step) → log ≡ log' → number ≡ length log.events → time ≡ now_of log → steps ≡ steps'
     → rejecting_round number line time steps ≡ rejecting_round (length log'.events) line (now_of log') steps'
@@ -171,7 +171,7 @@ pub tells_again : (diagnoser : Diagnoser) (before : Progress) (event : Event) (l
     → round ≡ rejecting_round number line time steps → IsTold diagnoser.graph diagnoser.log diagnoser.rejected before line round
 tells_again d before event line number time steps round valid heard r n t s e =
     told_along d.graph d.log (with_event before.log event) d.rejected true before line round _ heard.log r
-      (e ∙ rejecting_along d.log (with_event before.log event) number line time steps [] heard.log n t s) (told_again d.graph before event line valid (heard.settled.refuted r))
+    (e ∙ rejecting_along d.log (with_event before.log event) number line time steps [] heard.log n t s) (told_again d.graph before event line valid (heard.settled.refuted r))
 
 -- the alarm rejects it
 pub tells_by_alarm : (diagnoser : Diagnoser) (before : Progress) (event : Event) (at node line number time : ℕ) (steps : List Step) (round : Round)
@@ -181,8 +181,8 @@ tells_by_alarm d before event at node line number time steps round ready heard r
     let log_is : d.log ≡ with_event before.log (Alarm at node) = heard.log ∙ ap (with_event before.log) a in
     let number_is : number ≡ length (with_event before.log (Alarm at node)).events = n ∙ ap (λ (l : Logbook). length l.events) log_is in
     told_along d.graph d.log (with_event before.log (Alarm at node)) true true before line round _ log_is refl
-      (e ∙ rejecting_along d.log (with_event before.log (Alarm at node)) number line time steps _ log_is n t (s ∙ ap (λ (x : ℕ). rejection x at node ∷ []) number_is))
-      (told_by_alarm d.graph before at node line ready.valid (subst (IsOf d.graph) log_is ready.of_graph) (heard.settled.quiet r).1)
+    (e ∙ rejecting_along d.log (with_event before.log (Alarm at node)) number line time steps _ log_is n t (s ∙ ap (λ (x : ℕ). rejection x at node ∷ []) number_is))
+    (told_by_alarm d.graph before at node line ready.valid (subst (IsOf d.graph) log_is ready.of_graph) (heard.settled.quiet r).1)
 
 -- there is no alarm so far
 pub tells_quietly : (diagnoser : Diagnoser) (before : Progress) (event : Event) (line number time : ℕ) (round : Round)
@@ -191,6 +191,6 @@ pub tells_quietly : (diagnoser : Diagnoser) (before : Progress) (event : Event) 
 tells_quietly d before event line number time round valid heard r no_alarm n t e =
     let quiet = heard.settled.quiet r in
     told_along d.graph d.log (with_event before.log event) d.rejected false before line round _ heard.log r
-      (e ∙ ap (λ (x : ℕ). ranking_round x line time) (n ∙ ap (λ (l : Logbook). length l.events) heard.log)
-        ∙ ap (ranking_round (length (with_event before.log event).events) line) (t ∙ ap now_of heard.log))
-      (told_quietly d.graph before event line valid no_alarm quiet.0 quiet.1)
+    (e ∙ ap (λ (x : ℕ). ranking_round x line time) (n ∙ ap (λ (l : Logbook). length l.events) heard.log)
+    ∙ ap (ranking_round (length (with_event before.log event).events) line) (t ∙ ap now_of heard.log))
+    (told_quietly d.graph before event line valid no_alarm quiet.0 quiet.1)

@@ -113,9 +113,11 @@ ends_by_fault graph before now lines lines' diagnoser left input_faults fault.Re
       puts = under.puts;
       blocks = under.blocks;
       no_losses = under.no_losses;
-      ends = (Rose-later before.input_faults now.input_faults input_faults under.input_faults answers.1,
+      ends = (
+        Rose-later before.input_faults now.input_faults input_faults under.input_faults answers.1,
         begins graph taken reading.given under.blocks (front_of_whole (whole_lines taken) reading.given (line_of_part (last_part taken)) answers.0) under.are_blocks
-          (report_text graph 0 budget under.blocks) [] (sym (append-nil _)));
+            (report_text graph 0 budget under.blocks) [] (sym (append-nil _)),
+      );
     }
 ends_by_fault graph before now lines lines' diagnoser left input_faults fault.TooMuchInput under continues =
     let reading = under.reading in
@@ -124,8 +126,8 @@ ends_by_fault graph before now lines lines' diagnoser left input_faults fault.To
     let answers = turn.3 in
     let firsts = take most_bytes taken in
     let front : take (length reading.given) (lines_of taken) ≡ reading.given =
-        subst (λ (ls : List (List ℕ)). take (length ls) (lines_of taken) ≡ ls) answers.0
-          (subst (λ (t : List ℕ). take (length (whole_lines firsts)) (lines_of t) ≡ whole_lines firsts) (take-append-drop most_bytes taken) (take-lines_of firsts (drop most_bytes taken))) in
+    subst (λ (ls : List (List ℕ)). take (length ls) (lines_of taken) ≡ ls) answers.0
+    (subst (λ (t : List ℕ). take (length (whole_lines firsts)) (lines_of t) ≡ whole_lines firsts) (take-append-drop most_bytes taken) (take-lines_of firsts (drop most_bytes taken))) in
     record {
       taken = taken;
       takes = Takes-append before.left now.left left reading.taken turn.0 under.takes turn.1;
@@ -166,7 +168,7 @@ front_with lines given first e =
     ap (λ (n : ℕ). take n lines) more ∙ e
 
 module _ (graph : Tfpg) (before now : Streams) (lines : Buffered) (diagnoser : Diagnoser) (left : Option (List ℕ)) (input_faults : ℕ) (reader : Buffered)
-  (under : IsUnderWay graph before now lines diagnoser) (falls : now.input_faults ≤ input_faults) (gave : GaveLine under.reading now.left left reader) where
+    (under : IsUnderWay graph before now lines diagnoser) (falls : now.input_faults ≤ input_faults) (gave : GaveLine under.reading now.left left reader) where
   -- where memory is wanting for the block, what was put before begins the report
   pub gave_without_memory : Diagnoses graph before (asked now left input_faults) ends.NoMemory
   gave_without_memory =
@@ -180,11 +182,11 @@ module _ (graph : Tfpg) (before now : Streams) (lines : Buffered) (diagnoser : D
         blocks = under.blocks;
         no_losses = under.no_losses;
         ends = begins graph taken reading.given under.blocks (front_before (lines_of taken) reading.given gave.first gave.next.front) under.are_blocks
-          (report_text graph 0 budget under.blocks) [] (sym (append-nil _));
+            (report_text graph 0 budget under.blocks) [] (sym (append-nil _));
       }
 
   module _ (number : ℕ) (bytes : List ℕ) (answered : Diagnoser) (holds : Option (List ℕ)) (sink_faults : ℕ)
-    (number_is : number ≡ reader.number) (block : HasBlock graph (after_all graph start under.reading.given under.blocks) number gave.first bytes answered) where
+      (number_is : number ≡ reader.number) (block : HasBlock graph (after_all graph start under.reading.given under.blocks) number gave.first bytes answered) where
     blocks_are : AreBlocks graph 0 budget start 1 (under.reading.given ++ gave.first ∷ []) (under.blocks ++ block.block ∷ [])
     blocks_are =
         let given = under.reading.given in
@@ -207,7 +209,7 @@ module _ (graph : Tfpg) (before now : Streams) (lines : Buffered) (diagnoser : D
           front = front_with (lines_of taken) given gave.first gave.next.front;
           blocks = under.blocks ++ block.block ∷ [];
           puts = subst (Puts before.holds holds) (ap (λ (t : List ℕ). report_text graph 0 budget under.blocks ++ t) block.text ∙ report_text-push graph 0 budget under.blocks block.block)
-            (Puts-append before.holds now.holds holds (report_text graph 0 budget under.blocks) bytes under.puts puts);
+              (Puts-append before.holds now.holds holds (report_text graph 0 budget under.blocks) bytes under.puts puts);
           are_blocks = blocks_are;
           no_losses = no_losses-push under.blocks block.block under.no_losses block.no_losses;
           told = subst (StandsFor answered) (sym (after_all-push graph 0 budget start 1 given under.blocks gave.first block.block under.are_blocks)) block.stands;
@@ -229,8 +231,8 @@ module _ (graph : Tfpg) (before now : Streams) (lines : Buffered) (diagnoser : D
         let taken = reading.taken ++ gave.more in
         let put = report_text graph 0 budget under.blocks ++ front in
         let whole : report_text graph 0 budget (under.blocks ++ block.block ∷ []) ≡ put ++ rest =
-            sym (report_text-push graph 0 budget under.blocks block.block) ∙ ap (λ (t : List ℕ). report_text graph 0 budget under.blocks ++ t) (sym block.text ∙ parts)
-            ∙ sym (append_assoc (report_text graph 0 budget under.blocks) front rest) in
+        sym (report_text-push graph 0 budget under.blocks block.block) ∙ ap (λ (t : List ℕ). report_text graph 0 budget under.blocks ++ t) (sym block.text ∙ parts)
+        ∙ sym (append_assoc (report_text graph 0 budget under.blocks) front rest) in
         record {
           taken = taken;
           takes = Takes-append before.left now.left left reading.taken gave.more under.takes gave.takes;
@@ -238,20 +240,22 @@ module _ (graph : Tfpg) (before now : Streams) (lines : Buffered) (diagnoser : D
           puts = Puts-append before.holds now.holds holds (report_text graph 0 budget under.blocks) front under.puts puts;
           blocks = under.blocks ++ block.block ∷ [];
           no_losses = no_losses-push under.blocks block.block under.no_losses block.no_losses;
-          ends = (Rose-later before.sink_faults now.sink_faults sink_faults under.sink_faults rose,
-            begins graph taken (given ++ gave.first ∷ []) (under.blocks ++ block.block ∷ []) (front_with (lines_of taken) given gave.first gave.next.front) blocks_are put rest whole);
+          ends = (
+            Rose-later before.sink_faults now.sink_faults sink_faults under.sink_faults rose,
+            begins graph taken (given ++ gave.first ∷ []) (under.blocks ++ block.block ∷ []) (front_with (lines_of taken) given gave.first gave.next.front) blocks_are put rest whole,
+          );
         }
 
 -- ---- as the code comes to it
 
 -- A line was given, and it is answered by these bytes.
 pub record IsAnswered (graph : Tfpg) (before now : Streams) (lines : Buffered) (diagnoser : Diagnoser) (left : Option (List ℕ)) (reader : Buffered)
-  (under : IsUnderWay graph before now lines diagnoser) (number : ℕ) (bytes : List ℕ) (answered : Diagnoser) : Type 0 where
+    (under : IsUnderWay graph before now lines diagnoser) (number : ℕ) (bytes : List ℕ) (answered : Diagnoser) : Type 0 where
   pub gave : GaveLine under.reading now.left left reader
   pub block : HasBlock graph (after_all graph start under.reading.given under.blocks) number gave.first bytes answered
 
 module _ (graph : Tfpg) (before now : Streams) (lines : Buffered) (diagnoser : Diagnoser) (left : Option (List ℕ)) (input_faults : ℕ) (reader : Buffered)
-  (under : IsUnderWay graph before now lines diagnoser) (l : Line) (continues : Continues under.reading under.reading.ended now.left left (Rose now.input_faults input_faults) (Ok l) reader) where
+    (under : IsUnderWay graph before now lines diagnoser) (l : Line) (continues : Continues under.reading under.reading.ended now.left left (Rose now.input_faults input_faults) (Ok l) reader) where
   -- the input has ended
   pub met_end : l ≡ line.End → Diagnoses graph before (asked now left input_faults) ends.Done
   met_end e = ends_done graph before now lines reader diagnoser left input_faults under
@@ -279,7 +283,7 @@ module _ (graph : Tfpg) (before now : Streams) (lines : Buffered) (diagnoser : D
       record {
         gave = met.0;
         block = subst (λ (x : List ℕ). HasBlock graph at number x bytes answered) text_is
-          (subst (λ (x : Tfpg). HasBlock x at number text bytes answered) under.same_graph (answers at under.told short));
+            (subst (λ (x : Tfpg). HasBlock x at number text bytes answered) under.same_graph (answers at under.told short));
       }
 
   -- the block of a line that is too long
@@ -312,8 +316,14 @@ short_part (byte ∷ bytes) = omega arith
 few_lines : (bytes : List ℕ) → length (lines_of bytes) ≤ length bytes + 1
 few_lines bytes =
     let parts = slice_split ends_line bytes in
-    omega (arith, length-append (whole_lines bytes) (line_of_part (last_part bytes)), length-take (length parts - 1) parts, short_part (last_part bytes),
-      length-slice_split ends_line bytes, count_by-le-length ends_line bytes)
+    omega (
+      arith,
+      length-append (whole_lines bytes) (line_of_part (last_part bytes)),
+      length-take (length parts - 1) parts,
+      short_part (last_part bytes),
+      length-slice_split ends_line bytes,
+      count_by-le-length ends_line bytes,
+    )
 
 -- no more lines are given than bytes may be taken, but for a last one
 pub few_given : (graph : Tfpg) (before now : Streams) (lines : Buffered) (diagnoser : Diagnoser) → IsUnderWay graph before now lines diagnoser → lines.number ≤ 2 ^ 32 + 1

@@ -88,7 +88,7 @@ impl Diagnoser {
         requires event { IsEventOf self.old.graph event }
         ensures told { (before : Progress) → HasHeard self.old before event
             → IfOk result (λ round. IsRound self.old.graph 0 budget before.rounds self.old.log line round
-                × StandsFor self.new (record { rounds = before.rounds ++ round ∷ []; log = self.old.log })) }
+            × StandsFor self.new (record { rounds = before.rounds ++ round ∷ []; log = self.old.log })) }
         ensures of_graph { IfOk result (IsRoundOf (sizes_of self.old.graph)) }
         ensures graph { self.new.graph ≡ self.old.graph }
         ensures log { self.new.log ≡ self.old.log }

@@ -8,7 +8,7 @@ ghost use Rattle.tfpg.specs.EndsOf.{end_of_fault, end_of_shelf, end_of_refusal};
 ghost use Rattle.tfpg.specs.declared.end.End.TheVariants as ends;
 
 use itoa::Buffer;
-use tfpg_base::{ShelfFault, Failed, LineFault, NoMemory};
+use tfpg_base::{Failed, LineFault, NoMemory, ShelfFault};
 use tfpg_graph::{GraphCause, GraphRefusal};
 
 /// Why the words of the command line are refused.

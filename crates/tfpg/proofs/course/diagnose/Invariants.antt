@@ -8,9 +8,9 @@ use Rattle.tfpg.proofs.course.diagnose.Given as goal
 abbrev pub invariant-loop-lines : goal.invariant-loop-lines
 invariant-loop-lines g l = record {
   under : IsUnderWay l.fn.graph
-    (streams (g.S.Source.left l.fn.input) (g.K.Sink.holds l.fn.out) (g.S.Source.faults l.fn.input) (g.K.Sink.faults l.fn.out))
-    (streams (g.S.Source.left l.input) (g.K.Sink.holds l.out) (g.S.Source.faults l.input) (g.K.Sink.faults l.out))
-    l.lines l.diagnoser;
+      (streams (g.S.Source.left l.fn.input) (g.K.Sink.holds l.fn.out) (g.S.Source.faults l.fn.input) (g.K.Sink.faults l.fn.out))
+      (streams (g.S.Source.left l.input) (g.K.Sink.holds l.out) (g.S.Source.faults l.input) (g.K.Sink.faults l.out))
+      l.lines l.diagnoser;
   ready : IsReady l.diagnoser;
 }
 

@@ -8,12 +8,12 @@ pub returns-in-Refused-clause-block : goal.returns-in-Refused-clause-block
 returns-in-Refused-clause-block c before stands short =
     let told = c.in_ok-refusal.ensures.told before stands in
     IfOk-weaker c.refused_block.result _ _ (λ block e.
-      block_of_refusal c.args.self.now.graph before c.args.number c.args.text.now c.in-Refused.refusal c.in_ok-refusal.field-0 block.items c.hear.new.self
-        short c.in-Refused.is told.0 told.1 e) c.refused_block.ensures
+    block_of_refusal c.args.self.now.graph before c.args.number c.args.text.now c.in-Refused.refusal c.in_ok-refusal.field-0 block.items c.hear.new.self
+    short c.in-Refused.is told.0 told.1 e) c.refused_block.ensures
 
 pub returns-in-Round-clause-block : goal.returns-in-Round-clause-block
 returns-in-Round-clause-block c before stands short =
     let told = c.in_ok-refusal.ensures.told before stands in
     IfOk-weaker c.round_block.result _ _ (λ block e.
-      block_of_round c.args.self.now.graph before c.args.number c.args.text.now c.in-Round.round c.in_ok-refusal.field-0 block.items c.hear.new.self
-        short c.in-Round.is told.0 told.1 (e ∙ ap (λ graph. round_text graph c.in-Round.round) c.in_ok-refusal.ensures.graph)) c.round_block.ensures
+    block_of_round c.args.self.now.graph before c.args.number c.args.text.now c.in-Round.round c.in_ok-refusal.field-0 block.items c.hear.new.self
+    short c.in-Round.is told.0 told.1 (e ∙ ap (λ graph. round_text graph c.in-Round.round) c.in_ok-refusal.ensures.graph)) c.round_block.ensures

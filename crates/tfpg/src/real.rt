@@ -1,0 +1,16 @@
+//! The outside as it is: standard input, standard output and files by name.
+//!
+//! These adapters are the trusted edge. They tell the contracts nothing of their content, so no clause sees which bytes
+//! reach the system or come from it. Each counts the faults that it raises, up to the last value of the count.
+
+mod fault_count;
+mod file_shelf;
+mod standard_input;
+mod standard_output;
+#[cfg(test)]
+mod tests;
+mod tries;
+
+pub(crate) use file_shelf::FileShelf;
+pub(crate) use standard_input::StandardInput;
+pub(crate) use standard_output::StandardOutput;

@@ -1,0 +1,106 @@
+//! The files of the system as a shelf.
+
+ghost use Rattle.std.specs.Prelude.{◌≡◌, ◌≢◌, ◌≤◌, ◌^◌, [], length, Err, OnOk, IsErrOf};
+
+use super::fault_count::FaultCount;
+use super::tries::read_uncut;
+use std::alloc::Global;
+use std::fs;
+use std::io::Read;
+use std::rt::Files;
+use tfpg_base::{Shelf, ShelfFault};
+
+/// How many bytes a file may have.
+const LONGEST_FILE: usize = 1 << 24;
+
+/// How many bytes of a file are read at once.
+const BLOCK: usize = 4096;
+
+/// The files of the system by name. A name is a path.
+#[derive(Drop)]
+pub(crate) struct FileShelf<'a, R> {
+    files: &'a R,
+    faults: FaultCount,
+}
+
+impl<'a, R> FileShelf<'a, R> {
+    /// The shelf of these files, which has not failed.
+    pub(crate) fn new(files: &'a R) -> FileShelf<'a, R> {
+        FileShelf {
+            files,
+            faults: FaultCount::new(),
+        }
+    }
+
+    /// How often fetching has failed.
+    pub(crate) fn faults(&self) -> u64
+        ensures { result ≡ self.now.faults.count }
+    {
+        self.faults.count
+    }
+}
+
+impl<'a, R: Files> Shelf for FileShelf<'a, R> {
+    ghost use Rattle.std.specs.Prelude.{None};
+
+    ghost faults = { λ shelf. shelf.faults.count };
+
+    ghost files = { λ _. None };
+
+    ghost asked = { λ _. None };
+
+    fn fetch(&mut self, _alloc: Global, name: &str, into: &mut Vec<u8>) -> Result<(), ShelfFault> {
+        into.clear();
+        let answer = read_file(self.files, name, into);
+        if answer == Err(ShelfFault::Failed) {
+            self.faults.raise();
+        }
+        answer
+    }
+}
+
+/// Reads the file of that name into the empty room.
+fn read_file<R: Files>(files: &R, name: &str, into: &mut Vec<u8>) -> Result<(), ShelfFault>
+    requires { into.old.items ≡ [] }
+    ensures small { OnOk result (length into.new.items ≤ 2 ^ 24) }
+    ensures too_long { IsErrOf result ShelfFault.TooLong → length into.new.items ≡ 2 ^ 24 }
+{
+    match fs::open(files, name) {
+        Ok(mut file) => read_whole(&mut file, into),
+        Err(_) => Err(ShelfFault::Failed),
+    }
+}
+
+/// Reads to the end of the reader, or past what a file may have.
+fn read_whole<R: Read>(reader: &mut R, into: &mut Vec<u8>) -> Result<(), ShelfFault>
+    requires { into.old.items ≡ [] }
+    ensures small { OnOk result (length into.new.items ≤ 2 ^ 24) }
+    ensures too_long { IsErrOf result ShelfFault.TooLong → length into.new.items ≡ 2 ^ 24 }
+{
+    let mut room = [0; BLOCK];
+    for _ in 0..u64::MAX {
+        match read_uncut(reader, &mut room) {
+            Ok(0) => return Ok(()),
+            Ok(count) => append(&room[..count], into)?,
+            Err(_) => return Err(ShelfFault::Failed),
+        }
+    }
+    Err(ShelfFault::Failed)
+}
+
+/// Appends a part of a file, as far as a file may go.
+fn append(part: &[u8], into: &mut Vec<u8>) -> Result<(), ShelfFault>
+    requires { length into.old.items ≤ 2 ^ 24 }
+    ensures small { OnOk result (length into.new.items ≤ 2 ^ 24) }
+    ensures too_long { IsErrOf result ShelfFault.TooLong → length into.new.items ≡ 2 ^ 24 }
+{
+    let (kept, more) = part.split_at(part.len().min(LONGEST_FILE - into.len()));
+    if into.extend_from_slice(kept).is_err() {
+        return Err(ShelfFault::NoMemory);
+    }
+    if more.is_empty() {
+        Ok(())
+    } else {
+        Err(ShelfFault::TooLong)
+    }
+}

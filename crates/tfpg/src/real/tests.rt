@@ -1,0 +1,114 @@
+ghost use Rattle.std.specs.Prelude.{◌≡◌, IfOk};
+
+use super::*;
+use std::io::{Error, ErrorKind, Read, Write};
+use std::test::Fail;
+use std::{fs, io};
+use tfpg_base::{Failed, Shelf, ShelfFault, Sink, Source};
+
+/// Reads and writes, of which the first is cut off by a signal, the second goes well, and the others fail.
+#[derive(Drop)]
+struct Faulty {
+    calls: u8,
+}
+
+impl Faulty {
+    /// How the next call ends: with this count, if it goes well.
+    fn next_call(&mut self, count: usize) -> io::Result<usize>
+        ensures { IfOk result (λ done. done ≡ count) }
+    {
+        self.calls = self.calls.saturating_add(1);
+        match self.calls {
+            1 => Err(Error::from(ErrorKind::Interrupted)),
+            2 => Ok(count),
+            _ => Err(Error::from(ErrorKind::BrokenPipe)),
+        }
+    }
+}
+
+impl Read for Faulty {
+    fn read(&mut self, room: &mut [u8]) -> io::Result<usize> {
+        room.fill(b'f');
+        self.next_call(room.len())
+    }
+}
+
+impl Write for Faulty {
+    fn write(&mut self, piece: &[u8]) -> io::Result<usize> {
+        self.next_call(piece.len())
+    }
+
+    fn flush(&mut self) -> io::Result<()> {
+        Ok(())
+    }
+}
+
+#[test]
+fn input_is_taken_in_pieces(rt: HostRuntime) {
+    let mut input = StandardInput::new(b"abcde".as_slice());
+    let mut room = [0; 3];
+    for (count, front) in [(3, b"abc"), (2, b"dec"), (0, b"dec")] {
+        assert_eq!(rt; input.take(&mut room), Ok(count));
+        assert_eq!(rt; room.as_slice(), front.as_slice());
+    }
+    let mut faulty = StandardInput::new(Faulty { calls: 0 });
+    for taken in [Ok(3), Err(Failed), Err(Failed)] {
+        assert_eq!(rt; faulty.take(&mut room), taken);
+    }
+    assert_eq!(rt; faulty.faults(), 2);
+}
+
+#[test]
+fn output_is_put_in_pieces(rt: HostRuntime) {
+    let mut room = [b'-'; 5];
+    let mut output = StandardOutput::new(room.as_mut_slice());
+    for (piece, put) in [
+        (b"abc".as_slice(), Ok(3)),
+        (b"", Ok(0)),
+        (b"def", Ok(2)),
+        (b"f", Err(Failed)),
+    ] {
+        assert_eq!(rt; output.put(piece), put);
+    }
+    assert_eq!(rt; output.faults(), 1);
+    assert_eq!(rt; room.as_slice(), b"abcde".as_slice());
+    let mut faulty = StandardOutput::new(Faulty { calls: 0 });
+    for put in [Ok(3), Err(Failed), Err(Failed)] {
+        assert_eq!(rt; faulty.put(b"abc"), put);
+    }
+    assert_eq!(rt; faulty.faults(), 2);
+}
+
+#[test]
+fn files_are_fetched(rt: HostRuntime) -> Result<(), Fail> {
+    let mut content = vec![in rt.alloc(); b'7'; (1 << 24) + 1]?;
+    fs::write(&rt, "too_long.file_shelf", content.as_slice())?;
+    content.truncate(1 << 24);
+    fs::write(&rt, "longest.file_shelf", content.as_slice())?;
+    fs::write(&rt, "short.file_shelf", "two\nlines\n")?;
+    let mut shelf = FileShelf::new(&rt);
+    let mut file = Vec::new(rt.alloc());
+    for (name, fetched, length) in [
+        ("short.file_shelf", Ok(()), 10),
+        ("longest.file_shelf", Ok(()), 1 << 24),
+        ("too_long.file_shelf", Err(ShelfFault::TooLong), 1 << 24),
+        ("absent.file_shelf", Err(ShelfFault::Failed), 0),
+        (".", Err(ShelfFault::Failed), 0),
+    ] {
+        assert_eq!(rt; shelf.fetch(rt.alloc(), name, &mut file), fetched, "{name}");
+        assert_eq!(rt; file.len(), length, "{name}");
+    }
+    assert_eq!(rt; shelf.faults(), 2);
+    shelf
+        .fetch(rt.alloc(), "short.file_shelf", &mut file)
+        .map_err(|_| "short")?;
+    assert_eq!(rt; file.as_slice(), b"two\nlines\n".as_slice());
+    for name in [
+        "too_long.file_shelf",
+        "longest.file_shelf",
+        "short.file_shelf",
+    ] {
+        fs::remove_file(&rt, name)?;
+    }
+    Ok(())
+}

@@ -1,0 +1,32 @@
+//! Reads and writes that are tried again where a signal cut them off.
+
+ghost use Rattle.std.specs.Prelude.{◌≤◌, length, IfOk};
+
+use std::io;
+use std::io::{Error, ErrorKind, Read, Write};
+
+/// Reads once, and as often again as a signal cuts the read off. The count is 0 only at the end or for no room.
+pub(crate) fn read_uncut<R: Read>(reader: &mut R, room: &mut [u8]) -> io::Result<usize>
+    ensures { IfOk result (λ count. count ≤ length room.old) }
+{
+    for _ in 0..u64::MAX {
+        match reader.read(room) {
+            Err(error) if error.kind() == ErrorKind::Interrupted => {}
+            answer => return answer,
+        }
+    }
+    Err(Error::from(ErrorKind::TimedOut))
+}
+
+/// Writes once, and as often again as a signal cuts the write off.
+pub(crate) fn write_uncut<W: Write>(writer: &mut W, piece: &[u8]) -> io::Result<usize>
+    ensures { IfOk result (λ count. count ≤ length piece.now) }
+{
+    for _ in 0..u64::MAX {
+        match writer.write(piece) {
+            Err(error) if error.kind() == ErrorKind::Interrupted => {}
+            answer => return answer,
+        }
+    }
+    Err(Error::from(ErrorKind::TimedOut))
+}
