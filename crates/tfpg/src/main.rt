@@ -11,6 +11,8 @@ mod fetching;
 mod output;
 mod real;
 mod run;
+#[cfg(test)]
+mod tests;
 
 use end::{End, UsageCause};
 use real::{FileShelf, StandardInput, StandardOutput};
