@@ -20,6 +20,17 @@ const LOG: &[u8] = b"5 tick\n10 alarm E\n9 tick\n12 tick\n";
 const REPORT: &[u8] =
     b"report 1 k 0 budget 1000\nround 1 1 5\nranked 0 cost 0 robust 1/1 set -\ncounts ranked 1 covered 0 rejected 0 open 0\nround 2 2 10\nhyp 0\ncycle 2\nwhy unreached E 10\nwhy upto 2\nrejected 0 set -\ncounts ranked 0 covered 0 rejected 1 open 0\nrefused 3 NotBuilt\nround 3 4 12\ncounts ranked 0 covered 0 rejected 1 open 0\n";
 
+/// Words that are not the one shape.
+const REFUSED_WORDS: [&[&str]; 7] = [
+    &[],
+    &["diagnose"],
+    &["diagnose", "--k", "1", "g"],
+    &["diagnose", "--k=0", "g"],
+    &["diagnose", "--k", "0", "-g"],
+    &["check", "--k", "0", "g"],
+    &["diagnose", "--k", "0", "g", "h"],
+];
+
 /// The words of a command line.
 fn words_of(alloc: Global, texts: &[&str]) -> Result<Vec<String>, AllocError> {
     let mut words = Vec::new(alloc);
@@ -103,15 +114,7 @@ fn words_and_files_that_are_refused(rt: HostRuntime) -> Result<(), Fail> {
         line: 0,
         cause: GraphCause::NotBuilt,
     };
-    for words in [
-        [].as_slice(),
-        ["diagnose"].as_slice(),
-        ["diagnose", "--k", "1", "g"].as_slice(),
-        ["diagnose", "--k=0", "g"].as_slice(),
-        ["diagnose", "--k", "0", "-g"].as_slice(),
-        ["check", "--k", "0", "g"].as_slice(),
-        ["diagnose", "--k", "0", "g", "h"].as_slice(),
-    ] {
+    for words in REFUSED_WORDS {
         assert_eq!(rt; run_on(rt.alloc(), words, GRAPH, &[])?, usage);
     }
     let words = ["diagnose", "--k", "0", "g"];
