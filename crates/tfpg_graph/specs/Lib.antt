@@ -4,6 +4,7 @@ pub use Rattle.tfpg_base.specs.Set
 pub mod Graph
 pub mod Reach
 pub mod Valid
+pub mod ZeroCycle
 pub mod Text
 pub mod Small
 -- What the contracts of the reader's own parts cite, and no public contract does.
