@@ -3,7 +3,8 @@ use Rattle.std.proofs.Common.{◌≡◌, ℕ, suc, ◌≤◌, length, All, IsTru
 use Rattle.std.proofs.lemmas.List.Elements.{All-contains}
 use Rattle.tfpg_graph.specs.Graph.{Tfpg, is_and}
 use Rattle.tfpg_graph.specs.Valid.{WalksInNoTime}
-use Rattle.tfpg_graph.specs.Indexes.{IsValidSoFar, HasIncomingBefore}
+use Rattle.tfpg_graph.specs.Indexes.{IsValidSoFar}
+use Rattle.tfpg_graph.specs.Faults.{HasIncomingBefore}
 use Rattle.tfpg_graph.specs.Small.{IsSmallGraph}
 
 -- where each edge takes some time, no walk takes none

@@ -1,10 +1,10 @@
 -- What is declared so far, seen as a graph, and the indexes by which it is looked up.
-use Rattle.std.specs.Prelude.{◌≡◌, ◌≢◌, ℕ, ◌<◌, ◌≤◌, List, [], ◌∷◌, ◌++◌, length, map, Option, Some, slice_get, All, AllPairs, IsTrue, not}
+use Rattle.std.specs.Prelude.{◌≡◌, ◌≢◌, ℕ, ◌<◌, ◌≤◌, List, [], ◌∷◌, ◌++◌, length, map, Option, Some, slice_get, All, AllPairs, IsTrue}
 use Rattle.tfpg_base.specs.Words.{is_name}
 use Rattle.tfpg_graph.specs.declared.kind.Kind.{Kind}
 use Rattle.tfpg_graph.specs.declared.edge.Edge.{Edge}
 use Rattle.tfpg_graph.specs.declared.declared.Declared.TheInside.{Inside}
-use Rattle.tfpg_graph.specs.Graph.{Tfpg, is_failure, is_kind_at, failures, incoming, place_of_failure}
+use Rattle.tfpg_graph.specs.Graph.{Tfpg, failures, incoming, place_of_failure}
 use Rattle.tfpg_graph.specs.Valid.{HasValidNumber, IsValidEdge, IsSamePair}
 
 -- before anything is declared
@@ -22,14 +22,6 @@ with_edge graph edge = record { nodes = graph.nodes; edges = graph.edges ++ edge
 -- the graph with one more mode behind the others
 abbrev pub with_mode : Tfpg → List ℕ → Tfpg
 with_mode graph name = record { nodes = graph.nodes; edges = graph.edges; modes = graph.modes ++ name ∷ [] }
-
--- each discrepancy before this number has an edge into it
-abbrev pub HasIncomingBefore : Tfpg → ℕ → Type 0
-HasIncomingBefore graph end = (node : ℕ) → node < end → IsTrue (not (is_kind_at is_failure graph node)) → incoming graph node ≢ []
-
--- the node of this number is a discrepancy with no edge into it
-abbrev pub LacksIncoming : Tfpg → ℕ → Type 0
-LacksIncoming graph node = (node < length graph.nodes) × IsTrue (not (is_kind_at is_failure graph node)) × (incoming graph node ≡ [])
 
 -- For each node the edges into it, the nodes that are failure modes, and for each node its place among these.
 pub record IsIndexed (graph : Tfpg) (rows : List (List ℕ)) (failed : List ℕ) (places : List (Option ℕ)) : Type 0 where

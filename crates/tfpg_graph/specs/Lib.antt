@@ -6,6 +6,10 @@ pub mod Reach
 pub mod Valid
 pub mod ZeroCycle
 pub mod Text
+pub mod Statements
+pub mod Declares
+pub mod Causes
+pub mod Faults
 pub mod Small
 -- What the contracts of the reader's own parts cite, and no public contract does.
 pub mod Indexes
@@ -13,3 +17,4 @@ pub mod Shapes
 pub mod NewNode
 pub mod NewEdge
 pub mod Progress
+pub mod Turns

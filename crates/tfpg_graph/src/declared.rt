@@ -39,7 +39,8 @@ impl Model for Declared {
 }
 
 impl Declared {
-    ghost use Rattle.tfpg_graph.specs.Indexes.{nothing_declared, with_node, with_edge, with_mode, HasIncomingBefore, LacksIncoming, IsValidSoFar};
+    ghost use Rattle.tfpg_graph.specs.Indexes.{nothing_declared, with_node, with_edge, with_mode, IsValidSoFar};
+    ghost use Rattle.tfpg_graph.specs.Faults.{HasIncomingBefore, LacksIncoming};
 
     /// Nothing is declared. Takes no memory.
     pub(crate) fn new(alloc: Global) -> Declared

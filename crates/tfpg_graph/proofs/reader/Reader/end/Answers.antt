@@ -1,5 +1,5 @@
 use Rattle.std.proofs.Common.{rules, ◌≡◌, length, sym, subst}
-use Rattle.tfpg_graph.specs.Indexes.{HasIncomingBefore}
+use Rattle.tfpg_graph.specs.Faults.{HasIncomingBefore}
 use Rattle.tfpg_graph.specs.Progress.{IsDeclaredBy}
 use Rattle.tfpg_graph.specs.Small.{IsSmallGraph}
 use Rattle.tfpg_graph.proofs.Complete.{IsSmallGraph-complete}

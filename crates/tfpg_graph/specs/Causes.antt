@@ -1,0 +1,199 @@
+-- What is wrong with one line of a text, by the lines before it. Each cause has its condition, in the order in which they are tested.
+use Rattle.std.specs.Prelude.{◌≡◌, ℕ, zero, suc, ◌<◌, List, [], ◌∷◌, length, take, Bool, true, false, ◌&&◌, ◌||◌, not, nat_lt, nat_le, if◌then◌else◌, Option, Some, None, is_some, is_none, option_and_then, slice_index_or, codes, bytes_eq}
+use Rattle.std.specs.Option.{option_map_or}
+use Rattle.std.specs.List.{list_all, list_any}
+use Rattle.std.specs.Str.Parse.{digits_value}
+use Rattle.tfpg_base.specs.Words.{is_name, is_number}
+use Rattle.tfpg_graph.specs.declared.cause.GraphCause.{GraphCause}
+use Rattle.tfpg_graph.specs.declared.cause.GraphCause.TheVariants.{BadHeader, BadLine, BadName, DuplicateName, UnknownName, BadNumber, NumberTooLarge, MinOverMax, EdgeIntoFailure, SelfEdge, DuplicateEdge, NoModes, TooManyNodes, TooManyFailures, TooManyEdges, TooManyModes, TooManyIncoming, AfterEnd}
+use Rattle.tfpg_graph.specs.Graph.{Tfpg, is_kind_at, is_failure, failures, incoming, node_named, mode_named, edge_from_to}
+use Rattle.tfpg_graph.specs.Text.{header}
+use Rattle.tfpg_graph.specs.Valid.{most_time, most_rarity}
+use Rattle.tfpg_graph.specs.Statements.{NodeWords, FailureWords, OrWords, AndWords, Statement, DeclaresMode, DeclaresNode, DeclaresEdge, Ends, said_by, said_by_all, is_passed_over, declares_mode, declares_edge, ends_text}
+use Rattle.tfpg_graph.specs.Declares.{modes_listed, ends_named, graph_said}
+
+-- the words in the place of a name
+abbrev pub names_in : Statement → List (List ℕ)
+names_in (DeclaresMode name) = name ∷ []
+names_in (DeclaresNode name words) = name ∷ []
+names_in (DeclaresEdge source target tmin tmax modes) = source ∷ target ∷ modes_listed modes
+names_in Ends = []
+
+-- the word for a lag, with the greatest lag
+abbrev pub lag_number : Option (List ℕ) → List (List ℕ × ℕ)
+lag_number None = []
+lag_number (Some lag) = (lag, most_time) ∷ []
+
+-- the word for a node's number, with the greatest that it may be
+abbrev pub node_number : NodeWords → List (List ℕ × ℕ)
+node_number (FailureWords rarity) = (rarity, most_rarity) ∷ []
+node_number (OrWords lag) = lag_number lag
+node_number (AndWords lag) = lag_number lag
+
+-- the words in the place of a number, each with the greatest that it may be; `inf` for a greatest delay is none of them
+abbrev pub numbers_in : Statement → List (List ℕ × ℕ)
+numbers_in (DeclaresMode name) = []
+numbers_in (DeclaresNode name words) = node_number words
+numbers_in (DeclaresEdge source target tmin tmax modes) = (tmin, most_time) ∷ (if bytes_eq tmax (codes "inf") then [] else (tmax, most_time) ∷ [])
+numbers_in Ends = []
+
+-- one of them stands twice
+abbrev pub has_twice : List (List ℕ) → Bool
+has_twice [] = false
+has_twice (name ∷ others) = list_any (bytes_eq name) others || has_twice others
+
+-- It stands out of its order: a mode behind a node or an edge, a node behind an edge, or anything else before the first mode.
+abbrev pub is_out_of_order : List Statement → Statement → Bool
+is_out_of_order before (DeclaresMode name) = list_any (λ said. not (declares_mode said)) before
+is_out_of_order before (DeclaresNode name words) = not (list_any declares_mode before) || list_any declares_edge before
+is_out_of_order before (DeclaresEdge source target tmin tmax modes) = not (list_any declares_mode before)
+is_out_of_order before Ends = not (list_any declares_mode before)
+
+-- a word in the place of a name is not one
+abbrev pub has_bad_name : Statement → Bool
+has_bad_name said = not (list_all is_name (names_in said))
+
+-- the declared name is taken, or a mode is named twice
+abbrev pub has_duplicate_name : Tfpg → Statement → Bool
+has_duplicate_name graph (DeclaresMode name) = is_some (mode_named graph name)
+has_duplicate_name graph (DeclaresNode name words) = is_some (node_named graph name)
+has_duplicate_name graph (DeclaresEdge source target tmin tmax modes) = has_twice (modes_listed modes)
+has_duplicate_name graph Ends = false
+
+-- an end of the edge is no declared node, or one of its modes no declared mode
+abbrev pub has_unknown_name : Tfpg → Statement → Bool
+has_unknown_name graph (DeclaresMode name) = false
+has_unknown_name graph (DeclaresNode name words) = false
+has_unknown_name graph (DeclaresEdge source target tmin tmax modes) =
+    is_none (node_named graph source) || (is_none (node_named graph target) || list_any (λ name. is_none (mode_named graph name)) (modes_listed modes))
+has_unknown_name graph Ends = false
+
+-- a word in the place of a number is not one
+abbrev pub has_bad_number : Statement → Bool
+has_bad_number said = not (list_all (λ number. is_number number.0) (numbers_in said))
+
+-- a number is above the greatest that it may be
+abbrev pub has_large_number : Statement → Bool
+has_large_number said = list_any (λ number. nat_lt number.1 (digits_value 10 number.0)) (numbers_in said)
+
+-- the least delay is above the greatest
+abbrev pub has_min_over_max : Statement → Bool
+has_min_over_max (DeclaresMode name) = false
+has_min_over_max (DeclaresNode name words) = false
+has_min_over_max (DeclaresEdge source target tmin tmax modes) = not (bytes_eq tmax (codes "inf")) && nat_lt (digits_value 10 tmax) (digits_value 10 tmin)
+has_min_over_max Ends = false
+
+-- the edge goes into a failure mode
+abbrev pub enters_failure : Tfpg → Statement → Bool
+enters_failure graph (DeclaresMode name) = false
+enters_failure graph (DeclaresNode name words) = false
+enters_failure graph (DeclaresEdge source target tmin tmax modes) = option_map_or (is_kind_at is_failure graph) (node_named graph target) false
+enters_failure graph Ends = false
+
+-- the edge leads back to its source
+abbrev pub is_self_edge : Statement → Bool
+is_self_edge (DeclaresMode name) = false
+is_self_edge (DeclaresNode name words) = false
+is_self_edge (DeclaresEdge source target tmin tmax modes) = bytes_eq source target
+is_self_edge Ends = false
+
+-- an earlier edge has the same source and target
+abbrev pub is_second_edge : Tfpg → Statement → Bool
+is_second_edge graph (DeclaresMode name) = false
+is_second_edge graph (DeclaresNode name words) = false
+is_second_edge graph (DeclaresEdge source target tmin tmax modes) =
+    is_some (option_and_then (λ ends. edge_from_to graph ends.0 ends.1) (ends_named graph source target))
+is_second_edge graph Ends = false
+
+-- the edge is active in no mode
+abbrev pub names_no_mode : Statement → Bool
+names_no_mode (DeclaresMode name) = false
+names_no_mode (DeclaresNode name words) = false
+names_no_mode (DeclaresEdge source target tmin tmax modes) = bytes_eq modes (codes "-")
+names_no_mode Ends = false
+
+-- there is no room for one more node
+abbrev pub lacks_node_room : Tfpg → Statement → Bool
+lacks_node_room graph (DeclaresMode name) = false
+lacks_node_room graph (DeclaresNode name words) = nat_le 512 (length graph.nodes)
+lacks_node_room graph (DeclaresEdge source target tmin tmax modes) = false
+lacks_node_room graph Ends = false
+
+abbrev pub are_failure_words : NodeWords → Bool
+are_failure_words (FailureWords rarity) = true
+are_failure_words (OrWords lag) = false
+are_failure_words (AndWords lag) = false
+
+-- there is no room for one more failure mode
+abbrev pub lacks_failure_room : Tfpg → Statement → Bool
+lacks_failure_room graph (DeclaresMode name) = false
+lacks_failure_room graph (DeclaresNode name words) = are_failure_words words && nat_le 64 (length (failures graph))
+lacks_failure_room graph (DeclaresEdge source target tmin tmax modes) = false
+lacks_failure_room graph Ends = false
+
+-- there is no room for one more edge
+abbrev pub lacks_edge_room : Tfpg → Statement → Bool
+lacks_edge_room graph (DeclaresMode name) = false
+lacks_edge_room graph (DeclaresNode name words) = false
+lacks_edge_room graph (DeclaresEdge source target tmin tmax modes) = nat_le 2048 (length graph.edges)
+lacks_edge_room graph Ends = false
+
+-- there is no room for one more mode
+abbrev pub lacks_mode_room : Tfpg → Statement → Bool
+lacks_mode_room graph (DeclaresMode name) = nat_le 64 (length graph.modes)
+lacks_mode_room graph (DeclaresNode name words) = false
+lacks_mode_room graph (DeclaresEdge source target tmin tmax modes) = false
+lacks_mode_room graph Ends = false
+
+-- there is no room for one more edge into its target
+abbrev pub lacks_incoming_room : Tfpg → Statement → Bool
+lacks_incoming_room graph (DeclaresMode name) = false
+lacks_incoming_room graph (DeclaresNode name words) = false
+lacks_incoming_room graph (DeclaresEdge source target tmin tmax modes) = option_map_or (λ node. nat_le 32 (length (incoming graph node))) (node_named graph target) false
+lacks_incoming_room graph Ends = false
+
+-- the cause, where its condition holds
+abbrev pub caused_where : Bool → GraphCause → Option GraphCause
+caused_where holds cause = if holds then Some cause else None
+
+-- the first of these that holds
+abbrev pub first_cause : List (Option GraphCause) → Option GraphCause
+first_cause [] = None
+first_cause (Some cause ∷ others) = Some cause
+first_cause (None ∷ others) = first_cause others
+
+-- the causes that a statement can have, in the order in which they are tested
+abbrev pub causes : Bool → Tfpg → Statement → List (Option GraphCause)
+causes out_of_order graph said =
+    caused_where out_of_order BadLine
+    ∷ caused_where (has_bad_name said) BadName
+    ∷ caused_where (has_duplicate_name graph said) DuplicateName
+    ∷ caused_where (has_unknown_name graph said) UnknownName
+    ∷ caused_where (has_bad_number said) BadNumber
+    ∷ caused_where (has_large_number said) NumberTooLarge
+    ∷ caused_where (has_min_over_max said) MinOverMax
+    ∷ caused_where (enters_failure graph said) EdgeIntoFailure
+    ∷ caused_where (is_self_edge said) SelfEdge
+    ∷ caused_where (is_second_edge graph said) DuplicateEdge
+    ∷ caused_where (names_no_mode said) NoModes
+    ∷ caused_where (lacks_node_room graph said) TooManyNodes
+    ∷ caused_where (lacks_failure_room graph said) TooManyFailures
+    ∷ caused_where (lacks_edge_room graph said) TooManyEdges
+    ∷ caused_where (lacks_mode_room graph said) TooManyModes
+    ∷ caused_where (lacks_incoming_room graph said) TooManyIncoming
+    ∷ []
+
+-- the cause of a line that says this, or that has no shape
+abbrev pub cause_of_said : List Statement → Option Statement → Option GraphCause
+cause_of_said before None = Some BadLine
+cause_of_said before (Some said) = first_cause (causes (is_out_of_order before said) (graph_said before) said)
+
+-- The cause of a line behind the header, by what the lines before it say. Behind the end every line but one that is passed over is too much.
+abbrev pub cause_behind : List Statement → List ℕ → Option GraphCause
+cause_behind before line =
+    if is_passed_over line then None else (if list_any ends_text before then Some AfterEnd else cause_of_said before (said_by line))
+
+-- The cause of the line at this place, counted from 0. The first line is tested for the header alone.
+abbrev pub cause_at : List (List ℕ) → ℕ → Option GraphCause
+cause_at lines zero = if bytes_eq (slice_index_or lines 0 []) header then None else Some BadHeader
+cause_at lines (suc place) = cause_behind (said_by_all (take (suc place) lines)) (slice_index_or lines (suc place) [])

@@ -1,0 +1,85 @@
+-- Which graph the lines of a text declare. What has no value, as a word that is no number, declares nothing.
+use Rattle.std.specs.Prelude.{ℕ, ◌^◌, List, [], ◌∷◌, ◌==◌, ◌||◌, if◌then◌else◌, Option, Some, None, option_map, option_and_then, filter_map, codes, bytes_eq, sum_by}
+use Rattle.std.specs.List.{slice_split}
+use Rattle.tfpg_base.specs.Words.{number_of}
+use Rattle.tfpg_graph.specs.declared.kind.Kind.{Kind}
+use Rattle.tfpg_graph.specs.declared.kind.Kind.TheVariants.{Failure, Or, And}
+use Rattle.tfpg_graph.specs.declared.edge.Edge.{Edge}
+use Rattle.tfpg_graph.specs.Graph.{Tfpg, Node, node_named, mode_named}
+use Rattle.tfpg_graph.specs.Text.{all_modes}
+use Rattle.tfpg_graph.specs.Statements.{NodeWords, FailureWords, OrWords, AndWords, Statement, DeclaresMode, DeclaresNode, DeclaresEdge, Ends, said_by_all}
+
+-- a lag: none where there is no word for it
+abbrev pub lag_of_word : Option (List ℕ) → Option (Option ℕ)
+lag_of_word None = Some None
+lag_of_word (Some word) = option_map Some (number_of word)
+
+-- what the words say that a node is
+abbrev pub kind_of_words : NodeWords → Option Kind
+kind_of_words (FailureWords rarity) = option_map Failure (number_of rarity)
+kind_of_words (OrWords lag) = option_map Or (lag_of_word lag)
+kind_of_words (AndWords lag) = option_map And (lag_of_word lag)
+
+-- the mode that a line declares
+abbrev pub mode_declared : Statement → Option (List ℕ)
+mode_declared (DeclaresMode name) = Some name
+mode_declared (DeclaresNode name words) = None
+mode_declared (DeclaresEdge source target tmin tmax modes) = None
+mode_declared Ends = None
+
+-- the node that a line declares
+abbrev pub node_declared : Statement → Option Node
+node_declared (DeclaresMode name) = None
+node_declared (DeclaresNode name words) = option_map (λ kind. record { name = name; kind = kind }) (kind_of_words words)
+node_declared (DeclaresEdge source target tmin tmax modes) = None
+node_declared Ends = None
+
+-- a greatest delay, or `inf` for none
+abbrev pub tmax_of_word : List ℕ → Option (Option ℕ)
+tmax_of_word word = if bytes_eq word (codes "inf") then Some None else option_map Some (number_of word)
+
+-- the names in a word for modes, which is else `*` for all or `-` for none
+abbrev pub modes_listed : List ℕ → List (List ℕ)
+modes_listed word = if bytes_eq word (codes "*") || bytes_eq word (codes "-") then [] else slice_split (λ byte. byte == 44) word
+
+-- the bits of the modes that a word says
+abbrev pub modes_of_word : Tfpg → List ℕ → ℕ
+modes_of_word graph word = if bytes_eq word (codes "*") then all_modes graph else sum_by (λ mode. 2 ^ mode) (filter_map (mode_named graph) (modes_listed word))
+
+-- the delays that two words say
+abbrev pub delays_of_words : List ℕ → List ℕ → Option (ℕ × Option ℕ)
+delays_of_words tmin tmax = option_and_then (λ least. option_map (λ most. (least, most)) (tmax_of_word tmax)) (number_of tmin)
+
+-- the nodes of two names
+abbrev pub ends_named : Tfpg → List ℕ → List ℕ → Option (ℕ × ℕ)
+ends_named graph source target = option_and_then (λ from. option_map (λ to. (from, to)) (node_named graph target)) (node_named graph source)
+
+-- the edge that a line declares between nodes of the graph
+abbrev pub edge_declared : Tfpg → Statement → Option Edge
+edge_declared graph (DeclaresMode name) = None
+edge_declared graph (DeclaresNode name words) = None
+edge_declared graph (DeclaresEdge source target tmin tmax modes) =
+    option_and_then (λ ends. option_map (λ delays. record {
+      source = ends.0;
+      target = ends.1;
+      tmin = delays.0;
+      tmax = delays.1;
+      modes = modes_of_word graph modes;
+    }) (delays_of_words tmin tmax)) (ends_named graph source target)
+edge_declared graph Ends = None
+
+-- the modes and nodes that lines declare
+abbrev pub named_by : List Statement → Tfpg
+named_by said = record { nodes = filter_map node_declared said; edges = []; modes = filter_map mode_declared said }
+
+-- the graph that these statements declare
+abbrev pub graph_said : List Statement → Tfpg
+graph_said said = record {
+  nodes = filter_map node_declared said;
+  edges = filter_map (edge_declared (named_by said)) said;
+  modes = filter_map mode_declared said;
+}
+
+-- The graph that lines declare.
+abbrev pub declared_by : List (List ℕ) → Tfpg
+declared_by lines = graph_said (said_by_all lines)

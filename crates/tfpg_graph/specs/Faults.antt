@@ -1,0 +1,85 @@
+-- The first fault of a text.
+use Rattle.std.specs.Prelude.{◌≡◌, ◌≢◌, ◌⊎◌, ℕ, ◌+◌, ◌<◌, List, [], length, take, Bool, false, Option, Some, None, IsTrue, not, count_by, slice_index_or}
+use Rattle.std.specs.Option.{option_map_or}
+use Rattle.std.specs.List.{list_any}
+use Rattle.tfpg_base.specs.Lines.{lines_of}
+use Rattle.tfpg_graph.specs.declared.cause.GraphCause.TheVariants.{NoIncoming, ZeroCycle, MissingEnd}
+use Rattle.tfpg_graph.specs.declared.cause.GraphFault.{GraphFault}
+use Rattle.tfpg_graph.specs.Graph.{Tfpg, is_kind_at, is_failure, incoming}
+use Rattle.tfpg_graph.specs.ZeroCycle.{LiesOnZeroCycle}
+use Rattle.tfpg_graph.specs.Statements.{Statement, said_by, said_by_all, declares_node, declares_edge, ends_text}
+use Rattle.tfpg_graph.specs.Declares.{declared_by}
+use Rattle.tfpg_graph.specs.Causes.{cause_at}
+
+-- The places of the lines that are tested, counted from 0. The first is tested also where there is none.
+abbrev pub IsTested : List (List ℕ) → ℕ → Type 0
+IsTested lines place = (place ≡ 0) ⊎ (place < length lines)
+
+-- no line has a cause
+abbrev pub IsClean : List (List ℕ) → Type 0
+IsClean lines = (place : ℕ) → IsTested lines place → cause_at lines place ≡ None
+
+-- The line of the fault is the first that has a cause, and this is its first.
+pub record IsLineFault (lines : List (List ℕ)) (fault : GraphFault) : Type 0 where
+  pub place : ℕ
+  pub number : fault.line ≡ place + 1
+  pub tested : IsTested lines place
+  pub cause : cause_at lines place ≡ Some fault.cause
+  pub first : (earlier : ℕ) → earlier < place → cause_at lines earlier ≡ None
+
+-- whether a line says such a thing
+abbrev pub says : (Statement → Bool) → List ℕ → Bool
+says test line = option_map_or test (said_by line) false
+
+-- The line of this number, counted from 1, says such a thing, and so many lines before it do.
+pub record IsLineSaying (test : Statement → Bool) (lines : List (List ℕ)) (count line : ℕ) : Type 0 where
+  pub place : ℕ
+  pub number : line ≡ place + 1
+  pub within : place < length lines
+  pub here : IsTrue (says test (slice_index_or lines place []))
+  pub before : count_by (says test) (take place lines) ≡ count
+
+-- the node of this number is a discrepancy with no edge into it
+abbrev pub LacksIncoming : Tfpg → ℕ → Type 0
+LacksIncoming graph node = (node < length graph.nodes) × IsTrue (not (is_kind_at is_failure graph node)) × (incoming graph node ≡ [])
+
+-- each discrepancy before this number has an edge into it
+abbrev pub HasIncomingBefore : Tfpg → ℕ → Type 0
+HasIncomingBefore graph end = (node : ℕ) → node < end → IsTrue (not (is_kind_at is_failure graph node)) → incoming graph node ≢ []
+
+-- no edge lies on a cycle of edges that may take no time
+abbrev pub HasNoZeroCycle : Tfpg → Type 0
+HasNoZeroCycle graph = (number : ℕ) → LiesOnZeroCycle graph number → ⊥
+
+-- the line of the first discrepancy with no edge into it
+pub record IsIncomingFault (lines : List (List ℕ)) (fault : GraphFault) : Type 0 where
+  pub cause : fault.cause ≡ NoIncoming
+  pub node : ℕ
+  pub lacks : LacksIncoming (declared_by lines) node
+  pub first : HasIncomingBefore (declared_by lines) node
+  pub line : IsLineSaying declares_node lines node fault.line
+
+-- the line of the first edge on a cycle of edges that may take no time, where no discrepancy lacks an edge
+pub record IsCycleFault (lines : List (List ℕ)) (fault : GraphFault) : Type 0 where
+  pub cause : fault.cause ≡ ZeroCycle
+  pub incoming : HasIncomingBefore (declared_by lines) (length (declared_by lines).nodes)
+  pub edge : ℕ
+  pub lies : LiesOnZeroCycle (declared_by lines) edge
+  pub first : (earlier : ℕ) → earlier < edge → LiesOnZeroCycle (declared_by lines) earlier → ⊥
+  pub line : IsLineSaying declares_edge lines edge fault.line
+
+-- the line behind the last, where nothing else is wrong and no line ends the text
+pub record IsEndFault (lines : List (List ℕ)) (fault : GraphFault) : Type 0 where
+  pub cause : fault.cause ≡ MissingEnd
+  pub incoming : HasIncomingBefore (declared_by lines) (length (declared_by lines).nodes)
+  pub no_cycle : HasNoZeroCycle (declared_by lines)
+  pub no_end : list_any ends_text (said_by_all lines) ≡ false
+  pub line : fault.line ≡ length lines + 1
+
+-- what is wrong with a text none of whose lines has a cause
+abbrev pub IsWholeFault : List (List ℕ) → GraphFault → Type 0
+IsWholeFault lines fault = IsIncomingFault lines fault ⊎ (IsCycleFault lines fault ⊎ IsEndFault lines fault)
+
+-- The first fault of a text: that of its first line that has a cause, or else of the whole text.
+abbrev pub IsFirstFault : List ℕ → GraphFault → Type 0
+IsFirstFault text fault = IsLineFault (lines_of text) fault ⊎ (IsClean (lines_of text) × IsWholeFault (lines_of text) fault)

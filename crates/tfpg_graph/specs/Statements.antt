@@ -1,0 +1,113 @@
+-- What a line of a graph's text says by its words alone: no name is looked up, and no number is read.
+use Rattle.std.specs.Prelude.{ℕ, List, [], ◌∷◌, length, Bool, true, false, ◌&&◌, nat_lt, nat_le, ◌==◌, if◌then◌else◌, Option, Some, None, option_map, filter_map, codes, bytes_eq}
+use Rattle.std.specs.List.{list_any}
+use Rattle.tfpg_base.specs.Words.{words_of}
+use Rattle.tfpg_base.specs.Lines.{longest_line}
+use Rattle.tfpg_graph.specs.Text.{is_skipped}
+
+-- the words that say what a node is, with the word for its number
+pub data NodeWords : Type 0 where
+  FailureWords : (rarity : List ℕ) → NodeWords
+  OrWords : (lag : Option (List ℕ)) → NodeWords
+  AndWords : (lag : Option (List ℕ)) → NodeWords
+
+-- what a line behind the header says
+pub data Statement : Type 0 where
+  DeclaresMode : (name : List ℕ) → Statement
+  DeclaresNode : (name : List ℕ) (words : NodeWords) → Statement
+  DeclaresEdge : (source target tmin tmax modes : List ℕ) → Statement
+  Ends : Statement
+
+-- A discrepancy's last words: `hidden`, or `watch` and its lag.
+abbrev pub lag_in : List (List ℕ) → Option (Option (List ℕ))
+lag_in [] = None
+lag_in (state ∷ []) = if bytes_eq state (codes "hidden") then Some None else None
+lag_in (state ∷ lag ∷ []) = if bytes_eq state (codes "watch") then Some (Some lag) else None
+lag_in (state ∷ lag ∷ more ∷ others) = None
+
+-- the words behind `mode`
+abbrev pub mode_in : List (List ℕ) → Option Statement
+mode_in [] = None
+mode_in (name ∷ []) = Some (DeclaresMode name)
+mode_in (name ∷ more ∷ others) = None
+
+-- the words behind `failure`
+abbrev pub failure_in : List (List ℕ) → Option Statement
+failure_in [] = None
+failure_in (name ∷ []) = None
+failure_in (name ∷ rarity ∷ []) = Some (DeclaresNode name (FailureWords rarity))
+failure_in (name ∷ rarity ∷ more ∷ others) = None
+
+-- the words behind `or`
+abbrev pub or_in : List (List ℕ) → Option Statement
+or_in [] = None
+or_in (name ∷ others) = option_map (λ lag. DeclaresNode name (OrWords lag)) (lag_in others)
+
+-- the words behind `and`
+abbrev pub and_in : List (List ℕ) → Option Statement
+and_in [] = None
+and_in (name ∷ others) = option_map (λ lag. DeclaresNode name (AndWords lag)) (lag_in others)
+
+-- the words behind `edge`
+abbrev pub edge_in : List (List ℕ) → Option Statement
+edge_in [] = None
+edge_in (source ∷ []) = None
+edge_in (source ∷ target ∷ []) = None
+edge_in (source ∷ target ∷ tmin ∷ []) = None
+edge_in (source ∷ target ∷ tmin ∷ tmax ∷ []) = None
+edge_in (source ∷ target ∷ tmin ∷ tmax ∷ modes ∷ []) = Some (DeclaresEdge source target tmin tmax modes)
+edge_in (source ∷ target ∷ tmin ∷ tmax ∷ modes ∷ more ∷ others) = None
+
+-- the words behind `end`
+abbrev pub end_in : List (List ℕ) → Option Statement
+end_in [] = Some Ends
+end_in (more ∷ others) = None
+
+-- The shapes of a line behind the header: a keyword, and the words behind it.
+abbrev pub statement_in : List (List ℕ) → Option Statement
+statement_in [] = None
+statement_in (keyword ∷ others) =
+    if bytes_eq keyword (codes "mode") then mode_in others
+    else (if bytes_eq keyword (codes "failure") then failure_in others
+    else (if bytes_eq keyword (codes "or") then or_in others
+    else (if bytes_eq keyword (codes "and") then and_in others
+    else (if bytes_eq keyword (codes "edge") then edge_in others
+    else (if bytes_eq keyword (codes "end") then end_in others else None)))))
+
+-- What a line says: it is not too long, has no empty word, and has one of the shapes.
+abbrev pub said_by : List ℕ → Option Statement
+said_by line =
+    if nat_lt longest_line (length line) then None
+    else (if list_any (λ word. length word == 0) (words_of line) then None else statement_in (words_of line))
+
+-- what lines say, in order; the header, a line that is skipped, and one that has no shape say nothing
+abbrev pub said_by_all : List (List ℕ) → List Statement
+said_by_all lines = filter_map said_by lines
+
+-- A line behind the header that is empty or begins with `#` is passed over, unless it is too long.
+abbrev pub is_passed_over : List ℕ → Bool
+is_passed_over line = is_skipped line && nat_le (length line) longest_line
+
+abbrev pub declares_mode : Statement → Bool
+declares_mode (DeclaresMode name) = true
+declares_mode (DeclaresNode name words) = false
+declares_mode (DeclaresEdge source target tmin tmax modes) = false
+declares_mode Ends = false
+
+abbrev pub declares_node : Statement → Bool
+declares_node (DeclaresMode name) = false
+declares_node (DeclaresNode name words) = true
+declares_node (DeclaresEdge source target tmin tmax modes) = false
+declares_node Ends = false
+
+abbrev pub declares_edge : Statement → Bool
+declares_edge (DeclaresMode name) = false
+declares_edge (DeclaresNode name words) = false
+declares_edge (DeclaresEdge source target tmin tmax modes) = true
+declares_edge Ends = false
+
+abbrev pub ends_text : Statement → Bool
+ends_text (DeclaresMode name) = false
+ends_text (DeclaresNode name words) = false
+ends_text (DeclaresEdge source target tmin tmax modes) = false
+ends_text Ends = true
