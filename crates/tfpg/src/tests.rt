@@ -32,7 +32,7 @@ const REFUSED_WORDS: [&[&str]; 7] = [
 ];
 
 /// The words of a command line.
-fn words_of(alloc: Global, texts: &[&str]) -> Result<Vec<String>, AllocError> {
+pub(crate) fn words_of(alloc: Global, texts: &[&str]) -> Result<Vec<String>, AllocError> {
     let mut words = Vec::new(alloc);
     for text in texts {
         words.push(String::from_str(alloc, text)?)?;

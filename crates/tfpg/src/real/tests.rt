@@ -1,10 +1,17 @@
 ghost use Rattle.std.specs.Prelude.{◌≡◌, IfOk};
 
 use super::*;
-use std::io::{Error, ErrorKind, Read, Write};
+use crate::end::End;
+use crate::run::run;
+use crate::tests::words_of;
+use std::alloc::AllocError;
+use std::io::{Error, ErrorKind, PipeWriter, Read, Write};
 use std::test::Fail;
 use std::{fs, io};
 use tfpg_base::{Failed, Shelf, ShelfFault, Sink, Source};
+
+/// A file that opens and cannot be read, not even by root: the memory of this process, which has none at the address 0.
+const UNREADABLE_FILE: &str = "/proc/self/mem";
 
 /// Reads and writes, of which the first is cut off by a signal, the second goes well, and the others fail.
 #[derive(Drop)]
@@ -110,5 +117,53 @@ fn files_are_fetched(rt: HostRuntime) -> Result<(), Fail> {
     ] {
         fs::remove_file(&rt, name)?;
     }
+    Ok(())
+}
+
+/// A pipe that nobody reads.
+fn closed_pipe(rt: &HostRuntime) -> io::Result<PipeWriter> {
+    let (_reader, writer) = io::pipe(rt)?;
+    Ok(writer)
+}
+
+/// How a run on the file of this name ends.
+fn run_on<S: Source, K: Sink>(
+    rt: &HostRuntime,
+    name: &str,
+    input: &mut S,
+    out: &mut K,
+) -> Result<End, AllocError> {
+    let words = words_of(rt.alloc(), &["diagnose", "--k", "0", name])?;
+    let mut shelf = FileShelf::new(rt);
+    Ok(run(rt.alloc(), &words, &mut shelf, input, out))
+}
+
+#[test]
+fn a_closed_pipe_is_a_write_fault(rt: HostRuntime) -> Result<(), Fail> {
+    fs::write(&rt, "graph.closed_pipe", "tfpg 1\nmode N\nend\n")?;
+    let mut input = StandardInput::new(b"5 tick\n".as_slice());
+    let mut output = StandardOutput::new(closed_pipe(&rt)?);
+    let end = run_on(&rt, "graph.closed_pipe", &mut input, &mut output)?;
+    assert_eq!(rt; end, End::WriteFault);
+    assert_eq!(rt; end.status(), 6);
+    let mut line = Vec::new(rt.alloc());
+    end.line(&mut line)?;
+    assert_eq!(rt; line.as_slice(), b"write fault".as_slice());
+    assert_eq!(rt; output.faults(), 1);
+    Ok(fs::remove_file(&rt, "graph.closed_pipe")?)
+}
+
+#[test]
+fn an_unreadable_file_is_a_read_fault(rt: HostRuntime) -> Result<(), Fail> {
+    let mut input = StandardInput::new(fs::open(&rt, UNREADABLE_FILE)?);
+    let mut output = StandardOutput::new(closed_pipe(&rt)?);
+    let end = run_on(&rt, UNREADABLE_FILE, &mut input, &mut output)?;
+    assert_eq!(rt; end, End::ReadFault);
+    assert_eq!(rt; end.status(), 5);
+    // Neither was touched.
+    assert_eq!(rt; input.faults(), 0);
+    assert_eq!(rt; output.faults(), 0);
+    // Reading it fails as an input too.
+    assert_eq!(rt; input.take(&mut [0; 3]), Err(Failed));
     Ok(())
 }
