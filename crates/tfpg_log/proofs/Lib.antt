@@ -4,4 +4,12 @@ pub mod LogLines
 pub mod Judgements
 pub mod Accepting
 pub mod AndNodes
+pub mod WalkBack
+pub mod Causes
+pub mod InReach
 pub mod NoFailures
+pub mod Ages
+pub mod Trials
+pub mod MaximalRuns
+pub mod SpanRuns
+pub mod WindowRuns

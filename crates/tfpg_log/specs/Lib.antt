@@ -2,10 +2,12 @@ pub use Rattle.tfpg_base.specs.Trace
 pub use Rattle.tfpg_graph.specs.Graph
 pub use Rattle.tfpg_graph.specs.Reach
 pub use Rattle.tfpg_graph.specs.Valid
+pub use Rattle.tfpg_graph.specs.ZeroCycle
 pub mod Log
 pub mod Rules
 pub mod Explains
 pub mod Spans
+pub mod Runs
 pub mod Accepted
 pub mod AcceptedNow
 pub mod LogOfLines

@@ -1,15 +1,85 @@
 //! What the definitions of this crate come to, as functions that do nothing: each says its law in its clause.
 
-ghost use Rattle.std.specs.Prelude.{◌≡◌, ◌≤◌, List, [], All};
+ghost use Rattle.std.specs.Prelude.{◌≡◌, ℕ, ◌+◌, ◌≤◌, ◌↔◌, List, [], All, IsTrue, Some};
 ghost use Rattle.tfpg_base.specs.declared.activation.Activation.{Activation};
-ghost use Rattle.tfpg_graph.specs.Graph.{Tfpg};
+ghost use Rattle.tfpg_base.specs.Trace.{time_of};
+ghost use Rattle.tfpg_graph.specs.declared.edge.Edge.{Edge};
+ghost use Rattle.tfpg_graph.specs.Graph.{Tfpg, is_allowed, edges_into};
+ghost use Rattle.tfpg_graph.specs.Reach.{Reaches};
 ghost use Rattle.tfpg_graph.specs.Valid.{IsValid};
-ghost use Rattle.tfpg_log.specs.Log.{Logbook};
+ghost use Rattle.tfpg_graph.specs.ZeroCycle.{HasZeroOrder};
+ghost use Rattle.tfpg_log.specs.declared.span.Span.{Span};
+ghost use Rattle.tfpg_log.specs.declared.span.Window.{Window};
+ghost use Rattle.tfpg_log.specs.Log.{Logbook, now_of, mode_at};
+ghost use Rattle.tfpg_log.specs.Rules.{IsActive, HasAge, IsAge};
+ghost use Rattle.tfpg_log.specs.Spans.{span_number, span_at, is_allowed_at, are_allowed_at, window_of, joint_of};
+ghost use Rattle.tfpg_log.specs.Runs.{IsSpanOf, IsWindowRound};
 ghost use Rattle.tfpg_log.specs.Explains.{Explains};
 
-/// Without a failure mode nothing becomes active: in a valid graph whose edges all take time, the one trace that explains
-/// a log from the empty set is the empty trace.
+/// Nothing outside a set's reach becomes active: in a valid graph whose nodes can be ranked so that each edge that may
+/// take no time goes upwards, a trace that explains a log from a set activates only nodes that the set reaches.
+pub fn nothing_outside_reach()
+    ensures { (graph : Tfpg) (log : Logbook) (set : List ℕ) (trace : List Activation) →
+        IsValid graph → HasZeroOrder graph → Explains graph log set trace →
+        All (λ activation. Reaches graph set activation.node) trace }
+{}
+
+/// Without a failure mode nothing becomes active: in a valid graph whose nodes can be ranked so, the one trace that
+/// explains a log from the empty set is the empty trace.
+pub fn no_trace_without_failures()
+    ensures { (graph : Tfpg) (log : Logbook) (trace : List Activation) →
+        IsValid graph → HasZeroOrder graph → Explains graph log [] trace → trace ≡ [] }
+{}
+
+/// The same in a valid graph whose edges all take time, which needs no ranks.
 pub fn nothing_without_failures()
     ensures { (graph : Tfpg) (log : Logbook) (trace : List Activation) →
         IsValid graph → All (λ edge. 1 ≤ edge.tmin) graph.edges → Explains graph log [] trace → trace ≡ [] }
+{}
+
+/// An edge has an age exactly where its source is active and the mode of the instant allows the edge. There is then one
+/// greatest age, and what is said of the age is that it is at least so much. It is at most the time since the source
+/// became active, and from one instant to the next it grows by one, where the mode of the next allows the edge.
+pub fn age_is_the_greatest()
+    ensures begins { (log : Logbook) (trace : List Activation) (edge : Edge) (instant : ℕ) →
+        HasAge log trace edge instant 0
+        ↔ (IsActive trace edge.source instant × IsTrue (is_allowed edge (mode_at log instant))) }
+    ensures lesser { (log : Logbook) (trace : List Activation) (edge : Edge) (instant age : ℕ) →
+        HasAge log trace edge instant (age + 1) → HasAge log trace edge instant age }
+    ensures bounded { (log : Logbook) (trace : List Activation) (edge : Edge) (instant age start : ℕ) →
+        time_of trace edge.source ≡ Some start → HasAge log trace edge instant age → start + age ≤ instant }
+    ensures found { (log : Logbook) (trace : List Activation) (edge : Edge) (instant : ℕ) →
+        HasAge log trace edge instant 0 → (age : ℕ) × IsAge log trace edge instant age }
+    ensures only_one { (log : Logbook) (trace : List Activation) (edge : Edge) (instant one other : ℕ) →
+        IsAge log trace edge instant one → IsAge log trace edge instant other → one ≡ other }
+    ensures grows { (log : Logbook) (trace : List Activation) (edge : Edge) (instant age : ℕ) →
+        HasAge log trace edge (instant + 1) (age + 1)
+        ↔ (HasAge log trace edge instant age × IsTrue (is_allowed edge (mode_at log (instant + 1)))) }
+{}
+
+/// A span is a maximal run of instants of one mode, and up to now each instant lies in the span of its number.
+pub fn spans_are_runs_of_one_mode()
+    ensures run { (log : Logbook) (number horizon : ℕ) (span : Span) →
+        (span_at log number horizon ≡ Some span) ↔ IsSpanOf log number horizon span }
+    ensures everywhere { (log : Logbook) (instant horizon : ℕ) → instant ≤ horizon → horizon ≤ now_of log →
+        (span : Span) × (span_at log (span_number log instant) horizon ≡ Some span)
+        × (span.lo ≤ instant) × (instant ≤ span.hi) }
+{}
+
+/// A window is a maximal run of spans in whose modes an edge is active, or all edges into a node are, and there is one
+/// round each such span.
+pub fn windows_are_runs_of_spans()
+    ensures of_edge { (log : Logbook) (edge : Edge) (number horizon : ℕ) (window : Window) →
+        (window_of log edge number horizon ≡ Some window)
+        ↔ IsWindowRound log (is_allowed_at log edge) number horizon window }
+    ensures of_edge_found { (log : Logbook) (edge : Edge) (number horizon : ℕ) (span : Span) →
+        span_at log number horizon ≡ Some span → IsTrue (is_allowed edge span.mode) →
+        (window : Window) × (window_of log edge number horizon ≡ Some window) }
+    ensures of_node { (graph : Tfpg) (log : Logbook) (node number horizon : ℕ) (window : Window) →
+        (joint_of graph log node number horizon ≡ Some window)
+        ↔ IsWindowRound log (are_allowed_at graph log node) number horizon window }
+    ensures of_node_found { (graph : Tfpg) (log : Logbook) (node number horizon : ℕ) (span : Span) →
+        span_at log number horizon ≡ Some span →
+        All (λ edge. IsTrue (is_allowed edge span.mode)) (edges_into graph node) →
+        (window : Window) × (joint_of graph log node number horizon ≡ Some window) }
 {}

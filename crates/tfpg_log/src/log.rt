@@ -1,6 +1,7 @@
 //! The log of accepted lines, with its look-ups.
 
 ghost use Rattle.std.specs.Prelude.{◌≡◌, ◌≤◌, ◌<◌, ℕ, length, Some, None, IfOk, OnOk, OnErr, nat_le, count_by, vec_len};
+ghost use Rattle.tfpg_log.specs.declared.refusal.Refusal.{Refusal};
 ghost use Rattle.tfpg_log.specs.Log.{IsOf, now_of, event_at, alarm_of, with_event, is_mode_change};
 ghost use Rattle.tfpg_log.specs.Accepted.{most_events, most_mode_changes};
 ghost use Rattle.tfpg_log.specs.LogOfLines.{new_log, log_after_reply};
@@ -95,12 +96,14 @@ impl Log {
     }
 
     /// What becomes of the line: it is accepted, and then its event is the last, or it is refused, and then the log stays
-    /// as it was, as it does where there is no memory for the event. Takes time in the length of the line, which may have
-    /// any length, and at most one look-up by name.
+    /// as it was, as it does where there is no memory for the event. A refused line takes no memory. Takes time in the
+    /// length of the line, which may have any length, and at most one look-up by name.
     pub fn offer(&mut self, graph: &Graph, line: &[u8]) -> Result<Offered, NoMemory>
         requires { IsOf graph.now self.old }
         ensures reply { IfOk result (λ reply. reply ≡ reply_now graph.now self.old line.now) }
         ensures log { IfOk result (λ reply. self.new ≡ log_after_reply self.old reply) }
+        ensures refused { (refusal : Refusal) →
+            reply_now graph.now self.old line.now ≡ Offered.Refused refusal → result ≡ Ok (Offered.Refused refusal) }
         ensures err { OnErr result (self.new ≡ self.old) }
         ensures of { IsOf graph.now self.new }
     {

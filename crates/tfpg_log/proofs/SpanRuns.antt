@@ -1,0 +1,182 @@
+-- A span is a maximal run of instants of one mode, and each instant lies in one.
+use Rattle.std.proofs.Common.{◌≡◌, ℕ, zero, suc, ◌+◌, ◌≤◌, Bool, true, false, cond, eqb, leb, inl, inr, Option, Some, None, refl, sym, ap, subst, ◌∙◌, arith}
+use Rattle.std.specs.Prelude.{MatchOption, ◌↔◌}
+use Rattle.std.proofs.lemmas.Bool.{both_ways, eqb-true, eqb-false, eq-eqb, le-leb, leb-true, cond-true, cases_lt}
+use Rattle.std.proofs.lemmas.Bool.Decides.{nat_tests}
+use Rattle.tfpg_log.specs.declared.span.Span.{Span}
+use Rattle.tfpg_log.specs.Log.{Logbook, now_of, mode_at}
+use Rattle.tfpg_log.specs.Spans.{least, greatest, span_number, span_between, span_at}
+use Rattle.tfpg_log.specs.Runs.{IsMaximalRun, IsSpanOf}
+use Rattle.tfpg_log.proofs.MaximalRuns.{one_run}
+use Rattle.tfpg_log.proofs.Trials.{NonePassesUpTo, IsLeast, IsGreatest, least_found, greatest_found, least_there, greatest_there}
+
+-- ---- the numbers of spans
+
+count_rises : (before here count : ℕ) → count ≤ count + cond (eqb before here) 0 1
+count_rises before here count = omega arith
+
+mode_kept : (before here count : ℕ) → count + cond (eqb before here) 0 1 ≡ count → before ≡ here
+mode_kept before here count e = grind (arith, nat_tests)
+
+count_kept : (before here count : ℕ) → before ≡ here → count + cond (eqb before here) 0 1 ≡ count
+count_kept before here count e = grind (arith, nat_tests)
+
+module _ (log : Logbook) where
+  number_rises : (lo hi : ℕ) → lo ≤ hi → span_number log lo ≤ span_number log hi
+  number_rises lo zero upto = let same : lo ≡ 0 = omega arith in omega (arith, ap (span_number log) same)
+  number_rises lo (suc hi) upto = elim (cases_lt hi lo) [
+    | inl above ↦ (let same : lo ≡ suc hi = omega arith in omega (arith, ap (span_number log) same))
+    | inr below ↦ omega (arith, number_rises lo hi below, count_rises (mode_at log hi) (mode_at log (suc hi)) (span_number log hi))
+  ]
+
+  -- instants of one number have one mode
+  one_mode : (lo hi : ℕ) → lo ≤ hi → span_number log hi ≡ span_number log lo → mode_at log hi ≡ mode_at log lo
+  one_mode lo zero upto e = let same : 0 ≡ lo = omega arith in ap (mode_at log) same
+  one_mode lo (suc hi) upto e = elim (cases_lt hi lo) [
+    | inl above ↦ (let same : suc hi ≡ lo = omega arith in ap (mode_at log) same)
+    | inr below ↦ (let rises : span_number log lo ≤ span_number log hi = number_rises lo hi below in
+        let kept : span_number log (suc hi) ≡ span_number log hi =
+        omega (arith, e, rises, count_rises (mode_at log hi) (mode_at log (suc hi)) (span_number log hi)) in
+        let mode : mode_at log hi ≡ mode_at log (suc hi) = mode_kept (mode_at log hi) (mode_at log (suc hi)) (span_number log hi) kept in
+        sym mode ∙ one_mode lo hi below (sym kept ∙ e))
+  ]
+
+  -- two instants of one mode, one after the other, have one number
+  one_number : (before instant : ℕ) → before + 1 ≡ instant → mode_at log before ≡ mode_at log instant → span_number log before ≡ span_number log instant
+  one_number before instant next mode =
+      let same : suc before ≡ instant = omega arith in
+      sym (count_kept (mode_at log before) (mode_at log (suc before)) (span_number log before) (mode ∙ sym (ap (mode_at log) same))) ∙ ap (span_number log) same
+
+  module _ (number horizon : ℕ) where
+    -- whether an instant has the number
+    abbrev has_number : ℕ → Bool
+    has_number instant = eqb (span_number log instant) number
+
+    -- the span is the one that the search finds
+    pub record IsFound (span : Span) : Type 0 where
+      pub by_now : horizon ≤ now_of log
+      pub first : IsLeast has_number horizon span.lo
+      pub last : IsGreatest has_number horizon span.hi
+      pub mode_is : mode_at log span.lo ≡ span.mode
+
+    between : (span : Span) (lo hi : Option ℕ) → horizon ≤ now_of log → MatchOption lo (NonePassesUpTo has_number horizon) (IsLeast has_number horizon)
+        → MatchOption hi (NonePassesUpTo has_number horizon) (IsGreatest has_number horizon) → span_between log lo hi ≡ Some span → IsFound span
+    between span None hi by_now first last e = absurd cc
+    between span (Some lo) None by_now first last e = absurd cc
+    between span (Some lo) (Some hi) by_now first last e =
+        let found : Span = record { lo = lo; hi = hi; mode = mode_at log lo } in
+        let same : found ≡ span = cc in
+        subst IsFound same (record { by_now = by_now; first = first; last = last; mode_is = refl })
+
+    by_test : (span : Span) (b : Bool) → leb horizon (now_of log) ≡ b
+        → cond b (span_between log (least has_number horizon) (greatest has_number horizon)) None ≡ Some span → IsFound span
+    by_test span true at e =
+        between span (least has_number horizon) (greatest has_number horizon) (leb-true horizon (now_of log) at) (least_found has_number horizon)
+        (greatest_found has_number horizon) e
+    by_test span false at e = absurd cc
+
+    pub found_span : (span : Span) → span_at log number horizon ≡ Some span → IsFound span
+    found_span span e = by_test span (leb horizon (now_of log)) refl e
+
+    module _ (span : Span) (found : IsFound span) where
+      first_number : span_number log span.lo ≡ number
+      first_number = eqb-true (span_number log span.lo) number found.first.here
+
+      last_number : span_number log span.hi ≡ number
+      last_number = eqb-true (span_number log span.hi) number found.last.here
+
+      pub in_order : span.lo ≤ span.hi
+      in_order = elim (cases_lt span.hi span.lo) [
+        | inl before ↦ absurd (both_ways (has_number span.hi) (found.first.none_below span.hi before) found.last.here)
+        | inr upto ↦ upto
+      ]
+
+      numbered : (instant : ℕ) → span.lo ≤ instant → instant ≤ span.hi → span_number log instant ≡ number
+      numbered instant from upto = omega (arith, number_rises span.lo instant from, number_rises instant span.hi upto, first_number, last_number)
+
+      pub in_mode : (instant : ℕ) → span.lo ≤ instant → instant ≤ span.hi → mode_at log instant ≡ span.mode
+      in_mode instant from upto = one_mode span.lo instant from (numbered instant from upto ∙ sym first_number) ∙ found.mode_is
+
+      not_before : (instant : ℕ) → instant + 1 ≡ span.lo → mode_at log instant ≡ span.mode → ⊥
+      not_before instant next mode =
+          eqb-false (span_number log instant) number (found.first.none_below instant (omega arith))
+          (one_number instant span.lo next (mode ∙ sym found.mode_is) ∙ first_number)
+
+      not_behind : (instant : ℕ) → instant ≡ span.hi + 1 → instant ≤ horizon → mode_at log instant ≡ span.mode → ⊥
+      not_behind instant next upto mode =
+          eqb-false (span_number log instant) number (found.last.none_above instant (omega arith) upto)
+          (sym (one_number span.hi instant (sym next) (in_mode span.hi in_order (omega arith) ∙ sym mode)) ∙ last_number)
+
+      found_is_span : IsSpanOf log number horizon span
+      found_is_span = record {
+        by_now = found.by_now;
+        run = record {
+          in_order = in_order;
+          in_range = found.last.within;
+          throughout = in_mode;
+          not_before = not_before;
+          not_behind = not_behind;
+        };
+        numbered = numbered;
+      }
+
+    -- The span of a number is a maximal run of one mode.
+    pub is_span : (span : Span) → span_at log number horizon ≡ Some span → IsSpanOf log number horizon span
+    is_span span e = found_is_span span (found_span span e)
+
+  -- two ends that are found make a span
+  some_between : (lo hi : ℕ) (first last : Option ℕ) → first ≡ Some lo → last ≡ Some hi
+      → span_between log first last ≡ Some (record { lo = lo; hi = hi; mode = mode_at log lo })
+  some_between lo hi first last e f = rw (e, f) refl
+
+  -- the least that passes is not above one that passes
+  least_upto : (passes : ℕ → Bool) (limit found number : ℕ) → IsLeast passes limit found → passes number ≡ true → found ≤ number
+  least_upto passes limit found number is here = elim (cases_lt number found) [
+    | inl below ↦ absurd (both_ways (passes number) (is.none_below number below) here)
+    | inr upto ↦ upto
+  ]
+
+  greatest_from : (passes : ℕ → Bool) (limit found number : ℕ) → IsGreatest passes limit found → number ≤ limit → passes number ≡ true → number ≤ found
+  greatest_from passes limit found number is within here = elim (cases_lt found number) [
+    | inl above ↦ absurd (both_ways (passes number) (is.none_above number above within) here)
+    | inr upto ↦ upto
+  ]
+
+  -- Each instant lies in the span of its number.
+  pub has_span : (instant horizon : ℕ) → instant ≤ horizon → horizon ≤ now_of log
+      → (span : Span) × (span_at log (span_number log instant) horizon ≡ Some span) × (span.lo ≤ instant) × (instant ≤ span.hi)
+  has_span instant horizon within by_now =
+      let number : ℕ = span_number log instant in
+      let here : has_number number horizon instant ≡ true = eq-eqb (span_number log instant) number refl in
+      let first = least_there (has_number number horizon) horizon instant within here in
+      let last = greatest_there (has_number number horizon) horizon instant within here in (
+        record { lo = first.0; hi = last.0; mode = mode_at log first.0 },
+        cond-true (leb horizon (now_of log)) _ _ (le-leb horizon (now_of log) by_now) ∙ some_between first.0 last.0 _ _ first.1 last.1,
+        least_upto (has_number number horizon) horizon first.0 instant first.2 here,
+        greatest_from (has_number number horizon) horizon last.0 instant last.2 within here,
+      )
+
+  -- ---- the one span of a number
+
+  same_span : (one other : Span) → one.lo ≡ other.lo → one.hi ≡ other.hi → one.mode ≡ other.mode → one ≡ other
+  same_span one other lo hi mode =
+      ap (λ l. let span : Span = record { lo = l; hi = one.hi; mode = one.mode } in span) lo
+      ∙ ap (λ h. let span : Span = record { lo = other.lo; hi = h; mode = one.mode } in span) hi
+      ∙ ap (λ m. let span : Span = record { lo = other.lo; hi = other.hi; mode = m } in span) mode
+
+  -- The search finds what is the span of a number.
+  pub span_is_found : (number horizon : ℕ) (span : Span) → IsSpanOf log number horizon span → span_at log number horizon ≡ Some span
+  span_is_found number horizon span is =
+      let there = has_span span.lo horizon (omega (arith, is.run.in_order, is.run.in_range)) is.by_now in
+      let first : span_number log span.lo ≡ number = is.numbered span.lo (omega arith) is.run.in_order in
+      let at : span_at log number horizon ≡ Some there.0 = subst (λ n. span_at log n horizon ≡ Some there.0) first there.1 in
+      let other = is_span number horizon there.0 at in
+      let mode : there.0.mode ≡ span.mode = sym (other.run.throughout span.lo there.2 there.3) ∙ is.run.throughout span.lo (omega arith) is.run.in_order in
+      let run : IsMaximalRun (λ instant. mode_at log instant ≡ span.mode) there.0.lo there.0.hi horizon =
+      subst (λ m. IsMaximalRun (λ instant. mode_at log instant ≡ m) there.0.lo there.0.hi horizon) mode other.run in
+      let ends = one_run (λ instant. mode_at log instant ≡ span.mode) horizon there.0.lo there.0.hi span.lo span.hi span.lo run is.run there.2 there.3 (omega arith) is.run.in_order in
+      at ∙ ap Some (same_span there.0 span ends.0 ends.1 mode)
+
+  -- The search finds a span exactly where it is the span of the number.
+  pub span_found : (number horizon : ℕ) (span : Span) → (span_at log number horizon ≡ Some span) ↔ IsSpanOf log number horizon span
+  span_found number horizon span = (is_span number horizon span, span_is_found number horizon span)
