@@ -11,3 +11,13 @@ pub mod Lines
 pub mod SmallText
 pub mod LineLengths
 pub mod Spelled
+pub mod Valued
+pub mod SaidBy
+pub mod DeclaredBy
+pub mod CauseAt
+pub mod CausedSaid
+pub mod PartBehind
+pub mod Standing
+pub mod Caused
+pub mod FirstFaults
+pub mod LinesSaying
