@@ -21,3 +21,9 @@ pub mod Standing
 pub mod Caused
 pub mod FirstFaults
 pub mod LinesSaying
+pub mod ZeroWalks
+pub mod ZeroVisits
+pub mod StepRows
+pub mod ZeroEdgeSteps
+pub mod ZeroGroups
+pub mod ZeroCycles

@@ -18,3 +18,5 @@ pub mod NewNode
 pub mod NewEdge
 pub mod Progress
 pub mod Turns
+pub mod ZeroSearch
+pub mod ZeroEdges

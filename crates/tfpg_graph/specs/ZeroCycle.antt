@@ -1,5 +1,5 @@
--- Cycles of edges that may take no time, and the order of nodes that there is where no such cycle is.
-use Rattle.std.specs.Prelude.{◌≡◌, ℕ, ◌<◌, Some, slice_get, All}
+-- Cycles of edges that may take no time: which edges lie on one, and what shows that none does.
+use Rattle.std.specs.Prelude.{◌≡◌, ℕ, ◌<◌, Some, All, slice_get}
 use Rattle.tfpg_graph.specs.declared.edge.Edge.{Edge}
 use Rattle.tfpg_graph.specs.Graph.{Tfpg}
 use Rattle.tfpg_graph.specs.Valid.{WalksInNoTime}

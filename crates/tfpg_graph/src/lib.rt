@@ -20,6 +20,9 @@ mod reading;
 #[cfg(test)]
 mod tests;
 mod word_value;
+mod zero_cycle;
+mod zero_search;
+mod zero_steps;
 
 pub use cause::{GraphCause, GraphFault, GraphRefusal};
 pub use edge::Edge;

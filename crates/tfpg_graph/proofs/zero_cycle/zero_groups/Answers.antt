@@ -1,0 +1,19 @@
+use Rattle.std.proofs.Common.{length}
+use Rattle.std.proofs.lemmas.Result.{IfOk-weaker}
+use Rattle.tfpg_graph.specs.ZeroSearch.{AreGroups}
+use Rattle.tfpg_graph.specs.ZeroEdges.{AreZeroGroups}
+use Rattle.tfpg_graph.proofs.ZeroEdgeSteps.{AreTurned-edges, AreZeroGroups-steps}
+use Rattle.tfpg_graph.proofs.zero_cycle.zero_groups.Goals as goal
+
+pub groups-requires-clause-turned : goal.groups-requires-clause-turned
+groups-requires-clause-turned c =
+    let graph = c.args.declared.now in
+    AreTurned-edges (length graph.nodes) graph.edges c.in_ok-steps.steps c.in_ok-turned.turned c.in_ok-steps.ensures
+    c.in_ok-turned.ensures
+
+pub returns : goal.returns
+returns c =
+    IfOk-weaker c.groups.result (λ marks. AreGroups c.in_ok-steps.steps marks.items)
+    (λ marks. AreZeroGroups c.args.declared.now marks.items)
+    (λ marks are. AreZeroGroups-steps c.args.declared.now c.in_ok-steps.steps marks.items c.in_ok-steps.ensures are)
+    c.groups.ensures
