@@ -27,3 +27,10 @@ pub mod StepRows
 pub mod ZeroEdgeSteps
 pub mod ZeroGroups
 pub mod ZeroCycles
+pub mod WithoutCause
+pub mod SaidWords
+pub mod SaidModes
+pub mod SaidValues
+pub mod GraphsSaid
+pub mod SpelledSoFar
+pub mod SpelledBy

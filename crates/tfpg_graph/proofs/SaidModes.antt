@@ -1,0 +1,128 @@
+-- A word for modes that has no cause spells the modes that it says.
+use Rattle.std.proofs.Common.{◌≡◌, ◌≢◌, ℕ, ◌<◌, ◌==◌, Bool, true, false, List, [], ◌∷◌, length, get_or, Option, Some, None, slice_get, codes, All, AllPairs, inl, inr, refl, ap, sym, ◌∙◌, arith}
+use Rattle.std.specs.Str.{bytes_eq}
+use Rattle.std.specs.List.{list_any, filter_map, cons_option, slice_split, join_with_byte}
+use Rattle.std.specs.Option.{is_none}
+use Rattle.std.proofs.lemmas.Bool.{or_parts, or_from, cond-true, cond-false}
+use Rattle.std.proofs.lemmas.List.Elements.{All-nil, All-cons}
+use Rattle.std.proofs.lemmas.List.Splits.{length-slice_split, join_with_byte-slice_split}
+use Rattle.std.proofs.lemmas.List.Quantifiers.{position-Some}
+use Rattle.std.proofs.lemmas.Option.{slice_get-get_or, same_Some}
+use Rattle.std.proofs.lemmas.Slice.Eq.{bytes_eq-Decides}
+use Rattle.tfpg_base.proofs.Elements.{AllPairs-cons}
+use Rattle.tfpg_graph.specs.Graph.{Tfpg, mode_named}
+use Rattle.tfpg_graph.specs.Text.{SpellsModes}
+use Rattle.tfpg_graph.specs.Declares.{modes_listed, modes_of_word}
+use Rattle.tfpg_graph.specs.Causes.{has_twice}
+use Rattle.tfpg_graph.proofs.Positions.{bytes_eq-false}
+
+-- ---- items that are looked up and found
+
+module _ {X Y : Type 0} (look : X → Option Y) where
+  -- an item that is not missed is found
+  pub found : (x : X) → is_none (look x) ≡ false → (y : Y) × (look x ≡ Some y)
+  found x here = by (look x) here
+    where
+      by : (o : Option Y) → is_none o ≡ false → (y : Y) × (o ≡ Some y)
+      by None here = absurd cc
+      by (Some y) here = (y, refl)
+
+  -- where an item is found, the values have its value in front
+  filter_map-found : (x : X) (y : Y) (xs : List X) → look x ≡ Some y → filter_map look (x ∷ xs) ≡ y ∷ filter_map look xs
+  filter_map-found x y xs is = ap (λ o. cons_option o (filter_map look xs)) is
+
+  -- what holds of each value found holds of all of them
+  All-filter_map : (P : Y → Type 0) → ((x : X) (y : Y) → look x ≡ Some y → P y) → (xs : List X) → All P (filter_map look xs)
+  All-filter_map P each [] = All-nil P
+  All-filter_map P each (x ∷ xs) = by (look x) refl (All-filter_map P each xs)
+    where
+      by : (o : Option Y) → look x ≡ o → All P (filter_map look xs) → All P (cons_option o (filter_map look xs))
+      by None none rest = rest
+      by (Some y) some rest = All-cons P y (filter_map look xs) (each x y some) rest
+
+  -- items of which none is missed have values where there are any
+  filter_map-some : (xs : List X) → 0 < length xs → list_any (λ x. is_none (look x)) xs ≡ false → filter_map look xs ≢ []
+  filter_map-some [] some here empty = omega (arith, some)
+  filter_map-some (x ∷ xs) some here empty =
+      let first = found x (or_parts (is_none (look x)) _ here).0 in
+      let begins : filter_map look (x ∷ xs) ≡ first.0 ∷ filter_map look xs = filter_map-found x first.0 xs first.1 in
+      cc
+
+  -- where the values lead back to the items, no item is missed, and all are had back
+  filter_map-back : (read : Y → Option X) → ((x : X) (y : Y) → look x ≡ Some y → read y ≡ Some x) → (xs : List X)
+      → list_any (λ x. is_none (look x)) xs ≡ false → filter_map read (filter_map look xs) ≡ xs
+  filter_map-back read leads [] here = refl
+  filter_map-back read leads (x ∷ xs) here =
+      let parts = or_parts (is_none (look x)) _ here in
+      let first = found x parts.0 in
+      ap (filter_map read) (filter_map-found x first.0 xs first.1)
+      ∙ (λ i. cons_option (leads x first.0 first.1 i) (filter_map-back read leads xs parts.1 i))
+
+-- values that lead back to the words
+module _ {Y : Type 0} (look : List ℕ → Option Y) (read : Y → Option (List ℕ))
+    (leads : (word : List ℕ) (y : Y) → look word ≡ Some y → read y ≡ Some word) where
+  -- the value of a word that does not stand among others is not among theirs
+  unlike_others : (word : List ℕ) (y : Y) (others : List (List ℕ)) → look word ≡ Some y
+      → list_any (bytes_eq word) others ≡ false → All (λ other. y ≢ other) (filter_map look others)
+  unlike_others word y [] is differs = All-nil (λ other. y ≢ other)
+  unlike_others word y (first ∷ others) is differs =
+      let parts = or_parts (bytes_eq word first) _ differs in
+      by parts.0 (look first) refl (unlike_others word y others is parts.1)
+    where
+      by : bytes_eq word first ≡ false → (o : Option Y) → look first ≡ o
+          → All (λ other. y ≢ other) (filter_map look others)
+          → All (λ other. y ≢ other) (cons_option o (filter_map look others))
+      by unlike None none rest = rest
+      by unlike (Some other) some rest =
+          All-cons (λ other. y ≢ other) other (filter_map look others)
+          (λ same. bytes_eq-false word first unlike (same_Some word first (sym (leads word y is) ∙ ap read same ∙ leads first other some)))
+          rest
+
+  -- words of which none stands twice have values that differ
+  values_differ : (words : List (List ℕ)) → has_twice words ≡ false → AllPairs (λ a b. a ≢ b) (filter_map look words)
+  values_differ [] once = λ i j d before within. absurd (omega (arith, within))
+  values_differ (word ∷ others) once =
+      let parts = or_parts (list_any (bytes_eq word) others) (has_twice others) once in
+      by parts.0 (look word) refl (values_differ others parts.1)
+    where
+      by : list_any (bytes_eq word) others ≡ false → (o : Option Y) → look word ≡ o
+          → AllPairs (λ a b. a ≢ b) (filter_map look others)
+          → AllPairs (λ a b. a ≢ b) (cons_option o (filter_map look others))
+      by unlike None none rest = rest
+      by unlike (Some y) some rest = AllPairs-cons (λ a b. a ≢ b) y (filter_map look others) (unlike_others word y others some unlike) rest
+
+-- ---- modes
+
+-- a mode that is found is read at its number
+pub mode_found : (graph : Tfpg) (name : List ℕ) (mode : ℕ) → mode_named graph name ≡ Some mode
+    → (mode < length graph.modes) × (slice_get graph.modes mode ≡ Some name)
+mode_found graph name mode some =
+    let is = position-Some (λ other. bytes_eq other name) graph.modes mode [] some in
+    (is.0, slice_get-get_or graph.modes mode [] is.0 ∙ ap Some ((bytes_eq-Decides (get_or graph.modes mode []) name).0 is.1))
+
+-- A word for modes that is not `-`, names no mode twice and none that there is not, spells the modes that it says.
+pub SpellsModes-said : (graph : Tfpg) (word : List ℕ) → bytes_eq word (codes "-") ≡ false → has_twice (modes_listed word) ≡ false
+    → list_any (λ name. is_none (mode_named graph name)) (modes_listed word) ≡ false → SpellsModes graph (modes_of_word graph word) word
+SpellsModes-said graph word some_mode once known = by (bytes_eq word (codes "*")) refl
+  where
+    leads : (name : List ℕ) (mode : ℕ) → mode_named graph name ≡ Some mode → slice_get graph.modes mode ≡ Some name
+    leads name mode some = (mode_found graph name mode some).1
+
+    within : (name : List ℕ) (mode : ℕ) → mode_named graph name ≡ Some mode → mode < length graph.modes
+    within name mode some = (mode_found graph name mode some).0
+
+    by : (star : Bool) → bytes_eq word (codes "*") ≡ star → SpellsModes graph (modes_of_word graph word) word
+    by true star = inl ((bytes_eq-Decides word (codes "*")).0 star, cond-true _ _ _ star)
+    by false star =
+        let listed : modes_listed word ≡ slice_split (λ byte. byte == 44) word = cond-false _ _ _ (or_from _ _ star some_mode) in
+        let some : 0 < length (modes_listed word) = omega (arith, ap length listed, length-slice_split (λ byte. byte == 44) word) in
+        let modes = filter_map (mode_named graph) (modes_listed word) in
+        let names = filter_map-back (mode_named graph) (slice_get graph.modes) leads (modes_listed word) known in
+        inr (
+          modes,
+          filter_map-some (mode_named graph) (modes_listed word) some known,
+          values_differ (mode_named graph) (slice_get graph.modes) leads (modes_listed word) once,
+          All-filter_map (mode_named graph) (λ mode. mode < length graph.modes) within (modes_listed word),
+          sym (ap (join_with_byte 44) (names ∙ listed) ∙ join_with_byte-slice_split 44 word),
+          cond-false _ _ _ star,
+        )
