@@ -34,3 +34,10 @@ pub mod SaidValues
 pub mod GraphsSaid
 pub mod SpelledSoFar
 pub mod SpelledBy
+pub mod LinesSay
+pub mod SpelledValues
+pub mod SpelledEdges
+pub mod NoCause
+pub mod SaidSoFar
+pub mod CleanRuns
+pub mod NoFault
