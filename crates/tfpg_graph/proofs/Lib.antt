@@ -41,3 +41,7 @@ pub mod NoCause
 pub mod SaidSoFar
 pub mod CleanRuns
 pub mod NoFault
+pub mod Images
+pub mod NodeSets
+pub mod Sources
+pub mod Reaches

@@ -3,6 +3,7 @@ pub use Rattle.tfpg_base.specs.Lines
 pub use Rattle.tfpg_base.specs.Set
 pub mod Graph
 pub mod Reach
+pub mod NodeSet
 pub mod Valid
 pub mod ZeroCycle
 pub mod Text
@@ -12,6 +13,8 @@ pub mod Causes
 pub mod Faults
 pub mod Small
 -- What the contracts of the reader's own parts cite, and no public contract does.
+pub mod NodeWords
+pub mod Reaching
 pub mod Indexes
 pub mod Shapes
 pub mod NewNode

@@ -1,5 +1,6 @@
 -- Which nodes a set of failure modes can reach, whatever the times.
-use Rattle.std.specs.Prelude.{ℕ, List, All, Contains, Bool, IsTrue, IfSome, ◌↔◌}
+use Rattle.std.specs.Prelude.{ℕ, List, All, Contains, Bool, ◌==◌, IsTrue, IfSome, ◌↔◌}
+use Rattle.std.specs.List.{list_any}
 use Rattle.std.specs.List.Sorted.{IsStrictlyIncreasing}
 use Rattle.tfpg_graph.specs.declared.edge.Edge.{Edge}
 use Rattle.tfpg_graph.specs.Graph.{Tfpg, is_kind_at, is_or, is_and, failure_at, edges_into}
@@ -19,3 +20,7 @@ Reaches graph set node = (test : ℕ → Bool) → IsClosed graph set test → I
 pub record IsReach (graph : Tfpg) (set nodes : List ℕ) : Type 0 where
   pub rising : IsStrictlyIncreasing nodes
   pub exact : (node : ℕ) → Contains nodes node ↔ Reaches graph set node
+
+-- the test of being one of these nodes
+abbrev pub is_among : List ℕ → ℕ → Bool
+is_among nodes node = list_any (λ other. node == other) nodes

@@ -4,6 +4,7 @@
 //! - [`read`] reads the text of a graph.
 //! - [`Graph`] is a valid graph with its look-ups.
 //! - [`Kind`] and [`Edge`] are its parts.
+//! - [`NodeSet`] is a set of its nodes, as [`Graph::reach`] gives one.
 //! - [`GraphCause`] says what is wrong with a text that spells no valid graph.
 #![tactic(auto)]
 
@@ -12,9 +13,12 @@ mod declared;
 mod edge;
 mod graph;
 mod kind;
+mod laws;
 mod line_shape;
 mod new_edge;
 mod new_node;
+mod node_set;
+mod reaching;
 mod reader;
 mod reading;
 #[cfg(test)]
@@ -28,4 +32,6 @@ pub use cause::{GraphCause, GraphFault, GraphRefusal};
 pub use edge::Edge;
 pub use graph::Graph;
 pub use kind::Kind;
+pub use laws::reach_is_the_least_closed_set;
+pub use node_set::NodeSet;
 pub use reading::read;

@@ -2,6 +2,7 @@
 
 use crate::{Edge, GraphCause, GraphFault, GraphRefusal, Kind, read};
 use std::test::Fail;
+use tfpg_base::Set;
 
 /// One failure mode that two monitored discrepancies show.
 const TWO_ALARMS: &[u8] =
@@ -96,4 +97,32 @@ fn refuses_each_other_text(rt: HostRuntime) {
             Err(refusal) => assert_eq!(rt; refusal, NOT_BUILT, "in {text:?}"),
         }
     }
+}
+
+/// Two failure modes; from the first a chain goes up, then down, and to what the second shows.
+const CHAIN: &[u8] =
+    b"tfpg 1\nmode N\nor C hidden\nor B hidden\nfailure F 1\nfailure G 1\nor A hidden\nor D watch 0\nedge F A 1 1 *\nedge A B 1 1 *\nedge B C 1 1 *\nedge C D 1 1 *\nedge G D 1 1 *\nend\n";
+
+#[test]
+fn the_reach_of_a_set(rt: HostRuntime) -> Result<(), Fail> {
+    let graph = read(rt.alloc(), CHAIN)?;
+    assert_eq!(rt; graph.failure_count(), 2);
+    let none = graph.reach(Set::empty());
+    let first = graph.reach(Set::empty().with(0));
+    let second = graph.reach(Set::empty().with(1));
+    for (node, of_first, of_second) in [
+        (0, true, false),
+        (1, true, false),
+        (2, true, false),
+        (3, false, true),
+        (4, true, false),
+        (5, true, true),
+        (6, false, false),
+        (512, false, false),
+    ] {
+        assert!(rt; !none.has(node), "at {node}");
+        assert_eq!(rt; first.has(node), of_first, "at {node}");
+        assert_eq!(rt; second.has(node), of_second, "at {node}");
+    }
+    Ok(())
 }

@@ -1,0 +1,9 @@
+use Rattle.std.proofs.Common.{◌-◌, length}
+use Rattle.tfpg_graph.specs.Reaching.{AreReached}
+use Rattle.tfpg_graph.proofs.graph.Graph.reach.Given as goal
+
+abbrev pub invariant-loop-reached : goal.invariant-loop-reached
+invariant-loop-reached l = AreReached l.self l.fn.set l.reached
+
+abbrev pub decreases-loop-reached : goal.decreases-loop-reached
+decreases-loop-reached l = 512 - length l.reached
