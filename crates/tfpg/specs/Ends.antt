@@ -1,6 +1,6 @@
 -- The status and the line for each end of the program.
 use Rattle.std.specs.Prelude.{ℕ, List, [], ◌∷◌, codes, decimal, Option, Some, None}
-use Rattle.tfpg_graph.specs.Text.{line_of}
+use Rattle.tfpg_base.specs.Words.{line_of}
 use Rattle.tfpg_graph.specs.declared.cause.GraphCause.{GraphCause}
 use Rattle.tfpg_graph.specs.declared.cause.GraphCause.TheVariants as graph
 use Rattle.tfpg.specs.declared.end.End.{End}

@@ -2,7 +2,7 @@
 
 ghost use Rattle.std.specs.Prelude.{◌≡◌, ◌++◌, ◌∷◌, [], codes, decimal};
 ghost use Rattle.tfpg_base.specs.Append.{Appends};
-ghost use Rattle.tfpg_graph.specs.Text.{line_of};
+ghost use Rattle.tfpg_base.specs.Words.{line_of};
 ghost use Rattle.tfpg.specs.Ends.{graph_cause_name, line_of_end, status_of, usage_name};
 ghost use Rattle.tfpg.specs.EndsOf.{end_of_fault, end_of_shelf, end_of_refusal};
 ghost use Rattle.tfpg.specs.declared.end.End.TheVariants as ends;

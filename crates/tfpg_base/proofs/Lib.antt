@@ -1,4 +1,5 @@
 pub mod Appended
+pub mod Joined
 pub mod Elements
 pub mod Numbers
 pub mod Separators

@@ -8,3 +8,4 @@ pub mod Set
 pub mod Trace
 pub mod Append
 pub mod SetBits
+pub mod TextLine

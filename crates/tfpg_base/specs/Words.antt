@@ -1,6 +1,6 @@
 -- Words on a line, and the two forms of words that every text format uses: names and numbers.
 use Rattle.std.specs.Prelude.{ℕ, List, [], ◌∷◌, length, Bool, false, not, ◌&&◌, ◌||◌, nat_le, ◌==◌, if◌then◌else◌, Option, Some, None}
-use Rattle.std.specs.List.{slice_split, list_all}
+use Rattle.std.specs.List.{slice_split, list_all, join_with_byte}
 use Rattle.std.specs.Char.{is_ascii_digit}
 use Rattle.std.specs.Str.Parse.{digits_value}
 use Rattle.tfpg_base.specs.declared.word.Number.{Number}
@@ -9,6 +9,10 @@ use Rattle.tfpg_base.specs.declared.word.Number.TheVariants.{Value, TooLarge, No
 -- The words of a line: the parts round its spaces. A space at an end, or two in a row, make an empty word.
 abbrev pub words_of : List ℕ → List (List ℕ)
 words_of line = slice_split (λ byte. byte == 32) line
+
+-- words with a space between each two
+abbrev pub line_of : List (List ℕ) → List ℕ
+line_of words = join_with_byte 32 words
 
 -- from A to Z or from a to z
 abbrev pub is_letter : ℕ → Bool

@@ -10,6 +10,8 @@
 //! - [`Set`] is a set of failure modes, [`Trace`] says when which node became active.
 //! - [`Items`] is a list that contracts see as one; [`Bytes`], [`NumberList`] and [`LineList`] are such lists, and a crate
 //!   names one of its own items by `pub type StepList = Items<Step>;`. [`Text`] is a text that is kept.
+//! - [`put_line`] appends a line of words to a text, [`put_words`] its words alone, and [`put_part`] a part of a line with
+//!   its separator.
 //! - [`Steps`] counts the steps of a call, at no cost.
 #![tactic(auto)]
 
@@ -24,6 +26,7 @@ mod outside;
 mod set;
 mod steps;
 mod text;
+mod text_line;
 mod trace;
 mod word;
 mod words;
@@ -39,6 +42,7 @@ pub use outside::{Failed, Shelf, ShelfFault, Sink, Source};
 pub use set::Set;
 pub use steps::Steps;
 pub use text::Text;
+pub use text_line::{put_line, put_part, put_words};
 pub use trace::Trace;
 pub use word::{Number, read_name, read_number};
 pub use words::{MOST_WORDS, Words};

@@ -9,7 +9,12 @@ pub mod MoreRead
 pub mod Complete
 pub mod Lines
 pub mod SmallText
+pub mod AtNumbers
+pub mod ModeBits
+pub mod ModeNames
+pub mod TextPieces
 pub mod LineLengths
+pub mod CleanLines
 pub mod Spelled
 pub mod Valued
 pub mod SaidBy
@@ -45,3 +50,4 @@ pub mod Images
 pub mod NodeSets
 pub mod Sources
 pub mod Reaches
+pub mod Copied

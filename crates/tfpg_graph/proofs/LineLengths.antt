@@ -1,9 +1,9 @@
 -- No line of a canonical text is too long.
-use Rattle.std.proofs.Common.{ℕ, suc, zero, ◌≤◌, List, [], ◌∷◌, ◌++◌, length, slice_get, All, IsTrue, Option, Some, None, IfSome, unwrap_or, codes, arith}
+use Rattle.std.proofs.Common.{ℕ, suc, zero, ◌*◌, ◌≤◌, ◌==◌, List, [], ◌∷◌, ◌++◌, length, slice_get, All, IsTrue, Option, Some, None, IfSome, unwrap_or, codes, arith}
 use Rattle.std.specs.Prelude.{decimal}
 use Rattle.std.specs.Option.{option_map}
-use Rattle.std.specs.List.{list_all}
-use Rattle.std.proofs.lemmas.Bool.{and_parts, leb-true, false≢true}
+use Rattle.std.specs.List.{list_all, join_with_byte}
+use Rattle.std.proofs.lemmas.Bool.{and_parts, leb-true, false≢true, cond_both}
 use Rattle.std.proofs.lemmas.Fmt.{length-decimal-le}
 use Rattle.std.proofs.lemmas.List.{length-append}
 use Rattle.std.proofs.lemmas.List.Elements.{All-head, All-tail}
@@ -13,8 +13,12 @@ use Rattle.tfpg_graph.specs.declared.kind.Kind.{Kind}
 use Rattle.tfpg_graph.specs.declared.kind.Kind.TheVariants.{Failure, Or, And}
 use Rattle.tfpg_graph.specs.declared.edge.Edge.{Edge}
 use Rattle.tfpg_graph.specs.Graph.{Tfpg, Node, name_at}
-use Rattle.tfpg_graph.specs.Text.{line_of, mode_line, node_words, watch_words, tmax_word, edge_line}
+use Rattle.tfpg_base.specs.Words.{line_of}
+use Rattle.tfpg_graph.specs.Text.{mode_line, node_words, watch_words, tmax_word, edge_line, modes_word, all_modes}
 use Rattle.tfpg_graph.specs.Valid.{HasValidNumber, IsValidEdge, most_time}
+use Rattle.tfpg_graph.specs.Written.{modes_before, mode_names_before}
+use Rattle.tfpg_graph.proofs.ModeBits.{modes_before-few}
+use Rattle.tfpg_graph.proofs.ModeNames.{All-named, length-named}
 
 name_short : (name : List ℕ) → IsTrue (is_name name) → length name ≤ 32
 name_short [] named = absurd (false≢true named)
@@ -47,11 +51,33 @@ short_tmax : (tmax : Option ℕ) (tmin : ℕ) → IfSome tmax (λ time. (tmin �
 short_tmax None tmin small = omega arith
 short_tmax (Some tmax) tmin small = number_short tmax small.1
 
-pub short_edge : (graph : Tfpg) (edge : Edge) → All (λ n. IsTrue (is_name n.name)) graph.nodes → IsValidEdge graph edge → length (edge_line graph edge (codes "*")) ≤ longest_line
-short_edge graph edge named valid =
+-- names with a byte between each two
+length-joined : (separator : ℕ) (names : List (List ℕ)) → All (λ name. length name ≤ 32) names → length (join_with_byte separator names) ≤ 33 * length names
+length-joined separator [] short = omega arith
+length-joined separator (name ∷ []) short = omega (arith, All-head (λ n. length n ≤ 32) name [] short)
+length-joined separator (name ∷ next ∷ names) short =
+    omega (
+      arith,
+      length-append name (separator ∷ join_with_byte separator (next ∷ names)),
+      All-head (λ n. length n ≤ 32) name (next ∷ names) short,
+      length-joined separator (next ∷ names) (All-tail (λ n. length n ≤ 32) name (next ∷ names) short),
+    )
+
+pub short_modes : (graph : Tfpg) (bits : ℕ) → All (λ mode. IsTrue (is_name mode)) graph.modes → length graph.modes ≤ 64 → length (modes_word graph bits) ≤ 2112
+short_modes graph bits named few =
+    let end : ℕ = length graph.modes in
+    let names : List (List ℕ) = mode_names_before graph bits end in
+    let short : All (λ name. length name ≤ 32) names = All-named (λ name. length name ≤ 32) graph.modes (λ k d within. name_short _ (named k d within)) (modes_before bits end) in
+    cond_both (bits == all_modes graph) (codes "*") (join_with_byte 44 names) (λ word. length word ≤ 2112)
+    (λ all. omega arith)
+    (λ some. omega (arith, few, length-joined 44 names short, length-named graph.modes (modes_before bits end), modes_before-few bits end))
+
+pub short_edge : (graph : Tfpg) (edge : Edge) (word : List ℕ) → All (λ n. IsTrue (is_name n.name)) graph.nodes → IsValidEdge graph edge → length word ≤ 2112
+    → length (edge_line graph edge word) ≤ longest_line
+short_edge graph edge word named valid short =
     let source = unwrap_or (name_at graph edge.source) [] in
     let target = unwrap_or (name_at graph edge.target) [] in
-    let tail = tmax_word edge.tmax ++ 32 ∷ codes "*" in
+    let tail = tmax_word edge.tmax ++ 32 ∷ word in
     omega (
       arith,
       length-append source (32 ∷ (target ++ 32 ∷ (decimal edge.tmin ++ 32 ∷ tail))),
@@ -60,6 +86,6 @@ short_edge graph edge named valid =
       short_name_in graph.nodes edge.target named,
       length-append (decimal edge.tmin) (32 ∷ tail),
       number_short edge.tmin valid.least,
-      length-append (tmax_word edge.tmax) (32 ∷ codes "*"),
+      length-append (tmax_word edge.tmax) (32 ∷ word),
       short_tmax edge.tmax edge.tmin valid.most,
     )

@@ -15,6 +15,7 @@ pub mod Small
 -- What the contracts of the reader's own parts cite, and no public contract does.
 pub mod NodeWords
 pub mod Reaching
+-- What the contracts of the reader's and the writer's own parts cite, and no public contract does.
 pub mod Indexes
 pub mod Shapes
 pub mod NewNode
@@ -23,3 +24,4 @@ pub mod Progress
 pub mod Turns
 pub mod ZeroSearch
 pub mod ZeroEdges
+pub mod Written

@@ -3,7 +3,8 @@ use Rattle.std.specs.Prelude.{◌≡◌, ◌≢◌, ℕ, ◌<◌, ◌≤◌, len
 use Rattle.tfpg_graph.specs.declared.edge.Edge.{Edge}
 use Rattle.tfpg_graph.specs.declared.line_shape.EdgeWords.{EdgeWords}
 use Rattle.tfpg_graph.specs.Graph.{Tfpg, is_kind_at, is_failure, incoming, edge_from_to}
-use Rattle.tfpg_graph.specs.Text.{line_of, edge_line, modes_word}
+use Rattle.tfpg_base.specs.Words.{line_of}
+use Rattle.tfpg_graph.specs.Text.{edge_line, modes_word}
 use Rattle.tfpg_graph.specs.Valid.{IsValidEdge, most_time}
 use Rattle.tfpg_graph.specs.Shapes.{edge_words}
 

@@ -1,16 +1,13 @@
 -- The text of a graph: what each line spells.
-use Rattle.std.specs.Prelude.{◌≡◌, ℕ, ◌-◌, ◌≤◌, ◌^◌, List, [], ◌∷◌, ◌++◌, length, map, filter, All, Bool, true, not, ◌==◌, if◌then◌else◌, Option, Some, None, unwrap_or, slice_get, codes, decimal, sum_by, filter_map, ◌⊎◌, ◌≢◌, ◌<◌, AllPairs}
+use Rattle.std.specs.Prelude.{◌≡◌, ℕ, ◌-◌, ◌≤◌, ◌^◌, List, [], ◌∷◌, ◌++◌, length, map, filter, All, Bool, true, not, ◌==◌, if◌then◌else◌, Option, Some, None, unwrap_or, slice_get, codes, decimal, sum_by, filter_map, flat_map, ◌⊎◌, ◌≢◌, ◌<◌, AllPairs}
 use Rattle.std.specs.Int.{bit_at}
 use Rattle.std.specs.List.{join_with_byte, range_with_len, AllZip}
-use Rattle.tfpg_base.specs.Lines.{lines_of, longest_line}
+use Rattle.tfpg_base.specs.Words.{line_of}
+use Rattle.tfpg_base.specs.Lines.{lines_of, longest_line, with_line_end}
 use Rattle.tfpg_graph.specs.declared.kind.Kind.{Kind}
 use Rattle.tfpg_graph.specs.declared.kind.Kind.TheVariants.{Failure, Or, And}
 use Rattle.tfpg_graph.specs.declared.edge.Edge.{Edge}
 use Rattle.tfpg_graph.specs.Graph.{Tfpg, Node, name_at}
-
--- words with a space between each two
-abbrev pub line_of : List (List ℕ) → List ℕ
-line_of words = join_with_byte 32 words
 
 abbrev pub header : List ℕ
 header = codes "tfpg 1"
@@ -86,3 +83,7 @@ abbrev pub canonical_lines : Tfpg → List (List ℕ)
 canonical_lines graph =
     header ∷ (map mode_line graph.modes ++ map node_line graph.nodes
     ++ map (λ edge. edge_line graph edge (modes_word graph edge.modes)) graph.edges ++ codes "end" ∷ [])
+
+-- the canonical text
+abbrev pub canonical_text : Tfpg → List ℕ
+canonical_text graph = flat_map with_line_end (canonical_lines graph)

@@ -123,6 +123,26 @@ impl Declared {
         Ok(declared)
     }
 
+    /// A copy of what is declared. Takes time and memory linear in it.
+    pub(crate) fn copy(&self, alloc: Global) -> Result<Declared, NoMemory>
+        ensures { IfOk result (λ declared. declared ≡ self.now) }
+    {
+        let nodes = self.nodes.clone()?;
+        let edges = Vec::from_slice(alloc, self.edges.as_slice())?;
+        let modes = self.modes.clone()?;
+        let incoming = self.incoming.clone()?;
+        let failures = Vec::from_slice(alloc, self.failures.as_slice())?;
+        let places = Vec::from_slice(alloc, self.places.as_slice())?;
+        Ok(Declared {
+            nodes,
+            edges,
+            modes,
+            incoming,
+            failures,
+            places,
+        })
+    }
+
     pub(crate) fn node_count(&self) -> u32
         ensures { result ≡ length self.now.nodes }
     {

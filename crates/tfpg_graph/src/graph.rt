@@ -1,13 +1,15 @@
 //! A valid graph with its look-ups.
 
-ghost use Rattle.std.specs.Prelude.{◌≡◌, ◌<◌, length, slice_get, Some};
+ghost use Rattle.std.specs.Prelude.{◌≡◌, ◌<◌, length, slice_get, Some, IfOk};
 ghost use Rattle.tfpg_graph.specs.Graph.{kind_at, name_at, node_named, mode_named, edge_from_to, incoming, failures, failure_at, place_of_failure};
 ghost use Rattle.tfpg_graph.specs.Valid.{IsValid};
 
 use crate::declared::Declared;
 use crate::edge::Edge;
 use crate::kind::Kind;
+use std::alloc::Global;
 use std::marker::Model;
+use tfpg_base::NoMemory;
 
 /// A timed failure propagation graph that is valid.
 ///
@@ -38,6 +40,14 @@ impl Graph {
         ensures { result ≡ declared }
     {
         Graph { declared }
+    }
+
+    /// A copy of the graph. Takes time and memory linear in the graph.
+    pub fn copy(&self, alloc: Global) -> Result<Graph, NoMemory>
+        ensures { IfOk result (λ graph. graph ≡ self.now) }
+    {
+        let declared = self.declared.copy(alloc)?;
+        Ok(Graph { declared })
     }
 
     /// How many nodes it has: at most 512.

@@ -1,7 +1,7 @@
 //! Timed failure propagation graphs: failure modes and discrepancies as nodes, propagations with their delays and
 //! system modes as edges.
 //!
-//! - [`read`] reads the text of a graph.
+//! - [`read`] reads the text of a graph, and [`write`] writes it.
 //! - [`Graph`] is a valid graph with its look-ups.
 //! - [`Kind`] and [`Edge`] are its parts.
 //! - [`NodeSet`] is a set of its nodes, as [`Graph::reach`] gives one.
@@ -11,14 +11,17 @@
 mod cause;
 mod declared;
 mod edge;
+mod edge_line;
 mod graph;
 mod kind;
 mod laws;
 mod line_shape;
+mod modes_word;
 mod new_edge;
 mod new_node;
 mod node_set;
 mod reaching;
+mod node_line;
 mod reader;
 mod reading;
 #[cfg(test)]
@@ -27,6 +30,7 @@ mod word_value;
 mod zero_cycle;
 mod zero_search;
 mod zero_steps;
+mod writing;
 
 pub use cause::{GraphCause, GraphFault, GraphRefusal};
 pub use edge::Edge;
@@ -35,3 +39,4 @@ pub use kind::Kind;
 pub use laws::reach_is_the_least_closed_set;
 pub use node_set::NodeSet;
 pub use reading::read;
+pub use writing::write;

@@ -1,7 +1,7 @@
 //! What a line of a graph's text says by its shape alone.
 
 ghost use Rattle.std.specs.Prelude.{◌≡◌, ◌∷◌, map, codes, IfSome};
-ghost use Rattle.tfpg_graph.specs.Text.{line_of};
+ghost use Rattle.tfpg_base.specs.Words.{line_of};
 ghost use Rattle.tfpg_graph.specs.Shapes.{shape_words, lag_words};
 
 use tfpg_base::Words;

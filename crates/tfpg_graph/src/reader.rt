@@ -1,7 +1,8 @@
 //! The reader of a graph's text, line by line.
 
 ghost use Rattle.std.specs.Prelude.{◌≡◌, ◌⊎◌, ◌∷◌, ◌++◌, [], codes, IfOk, IfErr};
-ghost use Rattle.tfpg_graph.specs.Text.{header, mode_line, line_of, canonical_lines};
+ghost use Rattle.tfpg_base.specs.Words.{line_of};
+ghost use Rattle.tfpg_graph.specs.Text.{header, mode_line, canonical_lines};
 ghost use Rattle.tfpg_graph.specs.Shapes.{kind_words, edge_words, shape_words};
 ghost use Rattle.tfpg_graph.specs.Small.{IsSmallGraph, MayRefuse};
 

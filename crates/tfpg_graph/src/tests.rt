@@ -1,6 +1,6 @@
-//! Tests of what no clause says: that small texts are read, and which texts are refused.
+//! Tests of what no clause says: that small texts are read, written and copied, and which texts are refused.
 
-use crate::{Edge, GraphCause, GraphFault, GraphRefusal, Kind, read};
+use crate::{Edge, GraphCause, GraphFault, GraphRefusal, Kind, read, write};
 use std::test::Fail;
 use tfpg_base::Set;
 
@@ -45,6 +45,32 @@ fn reads_a_small_text_and_looks_it_up(rt: HostRuntime) -> Result<(), Fail> {
     assert_eq!(rt; graph.failure_node(0), 0);
     assert_eq!(rt; graph.place_of(0), Some(0));
     assert_eq!(rt; graph.place_of(1), None);
+    Ok(())
+}
+
+#[test]
+fn writes_what_was_read(rt: HostRuntime) -> Result<(), Fail> {
+    let graph = read(rt.alloc(), TWO_ALARMS)?;
+    let mut text = Vec::from_slice(rt.alloc(), b"# before\n")?;
+    write(&graph, &mut text)?;
+    assert_eq!(rt;
+        text.as_slice().strip_prefix(b"# before\n".as_slice()),
+        Some(TWO_ALARMS)
+    );
+    Ok(())
+}
+
+#[test]
+fn a_copy_has_the_same_look_ups(rt: HostRuntime) -> Result<(), Fail> {
+    let graph = read(rt.alloc(), TWO_ALARMS)?;
+    let copy = graph.copy(rt.alloc())?;
+    assert_eq!(rt; copy.node_count(), 3);
+    assert_eq!(rt; copy.find(b"E"), Some(2));
+    assert_eq!(rt; copy.find_mode(b"N"), Some(0));
+    assert_eq!(rt; copy.kind(0), Kind::Failure { rarity: 1 });
+    assert_eq!(rt; copy.edge_between(0, 2), Some(1));
+    assert_eq!(rt; copy.incoming(1), [0].as_slice());
+    assert_eq!(rt; copy.place_of(0), Some(0));
     Ok(())
 }
 

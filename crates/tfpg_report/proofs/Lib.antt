@@ -1,4 +1,3 @@
-pub mod Joined
 pub mod Failures
 pub mod Members
 pub mod Findings

@@ -7,8 +7,9 @@ use Rattle.std.proofs.lemmas.List.{append-nil, map-append, length-map, length-ap
 use Rattle.std.proofs.lemmas.List.Elements.{All-head, All-tail, All-contains}
 use Rattle.tfpg_base.proofs.Elements.{AllPairs-head, AllPairs-tail, Contains-tail, Contains-cons_cases, Contains-nil}
 use Rattle.tfpg_graph.specs.Graph.{Tfpg}
-use Rattle.tfpg_report.specs.Pieces.{failure_word, separated}
-use Rattle.tfpg_report.proofs.Joined.{join-push}
+use Rattle.tfpg_base.specs.TextLine.{separated}
+use Rattle.tfpg_report.specs.Pieces.{failure_word}
+use Rattle.tfpg_base.proofs.Joined.{join-push}
 
 -- the members below a place
 abbrev pub members_below : ℕ → List ℕ → List ℕ

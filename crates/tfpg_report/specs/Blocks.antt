@@ -1,9 +1,8 @@
 -- The text of each block of a report.
 use Rattle.std.specs.Prelude.{ℕ, List, [], ◌∷◌, ◌++◌, length, map, filter_map, flat_map, Bool, if◌then◌else◌, ◌==◌, Option, Some, None, option_map, option_and_then, unwrap_or, slice_get, codes, decimal}
 use Rattle.std.specs.List.{join_with_byte}
-use Rattle.tfpg_base.specs.Lines.{with_line_end}
+use Rattle.tfpg_base.specs.TextLine.{text_line}
 use Rattle.tfpg_graph.specs.Graph.{Tfpg, name_at, failures, failure_at}
-use Rattle.tfpg_graph.specs.Text.{line_of}
 use Rattle.tfpg_log.specs.declared.refusal.Refusal.{Refusal}
 use Rattle.tfpg_log.specs.declared.refusal.Refusal.TheVariants.{BadLine, BadNumber, TimeTooLarge, TimeBack, UnknownName, NotMonitored, NotAMode, SecondAlarm, SilentAfterAlarm, LogFull, ModesFull, NotBuilt}
 use Rattle.tfpg_evidence.specs.declared.clause_name.ClauseName.{ClauseName}
@@ -20,10 +19,6 @@ use Rattle.tfpg_evidence.specs.declared.round.Round.{Round}
 use Rattle.tfpg_evidence.specs.RoundOf.{Sizes, finding_numbered}
 use Rattle.tfpg_report.specs.declared.refused_line.RefusedLine.{RefusedLine}
 use Rattle.tfpg_report.specs.declared.refused_line.RefusedLine.TheVariants.{TooLong, Offer}
-
--- words with a space between each two, and a line end
-abbrev pub text_line : List (List ℕ) → List ℕ
-text_line words = with_line_end (line_of words)
 
 -- the first line of a report
 abbrev pub head_text : ℕ → ℕ → List ℕ

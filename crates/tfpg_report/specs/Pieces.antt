@@ -1,16 +1,12 @@
 -- Pieces of the text of a block, as the calls that append them name them.
-use Rattle.std.specs.Prelude.{ℕ, List, [], ◌∷◌, ◌++◌, Bool, true, false, unwrap_or, option_and_then, option_map, codes, decimal}
+use Rattle.std.specs.Prelude.{ℕ, List, [], ◌∷◌, ◌++◌, unwrap_or, option_and_then, option_map, codes, decimal}
 use Rattle.tfpg_base.specs.declared.activation.Activation.{Activation}
 use Rattle.tfpg_graph.specs.Graph.{Tfpg, name_at, failure_at}
 use Rattle.tfpg_evidence.specs.declared.reason.Reason.{Reason}
 use Rattle.tfpg_evidence.specs.declared.finding.Finding.{Finding}
 use Rattle.tfpg_evidence.specs.RoundOf.{finding_numbered}
-use Rattle.tfpg_report.specs.Blocks.{text_line, name_word, reason_words, set_word, ranked_text}
-
--- a part, with the separator in front unless it is the first
-abbrev pub separated : ℕ → Bool → List ℕ → List ℕ
-separated separator true part = part
-separated separator false part = separator ∷ part
+use Rattle.tfpg_base.specs.TextLine.{text_line}
+use Rattle.tfpg_report.specs.Blocks.{name_word, reason_words, set_word, ranked_text}
 
 -- the name of the failure mode at a position
 abbrev pub failure_word : Tfpg → ℕ → List ℕ

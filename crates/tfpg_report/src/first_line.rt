@@ -3,9 +3,8 @@
 ghost use Rattle.tfpg_base.specs.Append.{Appends};
 ghost use Rattle.tfpg_report.specs.Blocks.{head_text};
 
-use crate::text_line::put_line;
 use itoa::Buffer;
-use tfpg_base::NoMemory;
+use tfpg_base::{NoMemory, put_line};
 
 /// Appends the first line of a report on sets of at most `k` failure modes, with this budget.
 /// Where memory is wanting, a part of the line may stand behind the old bytes.

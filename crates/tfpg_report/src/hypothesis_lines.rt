@@ -3,7 +3,8 @@
 ghost use Rattle.std.specs.Prelude.{◌≡◌, ◌++◌, All, flat_map};
 ghost use Rattle.tfpg_base.specs.Append.{Appends};
 ghost use Rattle.tfpg_evidence.specs.RoundOf.{IsFindingOf};
-ghost use Rattle.tfpg_report.specs.Blocks.{hypothesis_words, open_text, rejected_text, sizes_of, text_line};
+ghost use Rattle.tfpg_base.specs.TextLine.{text_line};
+ghost use Rattle.tfpg_report.specs.Blocks.{hypothesis_words, open_text, rejected_text, sizes_of};
 
 use crate::set_line::put_set_line;
 use itoa::Buffer;

@@ -22,7 +22,6 @@ mod step_lines;
 mod steps_block;
 #[cfg(test)]
 mod tests;
-mod text_line;
 
 pub use first_line::head;
 pub use lost_line::lost;

@@ -4,9 +4,8 @@ ghost use Rattle.std.specs.Prelude.{◌≡◌, codes, if◌then◌else◌};
 ghost use Rattle.tfpg_base.specs.Append.{Appends};
 ghost use Rattle.tfpg_report.specs.Blocks.{lost_text};
 
-use crate::text_line::put_line;
 use itoa::Buffer;
-use tfpg_base::NoMemory;
+use tfpg_base::{NoMemory, put_line};
 
 /// Appends the line of a panel that was lost at the round before, or that found no memory. Panels count from 1.
 /// Where memory is wanting, a part of the line may stand behind the old bytes.

@@ -9,9 +9,8 @@ ghost use Rattle.tfpg_report.specs.Pieces.{activation_text, numbered_text, ranke
 
 use crate::names::node_name;
 use crate::set_line::put_set_line;
-use crate::text_line::put_line;
 use itoa::Buffer;
-use tfpg_base::{Activation, NoMemory};
+use tfpg_base::{Activation, NoMemory, put_line};
 use tfpg_evidence::{Finding, Status};
 use tfpg_graph::Graph;
 

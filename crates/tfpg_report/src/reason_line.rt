@@ -7,9 +7,8 @@ ghost use Rattle.tfpg_report.specs.Blocks.{sizes_of};
 ghost use Rattle.tfpg_report.specs.Pieces.{reason_text};
 
 use crate::names::node_name;
-use crate::text_line::put_line;
 use itoa::Buffer;
-use tfpg_base::NoMemory;
+use tfpg_base::{NoMemory, put_line};
 use tfpg_evidence::Reason;
 use tfpg_graph::Graph;
 

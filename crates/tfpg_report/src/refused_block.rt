@@ -2,12 +2,12 @@
 
 ghost use Rattle.std.specs.Prelude.{◌≡◌, ◌∷◌, codes, decimal};
 ghost use Rattle.tfpg_base.specs.Append.{Appends};
-ghost use Rattle.tfpg_report.specs.Blocks.{refusal_name, refusal_time, refused_text, text_line, time_words};
+ghost use Rattle.tfpg_base.specs.TextLine.{text_line};
+ghost use Rattle.tfpg_report.specs.Blocks.{refusal_name, refusal_time, refused_text, time_words};
 
 use crate::RefusedLine;
-use crate::text_line::put_line;
 use itoa::Buffer;
-use tfpg_base::NoMemory;
+use tfpg_base::{NoMemory, put_line};
 use tfpg_log::Refusal;
 
 /// Appends the block of a line that was refused. Lines count from 1. Where memory is wanting, a part of the block may

@@ -3,14 +3,14 @@
 ghost use Rattle.std.specs.Prelude.{◌≡◌, ◌∷◌, [], codes, decimal};
 ghost use Rattle.tfpg_base.specs.Append.{Appends};
 ghost use Rattle.tfpg_evidence.specs.RoundOf.{IsRoundOf};
-ghost use Rattle.tfpg_report.specs.Blocks.{counts_text, round_text, sizes_of, text_line};
+ghost use Rattle.tfpg_base.specs.TextLine.{text_line};
+ghost use Rattle.tfpg_report.specs.Blocks.{counts_text, round_text, sizes_of};
 
 use crate::hypothesis_lines::{put_all_open, put_all_rejected};
 use crate::ranked_lines::put_all_ranked;
 use crate::steps_block::put_all_steps;
-use crate::text_line::put_line;
 use itoa::Buffer;
-use tfpg_base::NoMemory;
+use tfpg_base::{NoMemory, put_line};
 use tfpg_evidence::{Counts, Round};
 use tfpg_graph::Graph;
 

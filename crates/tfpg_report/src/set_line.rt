@@ -8,8 +8,7 @@ ghost use Rattle.tfpg_report.specs.Blocks.{set_word};
 ghost use Rattle.tfpg_report.specs.Pieces.{failure_word};
 
 use crate::names::failure_name;
-use crate::text_line::put_part;
-use tfpg_base::{NoMemory, Set};
+use tfpg_base::{NoMemory, Set, put_part};
 use tfpg_graph::Graph;
 
 /// Appends the pieces, a set and a line end.

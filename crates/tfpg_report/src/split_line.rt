@@ -3,12 +3,12 @@
 ghost use Rattle.std.specs.Prelude.{◌≡◌, ◌<◌, ◌++◌, ◌∷◌, [], codes, decimal, length};
 ghost use Rattle.tfpg_base.specs.Append.{Appends};
 ghost use Rattle.tfpg_evidence.specs.RoundOf.{IsClauseOf};
-ghost use Rattle.tfpg_report.specs.Blocks.{clause_words, edge_words, name_word, sizes_of, text_line};
+ghost use Rattle.tfpg_base.specs.TextLine.{text_line};
+ghost use Rattle.tfpg_report.specs.Blocks.{clause_words, edge_words, name_word, sizes_of};
 
 use crate::names::{edge_names, node_name};
-use crate::text_line::put_line;
 use itoa::Buffer;
-use tfpg_base::NoMemory;
+use tfpg_base::{NoMemory, put_line};
 use tfpg_evidence::ClauseName;
 use tfpg_graph::Graph;
 

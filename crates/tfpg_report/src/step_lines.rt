@@ -3,14 +3,14 @@
 ghost use Rattle.std.specs.Prelude.{◌≡◌, ◌++◌, ◌∷◌, [], All, codes, decimal, flat_map, length};
 ghost use Rattle.tfpg_base.specs.Append.{Appends};
 ghost use Rattle.tfpg_evidence.specs.RoundOf.{IsReasonOf, IsStepOf};
-ghost use Rattle.tfpg_report.specs.Blocks.{sizes_of, step_text, text_line};
+ghost use Rattle.tfpg_base.specs.TextLine.{text_line};
+ghost use Rattle.tfpg_report.specs.Blocks.{sizes_of, step_text};
 ghost use Rattle.tfpg_report.specs.Pieces.{reason_text};
 
 use crate::reason_line::put_reason;
 use crate::split_line::put_split;
-use crate::text_line::put_line;
 use itoa::Buffer;
-use tfpg_base::NoMemory;
+use tfpg_base::{NoMemory, put_line};
 use tfpg_evidence::{Reason, Step};
 use tfpg_graph::Graph;
 

@@ -6,9 +6,8 @@ ghost use Rattle.tfpg_evidence.specs.RoundOf.{IsFindingOf, IsStepOf};
 ghost use Rattle.tfpg_report.specs.Blocks.{sizes_of, step_text, steps_text};
 
 use crate::step_lines::put_step;
-use crate::text_line::put_line;
 use itoa::Buffer;
-use tfpg_base::NoMemory;
+use tfpg_base::{NoMemory, put_line};
 use tfpg_evidence::{Finding, Step};
 use tfpg_graph::Graph;
 

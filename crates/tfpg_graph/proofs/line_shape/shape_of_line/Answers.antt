@@ -2,7 +2,7 @@ use Rattle.std.proofs.Common.{rules, ◌≡◌, sym, ap, ◌∙◌, map}
 use Rattle.std.proofs.lemmas.Option.{IfSome_then}
 use Rattle.tfpg_base.specs.Words.{words_of}
 use Rattle.tfpg_base.proofs.Separators.{join_with_byte-words_of}
-use Rattle.tfpg_graph.specs.Text.{line_of}
+use Rattle.tfpg_base.specs.Words.{line_of}
 use Rattle.tfpg_graph.proofs.line_shape.shape_of_line.Goals as goal
 
 pub returns : goal.returns

@@ -1,6 +1,6 @@
 use Rattle.std.proofs.Common.{◌≡◌, List, ℕ, true, ◌++◌, ◌∙◌, ap, arith}
 use Rattle.tfpg_base.proofs.Appended.{Appends-err_after}
-use Rattle.tfpg_report.specs.Pieces.{separated}
+use Rattle.tfpg_base.specs.TextLine.{separated}
 use Rattle.tfpg_report.proofs.Members.{AreNamed-none, AreNamed-more, AreNamed-same, AreNamed-all}
 use Rattle.tfpg_report.proofs.set_line.put_members.Goals as goal
 use Rattle.tfpg_report.proofs.set_line.put_members.Goals.{then-has+in_ok-put_part, else-has}

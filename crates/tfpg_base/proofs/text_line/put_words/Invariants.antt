@@ -1,6 +1,6 @@
 use Rattle.std.proofs.Common.{◌≡◌, ◌++◌, map, take}
 use Rattle.std.specs.List.{join_with_byte}
-use Rattle.tfpg_report.proofs.text_line.put_line.Given as goal
+use Rattle.tfpg_base.proofs.text_line.put_words.Given as goal
 
 -- the words so far are joined behind the old bytes
 abbrev pub invariant-loop-place : goal.invariant-loop-place

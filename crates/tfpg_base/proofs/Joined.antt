@@ -3,11 +3,11 @@ use Rattle.std.proofs.Common.{◌≡◌, ℕ, ◌+◌, ◌<◌, ◌≤◌, Bool,
 use Rattle.std.specs.List.{join_with_byte}
 use Rattle.std.proofs.lemmas.Bool.Decides.{nat_tests}
 use Rattle.std.proofs.lemmas.List.{take_more, take_all, length-take, length-map, get_or-map}
-use Rattle.tfpg_report.specs.Blocks.{text_line}
-use Rattle.tfpg_report.specs.Pieces.{separated}
+use Rattle.tfpg_base.specs.Words.{line_of}
+use Rattle.tfpg_base.specs.TextLine.{separated}
 
 -- a part behind others stands behind a separator
-join-push_later : (c : ℕ) (first : List ℕ) (others : List (List ℕ)) (part : List ℕ)
+pub join-push_later : (c : ℕ) (first : List ℕ) (others : List (List ℕ)) (part : List ℕ)
     → join_with_byte c (first ∷ (others ++ part ∷ [])) ≡ join_with_byte c (first ∷ others) ++ (c ∷ part)
 join-push_later c first [] part = refl
 join-push_later c first (second ∷ others) part =
@@ -44,9 +44,6 @@ line_goes_on now words place d old before after lt e h =
     ∙ append_assoc old (join_with_byte 32 (take place (map now words))) (separated 32 (eqb place 0) (now (get_or words place d)))
     ∙ ap (λ (t : List ℕ). old ++ t) (sym more)
 
--- a line whose words are all written, with its line end
-pub line_ends : (words : List (List ℕ)) (place : ℕ) (old before after : List ℕ) → length words ≤ place
-    → before ≡ old ++ join_with_byte 32 (take place words) → after ≡ before ++ 10 ∷ [] → after ≡ old ++ text_line words
-line_ends words place old before after le e h =
-    h ∙ ap (λ (t : List ℕ). t ++ 10 ∷ []) (e ∙ ap (λ (ws : List (List ℕ)). old ++ join_with_byte 32 ws) (take_all place words le))
-    ∙ append_assoc old (join_with_byte 32 words) (10 ∷ [])
+-- a line whose words are all written
+pub line_ends : (words : List (List ℕ)) (place : ℕ) (old new : List ℕ) → length words ≤ place → new ≡ old ++ join_with_byte 32 (take place words) → new ≡ old ++ line_of words
+line_ends words place old new le e = e ∙ ap (λ (ws : List (List ℕ)). old ++ join_with_byte 32 ws) (take_all place words le)

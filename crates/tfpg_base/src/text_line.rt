@@ -1,0 +1,59 @@
+//! One line of a text, written word by word.
+
+ghost use Rattle.std.specs.Prelude.{◌≡◌, ◌++◌, map};
+ghost use Rattle.tfpg_base.specs.Append.{Appends};
+ghost use Rattle.tfpg_base.specs.TextLine.{text_line, separated};
+ghost use Rattle.tfpg_base.specs.Words.{line_of};
+
+use crate::no_memory::NoMemory;
+
+/// Appends the words with a space between each two, and a line end. Where memory is wanting, a part of the line may
+/// stand behind the old bytes.
+pub fn put_line(into: &mut Vec<u8>, words: &[&[u8]]) -> Result<(), NoMemory>
+    ensures { Appends result into.old.items into.new.items (text_line (map (λ word. word.now) words.now)) }
+{
+    put_words(into, words)?;
+    into.push(b'\n')?;
+    Ok(())
+}
+
+/// Appends the words with a space between each two.
+pub fn put_words(into: &mut Vec<u8>, words: &[&[u8]]) -> Result<(), NoMemory>
+    ensures { Appends result into.old.items into.new.items (line_of (map (λ word. word.now) words.now)) }
+{
+    for (place, word) in words.iter().enumerate() {
+        put_part(into, b' ', place == 0, word)?;
+    }
+    Ok(())
+}
+
+/// Appends a part, and in front of it the separator unless it is the first.
+pub fn put_part(
+    into: &mut Vec<u8>,
+    separator: u8,
+    is_first: bool,
+    part: &[u8],
+) -> Result<(), NoMemory>
+    ensures { Appends result into.old.items into.new.items (separated separator is_first part.now) }
+{
+    if !is_first {
+        into.push(separator)?;
+    }
+    into.extend_from_slice(part)?;
+    Ok(())
+}
+
+#[cfg(test)]
+mod tests {
+    use super::*;
+    use std::test::Fail;
+
+    #[test]
+    fn words_stand_behind_the_text(rt: HostRuntime) -> Result<(), Fail> {
+        let mut text = Vec::from_slice(rt.alloc(), b"a\n")?;
+        put_line(&mut text, &[b"b", b"", b"c"])?;
+        put_part(&mut text, b',', false, b"d")?;
+        assert_eq!(rt; text.as_slice(), b"a\nb  c\n,d".as_slice());
+        Ok(())
+    }
+}

@@ -1,0 +1,19 @@
+use Rattle.std.proofs.Common.{arith}
+use Rattle.tfpg_base.proofs.Appended.{Appends-err_after, appended_all}
+use Rattle.tfpg_graph.specs.Valid.{IsValidEdge}
+use Rattle.tfpg_graph.specs.Written.{edge_text}
+use Rattle.tfpg_graph.proofs.AtNumbers.{All-at, appended_next}
+use Rattle.tfpg_graph.proofs.writing.put_edges.Goals as goal
+
+pub put_edge-requires-clause-edge : goal.put_edge-requires-clause-edge
+put_edge-requires-clause-edge c = All-at (IsValidEdge c.args.graph.now) c.args.graph.now.edges c.loop-number.number _ c.requires.edges c.edge.ensures
+
+pub returns-in_err-put_edge : goal.returns-in_err-put_edge
+returns-in_err-put_edge c = Appends-err_after _ _ _ _ _ _ c.from_residual.ensures.0 c.loop-number.invariant c.in_err-put_edge.ensures
+
+pub loop-number-preserved : goal.loop-number-preserved
+loop-number-preserved c =
+    appended_next (edge_text c.args.graph.now) c.args.graph.now.edges c.loop-number.number _ _ _ _ c.edge.ensures c.loop-number.invariant c.in_ok-put_edge.ensures
+
+pub returns : goal.returns
+returns c = appended_all (edge_text c.args.graph.now) c.args.graph.now.edges c.loop-number.number _ _ (omega arith) c.loop-number.invariant
