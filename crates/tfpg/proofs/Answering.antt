@@ -8,7 +8,7 @@ use Rattle.tfpg_log.specs.declared.event.Offered.{Offered}
 use Rattle.tfpg_log.specs.declared.event.Offered.TheVariants.{Accepted, Refused}
 use Rattle.tfpg_log.specs.declared.refusal.Refusal.{Refusal}
 use Rattle.tfpg_log.specs.Log.{Logbook, with_event, IsOf, IsEventOf}
-use Rattle.tfpg_log.specs.AcceptedNow.{reply_now}
+use Rattle.tfpg_log.specs.Accepted.{reply_to}
 use Rattle.tfpg_log.specs.LogOfLines.{log_after_reply, log_after, is_too_long}
 use Rattle.tfpg_evidence.specs.declared.round.Round.{Round}
 use Rattle.tfpg_report.specs.declared.refused_line.RefusedLine.{RefusedLine}
@@ -28,10 +28,10 @@ event_is_of graph log log' reply event e l of =
     last_of_all (IsEventOf graph) log.events event (subst (IsOf graph) is of).own
 
 -- what a line gives that is not too long
-short_line : (graph : Tfpg) (log : Logbook) (line : List ℕ) (reply : Offered) → length line ≤ 4096 → reply_now graph log line ≡ reply → event_of_line graph log line ≡ event_of_reply reply
+short_line : (graph : Tfpg) (log : Logbook) (line : List ℕ) (reply : Offered) → length line ≤ 4096 → reply_to graph log line ≡ reply → event_of_line graph log line ≡ event_of_reply reply
 short_line graph log line reply le e = let short : is_too_long line ≡ false = le-ltb _ _ le in rw (short, e) refl
 
-short_log : (graph : Tfpg) (log : Logbook) (line : List ℕ) → length line ≤ 4096 → log_after graph log line ≡ log_after_reply log (reply_now graph log line)
+short_log : (graph : Tfpg) (log : Logbook) (line : List ℕ) → length line ≤ 4096 → log_after graph log line ≡ log_after_reply log (reply_to graph log line)
 short_log graph log line le = let short : is_too_long line ≡ false = le-ltb _ _ le in rw short refl
 
 abbrev progress_of : List Round → Logbook → Progress
@@ -45,7 +45,7 @@ pub block_of_refusal : (graph : Tfpg) (before : Progress) (number : ℕ) (line :
     → length line ≤ 4096 → t ≡ told.Refused refusal → Tells graph before number line t → StandsFor diagnoser (after_told graph before line t)
     → bytes ≡ refused_text number (Offer refusal) → HasBlock graph before number line bytes diagnoser
 block_of_refusal graph before number line refusal t bytes diagnoser le e tells stands text =
-    let refused : reply_now graph before.log line ≡ Refused refusal = subst (Tells graph before number line) e tells in
+    let refused : reply_to graph before.log line ≡ Refused refusal = subst (Tells graph before number line) e tells in
     let same : StandsFor diagnoser before = subst (λ (x : Told). StandsFor diagnoser (after_told graph before line x)) e stands in
     let block = RefusedBlock number (Offer refusal) in
     record {
@@ -73,7 +73,7 @@ block_of_round graph before number line round t bytes diagnoser le e tells stand
       no_losses = refl;
       text = text ∙ sym (append-nil (round_text graph round));
       stands = subst (StandsFor diagnoser) (sym (progress_same (before.rounds ++ round ∷ []) (before.rounds ++ round ∷ []) (log_after graph before.log line)
-          (log_after_reply before.log (reply_now graph before.log line)) refl (short_log graph before.log line le))) same;
+          (log_after_reply before.log (reply_to graph before.log line)) refl (short_log graph before.log line le))) same;
     }
 
 -- the block of a line that is too long

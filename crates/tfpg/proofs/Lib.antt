@@ -1,3 +1,4 @@
+pub mod Refused
 pub mod EmptySet
 pub mod EmptyRounds
 pub mod Telling

@@ -9,7 +9,7 @@ use Rattle.tfpg_log.specs.declared.event.Event.{Event}
 use Rattle.tfpg_log.specs.declared.event.Event.TheVariants.{Alarm}
 use Rattle.tfpg_log.specs.declared.event.Offered.TheVariants.{Accepted, Refused}
 use Rattle.tfpg_log.specs.Log.{Logbook, event_at, alarm_of, with_event, IsOf}
-use Rattle.tfpg_log.specs.AcceptedNow.{reply_now}
+use Rattle.tfpg_log.specs.Accepted.{reply_to}
 use Rattle.tfpg_log.specs.LogOfLines.{log_after_reply}
 use Rattle.tfpg_clause.specs.Trees.{Judged}
 use Rattle.tfpg_evidence.specs.RoundOf.{Sizes, IsRoundOf}
@@ -58,9 +58,9 @@ pub record IsReady (diagnoser : Diagnoser) : Type 0 where
 
 -- What a diagnoser tells of a line: the log's refusal, or a round of the lengthened log.
 abbrev pub Tells : Tfpg → Progress → ℕ → List ℕ → Told → Type 0
-Tells graph before number line (told.Refused refusal) = reply_now graph before.log line ≡ Refused refusal
+Tells graph before number line (told.Refused refusal) = reply_to graph before.log line ≡ Refused refusal
 Tells graph before number line (told.Round round) =
-    (event : Event) × (reply_now graph before.log line ≡ Accepted event)
+    (event : Event) × (reply_to graph before.log line ≡ Accepted event)
     × IsRound graph 0 budget before.rounds (with_event before.log event) number round
 
 -- what is told names only what the graph has
@@ -72,7 +72,7 @@ IsToldOf sizes (told.Round round) = IsRoundOf sizes round
 abbrev pub after_told : Tfpg → Progress → List ℕ → Told → Progress
 after_told graph before line (told.Refused refusal) = before
 after_told graph before line (told.Round round) =
-    record { rounds = before.rounds ++ round ∷ []; log = log_after_reply before.log (reply_now graph before.log line) }
+    record { rounds = before.rounds ++ round ∷ []; log = log_after_reply before.log (reply_to graph before.log line) }
 
 -- The diagnoser's log has one event more than the progress, and for the rest it stands for it.
 pub record HasHeard (diagnoser : Diagnoser) (before : Progress) (event : Event) : Type 0 where

@@ -43,7 +43,6 @@ graph_cause_name graph.TooManyModes = codes "TooManyModes"
 graph_cause_name graph.TooManyIncoming = codes "TooManyIncoming"
 graph_cause_name graph.MissingEnd = codes "MissingEnd"
 graph_cause_name graph.AfterEnd = codes "AfterEnd"
-graph_cause_name graph.NotBuilt = codes "NotBuilt"
 
 -- what is said of an end; nothing of one that is done
 abbrev pub line_of_end : End → List ℕ

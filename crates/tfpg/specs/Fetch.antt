@@ -4,7 +4,7 @@ use Rattle.tfpg_base.specs.Outside.{Gives, PassesLimit}
 use Rattle.tfpg_graph.specs.Graph.{Tfpg}
 use Rattle.tfpg_graph.specs.Text.{Spells}
 use Rattle.tfpg_graph.specs.Valid.{IsValid}
-use Rattle.tfpg_graph.specs.declared.cause.GraphCause.TheVariants as graph_cause
+use Rattle.tfpg_graph.specs.Faults.{IsFirstFault}
 use Rattle.tfpg.specs.declared.end.End.{End}
 use Rattle.tfpg.specs.declared.end.End.TheVariants.{Done, Usage, Graph, ReadFault, WriteFault, TooMuchInput, NoMemory}
 
@@ -16,11 +16,12 @@ pub record GivesGraph (files : Option (List (List ℕ × List ℕ))) (name : Lis
   pub spells : Spells text graph
   pub valid : IsValid graph
 
--- Why there is no graph: the shelf failed; the file has more than 2^24 bytes; its text is refused; or memory was wanting.
+-- Why there is no graph: the shelf failed; the file has more than 2^24 bytes; this is the first fault of its
+-- text; or memory was wanting.
 abbrev pub FetchEnds : Option (List (List ℕ × List ℕ)) → List ℕ → Type 0 → End → Type 0
 FetchEnds files name rose ReadFault = rose
 FetchEnds files name rose TooMuchInput = (front : List ℕ) × PassesLimit files name front
-FetchEnds files name rose (Graph line cause) = (text : List ℕ) × Gives files name text × (length text ≤ 2 ^ 24) × (line ≡ 0) × (cause ≡ graph_cause.NotBuilt)
+FetchEnds files name rose (Graph line cause) = (text : List ℕ) × Gives files name text × (length text ≤ 2 ^ 24) × IsFirstFault text (record { line = line; cause = cause })
 FetchEnds files name rose NoMemory = Unit {0}
 FetchEnds files name rose Done = ⊥
 FetchEnds files name rose (Usage cause) = ⊥

@@ -166,7 +166,6 @@ fn graph_cause_word(cause: GraphCause) -> &'static [u8]
         GraphCause::TooManyIncoming => b"TooManyIncoming",
         GraphCause::MissingEnd => b"MissingEnd",
         GraphCause::AfterEnd => b"AfterEnd",
-        GraphCause::NotBuilt => b"NotBuilt",
     }
 }
 

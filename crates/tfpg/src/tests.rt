@@ -15,10 +15,35 @@ const GRAPH: &[u8] =
 const TWO_MODES: &[u8] =
     b"tfpg 1\nmode N\nmode D\nfailure F1 3\nfailure F2 5\nor A watch 0\nor B hidden\nand C watch 0\nedge F1 A 10 20 N,D\nedge F2 A 5 5 N\nedge F1 B 0 inf *\nedge A C 0 10 *\nedge B C 0 10 *\nend\n";
 
+/// Two discrepancies that activate each other in no time; an edge that is active in no mode; a text without its last
+/// line; and one with two faults, of which the first counts.
+const FAULTY: [(&[u8], u64, GraphCause); 4] = [
+    (
+        b"tfpg 1\nmode N\nfailure F 1\nor A hidden\nor B hidden\nedge F A 0 1 *\nedge A B 0 1 *\nedge B A 0 1 *\nend\n",
+        7,
+        GraphCause::ZeroCycle,
+    ),
+    (
+        b"tfpg 1\nmode N\nfailure F 1\nor A hidden\nor B hidden\nedge F A 0 1 -\nedge A B 0 1 *\nedge B A 0 1 *\nend\n",
+        6,
+        GraphCause::NoModes,
+    ),
+    (
+        b"tfpg 1\nmode N\nfailure F 1\nor A watch 0\nor E watch 0\nedge F A 1 3 *\nedge F E 9 9 *\n",
+        8,
+        GraphCause::MissingEnd,
+    ),
+    (b"tfpg 1\nmode 1\nend\nend\n", 2, GraphCause::BadName),
+];
+
+/// Two discrepancies that activate each other, which takes time one way.
+const SLOW_CYCLE: &[u8] =
+    b"tfpg 1\nmode N\nfailure F 1\nor A hidden\nor B hidden\nedge F A 0 1 *\nedge A B 0 1 *\nedge B A 1 1 *\nend\n";
+
 const LOG: &[u8] = b"5 tick\n10 alarm E\n9 tick\n12 tick\n";
 
 const REPORT: &[u8] =
-    b"report 1 k 0 budget 1000\nround 1 1 5\nranked 0 cost 0 robust 1/1 set -\ncounts ranked 1 covered 0 rejected 0 open 0\nround 2 2 10\nhyp 0\ncycle 2\nwhy unreached E 10\nwhy upto 2\nrejected 0 set -\ncounts ranked 0 covered 0 rejected 1 open 0\nrefused 3 NotBuilt\nround 3 4 12\ncounts ranked 0 covered 0 rejected 1 open 0\n";
+    b"report 1 k 0 budget 1000\nround 1 1 5\nranked 0 cost 0 robust 1/1 set -\ncounts ranked 1 covered 0 rejected 0 open 0\nround 2 2 10\nhyp 0\ncycle 2\nwhy unreached E 10\nwhy upto 2\nrejected 0 set -\ncounts ranked 0 covered 0 rejected 1 open 0\nrefused 3 TimeBack 10\nround 3 4 12\ncounts ranked 0 covered 0 rejected 1 open 0\n";
 
 /// Words that are not the one shape.
 const REFUSED_WORDS: [&[&str]; 7] = [
@@ -40,7 +65,20 @@ pub(crate) fn words_of(alloc: Global, texts: &[&str]) -> Result<Vec<String>, All
     Ok(words)
 }
 
-/// How a run on the graph `g` and the log ends, and what it puts, where input and output go in pieces of at most so many
+/// How a run on a graph of this text ends.
+fn run_over(
+    alloc: Global,
+    graph: &[u8],
+    input: &mut MemorySource<'_>,
+    out: &mut MemorySink<'_>,
+) -> Result<End, AllocError> {
+    let words = words_of(alloc, &["diagnose", "--k", "0", "g"])?;
+    let files = [("g", graph)];
+    let mut shelf = MemoryShelf::new(alloc, &files, &[]);
+    Ok(run(alloc, &words, &mut shelf, input, out))
+}
+
+/// How a run on the graph and the log ends, and what it puts, where input and output go in pieces of at most so many
 /// bytes and fail at these calls.
 fn run_in_pieces(
     alloc: Global,
@@ -50,12 +88,9 @@ fn run_in_pieces(
 ) -> Result<(End, Vec<u8>), AllocError>
     requires { 0 < most }
 {
-    let words = words_of(alloc, &["diagnose", "--k", "0", "g"])?;
-    let files = [("g", GRAPH)];
-    let mut shelf = MemoryShelf::new(alloc, &files, &[]);
     let mut input = MemorySource::new(LOG, most, input_fails);
     let mut out = MemorySink::new(alloc, most, output_fails);
-    let end = run(alloc, &words, &mut shelf, &mut input, &mut out);
+    let end = run_over(alloc, GRAPH, &mut input, &mut out)?;
     Ok((end, Vec::from_slice(alloc, out.bytes())?))
 }
 
@@ -92,9 +127,9 @@ fn what_is_put_before_a_fault_begins_the_report(rt: HostRuntime) -> Result<(), F
         assert_eq!(rt; end, wanted, "at call {call} of the input");
         assert!(rt; REPORT.starts_with(&report), "at call {call} of the input");
     }
-    for call in 1..=47 {
+    for call in 1..=48 {
         let (end, report) = run_in_pieces(rt.alloc(), 7, &[], &[call])?;
-        let wanted = if call <= 46 {
+        let wanted = if call <= 47 {
             End::WriteFault
         } else {
             End::Done
@@ -105,21 +140,129 @@ fn what_is_put_before_a_fault_begins_the_report(rt: HostRuntime) -> Result<(), F
     Ok(())
 }
 
+/// What the report begins with, whatever the log.
+const HEAD: &[u8] = b"report 1 k 0 budget 1000\n";
+
+/// Logs over the graph with two modes: how many bytes the first lines have, where they are nothing but `x`; the lines
+/// behind them; and what the report has behind its head.
+const LOGS: [(&[usize], &[u8], &[u8]); 8] = [
+    (&[], b"", b""),
+    (
+        &[],
+        b"5 silent C\n",
+        b"round 1 1 5\nranked 0 cost 0 robust 1/1 set -\ncounts ranked 1 covered 0 rejected 0 open 0\n",
+    ),
+    (
+        &[],
+        b"30 alarm A\n29 tick\n31 tick\n",
+        b"round 1 1 30\nhyp 0\ncycle 2\nwhy unreached A 30\nwhy upto 1\nrejected 0 set -\ncounts ranked 0 covered 0 rejected 1 open 0\nrefused 2 TimeBack 30\nround 2 3 31\ncounts ranked 0 covered 0 rejected 1 open 0\n",
+    ),
+    (
+        &[],
+        b"30 alarm A\n40 alarm A\n45 silent A\n",
+        b"round 1 1 30\nhyp 0\ncycle 2\nwhy unreached A 30\nwhy upto 1\nrejected 0 set -\ncounts ranked 0 covered 0 rejected 1 open 0\nrefused 2 SecondAlarm 30\nrefused 3 SilentAfterAlarm 30\n",
+    ),
+    (
+        &[],
+        b"1000000000000 alarm A\n1000000000001 tick\n",
+        b"round 1 1 1000000000000\nhyp 0\ncycle 2\nwhy unreached A 1000000000000\nwhy upto 1\nrejected 0 set -\ncounts ranked 0 covered 0 rejected 1 open 0\nrefused 2 TimeTooLarge\n",
+    ),
+    (
+        &[],
+        b"10 sweep\n10 alarm A\n",
+        b"round 1 1 10\nranked 0 cost 0 robust 1/1 set -\ncounts ranked 1 covered 0 rejected 0 open 0\nround 2 2 10\nhyp 0\ncycle 2\nwhy unreached A 10\nwhy upto 2\nrejected 0 set -\ncounts ranked 0 covered 0 rejected 1 open 0\n",
+    ),
+    (
+        &[],
+        b"20 mode D\n20 alarm A\n21 mode A\n21 mode N\n",
+        b"round 1 1 20\nranked 0 cost 0 robust 1/1 set -\ncounts ranked 1 covered 0 rejected 0 open 0\nround 2 2 20\nhyp 0\ncycle 2\nwhy unreached A 20\nwhy upto 2\nrejected 0 set -\ncounts ranked 0 covered 0 rejected 1 open 0\nrefused 3 NotAMode\nround 3 4 21\ncounts ranked 0 covered 0 rejected 1 open 0\n",
+    ),
+    (
+        &[4097, 4096],
+        b"\nx tick\n5 alarm Q\n5 alarm B\n x tick\n5 tick\r\n5 tick",
+        b"refused 1 TooLong\nrefused 2 BadLine\nrefused 3 BadLine\nrefused 4 BadNumber\nrefused 5 UnknownName\nrefused 6 NotMonitored\nrefused 7 BadLine\nrefused 8 BadLine\nround 1 9 5\nranked 0 cost 0 robust 1/1 set -\ncounts ranked 1 covered 0 rejected 0 open 0\n",
+    ),
+];
+
+/// A log whose first lines have so many bytes `x`, with these lines behind them.
+fn log_of(alloc: Global, lengths: &[usize], behind: &[u8]) -> Result<Vec<u8>, AllocError> {
+    let mut log = Vec::new(alloc);
+    for length in lengths {
+        for _ in 0..*length {
+            log.push(b'x')?;
+        }
+        log.push(b'\n')?;
+    }
+    log.extend_from_slice(behind)?;
+    Ok(log)
+}
+
+#[test]
+fn answers_each_line_of_a_log(rt: HostRuntime) -> Result<(), Fail> {
+    for (lengths, behind, blocks) in &LOGS {
+        let log = log_of(rt.alloc(), *lengths, *behind)?;
+        let mut input = MemorySource::new(&log, 4096, &[]);
+        let mut out = MemorySink::new(rt.alloc(), 4096, &[]);
+        let end = run_over(rt.alloc(), TWO_MODES, &mut input, &mut out)?;
+        assert_eq!(rt; end, End::Done, "on {behind:?}");
+        assert_eq!(rt;
+            out.bytes().strip_prefix(HEAD),
+            Some(*blocks),
+            "on {behind:?}"
+        );
+    }
+    Ok(())
+}
+
+/// Lines, how often each is accepted, and the end of the report where it comes once more.
+const TOO_MANY: [(&[u8], usize, &[u8]); 2] = [
+    (
+        b"0 tick\n",
+        16384,
+        b"\nround 16384 16384 0\nranked 0 cost 0 robust 1/1 set -\ncounts ranked 1 covered 0 rejected 0 open 0\nrefused 16385 LogFull\n",
+    ),
+    (
+        b"0 mode D\n",
+        1024,
+        b"\nround 1024 1024 0\nranked 0 cost 0 robust 1/1 set -\ncounts ranked 1 covered 0 rejected 0 open 0\nrefused 1025 ModesFull\n",
+    ),
+];
+
+#[test]
+fn refuses_what_is_too_much_for_a_log(rt: HostRuntime) -> Result<(), Fail> {
+    for (line, count, last) in &TOO_MANY {
+        let mut log = Vec::new(rt.alloc());
+        for _ in 0..=*count {
+            log.extend_from_slice(*line)?;
+        }
+        let mut input = MemorySource::new(&log, 4096, &[]);
+        let mut out = MemorySink::new(rt.alloc(), 4096, &[]);
+        let end = run_over(rt.alloc(), TWO_MODES, &mut input, &mut out)?;
+        assert_eq!(rt; end, End::Done, "at {line:?}");
+        assert!(rt; out.bytes().ends_with(*last), "at {line:?}");
+    }
+    Ok(())
+}
+
 #[test]
 fn words_and_files_that_are_refused(rt: HostRuntime) -> Result<(), Fail> {
     let usage = End::Usage {
         cause: UsageCause::NotBuilt,
-    };
-    let refused = End::Graph {
-        line: 0,
-        cause: GraphCause::NotBuilt,
     };
     for words in REFUSED_WORDS {
         assert_eq!(rt; run_on(rt.alloc(), words, GRAPH, &[])?, usage);
     }
     let words = ["diagnose", "--k", "0", "g"];
     assert_eq!(rt; run_on(rt.alloc(), &words, GRAPH, &[])?, End::Done);
-    assert_eq!(rt; run_on(rt.alloc(), &words, TWO_MODES, &[])?, refused);
+    assert_eq!(rt; run_on(rt.alloc(), &words, TWO_MODES, &[])?, End::Done);
+    assert_eq!(rt; run_on(rt.alloc(), &words, SLOW_CYCLE, &[])?, End::Done);
+    for (text, line, cause) in &FAULTY {
+        let fault = End::Graph {
+            line: *line,
+            cause: *cause,
+        };
+        assert_eq!(rt; run_on(rt.alloc(), &words, text, &[])?, fault);
+    }
     assert_eq!(rt; run_on(rt.alloc(), &words, GRAPH, &[1])?, End::ReadFault);
     assert_eq!(rt;
         run_on(rt.alloc(), &["diagnose", "--k", "0", "h"], GRAPH, &[])?,

@@ -1,6 +1,6 @@
 //! Sets of failure modes.
 
-ghost use Rattle.std.specs.Prelude.{◌≡◌, ◌<◌, ◌^◌, ◌↔◌, [], IsTrue, Contains, length, bytes_eq};
+ghost use Rattle.std.specs.Prelude.{◌≡◌, ◌<◌, ◌^◌, ◌↔◌, [], IsTrue, Contains, length, bytes_eq, sum_by};
 ghost use Rattle.std.specs.Cmp.{partial_equiv_from_equiv};
 ghost use Rattle.std.specs.Cmp.Lexicographic.{nat_list_eq_equiv};
 ghost use Rattle.tfpg_base.specs.Set.{with_member, IsPart, IsProperPart, IsSet};
@@ -50,6 +50,14 @@ impl Set {
         ensures { result ≡ [] }
     {
         Set { bits: 0 }
+    }
+
+    /// The members as bits: bit `p` stands for position `p`.
+    pub fn bits(self) -> u64
+        ensures worth { result ≡ sum_by (λ place. 2 ^ place) self }
+        ensures set { IsSet self }
+    {
+        self.bits
     }
 
     /// The set with this member.

@@ -5,7 +5,7 @@ use Rattle.tfpg_log.specs.declared.event.Event.{Event}
 use Rattle.tfpg_log.specs.declared.event.Offered.{Offered}
 use Rattle.tfpg_log.specs.declared.event.Offered.TheVariants.{Accepted, Refused}
 use Rattle.tfpg_log.specs.Log.{Logbook, with_event}
-use Rattle.tfpg_log.specs.AcceptedNow.{reply_now}
+use Rattle.tfpg_log.specs.Accepted.{reply_to}
 use Rattle.tfpg_log.specs.LogOfLines.{new_log, is_too_long, log_after}
 use Rattle.tfpg_evidence.specs.declared.round.Round.{Round}
 use Rattle.tfpg_hyp.specs.Rounds.{IsRound}
@@ -20,7 +20,7 @@ event_of_reply (Refused refusal) = Err (Offer refusal)
 
 -- the event that a line gives, or why there is none
 abbrev pub event_of_line : Tfpg → Logbook → List ℕ → Result Event RefusedLine
-event_of_line graph log line = if is_too_long line then Err TooLong else event_of_reply (reply_now graph log line)
+event_of_line graph log line = if is_too_long line then Err TooLong else event_of_reply (reply_to graph log line)
 
 -- how far a report has come: the rounds and the log so far
 pub record Progress : Type 0 where

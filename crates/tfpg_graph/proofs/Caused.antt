@@ -10,7 +10,9 @@ use Rattle.tfpg_graph.specs.Text.{header}
 use Rattle.tfpg_graph.specs.Statements.{Statement, DeclaresMode, DeclaresNode, DeclaresEdge, Ends, said_by, said_by_all, is_passed_over, ends_text}
 use Rattle.tfpg_graph.specs.Declares.{kind_of_words, edge_declared, declared_by}
 use Rattle.tfpg_graph.specs.Causes.{cause_at}
-use Rattle.tfpg_graph.specs.Turns.{Part, Header, Declarations, Ended, Progress, is_misplaced, progress_with, judged, turn_said, turn_of, turn, part_behind, HasValue, StandsFor}
+use Rattle.tfpg_graph.specs.declared.reader.Part.{Part}
+use Rattle.tfpg_graph.specs.declared.reader.Part.TheVariants.{Header, Declarations, Ended}
+use Rattle.tfpg_graph.specs.Turns.{Progress, is_misplaced, progress_with, judged, turn_said, turn_of, turn, part_behind, HasValue, StandsFor}
 use Rattle.tfpg_graph.proofs.Valued.{is_some-option_map}
 use Rattle.tfpg_graph.proofs.DeclaredBy.{AllHaveValues}
 use Rattle.tfpg_graph.proofs.CauseAt.{cause-ended, cause-unended}

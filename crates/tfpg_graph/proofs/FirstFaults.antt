@@ -6,7 +6,8 @@ use Rattle.tfpg_graph.specs.declared.cause.GraphCause.TheVariants.{BadHeader, No
 use Rattle.tfpg_graph.specs.ZeroCycle.{LiesOnZeroCycle}
 use Rattle.tfpg_graph.specs.Statements.{declares_node, declares_edge}
 use Rattle.tfpg_graph.specs.Faults.{IsClean, IsLineFault, IsLineSaying, LacksIncoming, HasIncomingBefore, HasNoZeroCycle, IsWholeFault}
-use Rattle.tfpg_graph.specs.Turns.{Header, Declarations, Progress, turn, part_behind, StandsFor}
+use Rattle.tfpg_graph.specs.declared.reader.Part.TheVariants.{Header, Declarations}
+use Rattle.tfpg_graph.specs.Turns.{Progress, turn, part_behind, StandsFor}
 use Rattle.tfpg_graph.proofs.CauseAt.{cause_at-append, cause_at-behind}
 use Rattle.tfpg_graph.proofs.PartBehind.{part-declarations}
 use Rattle.tfpg_graph.proofs.Caused.{StandsFor-err}

@@ -6,13 +6,13 @@ use Rattle.std.specs.List.{AllByRecursion, list_any, list_all, join_with_byte, s
 use Rattle.std.proofs.lemmas.Bool.{and_parts, not-true, eq-eqb, ne_eqb, le-ltb, false≢true, or_from}
 use Rattle.std.proofs.lemmas.List.Elements.{All-nil, All-cons, All-append}
 use Rattle.std.proofs.lemmas.List.Splits.{slice_split_none, slice_split_at}
-use Rattle.tfpg_base.specs.Words.{is_name, is_number}
+use Rattle.tfpg_base.specs.Words.{line_of, is_name, is_number}
 use Rattle.tfpg_base.specs.Lines.{longest_line}
 use Rattle.tfpg_base.proofs.Numbers.{is_number-decimal}
 use Rattle.tfpg_base.proofs.Separators.{Lacks, name_lacks, decimal_lacks}
 use Rattle.tfpg_graph.specs.declared.kind.Kind.{Kind}
 use Rattle.tfpg_graph.specs.declared.kind.Kind.TheVariants.{Failure, Or, And}
-use Rattle.tfpg_graph.specs.Text.{line_of, mode_line, node_words, tmax_word}
+use Rattle.tfpg_graph.specs.Text.{mode_line, node_words, tmax_word}
 use Rattle.tfpg_graph.specs.Valid.{HasValidNumber, most_time}
 use Rattle.tfpg_graph.specs.Statements.{NodeWords, FailureWords, OrWords, AndWords, Statement, DeclaresMode, DeclaresNode, DeclaresEdge, Ends, statement_in, said_by}
 use Rattle.tfpg_graph.proofs.LineLengths.{short_mode, short_node}

@@ -59,3 +59,8 @@ module _ (graph : Tfpg) (name : List ℕ) where
   pub IfSome-named : (r : Option ℕ) → r ≡ node_named graph name → IfSome r (λ node. (node < length graph.nodes) × (name_at graph node ≡ Some name))
   IfSome-named None is = tt
   IfSome-named (Some node) is = named_found node (sym is)
+
+-- names of one node are one name
+pub node_named-same : (graph : Tfpg) (one other : List ℕ) (a b : ℕ) → node_named graph one ≡ Some a → node_named graph other ≡ Some b → a ≡ b → one ≡ other
+node_named-same graph one other a b first second same =
+    same_Some one other (sym (named_found graph one a first).1 ∙ ap (name_at graph) same ∙ (named_found graph other b second).1)

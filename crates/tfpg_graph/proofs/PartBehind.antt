@@ -3,7 +3,8 @@ use Rattle.std.proofs.Common.{◌≡◌, ℕ, ◌<◌, Bool, true, false, cond, 
 use Rattle.std.specs.List.{list_any}
 use Rattle.std.proofs.lemmas.List.Folds.{list_any-append}
 use Rattle.tfpg_graph.specs.Statements.{Statement, said_by, said_by_all, ends_text}
-use Rattle.tfpg_graph.specs.Turns.{Header, Declarations, Ended, part_behind}
+use Rattle.tfpg_graph.specs.declared.reader.Part.TheVariants.{Header, Declarations, Ended}
+use Rattle.tfpg_graph.specs.Turns.{part_behind}
 use Rattle.tfpg_graph.proofs.SaidBy.{said_by_all-push, said_by_all-silent}
 
 -- Declarations come behind a first line, where no line ends the text.

@@ -32,7 +32,7 @@ module _ {X Y : Type 0} (look : X → Option Y) where
   filter_map-found x y xs is = ap (λ o. cons_option o (filter_map look xs)) is
 
   -- what holds of each value found holds of all of them
-  All-filter_map : (P : Y → Type 0) → ((x : X) (y : Y) → look x ≡ Some y → P y) → (xs : List X) → All P (filter_map look xs)
+  pub All-filter_map : (P : Y → Type 0) → ((x : X) (y : Y) → look x ≡ Some y → P y) → (xs : List X) → All P (filter_map look xs)
   All-filter_map P each [] = All-nil P
   All-filter_map P each (x ∷ xs) = by (look x) refl (All-filter_map P each xs)
     where
@@ -41,7 +41,7 @@ module _ {X Y : Type 0} (look : X → Option Y) where
       by (Some y) some rest = All-cons P y (filter_map look xs) (each x y some) rest
 
   -- items of which none is missed have values where there are any
-  filter_map-some : (xs : List X) → 0 < length xs → list_any (λ x. is_none (look x)) xs ≡ false → filter_map look xs ≢ []
+  pub filter_map-some : (xs : List X) → 0 < length xs → list_any (λ x. is_none (look x)) xs ≡ false → filter_map look xs ≢ []
   filter_map-some [] some here empty = omega (arith, some)
   filter_map-some (x ∷ xs) some here empty =
       let first = found x (or_parts (is_none (look x)) _ here).0 in
@@ -62,7 +62,7 @@ module _ {X Y : Type 0} (look : X → Option Y) where
 module _ {Y : Type 0} (look : List ℕ → Option Y) (read : Y → Option (List ℕ))
     (leads : (word : List ℕ) (y : Y) → look word ≡ Some y → read y ≡ Some word) where
   -- the value of a word that does not stand among others is not among theirs
-  unlike_others : (word : List ℕ) (y : Y) (others : List (List ℕ)) → look word ≡ Some y
+  pub unlike_others : (word : List ℕ) (y : Y) (others : List (List ℕ)) → look word ≡ Some y
       → list_any (bytes_eq word) others ≡ false → All (λ other. y ≢ other) (filter_map look others)
   unlike_others word y [] is differs = All-nil (λ other. y ≢ other)
   unlike_others word y (first ∷ others) is differs =

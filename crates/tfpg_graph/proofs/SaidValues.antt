@@ -7,13 +7,13 @@ use Rattle.std.specs.List.{list_all, list_any}
 use Rattle.std.specs.Option.{option_map, option_and_then}
 use Rattle.std.proofs.lemmas.Bool.{ltb-false, and_parts, or_parts, not-false, cond-true}
 use Rattle.std.proofs.lemmas.Slice.Eq.{bytes_eq-Decides}
-use Rattle.tfpg_base.specs.Words.{is_number, number_of}
+use Rattle.tfpg_base.specs.Words.{line_of, is_number, number_of}
 use Rattle.tfpg_base.proofs.Numbers.{decimal-number_of}
 use Rattle.tfpg_graph.specs.declared.kind.Kind.{Kind}
 use Rattle.tfpg_graph.specs.declared.kind.Kind.TheVariants.{Failure, Or, And}
 use Rattle.tfpg_graph.specs.declared.edge.Edge.{Edge}
 use Rattle.tfpg_graph.specs.Graph.{Tfpg, name_at, node_named}
-use Rattle.tfpg_graph.specs.Text.{node_words, watch_words, tmax_word, line_of, SpellsEdge}
+use Rattle.tfpg_graph.specs.Text.{node_words, watch_words, tmax_word, SpellsEdge}
 use Rattle.tfpg_graph.specs.Valid.{most_time, most_rarity}
 use Rattle.tfpg_graph.specs.Statements.{NodeWords, FailureWords, OrWords, AndWords, DeclaresNode, DeclaresEdge}
 use Rattle.tfpg_graph.specs.Declares.{lag_of_word, kind_of_words, tmax_of_word, delays_of_words, ends_named, edge_declared, modes_of_word}

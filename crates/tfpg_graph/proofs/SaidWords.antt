@@ -6,10 +6,10 @@ use Rattle.std.specs.Option.{option_map}
 use Rattle.std.proofs.lemmas.Bool.{ltb-false, eqb-true}
 use Rattle.std.proofs.lemmas.Option.{cond_some}
 use Rattle.std.proofs.lemmas.Slice.Eq.{bytes_eq-Decides}
-use Rattle.tfpg_base.specs.Words.{words_of}
+use Rattle.tfpg_base.specs.Words.{line_of, words_of}
 use Rattle.tfpg_base.specs.Lines.{longest_line}
 use Rattle.tfpg_base.proofs.Separators.{join_with_byte-words_of}
-use Rattle.tfpg_graph.specs.Text.{line_of, is_skipped}
+use Rattle.tfpg_graph.specs.Text.{is_skipped}
 use Rattle.tfpg_graph.specs.Statements.{NodeWords, FailureWords, OrWords, AndWords, Statement, DeclaresMode, DeclaresNode, DeclaresEdge, Ends, lag_in, mode_in, failure_in, or_in, and_in, edge_in, end_in, statement_in, said_by}
 
 -- a discrepancy's last words

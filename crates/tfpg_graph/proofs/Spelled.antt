@@ -11,7 +11,6 @@ use Rattle.tfpg_graph.specs.declared.kind.Kind.TheVariants.{Failure, Or, And}
 use Rattle.tfpg_graph.specs.Graph.{Tfpg}
 use Rattle.tfpg_graph.specs.Text.{header, mode_line, node_words, node_line, edge_line, modes_word, all_modes, SpellsModes, SpellsEdge, Spells, is_skipped, canonical_lines, canonical_text}
 use Rattle.tfpg_graph.specs.Valid.{IsValid, IsValidEdge}
-use Rattle.tfpg_graph.specs.Small.{IsSmallText}
 use Rattle.tfpg_graph.specs.Written.{modes_before, mode_names_before}
 use Rattle.tfpg_graph.proofs.ModeBits.{worth-all, modes_before-some, modes_before-within, modes_before-differ}
 use Rattle.tfpg_graph.proofs.LineLengths.{short_mode, short_node, short_modes, short_edge}
@@ -106,7 +105,3 @@ module _ (graph : Tfpg) (valid : IsValid graph) where
   pub Spells-canonical : Spells (canonical_text graph) graph
   Spells-canonical = Spells-lines (canonical_text graph)
       (ap lines_of (sym (append-nil (canonical_text graph))) ∙ lines_of-behind (canonical_lines graph) [] clean ∙ append-nil (canonical_lines graph))
-
--- a small text spells its graph
-pub Spells-small : (text : List ℕ) (graph : Tfpg) → IsSmallText text graph → Spells text graph
-Spells-small text graph small = Spells-lines graph small.valid text small.lines

@@ -12,11 +12,13 @@ use Rattle.tfpg_base.specs.Lines.{lines_of, longest_line}
 use Rattle.tfpg_graph.specs.declared.cause.GraphCause.{GraphCause}
 use Rattle.tfpg_graph.specs.declared.cause.GraphCause.TheVariants.{BadHeader, AfterEnd}
 use Rattle.tfpg_graph.specs.Graph.{Tfpg}
-use Rattle.tfpg_graph.specs.Text.{line_of, header, Spells, is_skipped}
+use Rattle.tfpg_base.specs.Words.{line_of}
+use Rattle.tfpg_graph.specs.Text.{header, Spells, is_skipped}
 use Rattle.tfpg_graph.specs.Statements.{Statement, said_by, said_by_all, is_passed_over, ends_text}
 use Rattle.tfpg_graph.specs.Declares.{graph_said}
 use Rattle.tfpg_graph.specs.Causes.{is_out_of_order, cause_of_said, cause_behind}
-use Rattle.tfpg_graph.specs.Turns.{Declarations, Ended, Progress, StandsFor}
+use Rattle.tfpg_graph.specs.declared.reader.Part.TheVariants.{Declarations, Ended}
+use Rattle.tfpg_graph.specs.Turns.{Progress, StandsFor}
 use Rattle.tfpg_graph.proofs.WithoutCause.{IsWithoutCause, without_cause}
 use Rattle.tfpg_graph.proofs.SaidWords.{words_said, said_by_words, skipped_says_nothing}
 use Rattle.tfpg_graph.proofs.SpelledSoFar.{SpellsSoFar, AreSpelled, statement_spelled}
@@ -218,8 +220,7 @@ Spells-read text progress stands ended =
           (All-cons (λ line. length line ≤ longest_line) header whole.behind (omega arith) (lines_short [] whole.behind whole.clean));
     }
 
--- And this graph has a mode.
-pub has_mode : (text : List ℕ) (progress : Progress) → StandsFor progress (lines_of text) → progress.part ≡ Ended
+-- Lines that are read to their end without a cause declare a mode.
+pub has_mode : (lines : List (List ℕ)) (progress : Progress) → StandsFor progress lines → progress.part ≡ Ended
     → 0 < length progress.graph.modes
-has_mode text progress stands ended =
-    (whole_spelled progress.graph (lines_of text) (read_whole progress (lines_of text) stands ended)).some_mode refl
+has_mode lines progress stands ended = (whole_spelled progress.graph lines (read_whole progress lines stands ended)).some_mode refl

@@ -6,7 +6,8 @@ use Rattle.std.proofs.lemmas.List.{append-nil, map-append}
 use Rattle.tfpg_graph.specs.declared.kind.Kind.{Kind}
 use Rattle.tfpg_graph.specs.declared.edge.Edge.{Edge}
 use Rattle.tfpg_graph.specs.Graph.{Tfpg}
-use Rattle.tfpg_graph.specs.Text.{line_of, mode_line, node_line, node_words, SpellsEdge}
+use Rattle.tfpg_base.specs.Words.{line_of}
+use Rattle.tfpg_graph.specs.Text.{mode_line, node_line, node_words, SpellsEdge}
 use Rattle.tfpg_graph.specs.Indexes.{with_mode, with_node, with_edge}
 use Rattle.tfpg_graph.specs.Statements.{Statement, DeclaresMode, DeclaresNode, DeclaresEdge, Ends, ends_text}
 use Rattle.tfpg_graph.specs.Declares.{graph_said}

@@ -12,7 +12,9 @@ use Rattle.tfpg_graph.specs.Indexes.{with_mode, with_node, with_edge}
 use Rattle.tfpg_graph.specs.Statements.{Statement, DeclaresMode, DeclaresNode, DeclaresEdge, Ends, said_by, said_by_all, is_passed_over, ends_text}
 use Rattle.tfpg_graph.specs.Declares.{kind_of_words, edge_declared, graph_said, declared_by}
 use Rattle.tfpg_graph.specs.Causes.{cause_at, is_out_of_order}
-use Rattle.tfpg_graph.specs.Turns.{Part, Header, Declarations, Ended, Progress, nothing_read, is_misplaced, progress_with, judged, turn_said, turn_of, turn, part_behind, HasValue, StandsFor}
+use Rattle.tfpg_graph.specs.declared.reader.Part.{Part}
+use Rattle.tfpg_graph.specs.declared.reader.Part.TheVariants.{Header, Declarations, Ended}
+use Rattle.tfpg_graph.specs.Turns.{Progress, nothing_read, is_misplaced, progress_with, judged, turn_said, turn_of, turn, part_behind, HasValue, StandsFor}
 use Rattle.tfpg_graph.proofs.SaidBy.{said_by-passed_over, said_by-header, said_by_all-push, said_by_all-silent}
 use Rattle.tfpg_graph.proofs.DeclaredBy.{AllHaveValues, is_misplaced-said, graph_said-mode, graph_said-node, graph_said-edge, graph_said-end, values-mode, values-node, values-edge, values-end}
 use Rattle.tfpg_graph.proofs.CauseAt.{AllClean, clean-push, cause-passed_over}

@@ -1,10 +1,12 @@
 -- The first fault of a text.
-use Rattle.std.specs.Prelude.{◌≡◌, ◌≢◌, ◌⊎◌, ℕ, ◌+◌, ◌<◌, List, [], length, take, Bool, false, Option, Some, None, IsTrue, not, count_by, slice_index_or}
+use Rattle.std.specs.Prelude.{◌≡◌, ◌≢◌, ◌⊎◌, ℕ, ◌+◌, ◌<◌, List, [], length, take, Bool, false, Some, None, Result, Ok, Err, IsTrue, not, count_by, slice_index_or}
 use Rattle.std.specs.Option.{option_map_or}
 use Rattle.std.specs.List.{list_any}
 use Rattle.tfpg_base.specs.Lines.{lines_of}
 use Rattle.tfpg_graph.specs.declared.cause.GraphCause.TheVariants.{NoIncoming, ZeroCycle, MissingEnd}
 use Rattle.tfpg_graph.specs.declared.cause.GraphFault.{GraphFault}
+use Rattle.tfpg_graph.specs.declared.cause.GraphRefusal.{GraphRefusal}
+use Rattle.tfpg_graph.specs.declared.cause.GraphRefusal.TheVariants.{Fault, NoMemory}
 use Rattle.tfpg_graph.specs.Graph.{Tfpg, is_kind_at, is_failure, incoming}
 use Rattle.tfpg_graph.specs.ZeroCycle.{LiesOnZeroCycle}
 use Rattle.tfpg_graph.specs.Statements.{Statement, said_by, said_by_all, declares_node, declares_edge, ends_text}
@@ -83,3 +85,14 @@ IsWholeFault lines fault = IsIncomingFault lines fault ⊎ (IsCycleFault lines f
 -- The first fault of a text: that of its first line that has a cause, or else of the whole text.
 abbrev pub IsFirstFault : List ℕ → GraphFault → Type 0
 IsFirstFault text fault = IsLineFault (lines_of text) fault ⊎ (IsClean (lines_of text) × IsWholeFault (lines_of text) fault)
+
+-- Why a text may be refused: memory was wanting, or this is its first fault.
+abbrev pub IsRefusalOf : List ℕ → GraphRefusal → Type 0
+IsRefusalOf text (Fault fault) = IsFirstFault text fault
+IsRefusalOf text NoMemory = Unit {0}
+
+-- The answer to a text that spells this graph: the graph, unless memory was wanting.
+abbrev pub IsAnswerOf : Tfpg → Result Tfpg GraphRefusal → Type 0
+IsAnswerOf graph (Ok answer) = answer ≡ graph
+IsAnswerOf graph (Err (Fault fault)) = ⊥
+IsAnswerOf graph (Err NoMemory) = Unit {0}

@@ -11,17 +11,15 @@ pub mod Statements
 pub mod Declares
 pub mod Causes
 pub mod Faults
-pub mod Small
--- What the contracts of the reader's own parts cite, and no public contract does.
+-- What the contracts of the crate's own parts cite, and no public contract does.
 pub mod NodeWords
 pub mod Reaching
--- What the contracts of the reader's and the writer's own parts cite, and no public contract does.
 pub mod Indexes
-pub mod Shapes
-pub mod NewNode
-pub mod NewEdge
-pub mod Progress
 pub mod Turns
+pub mod Answered
+pub mod LineCauses
+pub mod Declaring
+pub mod StatementInside
 pub mod ZeroSearch
 pub mod ZeroEdges
 pub mod Written

@@ -3,18 +3,14 @@ use Rattle.std.specs.Prelude.{◌≡◌, ℕ, ◌<◌, List, [], ◌∷◌, leng
 use Rattle.std.specs.List.{list_any}
 use Rattle.tfpg_graph.specs.declared.cause.GraphCause.{GraphCause}
 use Rattle.tfpg_graph.specs.declared.cause.GraphCause.TheVariants.{BadHeader, BadLine, AfterEnd}
+use Rattle.tfpg_graph.specs.declared.reader.Part.{Part}
+use Rattle.tfpg_graph.specs.declared.reader.Part.TheVariants.{Header, Declarations, Ended}
 use Rattle.tfpg_graph.specs.Graph.{Tfpg}
 use Rattle.tfpg_graph.specs.Text.{header}
 use Rattle.tfpg_graph.specs.Indexes.{nothing_declared, with_node, with_edge, with_mode}
 use Rattle.tfpg_graph.specs.Statements.{Statement, DeclaresMode, DeclaresNode, DeclaresEdge, Ends, said_by, said_by_all, is_passed_over, ends_text}
 use Rattle.tfpg_graph.specs.Declares.{kind_of_words, node_declared, edge_declared, declared_by}
 use Rattle.tfpg_graph.specs.Causes.{causes, first_cause, cause_at}
-
--- which lines may come next
-pub data Part : Type 0 where
-  Header : Part
-  Declarations : Part
-  Ended : Part
 
 -- how far a text is read
 pub record Progress : Type 0 where
@@ -45,6 +41,11 @@ abbrev pub judged : {X : Type 0} → Option GraphCause → Option X → Result X
 judged (Some cause) value = Err cause
 judged None (Some value) = Ok value
 judged None None = Err BadLine
+
+-- What is read has its first cause, or else has none and is this value.
+abbrev pub ReadAs : {X : Type 0} → Option GraphCause → Option X → Result X GraphCause → Type 0
+ReadAs first value (Ok x) = (first ≡ None) × (value ≡ Some x)
+ReadAs first value (Err cause) = first ≡ Some cause
 
 -- a statement is taken where it has no cause
 abbrev pub turn_said : Tfpg → Option Statement → Result Progress GraphCause

@@ -24,11 +24,10 @@ pub enum GraphCause {
     TooManyIncoming,
     MissingEnd,
     AfterEnd,
-    /// For now: the text is not one of the small ones that are read so far.
-    NotBuilt,
 }
 
-/// The first line with a cause, counted from 1, and its cause. Line 0 stands for the whole text.
+/// The first line with a cause, counted from 1, and its cause. A text
+/// without lines has its fault at line 1, and one without its end behind its last line.
 #[derive(Clone, Copy, Debug, PartialEq, Eq)]
 pub struct GraphFault {
     pub line: u64,
@@ -40,14 +39,6 @@ pub struct GraphFault {
 pub enum GraphRefusal {
     Fault(GraphFault),
     NoMemory,
-}
-
-impl GraphRefusal {
-    /// For now: the answer for each text that is not read so far.
-    pub(crate) const NOT_BUILT: GraphRefusal = GraphRefusal::Fault(GraphFault {
-        line: 0,
-        cause: GraphCause::NotBuilt,
-    });
 }
 
 impl From<tfpg_base::NoMemory> for GraphRefusal {

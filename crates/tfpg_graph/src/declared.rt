@@ -1,6 +1,6 @@
 //! What is declared so far of a graph, with the indexes by which it is looked up.
 
-ghost use Rattle.std.specs.Prelude.{◌≡◌, ◌↔◌, ◌<◌, ◌^◌, [], ◌∷◌, ◌++◌, length, Some, None, slice_get, IsTrue, IfOk, IfSome, IfNone, if◌then◌else◌, is_some};
+ghost use Rattle.std.specs.Prelude.{◌≡◌, ◌↔◌, ◌<◌, ◌≤◌, ◌^◌, [], ◌∷◌, ◌++◌, length, Some, None, slice_get, IsTrue, IfOk, IfSome, IfNone, if◌then◌else◌, is_some};
 ghost use Rattle.tfpg_base.specs.Words.{is_name};
 ghost use Rattle.tfpg_graph.specs.Graph.{is_failure, kind_at, name_at, node_named, mode_named, edge_from_to, incoming, failures, failure_at, place_of_failure};
 ghost use Rattle.tfpg_graph.specs.Valid.{HasValidNumber, IsValidEdge};
@@ -156,7 +156,8 @@ impl Declared {
     }
 
     pub(crate) fn mode_count(&self) -> u32
-        ensures { result ≡ length self.now.modes }
+        ensures count { result ≡ length self.now.modes }
+        ensures few { length self.now.modes ≤ 64 }
     {
         self.modes.len() as u32
     }

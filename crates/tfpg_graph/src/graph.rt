@@ -3,6 +3,7 @@
 ghost use Rattle.std.specs.Prelude.{◌≡◌, ◌<◌, length, slice_get, Some, IfOk};
 ghost use Rattle.tfpg_graph.specs.Graph.{kind_at, name_at, node_named, mode_named, edge_from_to, incoming, failures, failure_at, place_of_failure};
 ghost use Rattle.tfpg_graph.specs.Valid.{IsValid};
+ghost use Rattle.tfpg_graph.specs.ZeroCycle.{HasZeroOrder};
 
 use crate::declared::Declared;
 use crate::edge::Edge;
@@ -27,16 +28,18 @@ impl Model for Graph {
     ghost Value = { Tfpg };
 
     ghost use Rattle.tfpg_graph.specs.Valid.{IsValid};
+    ghost use Rattle.tfpg_graph.specs.ZeroCycle.{HasZeroOrder};
 
     ghost view = { λ graph. graph.declared };
 
-    ghost invariant = { λ graph. IsValid graph.declared };
+    ghost invariant = { λ graph. IsValid graph.declared × HasZeroOrder graph.declared };
 }
 
 impl Graph {
     /// The graph of what is declared, where that is valid.
     pub(crate) fn new(declared: Declared) -> Graph
-        requires { IsValid declared }
+        requires valid { IsValid declared }
+        requires order { HasZeroOrder declared }
         ensures { result ≡ declared }
     {
         Graph { declared }
@@ -54,6 +57,7 @@ impl Graph {
     pub fn node_count(&self) -> u32
         ensures count { result ≡ length self.now.nodes }
         ensures valid { IsValid self.now }
+        ensures order { HasZeroOrder self.now }
     {
         self.declared.node_count()
     }

@@ -1,15 +1,23 @@
-//! What a line says that declares an edge.
+//! What is tested of a line that declares an edge.
 
-ghost use Rattle.std.specs.Prelude.{◌≡◌, ◌<◌, ◌≤◌, ◌↔◌, length, Some, IfSome, IsTrue, decimal};
-ghost use Rattle.tfpg_graph.specs.Graph.{name_at};
-ghost use Rattle.tfpg_graph.specs.Text.{tmax_word};
-ghost use Rattle.tfpg_graph.specs.Valid.{most_time};
-ghost use Rattle.tfpg_graph.specs.NewEdge.{CanJoin, AreDelays, SpellsNewEdge};
+ghost use Rattle.std.specs.Prelude.{◌≡◌, ◌<◌, ◌≤◌, ◌∷◌, ◌&&◌, ℕ, List, length, map, Some, IfOk, IfNone, is_none, false, bytes_eq, codes};
+ghost use Rattle.std.specs.List.{list_any, list_all};
+ghost use Rattle.tfpg_base.specs.Words.{is_name};
+ghost use Rattle.tfpg_graph.specs.Graph.{node_named, mode_named};
+ghost use Rattle.tfpg_graph.specs.Declares.{modes_listed, edge_declared, ends_named};
+ghost use Rattle.tfpg_graph.specs.Causes.{causes, first_cause, has_twice};
+ghost use Rattle.tfpg_graph.specs.LineCauses.{edge_name_causes, edge_unknown_causes, end_causes, edge_room_causes};
+ghost use Rattle.tfpg_graph.specs.StatementInside.{edge_said};
+ghost use Rattle.tfpg_graph.specs.Turns.{is_misplaced, ReadAs};
+ghost use Rattle.tfpg_graph.specs.Declaring.{CanDeclareEdge, CanJoin, HasEdgeRoom};
 
+use crate::cause::GraphCause;
 use crate::declared::Declared;
 use crate::edge::Edge;
-use crate::line_shape::EdgeWords;
-use crate::word_value::{read_greatest_delay, read_time};
+use crate::listed_modes::{has_twice, has_unknown_mode, modes_of};
+use crate::number_word::read_delays;
+use crate::statement::EdgeWords;
+use tfpg_base::read_name;
 
 /// How many edges there are at most.
 const MOST_EDGES: u32 = 2048;
@@ -17,77 +25,137 @@ const MOST_EDGES: u32 = 2048;
 /// How many edges lead into a node at most.
 const MOST_INCOMING: usize = 32;
 
-/// The bits of the modes, of which there is one for now.
-const ALL_MODES: u64 = 1;
-
-/// The edge that the words spell, where it can be declared beside what is declared.
-pub(crate) fn read_edge(declared: &Declared, words: EdgeWords<'_>) -> Option<Edge>
-    requires { length declared.now.modes ≡ 1 }
-    ensures { IfSome result (SpellsNewEdge declared.now words.entry) }
+/// The edge that a line declares with these words, or the cause of the line. The names are those that the word for
+/// its modes lists. Takes two look-ups by name, and up to two for each mode.
+pub(crate) fn read_edge(
+    declared: &Declared,
+    words: EdgeWords<'_>,
+    modes: &[&[u8]],
+) -> Result<Edge, GraphCause>
+    requires listed { map (λ name. name.now) modes.now ≡ modes_listed words.modes.now }
+    ensures first { ReadAs (first_cause (causes (is_misplaced declared.now (edge_said words.entry)) declared.now (edge_said words.entry))) (edge_declared declared.now (edge_said words.entry)) result }
+    ensures clear { IfOk result (CanDeclareEdge declared.now) }
 {
-    let (source, target) = find_ends(declared, words.source, words.target)?;
+    if let Some(cause) = name_cause(declared, words, modes) {
+        return Err(cause);
+    }
+    let (source, target) = find_ends(declared, words, modes)?;
     let (tmin, tmax) = read_delays(words.tmin, words.tmax)?;
-    match words.modes {
-        b"*" => Some(Edge {
-            source,
-            target,
-            tmin,
-            tmax,
-            modes: ALL_MODES,
-        }),
-        _ => None,
+    if let Some(cause) = end_cause(declared, words, source, target) {
+        return Err(cause);
     }
+    if let Some(cause) = room_cause(declared, words.modes, target) {
+        return Err(cause);
+    }
+    Ok(Edge {
+        source,
+        target,
+        tmin,
+        tmax,
+        modes: modes_of(declared, words.modes, modes),
+    })
 }
 
-/// The nodes of these names, where an edge from the one to the other can be declared.
-fn find_ends(declared: &Declared, source: &[u8], target: &[u8]) -> Option<(u32, u32)>
-    ensures can { IfSome result (λ ends. CanJoin declared.now ends.0 ends.1) }
-    ensures names { IfSome result (λ ends. (name_at declared.now ends.0 ≡ Some source.now) × (name_at declared.now ends.1 ≡ Some target.now)) }
+/// The cause of its place among the lines or of its names, where there is one.
+fn name_cause(declared: &Declared, words: EdgeWords<'_>, modes: &[&[u8]]) -> Option<GraphCause>
+    requires listed { map (λ name. name.now) modes.now ≡ modes_listed words.modes.now }
+    ensures first { result ≡ first_cause (edge_name_causes declared.now words.entry.source.now words.entry.target.now words.entry.modes.now) }
+    ensures some { IfNone result (0 < length declared.now.modes) }
+    ensures few { IfNone result (length declared.now.modes ≤ 64) }
+    ensures once { IfNone result (has_twice (modes_listed words.entry.modes.now) ≡ false) }
 {
-    let source = declared.find(source)?;
-    let target = declared.find(target)?;
-    if can_join(declared, source, target) {
-        Some((source, target))
+    if declared.mode_count() == 0 {
+        Some(GraphCause::BadLine)
+    } else if !has_names(words, modes) {
+        Some(GraphCause::BadName)
+    } else if has_twice(modes) {
+        Some(GraphCause::DuplicateName)
     } else {
         None
     }
 }
 
-/// The delays that the words spell, where they are in order.
-fn read_delays(tmin: &[u8], tmax: &[u8]) -> Option<(u64, Option<u64>)>
-    ensures delays { IfSome result (λ delays. AreDelays delays.0 delays.1) }
-    ensures words { IfSome result (λ delays. (tmin.now ≡ decimal delays.0) × (tmax.now ≡ tmax_word delays.1)) }
+/// Whether each of its words in the place of a name is one.
+fn has_names(words: EdgeWords<'_>, modes: &[&[u8]]) -> bool
+    requires listed { map (λ name. name.now) modes.now ≡ modes_listed words.modes.now }
+    ensures { result ≡ list_all is_name (words.entry.source.now ∷ words.entry.target.now ∷ modes_listed words.entry.modes.now) }
 {
-    let tmin = read_time(tmin)?;
-    let tmax = read_greatest_delay(tmax)?;
-    if are_delays(tmin, tmax) {
-        Some((tmin, tmax))
-    } else {
-        None
-    }
+    has_end_names(words) && are_names(modes)
 }
 
-/// Whether an edge from the one node to the other can be declared.
-fn can_join(declared: &Declared, source: u32, target: u32) -> bool
+fn has_end_names(words: EdgeWords<'_>) -> bool
+    ensures { result ≡ (is_name words.entry.source.now && is_name words.entry.target.now) }
+{
+    read_name(words.source) && read_name(words.target)
+}
+
+fn are_names(words: &[&[u8]]) -> bool
+    ensures { result ≡ list_all (λ word. is_name word.now) words.now }
+{
+    words.iter().all(|word| read_name(word))
+}
+
+/// The nodes that it names, where all its names are declared.
+fn find_ends(
+    declared: &Declared,
+    words: EdgeWords<'_>,
+    modes: &[&[u8]],
+) -> Result<(u32, u32), GraphCause>
+    requires listed { map (λ name. name.now) modes.now ≡ modes_listed words.modes.now }
+    ensures first { ReadAs (first_cause (edge_unknown_causes declared.now words.entry.source.now words.entry.target.now words.entry.modes.now)) (ends_named declared.now words.entry.source.now words.entry.target.now) result }
+    ensures within { IfOk result (λ ends. (ends.0 < length declared.now.nodes) × (ends.1 < length declared.now.nodes)) }
+    ensures named { IfOk result (λ ends. (node_named declared.now words.entry.source.now ≡ Some ends.0) × (node_named declared.now words.entry.target.now ≡ Some ends.1)) }
+    ensures known { IfOk result (λ ends. list_any (λ name. is_none (mode_named declared.now name)) (modes_listed words.entry.modes.now) ≡ false) }
+{
+    let (Some(source), Some(target)) = (declared.find(words.source), declared.find(words.target))
+    else {
+        return Err(GraphCause::UnknownName);
+    };
+    if has_unknown_mode(declared, modes) {
+        return Err(GraphCause::UnknownName);
+    }
+    Ok((source, target))
+}
+
+/// The cause of its two ends, which are these nodes, where there is one.
+fn end_cause(
+    declared: &Declared,
+    words: EdgeWords<'_>,
+    source: u32,
+    target: u32,
+) -> Option<GraphCause>
+    requires source { node_named declared.now words.source.now ≡ Some source }
+    requires target { node_named declared.now words.target.now ≡ Some target }
     requires source_in { source < length declared.now.nodes }
     requires target_in { target < length declared.now.nodes }
-    ensures { IsTrue result ↔ CanJoin declared.now source target }
+    ensures first { result ≡ first_cause (end_causes declared.now words.entry.source.now words.entry.target.now) }
+    ensures clear { IfNone result (CanJoin declared.now source target) }
 {
-    !declared.kind(target).is_failure()
-        && source != target
-        && declared.edge_between(source, target).is_none()
-        && declared.edge_count() < MOST_EDGES
-        && declared.incoming(target).len() < MOST_INCOMING
+    if declared.kind(target).is_failure() {
+        Some(GraphCause::EdgeIntoFailure)
+    } else if words.source == words.target {
+        Some(GraphCause::SelfEdge)
+    } else if declared.edge_between(source, target).is_some() {
+        Some(GraphCause::DuplicateEdge)
+    } else {
+        None
+    }
 }
 
-/// Whether the delays are in order, and the least is not 0.
-fn are_delays(tmin: u64, tmax: Option<u64>) -> bool
-    requires least { tmin ≤ most_time }
-    requires most { IfSome tmax (λ time. time ≤ most_time) }
-    ensures { IsTrue result ↔ AreDelays tmin tmax }
+/// The cause of its modes or of want of room, where there is one.
+fn room_cause(declared: &Declared, modes: &[u8], target: u32) -> Option<GraphCause>
+    requires target { target < length declared.now.nodes }
+    ensures first { (name : List ℕ) → node_named declared.now name ≡ Some target → result ≡ first_cause (edge_room_causes declared.now name modes.now) }
+    ensures clear { IfNone result (HasEdgeRoom declared.now target) }
+    ensures some { IfNone result (bytes_eq modes.now (codes "-") ≡ false) }
 {
-    match tmax {
-        None => tmin >= 1,
-        Some(tmax) => tmin >= 1 && tmin <= tmax,
+    if modes == b"-".as_slice() {
+        Some(GraphCause::NoModes)
+    } else if declared.edge_count() >= MOST_EDGES {
+        Some(GraphCause::TooManyEdges)
+    } else if declared.incoming(target).len() >= MOST_INCOMING {
+        Some(GraphCause::TooManyIncoming)
+    } else {
+        None
     }
 }

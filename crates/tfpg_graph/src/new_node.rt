@@ -1,12 +1,21 @@
-//! What a line says that declares a node.
+//! What is tested of a line that declares a node.
 
-ghost use Rattle.std.specs.Prelude.{◌↔◌, IfSome, IsTrue};
-ghost use Rattle.tfpg_graph.specs.NewNode.{CanDeclare, SpellsNewNode};
+ghost use Rattle.std.specs.Prelude.{◌≡◌, ◌<◌, [], length, None, IsTrue, IfOk, IfNone};
+ghost use Rattle.tfpg_base.specs.Words.{is_name};
+ghost use Rattle.tfpg_graph.specs.Graph.{is_failure, failures, node_named};
+ghost use Rattle.tfpg_graph.specs.Statements.{DeclaresNode};
+ghost use Rattle.tfpg_graph.specs.Declares.{kind_of_words};
+ghost use Rattle.tfpg_graph.specs.Causes.{causes, first_cause};
+ghost use Rattle.tfpg_graph.specs.StatementInside.{node_words_of};
+ghost use Rattle.tfpg_graph.specs.LineCauses.{node_name_causes, node_room_causes};
+ghost use Rattle.tfpg_graph.specs.Turns.{is_misplaced, ReadAs};
+ghost use Rattle.tfpg_graph.specs.Declaring.{CanDeclareNode};
 
+use crate::cause::GraphCause;
 use crate::declared::Declared;
 use crate::kind::Kind;
-use crate::line_shape::KindWords;
-use crate::word_value::read_kind;
+use crate::number_word::read_kind;
+use crate::statement::NodeWords;
 use tfpg_base::read_name;
 
 /// How many nodes there are at most.
@@ -15,24 +24,58 @@ const MOST_NODES: u32 = 512;
 /// How many of them are failure modes at most.
 const MOST_FAILURES: u32 = 64;
 
-/// The kind that the words spell, where a node of this name and kind can be declared beside what is declared.
-pub(crate) fn read_node(declared: &Declared, name: &[u8], words: KindWords<'_>) -> Option<Kind>
-    ensures { IfSome result (SpellsNewNode declared.now name.now words.entry) }
+/// The kind of the node that a line declares with this name and these words, or the cause of the line. Takes one
+/// look-up by name.
+pub(crate) fn read_node(
+    declared: &Declared,
+    name: &[u8],
+    words: NodeWords<'_>,
+) -> Result<Kind, GraphCause>
+    ensures first { ReadAs
+        (first_cause (causes (is_misplaced declared.now (DeclaresNode name.now (node_words_of words.entry))) declared.now (DeclaresNode name.now (node_words_of words.entry))))
+        (kind_of_words (node_words_of words.entry))
+        result }
+    ensures clear { IfOk result (CanDeclareNode declared.now name.now) }
 {
+    if let Some(cause) = name_cause(declared, name) {
+        return Err(cause);
+    }
     let kind = read_kind(words)?;
-    if can_declare(declared, name, kind) {
-        Some(kind)
+    if let Some(cause) = room_cause(declared, kind) {
+        return Err(cause);
+    }
+    Ok(kind)
+}
+
+/// The cause of its place among the lines or of its name, where there is one.
+fn name_cause(declared: &Declared, name: &[u8]) -> Option<GraphCause>
+    ensures first { result ≡ first_cause (node_name_causes declared.now name.now) }
+    ensures before_edges { IfNone result (declared.now.edges ≡ []) }
+    ensures named { IfNone result (IsTrue (is_name name.now)) }
+    ensures new { IfNone result (node_named declared.now name.now ≡ None) }
+{
+    if declared.mode_count() == 0 || declared.edge_count() > 0 {
+        Some(GraphCause::BadLine)
+    } else if !read_name(name) {
+        Some(GraphCause::BadName)
+    } else if declared.find(name).is_some() {
+        Some(GraphCause::DuplicateName)
     } else {
         None
     }
 }
 
-/// Whether a node of this name and kind can be declared.
-fn can_declare(declared: &Declared, name: &[u8], kind: Kind) -> bool
-    ensures { IsTrue result ↔ CanDeclare declared.now name.now kind }
+/// The cause that there is no room for a node of this kind, where that is so.
+fn room_cause(declared: &Declared, kind: Kind) -> Option<GraphCause>
+    ensures first { result ≡ first_cause (node_room_causes declared.now (is_failure kind)) }
+    ensures room { IfNone result (length declared.now.nodes < 512) }
+    ensures failure_room { IfNone result (IsTrue (is_failure kind) → length (failures declared.now) < 64) }
 {
-    read_name(name)
-        && declared.find(name).is_none()
-        && declared.node_count() < MOST_NODES
-        && (!kind.is_failure() || declared.failure_count() < MOST_FAILURES)
+    if declared.node_count() >= MOST_NODES {
+        Some(GraphCause::TooManyNodes)
+    } else if kind.is_failure() && declared.failure_count() >= MOST_FAILURES {
+        Some(GraphCause::TooManyFailures)
+    } else {
+        None
+    }
 }

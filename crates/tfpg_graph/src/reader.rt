@@ -1,131 +1,215 @@
 //! The reader of a graph's text, line by line.
 
-ghost use Rattle.std.specs.Prelude.{◌≡◌, ◌⊎◌, ◌∷◌, ◌++◌, [], codes, IfOk, IfErr};
-ghost use Rattle.tfpg_base.specs.Words.{line_of};
-ghost use Rattle.tfpg_graph.specs.Text.{header, mode_line, canonical_lines};
-ghost use Rattle.tfpg_graph.specs.Shapes.{kind_words, edge_words, shape_words};
-ghost use Rattle.tfpg_graph.specs.Small.{IsSmallGraph, MayRefuse};
+ghost use Rattle.std.specs.Prelude.{◌≡◌, ◌≤◌, ◌^◌, length, Some, IfOk, IfErr};
+ghost use Rattle.tfpg_base.specs.Lines.{parts_of};
+ghost use Rattle.tfpg_graph.specs.Valid.{IsValid};
+ghost use Rattle.tfpg_graph.specs.declared.reader.LineRefusal.TheVariants as line_refusal;
+ghost use Rattle.tfpg_graph.specs.Statements.{DeclaresMode, DeclaresNode, Ends};
+ghost use Rattle.tfpg_graph.specs.StatementInside.{said_of, node_words_of, edge_said};
+ghost use Rattle.tfpg_graph.specs.Turns.{StandsFor, turn, turn_said};
+ghost use Rattle.tfpg_graph.specs.Answered.{Answers, IsEndRefusal, refusal_at};
 
-use crate::cause::GraphRefusal;
+use crate::cause::{GraphCause, GraphFault, GraphRefusal};
 use crate::declared::Declared;
 use crate::graph::Graph;
-use crate::line_shape::{EdgeWords, KindWords, LineShape, shape_of_line};
+use crate::line_saying::{Declaring, line_declaring};
+use crate::listed_modes::listed_modes;
 use crate::new_edge::read_edge;
+use crate::new_mode::mode_cause;
 use crate::new_node::read_node;
+use crate::statement::{EdgeWords, NodeWords, Statement, is_passed_over, statement_of};
+use crate::zero_cycle::first_on_zero_cycle;
 use std::alloc::Global;
 use std::marker::Model;
-use tfpg_base::read_name;
+use tfpg_base::NoMemory;
 
 /// Which lines may come next.
 #[derive(Clone, Copy)]
-pub(crate) enum Section {
+pub(crate) enum Part {
     /// The header.
     Header,
-    /// The line of the mode.
-    Modes,
-    /// The line of a node or of an edge, or the end.
-    Nodes,
-    /// The line of an edge, or the end.
-    Edges,
-    /// None.
+    /// A line that declares something, or the end.
+    Declarations,
+    /// Only lines that are passed over.
     Ended,
+}
+
+/// Why a line was not taken.
+#[derive(Clone, Copy)]
+pub(crate) enum LineRefusal {
+    Cause(GraphCause),
+    NoMemory,
+}
+
+impl From<NoMemory> for LineRefusal {
+    ghost use Rattle.std.specs.Prelude.{◌≡◌};
+    ghost use Rattle.tfpg_graph.specs.declared.reader.LineRefusal.TheVariants as line_refusal;
+
+    ghost from_gives = { λ _ refusal. refusal ≡ line_refusal.NoMemory };
+
+    fn from(_wanting: NoMemory) -> LineRefusal {
+        LineRefusal::NoMemory
+    }
+}
+
+impl From<GraphCause> for LineRefusal {
+    ghost use Rattle.std.specs.Prelude.{◌≡◌};
+    ghost use Rattle.tfpg_graph.specs.declared.reader.LineRefusal.TheVariants as line_refusal;
+
+    ghost from_gives = { λ cause refusal. refusal ≡ line_refusal.Cause cause };
+
+    fn from(cause: GraphCause) -> LineRefusal {
+        LineRefusal::Cause(cause)
+    }
+}
+
+impl LineRefusal {
+    /// The refusal of the text, where this is that of its line of this number.
+    pub(crate) fn at(self, line: u64) -> GraphRefusal
+        ensures { result ≡ refusal_at self line }
+    {
+        match self {
+            LineRefusal::Cause(cause) => GraphRefusal::Fault(GraphFault { line, cause }),
+            LineRefusal::NoMemory => GraphRefusal::NoMemory,
+        }
+    }
+}
+
+fn fault(line: u64, cause: GraphCause) -> GraphRefusal
+    ensures { result ≡ refusal_at (line_refusal.Cause cause) line }
+{
+    GraphRefusal::Fault(GraphFault { line, cause })
 }
 
 /// What the lines so far have declared, and which lines may come next.
 #[derive(Drop)]
 pub(crate) struct Reader {
-    section: Section,
+    part: Part,
     declared: Declared,
 }
 
 impl Model for Reader {
-    ghost use Rattle.tfpg_graph.specs.Progress.{Progress};
+    ghost use Rattle.tfpg_graph.specs.Turns.{Progress};
 
     ghost Value = { Progress };
 
-    ghost use Rattle.tfpg_graph.specs.Progress.{IsSmallSoFar};
-
-    ghost view = { λ reader. record { section = reader.section; graph = reader.declared } };
-
-    ghost invariant = { λ reader. IsSmallSoFar (record { section = reader.section; graph = reader.declared }) };
+    ghost view = { λ reader. record { part = reader.part; graph = reader.declared } };
 }
 
 impl Reader {
-    ghost use Rattle.tfpg_graph.specs.Progress.{nothing_read, lines_read};
+    ghost use Rattle.tfpg_graph.specs.Turns.{nothing_read};
 
     /// Nothing is read yet. Takes no memory.
     pub(crate) fn new(alloc: Global) -> Reader
         ensures { result ≡ nothing_read }
     {
         Reader {
-            section: Section::Header,
+            part: Part::Header,
             declared: Declared::new(alloc),
         }
     }
 
     /// Reads one more line. Takes time in the length of the line, but for look-ups by name.
-    pub(crate) fn take(self, alloc: Global, line: &[u8]) -> Result<Reader, GraphRefusal>
-        ensures read { IfOk result (λ reader. lines_read reader ≡ lines_read self ++ line.now ∷ []) }
-        ensures refused { IfErr result MayRefuse }
+    pub(crate) fn take(self, alloc: Global, line: &[u8]) -> Result<Reader, LineRefusal>
+        ensures { Answers (turn self line.now) result }
     {
-        let shape = shape_of_line(line).ok_or(GraphRefusal::NOT_BUILT)?;
-        self.take_shape(alloc, shape)
-    }
-
-    /// The graph of a text whose lines are all read. Takes time in the number of nodes.
-    pub(crate) fn end(self) -> Result<Graph, GraphRefusal>
-        ensures read { IfOk result (λ graph. lines_read self ≡ canonical_lines graph) }
-        ensures small { IfOk result IsSmallGraph }
-        ensures refused { IfErr result MayRefuse }
-    {
-        let Reader { section, declared } = self;
-        match section {
-            Section::Ended => {}
-            _ => return Err(GraphRefusal::NOT_BUILT),
-        }
-        if declared.without_incoming().is_some() {
-            return Err(GraphRefusal::NOT_BUILT);
-        }
-        Ok(Graph::new(declared))
-    }
-
-    fn take_shape(self, alloc: Global, shape: LineShape<'_>) -> Result<Reader, GraphRefusal>
-        ensures read { IfOk result (λ reader. lines_read reader ≡ lines_read self ++ line_of (shape_words shape.entry) ∷ []) }
-        ensures refused { IfErr result MayRefuse }
-    {
-        match (self.section, shape) {
-            (Section::Header, LineShape::Header) => Ok(self.with_header()),
-            (Section::Modes, LineShape::Mode { name }) => self.with_mode(alloc, name),
-            (Section::Nodes, LineShape::Node { name, kind }) => self.with_node(alloc, name, kind),
-            (Section::Nodes, LineShape::Edge(words)) => self.with_edge(words),
-            (Section::Edges, LineShape::Edge(words)) => self.with_edge(words),
-            (Section::Nodes, LineShape::End) => Ok(self.with_end()),
-            (Section::Edges, LineShape::End) => Ok(self.with_end()),
-            _ => Err(GraphRefusal::NOT_BUILT),
+        match self.part {
+            Part::Header => self.take_header(line),
+            Part::Declarations => self.take_declaration(alloc, line),
+            Part::Ended => self.take_behind_end(line),
         }
     }
 
-    fn with_header(self) -> Reader
-        requires { self.section ≡ Section.Header }
-        ensures { lines_read result ≡ lines_read self ++ header ∷ [] }
+    /// The graph of a text whose lines are all read, of which there are so many. Takes time in the number of nodes and
+    /// edges, and where there is a fault, a walk through the text.
+    pub(crate) fn end(
+        self,
+        alloc: Global,
+        text: &[u8],
+        line_count: u64,
+    ) -> Result<Graph, GraphRefusal>
+        requires stands { StandsFor self (parts_of text.now) }
+        requires count { line_count ≡ length (parts_of text.now) }
+        requires few { line_count ≤ 2 ^ 63 }
+        ensures graph { IfOk result (λ graph. (graph ≡ self.graph) × (self.part ≡ Part.Ended)) }
+        ensures valid { IfOk result IsValid }
+        ensures fault { IfErr result (IsEndRefusal (parts_of text.now)) }
     {
-        Reader {
-            section: Section::Modes,
+        let Reader { part, declared } = self;
+        if let Some(node) = declared.without_incoming() {
+            return Err(fault(
+                line_declaring(text, Declaring::Node, node),
+                GraphCause::NoIncoming,
+            ));
+        }
+        if let Some(edge) = first_on_zero_cycle(alloc, &declared)? {
+            return Err(fault(
+                line_declaring(text, Declaring::Edge, edge),
+                GraphCause::ZeroCycle,
+            ));
+        }
+        match part {
+            Part::Ended => Ok(Graph::new(declared)),
+            _ => Err(fault(line_count + 1, GraphCause::MissingEnd)),
+        }
+    }
+
+    fn take_header(self, line: &[u8]) -> Result<Reader, LineRefusal>
+        requires { self.part ≡ Part.Header }
+        ensures { Answers (turn self line.now) result }
+    {
+        if line != b"tfpg 1".as_slice() {
+            return Err(LineRefusal::Cause(GraphCause::BadHeader));
+        }
+        Ok(Reader {
+            part: Part::Declarations,
             declared: self.declared,
+        })
+    }
+
+    fn take_behind_end(self, line: &[u8]) -> Result<Reader, LineRefusal>
+        requires { self.part ≡ Part.Ended }
+        ensures { Answers (turn self line.now) result }
+    {
+        if !is_passed_over(line) {
+            return Err(LineRefusal::Cause(GraphCause::AfterEnd));
+        }
+        Ok(self)
+    }
+
+    fn take_declaration(self, alloc: Global, line: &[u8]) -> Result<Reader, LineRefusal>
+        requires { self.part ≡ Part.Declarations }
+        ensures { Answers (turn self line.now) result }
+    {
+        if is_passed_over(line) {
+            return Ok(self);
+        }
+        match statement_of(line) {
+            None => Err(LineRefusal::Cause(GraphCause::BadLine)),
+            Some(statement) => self.with_statement(alloc, statement),
         }
     }
 
-    fn with_mode(self, alloc: Global, name: &[u8]) -> Result<Reader, GraphRefusal>
-        requires { self.section ≡ Section.Modes }
-        ensures read { IfOk result (λ reader. lines_read reader ≡ lines_read self ++ mode_line name.now ∷ []) }
-        ensures refused { IfErr result MayRefuse }
+    fn with_statement(self, alloc: Global, statement: Statement<'_>) -> Result<Reader, LineRefusal>
+        ensures { Answers (turn_said self.graph (Some (said_of statement.entry))) result }
     {
-        if !read_name(name) {
-            return Err(GraphRefusal::NOT_BUILT);
+        match statement {
+            Statement::Mode { name } => self.with_mode(alloc, name),
+            Statement::Node { name, words } => self.with_node(alloc, name, words),
+            Statement::Edge(words) => self.with_edge(alloc, words),
+            Statement::End => self.with_end(),
+        }
+    }
+
+    fn with_mode(self, alloc: Global, name: &[u8]) -> Result<Reader, LineRefusal>
+        ensures { Answers (turn_said self.graph (Some (DeclaresMode name.now))) result }
+    {
+        if let Some(cause) = mode_cause(&self.declared, name) {
+            return Err(LineRefusal::Cause(cause));
         }
         let declared = self.declared.with_mode(alloc, name)?;
         Ok(Reader {
-            section: Section::Nodes,
+            part: Part::Declarations,
             declared,
         })
     }
@@ -134,40 +218,39 @@ impl Reader {
         self,
         alloc: Global,
         name: &[u8],
-        words: KindWords<'_>,
-    ) -> Result<Reader, GraphRefusal>
-        requires { self.section ≡ Section.Nodes }
-        ensures read { IfOk result (λ reader. lines_read reader ≡ lines_read self ++ line_of (kind_words name.now words.entry) ∷ []) }
-        ensures refused { IfErr result MayRefuse }
+        words: NodeWords<'_>,
+    ) -> Result<Reader, LineRefusal>
+        ensures { Answers (turn_said self.graph (Some (DeclaresNode name.now (node_words_of words.entry)))) result }
     {
-        let kind = read_node(&self.declared, name, words).ok_or(GraphRefusal::NOT_BUILT)?;
+        let kind = read_node(&self.declared, name, words)?;
         let declared = self.declared.with_node(alloc, name, kind)?;
         Ok(Reader {
-            section: Section::Nodes,
+            part: Part::Declarations,
             declared,
         })
     }
 
-    fn with_edge(self, words: EdgeWords<'_>) -> Result<Reader, GraphRefusal>
-        requires { (self.section ≡ Section.Nodes) ⊎ (self.section ≡ Section.Edges) }
-        ensures read { IfOk result (λ reader. lines_read reader ≡ lines_read self ++ line_of (edge_words words.entry) ∷ []) }
-        ensures refused { IfErr result MayRefuse }
+    fn with_edge(self, alloc: Global, words: EdgeWords<'_>) -> Result<Reader, LineRefusal>
+        ensures { Answers (turn_said self.graph (Some (edge_said words.entry))) result }
     {
-        let edge = read_edge(&self.declared, words).ok_or(GraphRefusal::NOT_BUILT)?;
+        let modes = listed_modes(alloc, words.modes)?;
+        let edge = read_edge(&self.declared, words, modes.as_slice())?;
         let declared = self.declared.with_edge(edge)?;
         Ok(Reader {
-            section: Section::Edges,
+            part: Part::Declarations,
             declared,
         })
     }
 
-    fn with_end(self) -> Reader
-        requires { (self.section ≡ Section.Nodes) ⊎ (self.section ≡ Section.Edges) }
-        ensures { lines_read result ≡ lines_read self ++ codes "end" ∷ [] }
+    fn with_end(self) -> Result<Reader, LineRefusal>
+        ensures { Answers (turn_said self.graph (Some Ends)) result }
     {
-        Reader {
-            section: Section::Ended,
-            declared: self.declared,
+        if self.declared.mode_count() == 0 {
+            return Err(LineRefusal::Cause(GraphCause::BadLine));
         }
+        Ok(Reader {
+            part: Part::Ended,
+            declared: self.declared,
+        })
     }
 }

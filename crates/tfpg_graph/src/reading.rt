@@ -2,9 +2,10 @@
 
 ghost use Rattle.std.specs.Prelude.{◌≡◌, ◌<◌, ◌≤◌, length, IfOk, IfErr};
 ghost use Rattle.tfpg_base.specs.Lines.{parts_of, lines_of};
+ghost use Rattle.tfpg_graph.specs.Graph.{Tfpg};
 ghost use Rattle.tfpg_graph.specs.Text.{Spells};
 ghost use Rattle.tfpg_graph.specs.Valid.{IsValid};
-ghost use Rattle.tfpg_graph.specs.Small.{IsSmallText, MayRefuse};
+ghost use Rattle.tfpg_graph.specs.Faults.{IsRefusalOf, IsAnswerOf};
 
 use crate::cause::GraphRefusal;
 use crate::graph::Graph;
@@ -13,23 +14,26 @@ use std::alloc::Global;
 
 /// Reads the text of a graph.
 ///
-/// For now only small texts are read: they have no empty line and no comment, one mode, no AND discrepancy, a star for
-/// the modes of each edge, and a least delay of at least 1 millisecond on each. Every other text is refused as
-/// [`NotBuilt`](crate::GraphCause::NotBuilt) at line 0. Takes time linear in the text, but for two look-ups by name for
-/// each edge and two for each node, and memory for the graph alone.
+/// A text that spells a valid graph is answered with that graph, and every other with its first fault: the first line
+/// that has a cause, with the least of its causes; or else what is wrong with the whole text. Takes time linear in the
+/// text, but for look-ups by name, and memory for the graph and one line.
 pub fn read(alloc: Global, text: &[u8]) -> Result<Graph, GraphRefusal>
-    ensures small { IfOk result (IsSmallText text.now) }
     ensures spelled { IfOk result (λ graph. Spells text.now graph) }
     ensures valid { IfOk result IsValid }
-
-    // Every other text is answered so, and every text where memory is wanting.
-    ensures refused { IfErr result MayRefuse }
+    ensures refused { IfErr result (IsRefusalOf text.now) }
+    ensures exact { (graph : Tfpg) → Spells text.now graph → IsValid graph → IsAnswerOf graph result }
 {
+    let body = without_last_line_end(text);
     let mut reader = Reader::new(alloc);
-    for line in without_last_line_end(text).split(|byte| *byte == b'\n') {
-        reader = reader.take(alloc, line)?;
+    let mut line_count: u64 = 0;
+    for line in body.split(|byte| *byte == b'\n') {
+        line_count += 1;
+        reader = match reader.take(alloc, line) {
+            Ok(next) => next,
+            Err(refusal) => return Err(refusal.at(line_count)),
+        };
     }
-    reader.end()
+    reader.end(alloc, body, line_count)
 }
 
 /// The text before a line end at its end.

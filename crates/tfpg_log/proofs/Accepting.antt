@@ -16,7 +16,6 @@ use Rattle.tfpg_log.specs.declared.refusal.Refusal.TheVariants.{TimeTooLarge, Ti
 use Rattle.tfpg_log.specs.Log.{Logbook, now_of, alarm_of, time_of_event, with_event, IsEventOf, IsOf}
 use Rattle.tfpg_log.specs.LogInside.{IsNoSecondAlarm}
 use Rattle.tfpg_log.specs.Accepted.{Said, Alarm, Silent, Sweep, Tick, Mode, said_by, refused_where, first_refusal, refusals, event_of, acceptance_of, reply_to_said, reply_to_shape, reply_to, most_events}
-use Rattle.tfpg_log.specs.AcceptedNow.{built_so_far}
 
 -- The event may come next: it is of the graph, not before now and not too late, no second alarm, and there is room for it.
 pub record MayCome (graph : Tfpg) (log : Logbook) (event : Event) : Type 0 where
@@ -152,15 +151,6 @@ by_shape graph log (Some line) event e = by_tests graph log line.0 line.1 event 
 -- An accepted event may come.
 pub accepted_may_come : (graph : Tfpg) (log : Logbook) (line : List ℕ) (event : Event) → reply_to graph log line ≡ Accepted event → MayCome graph log event
 accepted_may_come graph log line event e = by_shape graph log (said_by line) event e
-
--- For now too: only lines are refused more.
-pub accepted_now : (reply : Offered) (event : Event) → built_so_far reply ≡ Accepted event → reply ≡ Accepted event
-accepted_now (Accepted (kinds.Alarm time node)) event e = e
-accepted_now (Accepted (kinds.Silent time node)) event e = absurd cc
-accepted_now (Accepted (kinds.Sweep time)) event e = absurd cc
-accepted_now (Accepted (kinds.Tick time)) event e = e
-accepted_now (Accepted (kinds.Mode time mode)) event e = absurd cc
-accepted_now (Refused refusal) event e = absurd cc
 
 -- ---- the log with it is of the graph
 

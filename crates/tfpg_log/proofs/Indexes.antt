@@ -1,44 +1,46 @@
 -- The index of a log's events stays right as events come.
-use Rattle.std.proofs.Common.{◌≡◌, ℕ, ◌+◌, ◌<◌, Bool, true, false, cond, eqb, List, [], ◌∷◌, ◌++◌, length, set, Option, Some, None, refl, inl, inr, sym, ap, ◌∙◌, arith}
-use Rattle.std.specs.Option.{option_or}
+use Rattle.std.proofs.Common.{◌≡◌, ℕ, ◌-◌, ◌<◌, ◌≤◌, List, [], ◌∷◌, ◌++◌, length, set, Option, Some, None, refl, inl, inr, sym, ap, ◌∙◌, arith}
+use Rattle.std.specs.Prelude.{All}
 use Rattle.std.proofs.lemmas.Bool.Decides.{eqb_tells}
 use Rattle.std.proofs.lemmas.Grind.{get_or-set_at}
-use Rattle.std.proofs.lemmas.List.{get_or-set_other, length_push}
-use Rattle.std.proofs.lemmas.List.Sums.{sum_by_push}
+use Rattle.std.proofs.lemmas.List.{get_or-set_other, length_push, append-nil}
+use Rattle.std.proofs.lemmas.List.Elements.{All-push, All-weaker}
+use Rattle.std.proofs.lemmas.List.Sorted.{IsNonDecreasingBy-push}
 use Rattle.tfpg_log.specs.declared.event.Event.{Event}
 use Rattle.tfpg_log.specs.declared.event.Event.TheVariants.{Alarm, Silent, Sweep, Tick, Mode}
-use Rattle.tfpg_log.specs.Log.{alarm_among, is_mode_change}
+use Rattle.tfpg_log.specs.declared.mode_change.ModeChange.{ModeChange}
+use Rattle.tfpg_log.specs.Log.{Logbook, now_of, alarm_among, time_of_event}
 use Rattle.tfpg_log.specs.Accepted.{most_events}
-use Rattle.tfpg_log.specs.LogInside.{IsIndexed, AreSameAlarms}
+use Rattle.tfpg_log.specs.LogInside.{IsIndexed, AreSameAlarms, alarm_place, changes_among}
+use Rattle.tfpg_log.proofs.Events.{now-with_event}
+use Rattle.tfpg_log.proofs.AlarmPlaces.{alarm_place_quiet, alarm_place_new, alarm_place_other}
+use Rattle.tfpg_log.proofs.ModeChanges.{changes_among-push}
 
-chosen_or : (b : Bool) (time : ℕ) (more other last : Option ℕ) → more ≡ option_or other last → cond b (Some time) more ≡ option_or (cond b (Some time) other) last
-chosen_or true time more other last e = refl
-chosen_or false time more other last e = e
+abbrev log_of : List Event → Logbook
+log_of events = record { events = events }
 
--- the alarm of a node, once one more event has come
-pub alarm_among-push : (events : List Event) (event : Event) (node : ℕ) → alarm_among (events ++ event ∷ []) node ≡ option_or (alarm_among events node) (alarm_among (event ∷ []) node)
-alarm_among-push [] event node = refl
-alarm_among-push (Alarm time alarmed ∷ events) event node =
-    chosen_or (eqb alarmed node) time (alarm_among (events ++ event ∷ []) node) (alarm_among events node) (alarm_among (event ∷ []) node) (alarm_among-push events event node)
-alarm_among-push (Silent time silent ∷ events) event node = alarm_among-push events event node
-alarm_among-push (Sweep time ∷ events) event node = alarm_among-push events event node
-alarm_among-push (Tick time ∷ events) event node = alarm_among-push events event node
-alarm_among-push (Mode time mode ∷ events) event node = alarm_among-push events event node
+-- an event that is no change of mode leaves the changes
+same_changes : (events : List Event) (changes : List ModeChange) (event : Event) → changes ≡ changes_among events → changes_among (event ∷ []) ≡ []
+    → changes ≡ changes_among (events ++ event ∷ [])
+same_changes events changes event are no_change =
+    are ∙ sym (changes_among-push events event ∙ ap (λ (xs : List ModeChange). changes_among events ++ xs) no_change ∙ append-nil (changes_among events))
 
-or_none : (alarm : Option ℕ) → option_or alarm None ≡ alarm
-or_none None = refl
-or_none (Some time) = refl
+-- and no change comes after the new now
+still_by_now : (events : List Event) (changes : List ModeChange) (event : Event) → All (λ (change : ModeChange). change.time ≤ now_of (log_of events)) changes
+    → now_of (log_of events) ≤ time_of_event event → All (λ (change : ModeChange). change.time ≤ now_of (log_of (events ++ event ∷ []))) changes
+still_by_now events changes event by_now not_back =
+    All-weaker (λ (change : ModeChange). change.time ≤ now_of (log_of events)) (λ (change : ModeChange). change.time ≤ now_of (log_of (events ++ event ∷ [])))
+    (λ change le. omega (arith, le, not_back, now-with_event (log_of events) event)) changes by_now
 
--- an event that is no alarm leaves the alarms
-alarm_among_quiet : (events : List Event) (event : Event) (node : ℕ) → alarm_among (event ∷ []) node ≡ None → alarm_among (events ++ event ∷ []) node ≡ alarm_among events node
-alarm_among_quiet events event node quiet = alarm_among-push events event node ∙ ap (option_or (alarm_among events node)) quiet ∙ or_none (alarm_among events node)
-
-indexed_by : (events : List Event) (alarms : List (Option ℕ)) (changes : ℕ) (event : Event) → IsIndexed events alarms changes → length events < most_events
-    → ((node : ℕ) → alarm_among (event ∷ []) node ≡ None) → is_mode_change event ≡ false → IsIndexed (events ++ event ∷ []) alarms changes
-indexed_by events alarms changes event index room quiet no_change = record {
+indexed_by : (events : List Event) (alarms : List (Option ℕ)) (changes : List ModeChange) (event : Event) → IsIndexed events alarms changes → length events < most_events
+    → now_of (log_of events) ≤ time_of_event event → ((node : ℕ) → alarm_place (event ∷ []) node ≡ None) → changes_among (event ∷ []) ≡ []
+    → IsIndexed (events ++ event ∷ []) alarms changes
+indexed_by events alarms changes event index room not_back quiet no_change = record {
   few = omega (arith, length_push events event, room);
-  alarms_are = λ node. index.alarms_are node ∙ sym (alarm_among_quiet events event node (quiet node));
-  changes_are = omega (arith, index.changes_are, sum_by_push (λ e. cond (is_mode_change e) 1 0) events event, ap {B = ℕ} (λ b. cond b 1 0) no_change);
+  alarms_are = λ node. index.alarms_are node ∙ sym (alarm_place_quiet events event node (quiet node));
+  changes_are = same_changes events changes event index.changes_are no_change;
+  in_order = index.in_order;
+  by_now = still_by_now events changes event index.by_now not_back;
 }
 
 -- the event is neither an alarm nor a change of mode
@@ -50,42 +52,42 @@ IsQuiet (Tick time) = Unit {0}
 IsQuiet (Mode time mode) = ⊥
 
 -- A silence, a sweep and a tick leave the index as it is.
-pub indexed_quiet : (events : List Event) (alarms : List (Option ℕ)) (changes : ℕ) (event : Event) → IsIndexed events alarms changes → length events < most_events
-    → IsQuiet event → IsIndexed (events ++ event ∷ []) alarms changes
-indexed_quiet events alarms changes (Alarm time node) index room quiet = absurd quiet
-indexed_quiet events alarms changes (Silent time node) index room quiet = indexed_by events alarms changes (Silent time node) index room (λ other. refl) refl
-indexed_quiet events alarms changes (Sweep time) index room quiet = indexed_by events alarms changes (Sweep time) index room (λ other. refl) refl
-indexed_quiet events alarms changes (Tick time) index room quiet = indexed_by events alarms changes (Tick time) index room (λ other. refl) refl
-indexed_quiet events alarms changes (Mode time mode) index room quiet = absurd quiet
+pub indexed_quiet : (events : List Event) (alarms : List (Option ℕ)) (changes : List ModeChange) (event : Event) → IsIndexed events alarms changes → length events < most_events
+    → now_of (record { events = events }) ≤ time_of_event event → IsQuiet event → IsIndexed (events ++ event ∷ []) alarms changes
+indexed_quiet events alarms changes (Alarm time node) index room not_back quiet = absurd quiet
+indexed_quiet events alarms changes (Silent time node) index room not_back quiet = indexed_by events alarms changes (Silent time node) index room not_back (λ other. refl) refl
+indexed_quiet events alarms changes (Sweep time) index room not_back quiet = indexed_by events alarms changes (Sweep time) index room not_back (λ other. refl) refl
+indexed_quiet events alarms changes (Tick time) index room not_back quiet = indexed_by events alarms changes (Tick time) index room not_back (λ other. refl) refl
+indexed_quiet events alarms changes (Mode time mode) index room not_back quiet = absurd quiet
 
--- A change of mode counts once more.
-pub indexed_mode : (events : List Event) (alarms : List (Option ℕ)) (changes time mode : ℕ) → IsIndexed events alarms changes → length events < most_events
-    → IsIndexed (events ++ Mode time mode ∷ []) alarms (changes + 1)
-indexed_mode events alarms changes time mode index room = record {
-  few = omega (arith, length_push events (Mode time mode), room);
-  alarms_are = λ node. index.alarms_are node ∙ sym (alarm_among_quiet events (Mode time mode) node refl);
-  changes_are = omega (arith, index.changes_are, sum_by_push (λ e. cond (is_mode_change e) 1 0) events (Mode time mode));
-}
-
-at_alarm : (b : Bool) (time : ℕ) (alarm : Option ℕ) → b ≡ true → alarm ≡ None → option_or alarm (cond b (Some time) None) ≡ Some time
-at_alarm true time alarm same first = ap (λ a. option_or a (Some time)) first
-at_alarm false time alarm same first = absurd cc
-
-beside_alarm : (b : Bool) (time : ℕ) (alarm : Option ℕ) → b ≡ false → option_or alarm (cond b (Some time) None) ≡ alarm
-beside_alarm true time alarm differs = absurd cc
-beside_alarm false time alarm differs = or_none alarm
+-- A change of mode stands behind the others.
+pub indexed_mode : (events : List Event) (alarms : List (Option ℕ)) (changes : List ModeChange) (time mode : ℕ) → IsIndexed events alarms changes → length events < most_events
+    → now_of (record { events = events }) ≤ time → IsIndexed (events ++ Mode time mode ∷ []) alarms (changes ++ record { time = time; mode = mode } ∷ [])
+indexed_mode events alarms changes time mode index room not_back =
+    let change : ModeChange = record { time = time; mode = mode } in
+    record {
+      few = omega (arith, length_push events (Mode time mode), room);
+      alarms_are = λ node. index.alarms_are node ∙ sym (alarm_place_quiet events (Mode time mode) node refl);
+      changes_are = ap (λ (xs : List ModeChange). xs ++ change ∷ []) index.changes_are ∙ sym (changes_among-push events (Mode time mode));
+      in_order = IsNonDecreasingBy-push (λ (c : ModeChange). c.time) changes change index.in_order
+          (λ d some. omega (arith, index.by_now (length changes - 1) d (omega (arith, some)), not_back));
+      by_now = All-push (λ (c : ModeChange). c.time ≤ now_of (log_of (events ++ Mode time mode ∷ []))) changes change
+          (still_by_now events changes (Mode time mode) index.by_now not_back) (omega (arith, now-with_event (log_of events) (Mode time mode)));
+    }
 
 -- The first alarm of a node stands at its place.
-pub indexed_alarm : (events : List Event) (alarms longer : List (Option ℕ)) (changes time alarmed : ℕ) → IsIndexed events alarms changes → length events < most_events
-    → AreSameAlarms longer alarms → alarmed < length longer → alarm_among events alarmed ≡ None
-    → IsIndexed (events ++ Alarm time alarmed ∷ []) (set longer alarmed (Some time)) changes
-indexed_alarm events alarms longer changes time alarmed index room same lt first = record {
+pub indexed_alarm : (events : List Event) (alarms longer : List (Option ℕ)) (changes : List ModeChange) (time alarmed place : ℕ) → IsIndexed events alarms changes
+    → length events < most_events → now_of (record { events = events }) ≤ time → AreSameAlarms longer alarms → alarmed < length longer → alarm_among events alarmed ≡ None
+    → place ≡ length events → IsIndexed (events ++ Alarm time alarmed ∷ []) (set longer alarmed (Some place)) changes
+indexed_alarm events alarms longer changes time alarmed place index room not_back same lt first at = record {
   few = omega (arith, length_push events (Alarm time alarmed), room);
   alarms_are = λ node. elim (eqb_tells alarmed node) [
-    | inl it ↦ get_or-set_at longer alarmed node (Some time) None (sym it.1) lt
-        ∙ sym (alarm_among-push events (Alarm time alarmed) node ∙ at_alarm (eqb alarmed node) time (alarm_among events node) it.0 (ap (alarm_among events) (sym it.1) ∙ first))
-    | inr other ↦ get_or-set_other longer alarmed node (Some time) None (λ e. other.1 (sym e)) ∙ same node ∙ index.alarms_are node
-        ∙ sym (alarm_among-push events (Alarm time alarmed) node ∙ beside_alarm (eqb alarmed node) time (alarm_among events node) other.0)
+    | inl it ↦ get_or-set_at longer alarmed node (Some place) None (sym it.1) lt ∙ ap Some at
+        ∙ sym (ap (alarm_place (events ++ Alarm time alarmed ∷ [])) (sym it.1) ∙ alarm_place_new events time alarmed first)
+    | inr other ↦ get_or-set_other longer alarmed node (Some place) None (λ e. other.1 (sym e)) ∙ same node ∙ index.alarms_are node
+        ∙ sym (alarm_place_quiet events (Alarm time alarmed) node (alarm_place_other time alarmed node other.0))
   ];
-  changes_are = omega (arith, index.changes_are, sum_by_push (λ e. cond (is_mode_change e) 1 0) events (Alarm time alarmed));
+  changes_are = same_changes events changes (Alarm time alarmed) index.changes_are refl;
+  in_order = index.in_order;
+  by_now = still_by_now events changes (Alarm time alarmed) index.by_now not_back;
 }

@@ -1,4 +1,6 @@
 pub mod Events
+pub mod AlarmPlaces
+pub mod ModeChanges
 pub mod Indexes
 pub mod LogLines
 pub mod Judgements

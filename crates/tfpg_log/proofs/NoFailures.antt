@@ -1,11 +1,8 @@
 -- Without a failure mode nothing becomes active: the empty set reaches no node, since the test that passes none is closed.
 -- An AND node of a valid graph has an edge into it, so its sources do not all pass.
-use Rattle.std.proofs.Common.{◌≡◌, ◌<◌, ◌≤◌, false, List, [], ◌∷◌, refl, arith}
-use Rattle.std.specs.Prelude.{All}
+use Rattle.std.proofs.Common.{◌≡◌, false, List, [], ◌∷◌, refl, arith}
 use Rattle.std.proofs.lemmas.Bool.{false≢true}
-use Rattle.std.proofs.lemmas.List.Elements.{All-weaker}
 use Rattle.tfpg_base.specs.declared.activation.Activation.{Activation}
-use Rattle.tfpg_graph.specs.declared.edge.Edge.{Edge}
 use Rattle.tfpg_graph.specs.Graph.{Tfpg}
 use Rattle.tfpg_graph.specs.Reach.{IsClosed}
 use Rattle.tfpg_graph.specs.Valid.{IsValid}
@@ -28,10 +25,3 @@ pub none_active : (graph : Tfpg) (log : Logbook) (trace : List Activation) → I
 none_active graph log [] valid order explains = refl
 none_active graph log (first ∷ others) valid order explains =
     absurd (false≢true (trace_in_reach graph log [] (first ∷ others) order explains 0 first (omega arith) (λ node. false) (closed_without graph valid)))
-
--- Where each edge takes time, any ranks will do.
-pub order_in_time : (graph : Tfpg) → All (λ edge. 1 ≤ edge.tmin) graph.edges → HasZeroOrder graph
-order_in_time graph takes_time = record {
-  rank = λ node. 0;
-  rises = All-weaker (λ (edge : Edge). 1 ≤ edge.tmin) (λ (edge : Edge). edge.tmin ≡ 0 → 0 < 0) (λ edge some none. absurd (omega arith)) graph.edges takes_time;
-}

@@ -9,7 +9,6 @@ pub mod Explains
 pub mod Spans
 pub mod Runs
 pub mod Accepted
-pub mod AcceptedNow
 pub mod LogOfLines
 pub mod LogInside
 pub mod LogLine

@@ -1,5 +1,5 @@
 -- What a log is: its events, its time, its alarms, and the mode of an instant.
-use Rattle.std.specs.Prelude.{◌≤◌, AllPairs, ◌≡◌, ℕ, zero, suc, ◌<◌, List, [], ◌∷◌, ◌++◌, length, take, All, fold, Bool, true, false, nat_lt, ◌==◌, if◌then◌else◌, IsTrue, Option, Some, None, slice_get}
+use Rattle.std.specs.Prelude.{◌≤◌, AllPairs, ◌≡◌, ℕ, zero, suc, ◌-◌, ◌<◌, List, [], ◌∷◌, ◌++◌, length, take, All, fold, Bool, true, false, ◌&&◌, nat_lt, ◌==◌, if◌then◌else◌, IsTrue, Option, Some, None, is_none, option_and_then, slice_get}
 use Rattle.tfpg_log.specs.declared.event.Event.{Event}
 use Rattle.tfpg_log.specs.declared.event.Event.TheVariants.{Alarm, Silent, Sweep, Tick, Mode}
 use Rattle.tfpg_graph.specs.Graph.{Tfpg, is_monitored}
@@ -72,6 +72,21 @@ mode_after held (Tick time ∷ events) instant = mode_after held events instant
 -- change does not hold at its own instant, and of two with one time the later line decides.
 abbrev pub mode_at : Logbook → ℕ → ℕ
 mode_at log instant = mode_after 0 log.events instant
+
+-- The time of the event, where it is a silence of the node and these came before it. A sweep is a silence of each
+-- monitored node without an alarm so far.
+abbrev pub quiet_time : Tfpg → List Event → Event → ℕ → Option ℕ
+quiet_time graph before (Alarm time alarmed) node = None
+quiet_time graph before (Silent time silent) node = if silent == node then Some time else None
+quiet_time graph before (Sweep time) node =
+    if is_monitored graph node && is_none (alarm_among before node) then Some time else None
+quiet_time graph before (Tick time) node = None
+quiet_time graph before (Mode time mode) node = None
+
+-- the time of the event of a number, where it is a silence of the node
+abbrev pub quiet_at : Tfpg → Logbook → ℕ → ℕ → Option ℕ
+quiet_at graph log number node =
+    option_and_then (λ event. quiet_time graph (take (number - 1) log.events) event node) (event_at log number)
 
 -- the event names only monitored nodes and modes of the graph
 abbrev pub IsEventOf : Tfpg → Event → Type 0

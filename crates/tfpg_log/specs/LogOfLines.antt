@@ -5,7 +5,7 @@ use Rattle.tfpg_graph.specs.Graph.{Tfpg}
 use Rattle.tfpg_log.specs.declared.event.Offered.{Offered}
 use Rattle.tfpg_log.specs.declared.event.Offered.TheVariants.{Accepted, Refused}
 use Rattle.tfpg_log.specs.Log.{Logbook, with_event}
-use Rattle.tfpg_log.specs.AcceptedNow.{reply_now}
+use Rattle.tfpg_log.specs.Accepted.{reply_to}
 
 -- A new log has no events.
 abbrev pub new_log : Logbook
@@ -21,7 +21,7 @@ abbrev pub is_too_long : List ℕ → Bool
 is_too_long line = nat_lt longest_line (length line)
 
 abbrev pub log_after : Tfpg → Logbook → List ℕ → Logbook
-log_after graph log line = if is_too_long line then log else log_after_reply log (reply_now graph log line)
+log_after graph log line = if is_too_long line then log else log_after_reply log (reply_to graph log line)
 
 -- The log of a list of lines starts empty, and each line in turn lengthens it or is refused.
 abbrev pub log_of_lines : Tfpg → List (List ℕ) → Logbook

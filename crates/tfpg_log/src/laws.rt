@@ -26,15 +26,9 @@ pub fn nothing_outside_reach()
 
 /// Without a failure mode nothing becomes active: in a valid graph whose nodes can be ranked so, the one trace that
 /// explains a log from the empty set is the empty trace.
-pub fn no_trace_without_failures()
-    ensures { (graph : Tfpg) (log : Logbook) (trace : List Activation) →
-        IsValid graph → HasZeroOrder graph → Explains graph log [] trace → trace ≡ [] }
-{}
-
-/// The same in a valid graph whose edges all take time, which needs no ranks.
 pub fn nothing_without_failures()
     ensures { (graph : Tfpg) (log : Logbook) (trace : List Activation) →
-        IsValid graph → All (λ edge. 1 ≤ edge.tmin) graph.edges → Explains graph log [] trace → trace ≡ [] }
+        IsValid graph → HasZeroOrder graph → Explains graph log [] trace → trace ≡ [] }
 {}
 
 /// An edge has an age exactly where its source is active and the mode of the instant allows the edge. There is then one

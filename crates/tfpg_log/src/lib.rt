@@ -3,7 +3,7 @@
 //! - [`Log`] is the log of accepted lines, with its look-ups.
 //! - [`Event`] is what a line of the log says, once it is accepted, and [`Offered`] what becomes of a line.
 //! - [`Refusal`] says why a line is refused.
-//! - [`nothing_outside_reach`] and [`no_trace_without_failures`] are laws: nothing becomes active outside a set's
+//! - [`nothing_outside_reach`] and [`nothing_without_failures`] are laws: nothing becomes active outside a set's
 //!   reach, and nothing at all without a failure mode.
 //! - [`age_is_the_greatest`], [`spans_are_runs_of_one_mode`] and [`windows_are_runs_of_spans`] are laws: they say in
 //!   other words what ages, spans and windows are.
@@ -12,11 +12,11 @@
 //! edge, the propagation rules, and which sets of failure modes fit the log.
 #![tactic(auto)]
 
-mod built;
 mod event;
 mod laws;
 mod log;
 mod log_line;
+mod mode_change;
 mod refusal;
 mod reply;
 mod span;
@@ -25,8 +25,8 @@ mod tests;
 
 pub use event::{Event, Offered};
 pub use laws::{
-    age_is_the_greatest, no_trace_without_failures, nothing_outside_reach,
-    nothing_without_failures, spans_are_runs_of_one_mode, windows_are_runs_of_spans,
+    age_is_the_greatest, nothing_outside_reach, nothing_without_failures,
+    spans_are_runs_of_one_mode, windows_are_runs_of_spans,
 };
 pub use log::Log;
 pub use refusal::Refusal;

@@ -1,17 +1,18 @@
 //! The log of accepted lines, with its look-ups.
 
-ghost use Rattle.std.specs.Prelude.{◌≡◌, ◌≤◌, ◌<◌, ℕ, length, Some, None, IfOk, OnOk, OnErr, nat_le, count_by, vec_len};
+ghost use Rattle.std.specs.Prelude.{◌≡◌, ◌≤◌, ◌<◌, ◌-◌, ℕ, length, take, true, false, ◌&&◌, if◌then◌else◌, nat_lt, nat_le, Some, None, is_none, IfOk, OnOk, OnErr, count_by, vec_len};
+ghost use Rattle.std.specs.List.Sorted.{IsNonDecreasingBy, IsPartitionPoint};
 ghost use Rattle.tfpg_log.specs.declared.refusal.Refusal.{Refusal};
-ghost use Rattle.tfpg_log.specs.Log.{IsOf, now_of, event_at, alarm_of, with_event, is_mode_change};
-ghost use Rattle.tfpg_log.specs.Accepted.{most_events, most_mode_changes};
+ghost use Rattle.tfpg_log.specs.declared.mode_change.ModeChange.{ModeChange};
+ghost use Rattle.tfpg_log.specs.Log.{IsOf, now_of, event_at, alarm_of, alarm_among, mode_at, quiet_at, with_event, time_of_event, is_mode_change};
+ghost use Rattle.tfpg_log.specs.Accepted.{most_events, most_mode_changes, reply_to};
 ghost use Rattle.tfpg_log.specs.LogOfLines.{new_log, log_after_reply};
-ghost use Rattle.tfpg_log.specs.AcceptedNow.{reply_now};
-ghost use Rattle.tfpg_log.specs.LogInside.{AreSameAlarms, IsNoSecondAlarm};
-ghost use Rattle.tfpg_graph.specs.Graph.{Tfpg};
+ghost use Rattle.tfpg_log.specs.LogInside.{alarm_place, AreSameAlarms, IsNoSecondAlarm};
+ghost use Rattle.tfpg_graph.specs.Graph.{Tfpg, is_monitored};
 
-use crate::built::built_so_far;
 use crate::event::{Event, Offered};
-use crate::reply::reply;
+use crate::mode_change::ModeChange;
+use crate::reply::{is_monitored, reply};
 use std::alloc::Global;
 use std::marker::Model;
 use tfpg_base::NoMemory;
@@ -21,17 +22,19 @@ use tfpg_graph::Graph;
 const MOST_EVENTS: usize = 16_384;
 
 /// How many of them may be changes of mode.
-const MOST_MODE_CHANGES: u32 = 1_024;
+const MOST_MODE_CHANGES: usize = 1_024;
 
 /// The events that were accepted so far, numbered from 1, and with them the time. A new log is of every graph.
 ///
-/// No look-up takes memory, and each takes constant time.
+/// No look-up takes memory. Each takes constant time, but for that of a mode, which takes time in the logarithm of the
+/// number of mode changes.
 #[derive(Debug, Drop)]
 pub struct Log {
     events: Vec<Event>,
-    /// The time of each node's first alarm. A node past the end has none.
-    alarms: Vec<Option<u64>>,
-    mode_changes: u32,
+    /// The place of each node's first alarm among the events. A node past the end has none.
+    alarms: Vec<Option<u32>>,
+    /// The changes of mode among the events.
+    changes: Vec<ModeChange>,
 }
 
 impl Model for Log {
@@ -43,7 +46,7 @@ impl Model for Log {
 
     ghost view = { λ log. record { events = log.events.items } };
 
-    ghost invariant = { λ log. IsIndexed log.events.items log.alarms.items log.mode_changes };
+    ghost invariant = { λ log. IsIndexed log.events.items log.alarms.items log.changes.items };
 }
 
 impl Log {
@@ -55,7 +58,7 @@ impl Log {
         Log {
             events: Vec::new(alloc),
             alarms: Vec::new(alloc),
-            mode_changes: 0,
+            changes: Vec::new(alloc),
         }
     }
 
@@ -89,10 +92,51 @@ impl Log {
     pub fn alarm_of(&self, node: u32) -> Option<u64>
         ensures { result ≡ alarm_of self.now node }
     {
-        match self.alarms.get(node as usize) {
-            Some(alarm) => *alarm,
+        match self.alarm_place(node) {
+            Some(place) => Some(self.events[place as usize].time()),
             None => None,
         }
+    }
+
+    /// The mode of an instant, in milliseconds: that of the last change whose time is below it, and else mode 0. Takes
+    /// time in the logarithm of the number of mode changes.
+    pub fn mode_at(&self, instant: u64) -> u32
+        ensures { result ≡ mode_at self.now instant }
+    {
+        let before = changes_before(&self.changes, instant);
+        if before == 0 {
+            return 0;
+        }
+        self.changes[before - 1].mode
+    }
+
+    /// The time of the event of this number, in milliseconds, where it is a silence of the node: its own silence, or a
+    /// sweep, where the node is monitored and no event before is an alarm of it. Numbers begin with 1.
+    pub fn quiet_at(&self, graph: &Graph, number: u32, node: u32) -> Option<u64>
+        requires low { 1 ≤ number }
+        requires high { number ≤ length self.now.events }
+        requires node { node < length graph.now.nodes }
+        ensures { result ≡ quiet_at graph.now self.now number node }
+    {
+        match self.event(number) {
+            Event::Silent { time, node: silent } => time_where(silent == node, time),
+            Event::Sweep { time } => time_where(self.is_swept(graph, number, node), time),
+            Event::Alarm { .. } | Event::Tick { .. } | Event::Mode { .. } => None,
+        }
+    }
+
+    /// A copy of the log. Takes time and memory linear in it.
+    pub fn copy(&self, alloc: Global) -> Result<Log, NoMemory>
+        ensures { IfOk result (λ log. log ≡ self.now) }
+    {
+        let events = Vec::from_slice(alloc, self.events.as_slice())?;
+        let alarms = Vec::from_slice(alloc, self.alarms.as_slice())?;
+        let changes = Vec::from_slice(alloc, self.changes.as_slice())?;
+        Ok(Log {
+            events,
+            alarms,
+            changes,
+        })
     }
 
     /// What becomes of the line: it is accepted, and then its event is the last, or it is refused, and then the log stays
@@ -100,14 +144,14 @@ impl Log {
     /// length of the line, which may have any length, and at most one look-up by name.
     pub fn offer(&mut self, graph: &Graph, line: &[u8]) -> Result<Offered, NoMemory>
         requires { IsOf graph.now self.old }
-        ensures reply { IfOk result (λ reply. reply ≡ reply_now graph.now self.old line.now) }
+        ensures reply { IfOk result (λ reply. reply ≡ reply_to graph.now self.old line.now) }
         ensures log { IfOk result (λ reply. self.new ≡ log_after_reply self.old reply) }
         ensures refused { (refusal : Refusal) →
-            reply_now graph.now self.old line.now ≡ Offered.Refused refusal → result ≡ Ok (Offered.Refused refusal) }
+            reply_to graph.now self.old line.now ≡ Offered.Refused refusal → result ≡ Ok (Offered.Refused refusal) }
         ensures err { OnErr result (self.new ≡ self.old) }
         ensures of { IsOf graph.now self.new }
     {
-        let offered = built_so_far(reply(graph, self, line));
+        let offered = reply(graph, self, line);
         match offered {
             Offered::Accepted(event) => {
                 self.accept(event)?;
@@ -128,12 +172,42 @@ impl Log {
     pub(crate) fn has_all_mode_changes(&self) -> bool
         ensures { result ≡ nat_le most_mode_changes (count_by is_mode_change self.now.events) }
     {
-        self.mode_changes >= MOST_MODE_CHANGES
+        self.changes.len() >= MOST_MODE_CHANGES
+    }
+
+    /// The place of the node's first alarm among the events, counted from 0.
+    fn alarm_place(&self, node: u32) -> Option<u32>
+        ensures { result ≡ alarm_place self.now.events node }
+    {
+        match self.alarms.get(node as usize) {
+            Some(place) => *place,
+            None => None,
+        }
+    }
+
+    /// Whether a sweep of this number is a silence of the node.
+    fn is_swept(&self, graph: &Graph, number: u32, node: u32) -> bool
+        requires low { 1 ≤ number }
+        requires node { node < length graph.now.nodes }
+        ensures { result ≡ (is_monitored graph.now node && is_none (alarm_among (take (number - 1) self.now.events) node)) }
+    {
+        is_monitored(graph, node) && self.is_without_alarm(number - 1, node)
+    }
+
+    /// Whether none of so many first events is an alarm of the node.
+    fn is_without_alarm(&self, count: u32, node: u32) -> bool
+        ensures { result ≡ is_none (alarm_among (take count self.now.events) node) }
+    {
+        match self.alarm_place(node) {
+            Some(place) => count <= place,
+            None => true,
+        }
     }
 
     /// Takes the event as its last. Where there is no memory for it, the log stays as it was.
     fn accept(&mut self, event: Event) -> Result<(), NoMemory>
         requires room { length self.old.events < most_events }
+        requires not_back { now_of self.old ≤ time_of_event event }
         requires first { IsNoSecondAlarm self.old event }
         ensures ok { OnOk result (self.new ≡ with_event self.old event) }
         ensures err { OnErr result (self.new ≡ self.old) }
@@ -151,31 +225,34 @@ impl Log {
     /// Takes a node's first alarm.
     fn accept_alarm(&mut self, time: u64, node: u32) -> Result<(), NoMemory>
         requires room { length self.old.events < most_events }
+        requires not_back { now_of self.old ≤ time }
         requires first { alarm_of self.old node ≡ None }
         ensures ok { OnOk result (self.new ≡ with_event self.old (Event.Alarm time node)) }
         ensures err { OnErr result (self.new ≡ self.old) }
     {
-        let place = node as usize;
-        lengthen(&mut self.alarms, place + 1)?;
+        let place = self.len();
+        lengthen(&mut self.alarms, node as usize + 1)?;
         self.events.push(Event::Alarm { time, node })?;
-        self.alarms[place] = Some(time);
+        self.alarms[node as usize] = Some(place);
         Ok(())
     }
 
     /// Takes a change of mode.
     fn accept_mode_change(&mut self, time: u64, mode: u32) -> Result<(), NoMemory>
-        requires { length self.old.events < most_events }
+        requires room { length self.old.events < most_events }
+        requires not_back { now_of self.old ≤ time }
         ensures ok { OnOk result (self.new ≡ with_event self.old (Event.Mode time mode)) }
         ensures err { OnErr result (self.new ≡ self.old) }
     {
+        self.changes.reserve(1)?;
         self.events.push(Event::Mode { time, mode })?;
-        self.mode_changes += 1;
+        self.changes.push(ModeChange { time, mode })?;
         Ok(())
     }
 }
 
 /// Makes the list at least so long. The nodes' alarms stay as they were.
-fn lengthen(alarms: &mut Vec<Option<u64>>, len: usize) -> Result<(), NoMemory>
+fn lengthen(alarms: &mut Vec<Option<u32>>, len: usize) -> Result<(), NoMemory>
     ensures long { OnOk result (len ≤ vec_len alarms.new) }
     ensures same { AreSameAlarms alarms.new.items alarms.old.items }
 {
@@ -183,4 +260,21 @@ fn lengthen(alarms: &mut Vec<Option<u64>>, len: usize) -> Result<(), NoMemory>
         alarms.resize(len, None)?;
     }
     Ok(())
+}
+
+/// The time, where the test holds.
+fn time_where(holds: bool, time: u64) -> Option<u64>
+    ensures { result ≡ (if holds then Some time else None) }
+{
+    if holds { Some(time) } else { None }
+}
+
+/// How many changes come before the instant.
+fn changes_before(changes: &[ModeChange], instant: u64) -> usize
+    requires { IsNonDecreasingBy (λ (change : ModeChange). change.time) changes.now }
+    ensures bound { result ≤ length changes.now }
+    ensures point { IsPartitionPoint (λ (change : ModeChange). nat_lt change.time instant ≡ true)
+        (λ (change : ModeChange). nat_lt change.time instant ≡ false) changes.now result }
+{
+    changes.partition_point(|change| change.time < instant)
 }

@@ -25,6 +25,4 @@ pub enum Refusal {
     LogFull,
     /// 1,024 mode changes were accepted.
     ModesFull,
-    /// For now: the line is not an accepted alarm or tick.
-    NotBuilt,
 }

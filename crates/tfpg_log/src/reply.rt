@@ -121,7 +121,8 @@ fn find_monitor(graph: &Graph, name: &[u8]) -> Result<u32, Refusal>
     Ok(node)
 }
 
-fn is_monitored(graph: &Graph, node: u32) -> bool
+/// Whether the node has a monitor.
+pub(crate) fn is_monitored(graph: &Graph, node: u32) -> bool
     requires { node < length graph.now.nodes }
     ensures { result ≡ is_monitored graph.now node }
 {

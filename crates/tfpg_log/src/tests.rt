@@ -1,5 +1,8 @@
 //! Lines offered to a log, and what they leave.
 
+ghost use Rattle.std.specs.Prelude.{IfOk};
+ghost use Rattle.tfpg_log.specs.Log.{IsOf};
+
 use crate::event::{Event, Offered};
 use crate::log::Log;
 use crate::refusal::Refusal;
@@ -8,15 +11,15 @@ use std::alloc::Global;
 use std::test::Fail;
 use tfpg_graph::{Graph, read};
 
-/// A failure mode, two monitored discrepancies and a hidden one.
+/// A failure mode, two monitored discrepancies and a hidden one, in two modes.
 fn graph(alloc: Global) -> Result<Graph, Fail> {
     let text =
-        b"tfpg 1\nmode N\nfailure F 1\nor A watch 0\nor B hidden\nor C watch 7\nedge F A 1 3 *\nedge F B 2 inf *\nedge B C 9 9 *\nend\n";
+        b"tfpg 1\nmode N\nmode D\nfailure F 1\nor A watch 0\nor B hidden\nor C watch 7\nedge F A 1 3 *\nedge F B 2 inf *\nedge B C 9 9 *\nend\n";
     Ok(read(alloc, text)?)
 }
 
 #[test]
-fn takes_alarms_and_ticks(rt: HostRuntime) -> Result<(), Fail> {
+fn takes_each_kind_of_line(rt: HostRuntime) -> Result<(), Fail> {
     let graph = graph(rt.alloc())?;
     let mut log = Log::new(rt.alloc());
     assert_eq!(rt; log.now(), 0);
@@ -24,9 +27,8 @@ fn takes_alarms_and_ticks(rt: HostRuntime) -> Result<(), Fail> {
     assert_eq!(rt; log.offer(&graph, b"5 tick")?, Offered::Accepted(tick));
     let alarm = Event::Alarm { time: 10, node: 3 };
     assert_eq!(rt; log.offer(&graph, b"10 alarm C")?, Offered::Accepted(alarm));
-    let refused = Offered::Refused(Refusal::NotBuilt);
-    assert_eq!(rt; log.offer(&graph, b"11 alarm C")?, refused);
-    assert_eq!(rt; log.offer(&graph, b"12 sweep")?, refused);
+    let second = Refusal::SecondAlarm { first: 10 };
+    assert_eq!(rt; log.offer(&graph, b"11 alarm C")?, Offered::Refused(second));
     assert_eq!(rt; log.now(), 10);
     assert_eq!(rt; log.len(), 2);
     assert_eq!(rt; log.event(1), tick);
@@ -37,8 +39,43 @@ fn takes_alarms_and_ticks(rt: HostRuntime) -> Result<(), Fail> {
     Ok(())
 }
 
+/// The log of the lines.
+fn log_of(alloc: Global, graph: &Graph, lines: &[&[u8]]) -> Result<Log, Fail>
+    ensures { IfOk result (IsOf graph.now) }
+{
+    let mut log = Log::new(alloc);
+    for line in lines {
+        log.offer(graph, *line)?;
+    }
+    Ok(log)
+}
+
+/// Offers the line so many times.
+fn offer_often(log: &mut Log, graph: &Graph, line: &[u8], count: u32) -> Result<(), Fail>
+    requires { IsOf graph.now log.old }
+    ensures { IsOf graph.now log.new }
+{
+    for _turn in 0..count {
+        log.offer(graph, line)?;
+    }
+    Ok(())
+}
+
+/// What the event of this number says of each of four nodes, where there are so many.
+fn quiets(graph: &Graph, log: &Log, number: u32) -> [Option<u64>; 4] {
+    if number == 0 || number > log.len() || graph.node_count() != 4 {
+        return [Some(0); 4];
+    }
+    [
+        log.quiet_at(graph, number, 0),
+        log.quiet_at(graph, number, 1),
+        log.quiet_at(graph, number, 2),
+        log.quiet_at(graph, number, 3),
+    ]
+}
+
 /// Lines that a log refuses whose last event is an alarm of A at 10.
-const REFUSED: [(&[u8], Refusal); 22] = [
+const REFUSED: [(&[u8], Refusal); 24] = [
     (b"", Refusal::BadLine),
     (b"11", Refusal::BadLine),
     (b"11  tick", Refusal::BadLine),
@@ -55,6 +92,8 @@ const REFUSED: [(&[u8], Refusal); 22] = [
     (b"99999999999999999999 alarm X", Refusal::TimeTooLarge),
     (b"9 tick", Refusal::TimeBack { last: 10 }),
     (b"9 alarm X", Refusal::TimeBack { last: 10 }),
+    (b"9 alarm A", Refusal::TimeBack { last: 10 }),
+    (b"9 mode B", Refusal::TimeBack { last: 10 }),
     (b"11 silent X", Refusal::UnknownName),
     (b"11 alarm F", Refusal::NotMonitored),
     (b"11 silent B", Refusal::NotMonitored),
@@ -98,5 +137,73 @@ fn replies_to_each_line(rt: HostRuntime) -> Result<(), Fail> {
             "at {line:?}"
         );
     }
+    Ok(())
+}
+
+/// Lines of which each is accepted.
+const LINES: [&[u8]; 8] = [
+    b"5 sweep",
+    b"10 alarm C",
+    b"10 sweep",
+    b"12 silent A",
+    b"12 mode D",
+    b"20 mode N",
+    b"20 mode D",
+    b"25 mode N",
+];
+
+/// Events by their numbers, with what they say of each node.
+const QUIETS: [(u32, [Option<u64>; 4]); 5] = [
+    (1, [None, Some(5), None, Some(5)]),
+    (2, [None; 4]),
+    (3, [None, Some(10), None, None]),
+    (4, [None, Some(12), None, None]),
+    (5, [None; 4]),
+];
+
+/// Instants with their modes.
+const MODES: [(u64, u32); 8] = [
+    (0, 0),
+    (12, 0),
+    (13, 1),
+    (20, 1),
+    (21, 1),
+    (25, 1),
+    (26, 0),
+    (u64::MAX, 0),
+];
+
+#[test]
+fn answers_questions_as_its_copy_does(rt: HostRuntime) -> Result<(), Fail> {
+    let graph = graph(rt.alloc())?;
+    let log = log_of(rt.alloc(), &graph, &LINES)?;
+    let copy = log.copy(rt.alloc())?;
+    for (number, wanted) in &QUIETS {
+        assert_eq!(rt; quiets(&graph, &log, *number), *wanted, "by {number}");
+        assert_eq!(rt; quiets(&graph, &copy, *number), *wanted, "by {number}");
+    }
+    for (instant, mode) in &MODES {
+        assert_eq!(rt; log.mode_at(*instant), *mode, "at {instant}");
+        assert_eq!(rt; copy.mode_at(*instant), *mode, "at {instant}");
+    }
+    assert_eq!(rt; copy.now(), 25);
+    assert_eq!(rt; copy.alarm_of(3), Some(10));
+    Ok(())
+}
+
+#[test]
+fn takes_no_more_than_its_limits(rt: HostRuntime) -> Result<(), Fail> {
+    let graph = graph(rt.alloc())?;
+    let mut log = Log::new(rt.alloc());
+    let modes_full = Offered::Refused(Refusal::ModesFull);
+    let full = Offered::Refused(Refusal::LogFull);
+    offer_often(&mut log, &graph, b"0 mode D", 1024)?;
+    assert_eq!(rt; log.len(), 1024);
+    assert_eq!(rt; log.offer(&graph, b"0 mode D")?, modes_full);
+    offer_often(&mut log, &graph, b"0 tick", 15_360)?;
+    assert_eq!(rt; log.len(), 16_384);
+    assert_eq!(rt; log.offer(&graph, b"0 tick")?, full);
+    assert_eq!(rt; log.offer(&graph, b"0 mode D")?, full);
+    assert_eq!(rt; log.len(), 16_384);
     Ok(())
 }

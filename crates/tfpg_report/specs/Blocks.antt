@@ -4,7 +4,7 @@ use Rattle.std.specs.List.{join_with_byte}
 use Rattle.tfpg_base.specs.TextLine.{text_line}
 use Rattle.tfpg_graph.specs.Graph.{Tfpg, name_at, failures, failure_at}
 use Rattle.tfpg_log.specs.declared.refusal.Refusal.{Refusal}
-use Rattle.tfpg_log.specs.declared.refusal.Refusal.TheVariants.{BadLine, BadNumber, TimeTooLarge, TimeBack, UnknownName, NotMonitored, NotAMode, SecondAlarm, SilentAfterAlarm, LogFull, ModesFull, NotBuilt}
+use Rattle.tfpg_log.specs.declared.refusal.Refusal.TheVariants.{BadLine, BadNumber, TimeTooLarge, TimeBack, UnknownName, NotMonitored, NotAMode, SecondAlarm, SilentAfterAlarm, LogFull, ModesFull}
 use Rattle.tfpg_evidence.specs.declared.clause_name.ClauseName.{ClauseName}
 use Rattle.tfpg_evidence.specs.declared.clause_name.ClauseName.TheVariants.{OrMay, AndMay, OrMust, AndMust}
 use Rattle.tfpg_evidence.specs.declared.reason.Reason.{Reason}
@@ -37,7 +37,6 @@ refusal_name (SecondAlarm first) = codes "SecondAlarm"
 refusal_name (SilentAfterAlarm first) = codes "SilentAfterAlarm"
 refusal_name LogFull = codes "LogFull"
 refusal_name ModesFull = codes "ModesFull"
-refusal_name NotBuilt = codes "NotBuilt"
 
 -- the time that a refusal carries
 abbrev pub refusal_time : Refusal → Option ℕ
@@ -52,7 +51,6 @@ refusal_time (SecondAlarm first) = Some first
 refusal_time (SilentAfterAlarm first) = Some first
 refusal_time LogFull = None
 refusal_time ModesFull = None
-refusal_time NotBuilt = None
 
 -- the word for a time, where there is one
 abbrev pub time_words : Option ℕ → List (List ℕ)

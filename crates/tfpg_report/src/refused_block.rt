@@ -60,7 +60,6 @@ fn name_of(refusal: Refusal) -> &'static [u8]
         Refusal::SilentAfterAlarm { .. } => b"SilentAfterAlarm",
         Refusal::LogFull => b"LogFull",
         Refusal::ModesFull => b"ModesFull",
-        Refusal::NotBuilt => b"NotBuilt",
     }
 }
 

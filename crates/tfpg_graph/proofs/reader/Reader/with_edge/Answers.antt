@@ -1,22 +1,24 @@
-use Rattle.std.proofs.Common.{rules, ◌≡◌, ◌⊎◌, subst, sym}
-use Rattle.tfpg_graph.specs.declared.reader.Section.TheVariants.{Nodes, Edges}
-use Rattle.tfpg_graph.specs.NewEdge.{SpellsNewEdge}
-use Rattle.tfpg_graph.proofs.MoreRead.{IsSmallSoFar-with_edge, lines_read-with_edge}
+use Rattle.std.proofs.Common.{Ok, sym, ap, ◌∙◌}
+use Rattle.std.proofs.lemmas.Result.{err_from_is_err_and}
+use Rattle.tfpg_graph.specs.declared.edge.Edge.{Edge}
+use Rattle.tfpg_graph.specs.declared.reader.Part.TheVariants.{Declarations}
+use Rattle.tfpg_graph.specs.Graph.{Tfpg}
+use Rattle.tfpg_graph.specs.Indexes.{with_edge}
+use Rattle.tfpg_graph.specs.Turns.{Progress}
+use Rattle.tfpg_graph.proofs.Judged.{judged-caused, judged-valued}
 use Rattle.tfpg_graph.proofs.reader.Reader.with_edge.Goals as goal
-use Rattle.tfpg_graph.proofs.reader.Reader.with_edge.Goals.{In_ok-declared}
 
-spelled : (c : In_ok-declared) → SpellsNewEdge c.self.inside.declared c.args.words c.in_ok-edge.edge
-spelled c = search rules
+pub returns-in_err-edge : goal.returns-in_err-edge
+returns-in_err-edge c =
+    let p = err_from_is_err_and c.from_residual-in_err-edge.result c.from_residual-in_err-edge.ensures.1 in
+    rw (p.1, p.2, ← c.self.view_is) (judged-caused _ _ c.in_err-edge.field-0.0 c.in_err-edge.ensures.first)
 
-section_is : (c : In_ok-declared) → (c.self.inside.section ≡ Nodes) ⊎ (c.self.inside.section ≡ Edges)
-section_is c = subst (λ progress. (progress.section ≡ Nodes) ⊎ (progress.section ≡ Edges)) (sym c.self.view_is) c.requires
+-- the progress with this graph
+abbrev with_graph : Tfpg → Progress
+with_graph graph = record { part = Declarations; graph = graph }
 
-pub invariant_of-result : goal.invariant_of-result
-invariant_of-result c =
-    IsSmallSoFar-with_edge (record { section = c.self.inside.section; graph = c.self.inside.declared }) c.in_ok-edge.edge c.in_ok-declared.declared
-    (section_is c) (spelled c).takes_time c.in_ok-declared.ensures c.self.invariant
-
-pub returns-clause-read : goal.returns-clause-read
-returns-clause-read c =
-    rw (← c.self.view_is) (lines_read-with_edge (record { section = c.self.inside.section; graph = c.self.inside.declared }) c.in_ok-edge.edge c.in_ok-declared.declared _
-    (section_is c) (spelled c).line c.in_ok-declared.ensures)
+pub returns : goal.returns
+returns c =
+    rw (← c.self.view_is)
+    (judged-valued (λ (edge : Edge). with_graph (with_edge c.self.inside.declared edge)) _ _ c.in_ok-edge.edge c.in_ok-edge.ensures.first.0 c.in_ok-edge.ensures.first.1
+    ∙ ap (λ graph. Ok (with_graph graph)) (sym c.in_ok-declared.ensures))

@@ -1,10 +1,24 @@
-use Rattle.std.proofs.Common.{rules, ap, ◌∙◌}
-use Rattle.tfpg_graph.specs.NewNode.{SpellsNewNode}
-use Rattle.tfpg_graph.proofs.MoreRead.{IsSmallSoFar-with_node}
+use Rattle.std.proofs.Common.{Ok, sym, ap, ◌∙◌}
+use Rattle.std.proofs.lemmas.Result.{err_from_is_err_and}
+use Rattle.tfpg_graph.specs.declared.kind.Kind.{Kind}
+use Rattle.tfpg_graph.specs.declared.reader.Part.TheVariants.{Declarations}
+use Rattle.tfpg_graph.specs.Graph.{Tfpg}
+use Rattle.tfpg_graph.specs.Indexes.{with_node}
+use Rattle.tfpg_graph.specs.Turns.{Progress}
+use Rattle.tfpg_graph.proofs.Judged.{judged-caused, judged-valued}
 use Rattle.tfpg_graph.proofs.reader.Reader.with_node.Goals as goal
 
-pub invariant_of-result : goal.invariant_of-result
-invariant_of-result c =
-    let spelled : SpellsNewNode c.self.inside.declared c.args.name.now c.args.words c.in_ok-kind.kind = search rules in
-    IsSmallSoFar-with_node (record { section = c.self.inside.section; graph = c.self.inside.declared }) c.args.name.now c.in_ok-kind.kind c.in_ok-declared.declared
-    (ap (λ progress. progress.section) c.self.view_is ∙ c.requires) spelled.spelled.no_and c.in_ok-declared.ensures c.self.invariant
+pub returns-in_err-kind : goal.returns-in_err-kind
+returns-in_err-kind c =
+    let p = err_from_is_err_and c.from_residual.result c.from_residual.ensures.1 in
+    rw (p.1, p.2, ← c.self.view_is) (judged-caused _ _ c.in_err-kind.field-0.0 c.in_err-kind.ensures.first)
+
+-- the progress with this graph
+abbrev with_graph : Tfpg → Progress
+with_graph graph = record { part = Declarations; graph = graph }
+
+pub returns : goal.returns
+returns c =
+    rw (← c.self.view_is)
+    (judged-valued (λ (kind : Kind). with_graph (with_node c.self.inside.declared c.args.name.now kind)) _ _ c.in_ok-kind.kind c.in_ok-kind.ensures.first.0 c.in_ok-kind.ensures.first.1
+    ∙ ap (λ graph. Ok (with_graph graph)) (sym c.in_ok-declared.ensures))

@@ -1,17 +1,15 @@
-use Rattle.std.proofs.Common.{sym, subst, ◌∙◌}
+use Rattle.std.proofs.Common.{sym, subst}
 use Rattle.tfpg_log.specs.Log.{IsOf}
-use Rattle.tfpg_log.proofs.Accepting.{accepted_may_come, accepted_now, of-with_event}
+use Rattle.tfpg_log.proofs.Accepting.{accepted_may_come, of-with_event}
 use Rattle.tfpg_log.proofs.log.Log.offer.Goals as goal
 
 pub accept-requires : goal.accept-requires
 accept-requires c =
-    let may = accepted_may_come c.args.graph.now c.args.self.now c.args.line.now c.in-Accepted.event
-    (sym c.reply.ensures ∙ accepted_now c.reply.result c.in-Accepted.event (sym c.in-Accepted.ensures)) in
-    record { room = may.room; first = may.first }
+    let may = accepted_may_come c.args.graph.now c.args.self.now c.args.line.now c.in-Accepted.event (sym c.in-Accepted.ensures) in
+    record { room = may.room; not_back = may.not_back; first = may.first }
 
 pub returns-in_ok-accept-in-Accepted-clause-of : goal.returns-in_ok-accept-in-Accepted-clause-of
 returns-in_ok-accept-in-Accepted-clause-of c =
-    let may = accepted_may_come c.args.graph.now c.args.self.now c.args.line.now c.in-Accepted.event
-    (sym c.reply.ensures ∙ accepted_now c.reply.result c.in-Accepted.event (sym c.in-Accepted.ensures)) in
+    let may = accepted_may_come c.args.graph.now c.args.self.now c.args.line.now c.in-Accepted.event (sym c.in-Accepted.ensures) in
     subst (IsOf c.args.graph.now) (sym c.in_ok-accept-in-Accepted.ensures.ok)
     (of-with_event c.args.graph.now c.args.self.now c.in-Accepted.event c.requires may)

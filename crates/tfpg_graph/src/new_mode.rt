@@ -1,0 +1,32 @@
+//! What is tested of a line that declares a mode.
+
+ghost use Rattle.std.specs.Prelude.{◌≡◌, IfNone};
+ghost use Rattle.tfpg_graph.specs.Statements.{DeclaresMode};
+ghost use Rattle.tfpg_graph.specs.Causes.{causes, first_cause};
+ghost use Rattle.tfpg_graph.specs.Turns.{is_misplaced};
+ghost use Rattle.tfpg_graph.specs.Declaring.{CanDeclareMode};
+
+use crate::cause::GraphCause;
+use crate::declared::Declared;
+use tfpg_base::read_name;
+
+/// How many modes there are at most.
+const MOST_MODES: u32 = 64;
+
+/// The cause of a line that declares a mode of this name, where there is one. Takes one look-up by name.
+pub(crate) fn mode_cause(declared: &Declared, name: &[u8]) -> Option<GraphCause>
+    ensures first { result ≡ first_cause (causes (is_misplaced declared.now (DeclaresMode name.now)) declared.now (DeclaresMode name.now)) }
+    ensures clear { IfNone result (CanDeclareMode declared.now name.now) }
+{
+    if declared.node_count() > 0 || declared.edge_count() > 0 {
+        Some(GraphCause::BadLine)
+    } else if !read_name(name) {
+        Some(GraphCause::BadName)
+    } else if declared.find_mode(name).is_some() {
+        Some(GraphCause::DuplicateName)
+    } else if declared.mode_count() >= MOST_MODES {
+        Some(GraphCause::TooManyModes)
+    } else {
+        None
+    }
+}
