@@ -6,7 +6,7 @@ use Rattle.std.specs.Str.Parse.{digits_value}
 use Rattle.tfpg_base.specs.declared.word.Number.{Number}
 use Rattle.tfpg_base.specs.declared.word.Number.TheVariants.{Value, TooLarge, NotANumber}
 
--- The words of a line: the parts round its spaces. A space at an end, or two in a row, make an empty word.
+-- The words of a line: the parts round its spaces. A space at an end of the line, or behind another one, makes an empty word.
 abbrev pub words_of : List ℕ → List (List ℕ)
 words_of line = slice_split (λ byte. byte == 32) line
 
@@ -37,7 +37,7 @@ is_number (first ∷ second ∷ others) = is_ascii_digit first && (not (first ==
 abbrev pub number_of : List ℕ → Option ℕ
 number_of word = if is_number word then Some (digits_value 10 word) else None
 
--- what a word says in the place of a number of at most `most`
+-- what stands in the place of a number of at most `most`, by the number that its word spells
 abbrev pub number_up_to : ℕ → Option ℕ → Number
 number_up_to most None = NotANumber
 number_up_to most (Some number) = if nat_le number most then Value number else TooLarge

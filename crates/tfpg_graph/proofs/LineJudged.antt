@@ -1,5 +1,5 @@
 -- The tests of a node's or an edge's line, group by group, come to all of its causes.
-use Rattle.std.proofs.Common.{◌≡◌, ℕ, Bool, true, false, List, [], ◌∷◌, ◌++◌, Option, Some, None, refl, sym, ap, ◌∙◌}
+use Rattle.std.proofs.Common.{◌≡◌, ℕ, true, false, List, ◌++◌, Option, Some, None, ap, ◌∙◌}
 use Rattle.std.specs.Option.{option_map}
 use Rattle.tfpg_base.specs.Words.{number_of}
 use Rattle.tfpg_graph.specs.declared.cause.GraphCause.{GraphCause}

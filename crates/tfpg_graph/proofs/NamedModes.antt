@@ -1,5 +1,5 @@
 -- The bits of modes that are named once each.
-use Rattle.std.proofs.Common.{◌≡◌, ◌≢◌, ℕ, suc, ◌+◌, ◌-◌, ◌<◌, ◌≤◌, ◌^◌, ◌==◌, length, codes, AllPairs, Bool, true, false, ◌⊎◌, ⊎_elim, cond, List, [], ◌∷◌, map, filter_map, Option, Some, None, slice_get, All, Contains, refl, ap, sym, ◌∙◌, subst, nat_lt, arith}
+use Rattle.std.proofs.Common.{◌≡◌, ◌≢◌, ℕ, suc, ◌+◌, ◌-◌, ◌<◌, ◌≤◌, ◌^◌, ◌==◌, length, codes, AllPairs, Bool, true, false, ⊎_elim, cond, List, [], ◌∷◌, filter_map, Option, Some, None, slice_get, All, Contains, refl, ap, sym, ◌∙◌, subst, nat_lt, arith}
 use Rattle.std.specs.List.{sum_by, list_any, cons_option, slice_split}
 use Rattle.std.specs.Str.{bytes_eq}
 use Rattle.std.proofs.lemmas.Bool.{or_parts, eqb-true}

@@ -12,7 +12,7 @@ use Rattle.tfpg_graph.specs.declared.cause.GraphCause.TheVariants.{AfterEnd}
 use Rattle.tfpg_graph.specs.declared.cause.GraphFault.{GraphFault}
 use Rattle.tfpg_graph.specs.declared.edge.Edge.{Edge}
 use Rattle.tfpg_graph.specs.Graph.{Tfpg}
-use Rattle.tfpg_graph.specs.Text.{header, mode_line, node_line, SpellsEdge, is_skipped, Spells}
+use Rattle.tfpg_graph.specs.Text.{header, mode_line, node_line, SpellsEdge, is_empty_or_comment, Spells}
 use Rattle.tfpg_graph.specs.Valid.{IsValid, IsValidEdge}
 use Rattle.tfpg_graph.specs.ZeroCycle.{LiesOnZeroCycle}
 use Rattle.tfpg_graph.specs.Statements.{Statement, DeclaresMode, Ends, statement_in, said_by, said_by_all, ends_text}
@@ -37,7 +37,7 @@ silent_parts false [] = refl
 silent_parts false (part ∷ parts) = none_both (list_any (λ word. length word == 0) ((35 ∷ part) ∷ parts))
 
 -- A line that is skipped says nothing.
-pub said_by-skipped : (line : List ℕ) → is_skipped line ≡ true → said_by line ≡ None
+pub said_by-skipped : (line : List ℕ) → is_empty_or_comment line ≡ true → said_by line ≡ None
 said_by-skipped [] skipped = refl
 said_by-skipped (first ∷ others) skipped =
     subst (λ byte. said_by (byte ∷ others) ≡ None) (sym (eqb-true first 35 skipped))
@@ -51,7 +51,7 @@ Says line said = said_by line ≡ Some said
 
 -- the lines that are not skipped
 abbrev kept : List (List ℕ) → List (List ℕ)
-kept lines = filter (λ line. not (is_skipped line)) lines
+kept lines = filter (λ line. not (is_empty_or_comment line)) lines
 
 -- with the line, where it is not skipped
 abbrev kept_with : Bool → List ℕ → List (List ℕ) → List (List ℕ)
@@ -63,10 +63,10 @@ pub said_by_all-kept : (lines : List (List ℕ)) (said : List Statement) → All
 said_by_all-kept [] [] says = refl
 said_by_all-kept [] (s ∷ said) says = absurd says
 said_by_all-kept (line ∷ lines) said says =
-    by (λ others says. said_by_all-kept lines others says) (is_skipped line) refl said says
+    by (λ others says. said_by_all-kept lines others says) (is_empty_or_comment line) refl said says
   where
     by : ((others : List Statement) → AllZip Says (kept lines) others → said_by_all lines ≡ others)
-        → (skipped : Bool) → is_skipped line ≡ skipped → (said : List Statement)
+        → (skipped : Bool) → is_empty_or_comment line ≡ skipped → (said : List Statement)
         → AllZip Says (kept_with skipped line lines) said → cons_option (said_by line) (said_by_all lines) ≡ said
     by rest true skipped said says =
         ap (λ s. cons_option s (said_by_all lines)) (said_by-skipped line skipped) ∙ rest said says
@@ -82,7 +82,7 @@ clean_behind [] before said short says runs place within = absurd (omega arith)
 clean_behind (line ∷ lines) before said short says runs place within =
     by (λ before others says runs place within. clean_behind lines before others
     (All-tail (λ l. length l ≤ longest_line) line lines short) says runs place within)
-    (is_skipped line) refl said says runs place within
+    (is_empty_or_comment line) refl said says runs place within
   where
     fits : nat_le (length line) longest_line ≡ true
     fits = le-leb (length line) longest_line (All-head (λ l. length l ≤ longest_line) line lines short)
@@ -90,7 +90,7 @@ clean_behind (line ∷ lines) before said short says runs place within =
     by : ((before others : List Statement) → AllZip Says (kept lines) others → Runs before others → (place : ℕ)
         → place < length lines
         → cause_behind (before ++ said_by_all (take place lines)) (get_or lines place []) ≡ None)
-        → (skipped : Bool) → is_skipped line ≡ skipped → (said : List Statement)
+        → (skipped : Bool) → is_empty_or_comment line ≡ skipped → (said : List Statement)
         → AllZip Says (kept_with skipped line lines) said → Runs before said
         → (place : ℕ) → place < length (line ∷ lines)
         → cause_behind (before ++ said_by_all (take place (line ∷ lines))) (get_or (line ∷ lines) place []) ≡ None
@@ -234,7 +234,7 @@ module _ (text : List ℕ) (graph : Tfpg) (spells : Spells text graph) (valid : 
       (All-left IsShort (modes_and_nodes ++ spells.said.edge_lines) (codes "end" ∷ [])
       (All-same IsShort (modes_and_nodes ++ spells.said.edge_lines ++ codes "end" ∷ []) (kept spells.behind)
       (sym spells.said.all)
-      (All-filter (λ line. not (is_skipped line)) IsShort spells.behind short_behind)))
+      (All-filter (λ line. not (is_empty_or_comment line)) IsShort spells.behind short_behind)))
 
   -- A text that spells a valid graph has no line with a cause, declares this graph, and has an end.
   pub Spells-clean : IsClean (lines_of text) × (declared_by (lines_of text) ≡ graph)

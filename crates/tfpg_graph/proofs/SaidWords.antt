@@ -9,7 +9,7 @@ use Rattle.std.proofs.lemmas.Slice.Eq.{bytes_eq-Decides}
 use Rattle.tfpg_base.specs.Words.{line_of, words_of}
 use Rattle.tfpg_base.specs.Lines.{longest_line}
 use Rattle.tfpg_base.proofs.Separators.{join_with_byte-words_of}
-use Rattle.tfpg_graph.specs.Text.{is_skipped}
+use Rattle.tfpg_graph.specs.Text.{is_empty_or_comment}
 use Rattle.tfpg_graph.specs.Statements.{NodeWords, FailureWords, OrWords, AndWords, Statement, DeclaresMode, DeclaresNode, DeclaresEdge, Ends, lag_in, mode_in, failure_in, or_in, and_in, edge_in, end_in, statement_in, said_by}
 
 -- a discrepancy's last words
@@ -137,7 +137,7 @@ cond_neither true o none = refl
 cond_neither false o none = none
 
 -- A line that is skipped says nothing.
-pub skipped_says_nothing : (line : List ℕ) → is_skipped line ≡ true → said_by line ≡ None
+pub skipped_says_nothing : (line : List ℕ) → is_empty_or_comment line ≡ true → said_by line ≡ None
 skipped_says_nothing [] skipped = refl
 skipped_says_nothing (first ∷ others) skipped =
     let sign : first ≡ 35 = eqb-true first 35 skipped in

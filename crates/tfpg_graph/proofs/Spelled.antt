@@ -9,7 +9,7 @@ use Rattle.tfpg_base.proofs.LinesOf.{lines_of-behind}
 use Rattle.tfpg_graph.specs.declared.kind.Kind.{Kind}
 use Rattle.tfpg_graph.specs.declared.kind.Kind.TheVariants.{Failure, Or, And}
 use Rattle.tfpg_graph.specs.Graph.{Tfpg}
-use Rattle.tfpg_graph.specs.Text.{header, mode_line, node_words, node_line, edge_line, modes_word, all_modes, SpellsModes, SpellsEdge, Spells, is_skipped, canonical_lines, canonical_text}
+use Rattle.tfpg_graph.specs.Text.{header, mode_line, node_words, node_line, edge_line, modes_word, all_modes, SpellsModes, SpellsEdge, Spells, is_empty_or_comment, canonical_lines, canonical_text}
 use Rattle.tfpg_graph.specs.Valid.{IsValid, IsValidEdge}
 use Rattle.tfpg_graph.specs.Written.{modes_before, mode_names_before}
 use Rattle.tfpg_graph.proofs.ModeBits.{worth-all, modes_before-some, modes_before-within, modes_before-differ}
@@ -36,7 +36,7 @@ SpellsModes-modes_word graph bits some own = by (bits == all_modes graph) refl
         let end : ℕ = length graph.modes in
         inr (modes_before bits end, modes_before-some bits end some own, modes_before-differ bits end, modes_before-within bits end, refl, worth-all bits end own)
 
-kept_node : (name : List ℕ) (kind : Kind) → not (is_skipped (line_of (node_words name kind))) ≡ true
+kept_node : (name : List ℕ) (kind : Kind) → not (is_empty_or_comment (line_of (node_words name kind))) ≡ true
 kept_node name (Failure rarity) = refl
 kept_node name (Or lag) = refl
 kept_node name (And lag) = refl
@@ -60,9 +60,9 @@ All-behind P graph modes nodes edges end =
     (All-cons P (codes "end") [] end (All-nil P))
 
 -- none of them is skipped
-kept : (graph : Tfpg) → filter (λ line. not (is_skipped line)) (lines_behind graph) ≡ lines_behind graph
-kept graph = filter-all (λ line. not (is_skipped line)) (lines_behind graph)
-    (All-behind (λ line. not (is_skipped line) ≡ true) graph (λ k d within. refl) (λ k d within. kept_node _ _) (λ k d within. refl) refl)
+kept : (graph : Tfpg) → filter (λ line. not (is_empty_or_comment line)) (lines_behind graph) ≡ lines_behind graph
+kept graph = filter-all (λ line. not (is_empty_or_comment line)) (lines_behind graph)
+    (All-behind (λ line. not (is_empty_or_comment line) ≡ true) graph (λ k d within. refl) (λ k d within. kept_node _ _) (λ k d within. refl) refl)
 
 module _ (graph : Tfpg) (valid : IsValid graph) where
   -- no line is too long

@@ -13,7 +13,7 @@ use Rattle.tfpg_graph.specs.declared.cause.GraphCause.{GraphCause}
 use Rattle.tfpg_graph.specs.declared.cause.GraphCause.TheVariants.{BadHeader, AfterEnd}
 use Rattle.tfpg_graph.specs.Graph.{Tfpg}
 use Rattle.tfpg_base.specs.Words.{line_of}
-use Rattle.tfpg_graph.specs.Text.{header, Spells, is_skipped}
+use Rattle.tfpg_graph.specs.Text.{header, Spells, is_empty_or_comment}
 use Rattle.tfpg_graph.specs.Statements.{Statement, said_by, said_by_all, is_passed_over, ends_text}
 use Rattle.tfpg_graph.specs.Declares.{graph_said}
 use Rattle.tfpg_graph.specs.Causes.{is_out_of_order, cause_of_said, cause_behind}
@@ -61,18 +61,18 @@ line_cases before line clean = passed (is_passed_over line) refl clean
 -- a line without a cause is not too long
 line_short : (before : List Statement) (line : List ℕ) → cause_behind before line ≡ None → length line ≤ longest_line
 line_short before line clean = ⊎_elim
-    (λ passed. leb-true (length line) longest_line (and_parts (is_skipped line) _ passed).1)
+    (λ passed. leb-true (length line) longest_line (and_parts (is_empty_or_comment line) _ passed).1)
     (λ saying. (said_by_words line saying.said saying.says).0)
     (line_cases before line clean)
 
 -- the lines that are not skipped
 abbrev kept : List (List ℕ) → List (List ℕ)
-kept lines = filter (λ line. not (is_skipped line)) lines
+kept lines = filter (λ line. not (is_empty_or_comment line)) lines
 
 -- a line that says something is not skipped
-saying_kept : (line : List ℕ) (said : Statement) → said_by line ≡ Some said → is_skipped line ≡ false
+saying_kept : (line : List ℕ) (said : Statement) → said_by line ≡ Some said → is_empty_or_comment line ≡ false
 saying_kept line said says =
-    false_from_ne_true (is_skipped line) (λ skipped. none-some said (sym (skipped_says_nothing line skipped) ∙ says))
+    false_from_ne_true (is_empty_or_comment line) (λ skipped. none-some said (sym (skipped_says_nothing line skipped) ∙ says))
 
 or_false : (b : Bool) → (b || false) ≡ b
 or_false true = refl
@@ -90,7 +90,7 @@ line_spelled before lines line clean so_far = ⊎_elim passed spoken (line_cases
   where
     passed : is_passed_over line ≡ true → AreSpelled (before ++ said_by_all (line ∷ [])) (lines ++ kept (line ∷ []))
     passed is =
-        let skipped = (and_parts (is_skipped line) _ is).0 in
+        let skipped = (and_parts (is_empty_or_comment line) _ is).0 in
         let same_said : before ++ said_by_all (line ∷ []) ≡ before =
         ap (λ o. before ++ cons_option o []) (skipped_says_nothing line skipped) ∙ append-nil before in
         let same_lines : lines ++ kept (line ∷ []) ≡ lines = ap (λ b. lines ++ cond (not b) (line ∷ []) []) skipped ∙ append-nil lines in
@@ -152,7 +152,7 @@ lines_spelled before behind (line ∷ lines) so_far clean =
     let same_said : before ++ said_by_all (line ∷ []) ++ said_by_all lines ≡ before ++ said_by_all (line ∷ lines) =
     append_assoc before _ _ ∙ ap (λ said. before ++ said) (sym (filter_map-append said_by (line ∷ []) lines)) in
     let same_lines : behind ++ kept (line ∷ []) ++ kept lines ≡ behind ++ kept (line ∷ lines) =
-    append_assoc behind _ _ ∙ ap (λ more. behind ++ more) (sym (filter-append (λ line. not (is_skipped line)) (line ∷ []) lines)) in
+    append_assoc behind _ _ ∙ ap (λ more. behind ++ more) (sym (filter-append (λ line. not (is_empty_or_comment line)) (line ∷ []) lines)) in
     subst (λ said. AreSpelled said (behind ++ kept (line ∷ lines))) same_said
     (subst (AreSpelled (before ++ said_by_all (line ∷ []) ++ said_by_all lines)) same_lines rest)
 

@@ -1,5 +1,5 @@
 -- Which graph the lines of a text declare. What has no value, as a word that is no number, declares nothing.
-use Rattle.std.specs.Prelude.{ℕ, ◌^◌, List, [], ◌∷◌, ◌==◌, ◌||◌, if◌then◌else◌, Option, Some, None, option_map, option_and_then, filter_map, codes, bytes_eq, sum_by}
+use Rattle.std.specs.Prelude.{ℕ, ◌^◌, List, [], ◌==◌, ◌||◌, if◌then◌else◌, Option, Some, None, option_map, option_and_then, filter_map, codes, bytes_eq, sum_by}
 use Rattle.std.specs.List.{slice_split}
 use Rattle.tfpg_base.specs.Words.{number_of}
 use Rattle.tfpg_graph.specs.declared.kind.Kind.{Kind}
@@ -38,7 +38,7 @@ node_declared Ends = None
 abbrev pub tmax_of_word : List ℕ → Option (Option ℕ)
 tmax_of_word word = if bytes_eq word (codes "inf") then Some None else option_map Some (number_of word)
 
--- the names in a word for modes, which is else `*` for all or `-` for none
+-- the names that a word for modes lists: none where it is `*` for all or `-` for no mode, and else the parts round its commas
 abbrev pub modes_listed : List ℕ → List (List ℕ)
 modes_listed word = if bytes_eq word (codes "*") || bytes_eq word (codes "-") then [] else slice_split (λ byte. byte == 44) word
 

@@ -1,5 +1,5 @@
 -- What lets one thing more be declared beside what is declared.
-use Rattle.std.specs.Prelude.{◌≡◌, ◌≢◌, ℕ, ◌<◌, ◌≤◌, ◌^◌, List, [], length, None, Option, IfSome, IsTrue, not}
+use Rattle.std.specs.Prelude.{◌≡◌, ◌≢◌, ℕ, ◌<◌, ◌≤◌, List, [], length, None, Option, IfSome, IsTrue, not}
 use Rattle.tfpg_base.specs.Words.{is_name}
 use Rattle.tfpg_graph.specs.declared.kind.Kind.{Kind}
 use Rattle.tfpg_graph.specs.declared.edge.Edge.{Edge}

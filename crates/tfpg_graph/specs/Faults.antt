@@ -13,15 +13,15 @@ use Rattle.tfpg_graph.specs.Statements.{Statement, said_by, said_by_all, declare
 use Rattle.tfpg_graph.specs.Declares.{declared_by}
 use Rattle.tfpg_graph.specs.Causes.{cause_at}
 
--- The places of the lines that are tested, counted from 0. The first is tested also where there is none.
+-- The places of the lines that are tested, counted from 0. The first is tested also where the text has no line.
 abbrev pub IsTested : List (List ℕ) → ℕ → Type 0
 IsTested lines place = (place ≡ 0) ⊎ (place < length lines)
 
--- no line has a cause
+-- no line that is tested has a cause
 abbrev pub IsClean : List (List ℕ) → Type 0
 IsClean lines = (place : ℕ) → IsTested lines place → cause_at lines place ≡ None
 
--- The line of the fault is the first that has a cause, and this is its first.
+-- The fault's line is the first that has a cause, and the fault's cause is the first of that line.
 pub record IsLineFault (lines : List (List ℕ)) (fault : GraphFault) : Type 0 where
   pub place : ℕ
   pub number : fault.line ≡ place + 1
@@ -61,7 +61,7 @@ pub record IsIncomingFault (lines : List (List ℕ)) (fault : GraphFault) : Type
   pub first : HasIncomingBefore (declared_by lines) node
   pub line : IsLineSaying declares_node lines node fault.line
 
--- the line of the first edge on a cycle of edges that may take no time, where no discrepancy lacks an edge
+-- the line of the first edge on a cycle of edges that may take no time, where no discrepancy lacks an edge into it
 pub record IsCycleFault (lines : List (List ℕ)) (fault : GraphFault) : Type 0 where
   pub cause : fault.cause ≡ ZeroCycle
   pub incoming : HasIncomingBefore (declared_by lines) (length (declared_by lines).nodes)

@@ -1,5 +1,5 @@
 -- The causes of a line in groups, as the code tests them: those of a number, and of an edge's names, delays, ends and room.
-use Rattle.std.specs.Prelude.{ℕ, ◌<◌, ◌≤◌, List, [], ◌∷◌, ◌&&◌, ◌||◌, ◌==◌, Bool, false, true, length, not, nat_lt, nat_le, is_some, is_none, Option, Some, None, option_and_then, codes, bytes_eq, if◌then◌else◌, ◌≡◌, IsTrue, IfSome, Result, Ok, Err}
+use Rattle.std.specs.Prelude.{ℕ, List, [], ◌∷◌, ◌&&◌, ◌||◌, ◌==◌, Bool, false, length, not, nat_lt, nat_le, is_some, is_none, Option, Some, None, option_and_then, codes, bytes_eq, if◌then◌else◌}
 use Rattle.std.specs.Option.{option_map_or}
 use Rattle.std.specs.List.{list_all, list_any}
 use Rattle.std.specs.Str.Parse.{digits_value}
@@ -7,7 +7,6 @@ use Rattle.tfpg_base.specs.Words.{is_name, is_number}
 use Rattle.tfpg_base.specs.Set.{with_member}
 use Rattle.tfpg_graph.specs.declared.cause.GraphCause.{GraphCause}
 use Rattle.tfpg_graph.specs.declared.cause.GraphCause.TheVariants.{BadLine, BadName, DuplicateName, UnknownName, BadNumber, NumberTooLarge, MinOverMax, EdgeIntoFailure, SelfEdge, DuplicateEdge, NoModes, TooManyNodes, TooManyFailures, TooManyEdges, TooManyModes, TooManyIncoming}
-use Rattle.tfpg_graph.specs.declared.kind.Kind.{Kind}
 use Rattle.tfpg_graph.specs.Graph.{Tfpg, is_kind_at, is_failure, failures, incoming, node_named, mode_named, edge_from_to}
 use Rattle.tfpg_graph.specs.Valid.{most_time}
 use Rattle.tfpg_graph.specs.Declares.{modes_listed, ends_named}

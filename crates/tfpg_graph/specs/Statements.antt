@@ -3,7 +3,7 @@ use Rattle.std.specs.Prelude.{ℕ, List, [], ◌∷◌, length, Bool, true, fals
 use Rattle.std.specs.List.{list_any}
 use Rattle.tfpg_base.specs.Words.{words_of}
 use Rattle.tfpg_base.specs.Lines.{longest_line}
-use Rattle.tfpg_graph.specs.Text.{is_skipped}
+use Rattle.tfpg_graph.specs.Text.{is_empty_or_comment}
 
 -- the words that say what a node is, with the word for its number
 pub data NodeWords : Type 0 where
@@ -18,37 +18,37 @@ pub data Statement : Type 0 where
   DeclaresEdge : (source target tmin tmax modes : List ℕ) → Statement
   Ends : Statement
 
--- A discrepancy's last words: `hidden`, or `watch` and its lag.
+-- what a discrepancy's last words say: `hidden`, or `watch` and the word for its lag
 abbrev pub lag_in : List (List ℕ) → Option (Option (List ℕ))
 lag_in [] = None
 lag_in (state ∷ []) = if bytes_eq state (codes "hidden") then Some None else None
 lag_in (state ∷ lag ∷ []) = if bytes_eq state (codes "watch") then Some (Some lag) else None
 lag_in (state ∷ lag ∷ more ∷ others) = None
 
--- the words behind `mode`
+-- what the words behind `mode` say
 abbrev pub mode_in : List (List ℕ) → Option Statement
 mode_in [] = None
 mode_in (name ∷ []) = Some (DeclaresMode name)
 mode_in (name ∷ more ∷ others) = None
 
--- the words behind `failure`
+-- what the words behind `failure` say
 abbrev pub failure_in : List (List ℕ) → Option Statement
 failure_in [] = None
 failure_in (name ∷ []) = None
 failure_in (name ∷ rarity ∷ []) = Some (DeclaresNode name (FailureWords rarity))
 failure_in (name ∷ rarity ∷ more ∷ others) = None
 
--- the words behind `or`
+-- what the words behind `or` say
 abbrev pub or_in : List (List ℕ) → Option Statement
 or_in [] = None
 or_in (name ∷ others) = option_map (λ lag. DeclaresNode name (OrWords lag)) (lag_in others)
 
--- the words behind `and`
+-- what the words behind `and` say
 abbrev pub and_in : List (List ℕ) → Option Statement
 and_in [] = None
 and_in (name ∷ others) = option_map (λ lag. DeclaresNode name (AndWords lag)) (lag_in others)
 
--- the words behind `edge`
+-- what the words behind `edge` say
 abbrev pub edge_in : List (List ℕ) → Option Statement
 edge_in [] = None
 edge_in (source ∷ []) = None
@@ -58,12 +58,12 @@ edge_in (source ∷ target ∷ tmin ∷ tmax ∷ []) = None
 edge_in (source ∷ target ∷ tmin ∷ tmax ∷ modes ∷ []) = Some (DeclaresEdge source target tmin tmax modes)
 edge_in (source ∷ target ∷ tmin ∷ tmax ∷ modes ∷ more ∷ others) = None
 
--- the words behind `end`
+-- what the words behind `end` say
 abbrev pub end_in : List (List ℕ) → Option Statement
 end_in [] = Some Ends
 end_in (more ∷ others) = None
 
--- The shapes of a line behind the header: a keyword, and the words behind it.
+-- what the words of a line behind the header say, where they have one of the shapes: a keyword, and the words behind it
 abbrev pub statement_in : List (List ℕ) → Option Statement
 statement_in [] = None
 statement_in (keyword ∷ others) =
@@ -86,7 +86,7 @@ said_by_all lines = filter_map said_by lines
 
 -- A line behind the header that is empty or begins with `#` is passed over, unless it is too long.
 abbrev pub is_passed_over : List ℕ → Bool
-is_passed_over line = is_skipped line && nat_le (length line) longest_line
+is_passed_over line = is_empty_or_comment line && nat_le (length line) longest_line
 
 abbrev pub declares_mode : Statement → Bool
 declares_mode (DeclaresMode name) = true

@@ -34,7 +34,7 @@ abbrev pub tmax_word : Option ℕ → List ℕ
 tmax_word None = codes "inf"
 tmax_word (Some tmax) = decimal tmax
 
--- An edge, with the word that spells its modes.
+-- the line of an edge whose modes this word spells
 abbrev pub edge_line : Tfpg → Edge → List ℕ → List ℕ
 edge_line graph edge modes_word =
     line_of (codes "edge" ∷ unwrap_or (name_at graph edge.source) [] ∷ unwrap_or (name_at graph edge.target) [] ∷ decimal edge.tmin ∷ tmax_word edge.tmax ∷ modes_word ∷ [])
@@ -44,6 +44,7 @@ abbrev pub all_modes : Tfpg → ℕ
 all_modes graph = 2 ^ length graph.modes - 1
 
 -- The word spells these modes: a star for all, or the names of some, in any order, each once, with commas between.
+-- No word for no mode is among them, since a valid edge is active in some.
 abbrev pub SpellsModes : Tfpg → ℕ → List ℕ → Type 0
 SpellsModes graph bits word =
     ((word ≡ codes "*") × (bits ≡ all_modes graph))
@@ -55,11 +56,11 @@ abbrev pub SpellsEdge : Tfpg → Edge → List ℕ → Type 0
 SpellsEdge graph edge line = (word : List ℕ) × SpellsModes graph edge.modes word × (line ≡ edge_line graph edge word)
 
 -- an empty line, or one that begins with `#`
-abbrev pub is_skipped : List ℕ → Bool
-is_skipped [] = true
-is_skipped (first ∷ others) = first == 35
+abbrev pub is_empty_or_comment : List ℕ → Bool
+is_empty_or_comment [] = true
+is_empty_or_comment (first ∷ others) = first == 35
 
--- The lines that say something: the header, then the modes, the nodes, the edges and the end.
+-- The lines behind the header that are not skipped: the modes, the nodes, the edges and the end.
 pub record SpellsLines (graph : Tfpg) (lines : List (List ℕ)) : Type 0 where
   pub edge_lines : List (List ℕ)
   pub edges : AllZip (SpellsEdge graph) graph.edges edge_lines
@@ -69,7 +70,7 @@ pub record SpellsLines (graph : Tfpg) (lines : List (List ℕ)) : Type 0 where
 pub record Spells (text : List ℕ) (graph : Tfpg) : Type 0 where
   pub behind : List (List ℕ)
   pub lines : lines_of text ≡ header ∷ behind
-  pub said : SpellsLines graph (filter (λ line. not (is_skipped line)) behind)
+  pub said : SpellsLines graph (filter (λ line. not (is_empty_or_comment line)) behind)
   pub short : All (λ line. length line ≤ longest_line) (lines_of text)
 
 -- the word for an edge's modes in the canonical text: a star for all, else the names in the order of the modes

@@ -1,5 +1,5 @@
 -- How a reader goes from line to line, by what is declared so far. What a line means for a text is said in Causes.
-use Rattle.std.specs.Prelude.{◌≡◌, ℕ, ◌<◌, List, [], ◌∷◌, length, All, Bool, true, false, ◌||◌, nat_lt, ◌==◌, if◌then◌else◌, Option, Some, None, option_map, Result, Ok, Err, IsTrue, is_some, bytes_eq}
+use Rattle.std.specs.Prelude.{◌≡◌, ℕ, ◌<◌, List, [], ◌∷◌, length, All, Bool, ◌||◌, nat_lt, ◌==◌, if◌then◌else◌, Option, Some, None, option_map, Result, Ok, Err, IsTrue, is_some, bytes_eq}
 use Rattle.std.specs.List.{list_any}
 use Rattle.tfpg_graph.specs.declared.cause.GraphCause.{GraphCause}
 use Rattle.tfpg_graph.specs.declared.cause.GraphCause.TheVariants.{BadHeader, BadLine, AfterEnd}
@@ -9,7 +9,7 @@ use Rattle.tfpg_graph.specs.Graph.{Tfpg}
 use Rattle.tfpg_graph.specs.Text.{header}
 use Rattle.tfpg_graph.specs.Indexes.{nothing_declared, with_node, with_edge, with_mode}
 use Rattle.tfpg_graph.specs.Statements.{Statement, DeclaresMode, DeclaresNode, DeclaresEdge, Ends, said_by, said_by_all, is_passed_over, ends_text}
-use Rattle.tfpg_graph.specs.Declares.{kind_of_words, node_declared, edge_declared, declared_by}
+use Rattle.tfpg_graph.specs.Declares.{kind_of_words, edge_declared, declared_by}
 use Rattle.tfpg_graph.specs.Causes.{causes, first_cause, cause_at}
 
 -- how far a text is read

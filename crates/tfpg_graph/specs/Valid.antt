@@ -19,8 +19,8 @@ HasValidNumber (Failure rarity) = rarity ≤ most_rarity
 HasValidNumber (Or lag) = IfSome lag (λ l. l ≤ most_time)
 HasValidNumber (And lag) = IfSome lag (λ l. l ≤ most_time)
 
--- The edge goes from a node to another one that is a discrepancy, its delays are in order, and it is active in some of
--- the graph's modes and in no other.
+-- The edge goes from a node to another one that is a discrepancy, its delays are in order and within the limit, and it
+-- is active in some of the graph's modes and in no other.
 pub record IsValidEdge (graph : Tfpg) (edge : Edge) : Type 0 where
   pub source : edge.source < length graph.nodes
   pub target : edge.target < length graph.nodes
@@ -41,8 +41,9 @@ WalksInNoTime graph from to zero = from ≡ to
 WalksInNoTime graph from to (suc steps) =
     (edge : Edge) × Contains graph.edges edge × (edge.source ≡ from) × (edge.tmin ≡ 0) × WalksInNoTime graph edge.target to steps
 
--- A graph is valid: its parts have names of their own and numbers within the limits, no two edges have one source and
--- one target, each discrepancy has an edge into it, no cycle takes no time, and there are not too many of anything.
+-- A graph is valid: its nodes and modes have names of the right form, each its own in its space; the numbers are within
+-- their limits; each edge is valid, and no two have the same source and the same target; each discrepancy has an edge
+-- into it; no cycle may take no time; and there is a mode, and not too many of anything.
 pub record IsValid (graph : Tfpg) : Type 0 where
   pub node_names : All (λ node. IsTrue (is_name node.name)) graph.nodes
   pub nodes_differ : AllPairs (λ a b. a.name ≢ b.name) graph.nodes

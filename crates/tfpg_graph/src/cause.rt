@@ -1,6 +1,8 @@
 //! What is wrong with the text of a graph.
 
-/// Why a text spells no valid graph. `docs/formats.md` says exactly where each stands.
+/// Why a text spells no valid graph, as `docs/formats.md` says exactly. Three causes are of the whole text and come last:
+/// `NoIncoming`, `ZeroCycle` and `MissingEnd`. All others are of a line, and of those that hold of one line the first here
+/// counts, but that an `AfterEnd` comes before the others.
 #[derive(Clone, Copy, Debug, PartialEq, Eq)]
 pub enum GraphCause {
     BadHeader,
@@ -26,8 +28,8 @@ pub enum GraphCause {
     AfterEnd,
 }
 
-/// The first line with a cause, counted from 1, and its cause. A text
-/// without lines has its fault at line 1, and one without its end behind its last line.
+/// The first line that has a cause, counted from 1, and the first of its causes; or else the first cause of the whole text,
+/// with its line. A text without lines has its fault at line 1, and one that lacks its end behind its last line.
 #[derive(Clone, Copy, Debug, PartialEq, Eq)]
 pub struct GraphFault {
     pub line: u64,

@@ -31,7 +31,7 @@ fn parts_at_commas<'a>(alloc: Global, word: &'a [u8]) -> Result<Vec<&'a [u8]>, N
     Ok(names)
 }
 
-/// Whether a name stands twice. Takes time in the square of their number, which is at most 64 where all are modes.
+/// Whether a name stands twice. Takes time in the square of their number, which is at most 64 in a text without a fault.
 pub(crate) fn has_twice(names: &[&[u8]]) -> bool
     ensures { result ≡ has_twice (map (λ name. name.now) names.now) }
 {

@@ -48,7 +48,7 @@ impl NodeSet {
         NodeSet { words }
     }
 
-    /// Whether the node is in the set. None from 512 on is.
+    /// Whether the node is in the set. A number from 512 on is in none.
     pub fn has(&self, node: u32) -> bool
         ensures node { IsTrue result ↔ Contains self.now node }
         ensures set { IsNodeSet self.now }

@@ -15,8 +15,8 @@ use std::alloc::Global;
 /// Reads the text of a graph.
 ///
 /// A text that spells a valid graph is answered with that graph, and every other with its first fault: the first line
-/// that has a cause, with the least of its causes; or else what is wrong with the whole text. Takes time linear in the
-/// text, but for look-ups by name, and memory for the graph and one line.
+/// that has a cause, with the first of its causes; or else what is wrong with the whole text. Instead of either answer
+/// memory may be wanting. Takes time linear in the text, but for look-ups by name, and memory for the graph and one line.
 pub fn read(alloc: Global, text: &[u8]) -> Result<Graph, GraphRefusal>
     ensures spelled { IfOk result (λ graph. Spells text.now graph) }
     ensures valid { IfOk result IsValid }

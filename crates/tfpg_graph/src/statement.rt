@@ -2,7 +2,7 @@
 
 ghost use Rattle.std.specs.Prelude.{◌≡◌, ◌∷◌, [], length, map, option_map, ◌==◌};
 ghost use Rattle.std.specs.List.{list_any};
-ghost use Rattle.tfpg_graph.specs.Text.{is_skipped};
+ghost use Rattle.tfpg_graph.specs.Text.{is_empty_or_comment};
 ghost use Rattle.tfpg_graph.specs.Statements.{said_by, statement_in, mode_in, failure_in, or_in, and_in, edge_in, end_in, lag_in, is_passed_over};
 ghost use Rattle.tfpg_graph.specs.StatementInside.{said_of, word_seen};
 
@@ -47,11 +47,11 @@ pub(crate) struct EdgeWords<'a> {
 pub(crate) fn is_passed_over(line: &[u8]) -> bool
     ensures { result ≡ is_passed_over line.now }
 {
-    is_skipped(line) && line.len() <= LONGEST_LINE
+    is_empty_or_comment(line) && line.len() <= LONGEST_LINE
 }
 
-fn is_skipped(line: &[u8]) -> bool
-    ensures { result ≡ is_skipped line.now }
+fn is_empty_or_comment(line: &[u8]) -> bool
+    ensures { result ≡ is_empty_or_comment line.now }
 {
     match line {
         [] => true,

@@ -1,5 +1,4 @@
-use Rattle.std.proofs.Common.{rules, ◌≡◌, ◌∷◌, false, map, sum_by, filter_map, All, Contains, ℕ, ◌^◌, subst, sym, ap, ◌∙◌}
-use Rattle.tfpg_graph.specs.Graph.{mode_named}
+use Rattle.std.proofs.Common.{rules, ◌≡◌, ◌∷◌, false, map, ℕ, sym, ap, ◌∙◌}
 use Rattle.tfpg_graph.specs.Causes.{has_twice}
 use Rattle.tfpg_graph.proofs.NamedModes.{named_more, worth_more}
 use Rattle.tfpg_graph.proofs.listed_modes.+named_modes.Goals as goal

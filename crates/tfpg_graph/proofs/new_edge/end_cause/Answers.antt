@@ -1,5 +1,4 @@
-use Rattle.std.proofs.Common.{rules, ◌≡◌, ◌≢◌, None, sym, ap, ◌∙◌}
-use Rattle.tfpg_graph.specs.Graph.{edge_from_to}
+use Rattle.std.proofs.Common.{rules, ◌≢◌}
 use Rattle.tfpg_graph.proofs.Named.{node_named-same}
 use Rattle.tfpg_graph.proofs.new_edge.end_cause.Goals as goal
 

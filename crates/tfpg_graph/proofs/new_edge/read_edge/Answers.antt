@@ -1,8 +1,7 @@
-use Rattle.std.proofs.Common.{rules, ◌≡◌, ◌≤◌, None, Some, length, refl, sym, ◌∙◌}
+use Rattle.std.proofs.Common.{rules, ◌≡◌, None, refl, sym, ◌∙◌}
 use Rattle.std.proofs.lemmas.Result.{err_from_is_err_and}
 use Rattle.tfpg_graph.specs.Causes.{first_cause}
-use Rattle.tfpg_graph.specs.Declares.{modes_of_word}
-use Rattle.tfpg_graph.specs.LineCauses.{edge_name_causes, edge_unknown_causes, delay_causes, end_causes}
+use Rattle.tfpg_graph.specs.LineCauses.{edge_name_causes, end_causes}
 use Rattle.tfpg_graph.proofs.LineJudged.{edge_cause-name, edge_cause-unknown, edge_cause-delay, edge_cause-end, edge_cause-room}
 use Rattle.tfpg_graph.proofs.new_edge.read_edge.Goals as goal
 

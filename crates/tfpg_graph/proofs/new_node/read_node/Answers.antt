@@ -1,7 +1,5 @@
-use Rattle.std.proofs.Common.{◌≡◌, None, sym, ◌∙◌}
+use Rattle.std.proofs.Common.{sym, ◌∙◌}
 use Rattle.std.proofs.lemmas.Result.{err_from_is_err_and}
-use Rattle.tfpg_graph.specs.Causes.{first_cause}
-use Rattle.tfpg_graph.specs.LineCauses.{node_name_causes}
 use Rattle.tfpg_graph.specs.StatementInside.{node_words_of}
 use Rattle.tfpg_graph.proofs.Judged.{ReadAs-err, ReadAs-ok}
 use Rattle.tfpg_graph.proofs.LineJudged.{node_cause-name, node_cause-number, node_cause-room}
