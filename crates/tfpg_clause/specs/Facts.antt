@@ -1,12 +1,12 @@
 -- Facts: constraints that every trace meets which explains the log from a set with this reach.
-use Rattle.std.specs.Prelude.{ℕ, ◌+◌, ◌-◌, pos, List, length, take, Bool, not, ◌&&◌, nat_lt, nat_le, ◌==◌, if◌then◌else◌, Option, Some, None, is_none, unwrap_or, option_and_then}
+use Rattle.std.specs.Prelude.{ℕ, ◌+◌, ◌-◌, pos, List, length, Bool, not, ◌&&◌, nat_lt, nat_le, ◌==◌, if◌then◌else◌, Option, Some, None, unwrap_or, option_map, option_and_then}
 use Rattle.std.specs.List.{list_any}
 use Rattle.tfpg_base.specs.declared.constraint.Constraint.{Constraint}
-use Rattle.tfpg_graph.specs.Graph.{Tfpg, is_monitored, lag_at}
+use Rattle.tfpg_graph.specs.Graph.{Tfpg, lag_at}
 use Rattle.tfpg_graph.specs.Valid.{most_time}
 use Rattle.tfpg_log.specs.declared.event.Event.{Event}
 use Rattle.tfpg_log.specs.declared.event.Event.TheVariants.{Alarm, Silent, Sweep, Tick, Mode}
-use Rattle.tfpg_log.specs.Log.{Logbook, now_of, event_at, alarm_among}
+use Rattle.tfpg_log.specs.Log.{Logbook, now_of, event_at, quiet_at}
 use Rattle.tfpg_evidence.specs.declared.reason.Reason.{Reason}
 use Rattle.tfpg_evidence.specs.declared.reason.Reason.TheVariants.{Zero, Top, Unreached, From, Upto, Quiet, Pick}
 use Rattle.tfpg_clause.specs.Bounds.{at_most, at_least}
@@ -35,14 +35,6 @@ upto_alarm (Sweep time) = None
 upto_alarm (Tick time) = None
 upto_alarm (Mode time mode) = None
 
--- The event says that the node is not active, where these came before it.
-abbrev pub quiet_by : Tfpg → List Event → Event → ℕ → Option Constraint
-quiet_by graph before (Silent time silent) node = where_so (silent == node) (at_least node (time + 1))
-quiet_by graph before (Sweep time) node = where_so (is_monitored graph node && is_none (alarm_among before node)) (at_least node (time + 1))
-quiet_by graph before (Alarm time alarmed) node = None
-quiet_by graph before (Tick time) node = None
-quiet_by graph before (Mode time mode) node = None
-
 -- The constraint that a reason states, where it is a fact of the log and of a set that reaches these nodes.
 abbrev pub fact : Tfpg → Logbook → List ℕ → Reason → Option Constraint
 fact graph log reach (Zero node) = where_so (nat_lt node (length graph.nodes)) (at_least node 0)
@@ -51,5 +43,5 @@ fact graph log reach (Unreached node horizon) =
     where_so (nat_lt node (length graph.nodes) && (nat_le horizon (now_of log) && not (list_any (λ reached. reached == node) reach))) (at_least node (horizon + 1))
 fact graph log reach (From event) = option_and_then (from_alarm graph) (event_at log event)
 fact graph log reach (Upto event) = option_and_then upto_alarm (event_at log event)
-fact graph log reach (Quiet event node) = option_and_then (λ e. quiet_by graph (take (event - 1) log.events) e node) (event_at log event)
+fact graph log reach (Quiet event node) = option_map (λ time. at_least node (time + 1)) (quiet_at graph log event node)
 fact graph log reach (Pick split place) = None

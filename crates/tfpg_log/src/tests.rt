@@ -74,26 +74,45 @@ fn quiets(graph: &Graph, log: &Log, number: u32) -> [Option<u64>; 4] {
     ]
 }
 
-/// Lines that a log refuses whose last event is an alarm of A at 10.
-const REFUSED: [(&[u8], Refusal); 24] = [
+/// Lines that a log refuses whose last event is an alarm of A at 10: one for each refusal alone, and for each two that hold
+/// of one line, of which the first counts.
+const REFUSED: [(&[u8], Refusal); 42] = [
     (b"", Refusal::BadLine),
     (b"11", Refusal::BadLine),
     (b"11  tick", Refusal::BadLine),
     (b" 11 tick", Refusal::BadLine),
     (b"11 tick ", Refusal::BadLine),
-    (b"11 tick C", Refusal::BadLine),
     (b"11 alarm", Refusal::BadLine),
-    (b"11 alarm C C", Refusal::BadLine),
     (b"11 Alarm C", Refusal::BadLine),
     (b"1 2 3 4 5 6 7 8 9 10", Refusal::BadLine),
+    (b"eleven tick C", Refusal::BadLine),
+    (b"1000000000001 tick C", Refusal::BadLine),
+    (b"9 tick C", Refusal::BadLine),
+    (b"11 alarm X X", Refusal::BadLine),
+    (b"11 alarm F F", Refusal::BadLine),
+    (b"11 mode B B", Refusal::BadLine),
+    (b"11 alarm A A", Refusal::BadLine),
+    (b"11 silent A A", Refusal::BadLine),
     (b"011 tick", Refusal::BadNumber),
+    (b"01000000000001 tick", Refusal::BadNumber),
+    (b"09 tick", Refusal::BadNumber),
     (b"eleven alarm X", Refusal::BadNumber),
+    (b"11. alarm F", Refusal::BadNumber),
+    (b"+11 mode B", Refusal::BadNumber),
+    (b"-11 alarm A", Refusal::BadNumber),
+    (b"0x11 silent A", Refusal::BadNumber),
     (b"1000000000001 tick", Refusal::TimeTooLarge),
     (b"99999999999999999999 alarm X", Refusal::TimeTooLarge),
+    (b"1000000000001 silent B", Refusal::TimeTooLarge),
+    (b"1000000000001 mode B", Refusal::TimeTooLarge),
+    (b"1000000000001 alarm A", Refusal::TimeTooLarge),
+    (b"1000000000001 silent A", Refusal::TimeTooLarge),
     (b"9 tick", Refusal::TimeBack { last: 10 }),
     (b"9 alarm X", Refusal::TimeBack { last: 10 }),
-    (b"9 alarm A", Refusal::TimeBack { last: 10 }),
+    (b"9 silent B", Refusal::TimeBack { last: 10 }),
     (b"9 mode B", Refusal::TimeBack { last: 10 }),
+    (b"9 alarm A", Refusal::TimeBack { last: 10 }),
+    (b"9 silent A", Refusal::TimeBack { last: 10 }),
     (b"11 silent X", Refusal::UnknownName),
     (b"11 alarm F", Refusal::NotMonitored),
     (b"11 silent B", Refusal::NotMonitored),
@@ -117,19 +136,27 @@ const ACCEPTED: [(&[u8], Event); 5] = [
     ),
 ];
 
+/// The first of the lines that is not refused so.
+fn judged_otherwise(
+    graph: &Graph,
+    log: &Log,
+    lines: &[(&'static [u8], Refusal)],
+) -> Option<&'static [u8]> {
+    for (line, refusal) in lines {
+        if reply(graph, log, *line) != Offered::Refused(*refusal) {
+            return Some(*line);
+        }
+    }
+    None
+}
+
 #[test]
 fn replies_to_each_line(rt: HostRuntime) -> Result<(), Fail> {
     let graph = graph(rt.alloc())?;
     let mut log = Log::new(rt.alloc());
     let alarm = Event::Alarm { time: 10, node: 1 };
     assert_eq!(rt; log.offer(&graph, b"10 alarm A")?, Offered::Accepted(alarm));
-    for (line, refusal) in &REFUSED {
-        assert_eq!(rt;
-            reply(&graph, &log, *line),
-            Offered::Refused(*refusal),
-            "at {line:?}"
-        );
-    }
+    assert_eq!(rt; judged_otherwise(&graph, &log, &REFUSED), None);
     for (line, event) in &ACCEPTED {
         assert_eq!(rt;
             reply(&graph, &log, *line),
@@ -191,6 +218,31 @@ fn answers_questions_as_its_copy_does(rt: HostRuntime) -> Result<(), Fail> {
     Ok(())
 }
 
+/// Lines that a log refuses that takes no further change of mode, and whose last event is an alarm of A at 10.
+const REFUSED_WITH_ALL_MODES: [(&[u8], Refusal); 6] = [
+    (b"11 mode D D", Refusal::BadLine),
+    (b"011 mode D", Refusal::BadNumber),
+    (b"1000000000001 mode D", Refusal::TimeTooLarge),
+    (b"9 mode D", Refusal::TimeBack { last: 10 }),
+    (b"11 mode B", Refusal::NotAMode),
+    (b"11 mode D", Refusal::ModesFull),
+];
+
+/// Lines that a full log refuses with such an alarm, and as many changes of mode.
+const REFUSED_WHEN_FULL: [(&[u8], Refusal); 11] = [
+    (b"11 tick C", Refusal::BadLine),
+    (b"011 tick", Refusal::BadNumber),
+    (b"1000000000001 tick", Refusal::TimeTooLarge),
+    (b"9 tick", Refusal::TimeBack { last: 10 }),
+    (b"11 silent X", Refusal::UnknownName),
+    (b"11 alarm F", Refusal::NotMonitored),
+    (b"11 mode B", Refusal::NotAMode),
+    (b"11 alarm A", Refusal::SecondAlarm { first: 10 }),
+    (b"11 silent A", Refusal::SilentAfterAlarm { first: 10 }),
+    (b"11 mode D", Refusal::LogFull),
+    (b"11 tick", Refusal::LogFull),
+];
+
 #[test]
 fn takes_no_more_than_its_limits(rt: HostRuntime) -> Result<(), Fail> {
     let graph = graph(rt.alloc())?;
@@ -198,12 +250,17 @@ fn takes_no_more_than_its_limits(rt: HostRuntime) -> Result<(), Fail> {
     let modes_full = Offered::Refused(Refusal::ModesFull);
     let full = Offered::Refused(Refusal::LogFull);
     offer_often(&mut log, &graph, b"0 mode D", 1024)?;
-    assert_eq!(rt; log.len(), 1024);
-    assert_eq!(rt; log.offer(&graph, b"0 mode D")?, modes_full);
-    offer_often(&mut log, &graph, b"0 tick", 15_360)?;
+    offer_often(&mut log, &graph, b"10 alarm A", 1)?;
+    assert_eq!(rt; log.len(), 1025);
+    assert_eq!(rt; log.offer(&graph, b"10 mode D")?, modes_full);
+    assert_eq!(rt;
+        judged_otherwise(&graph, &log, &REFUSED_WITH_ALL_MODES),
+        None
+    );
+    offer_often(&mut log, &graph, b"10 tick", 15_359)?;
     assert_eq!(rt; log.len(), 16_384);
-    assert_eq!(rt; log.offer(&graph, b"0 tick")?, full);
-    assert_eq!(rt; log.offer(&graph, b"0 mode D")?, full);
+    assert_eq!(rt; log.offer(&graph, b"10 tick")?, full);
+    assert_eq!(rt; judged_otherwise(&graph, &log, &REFUSED_WHEN_FULL), None);
     assert_eq!(rt; log.len(), 16_384);
     Ok(())
 }

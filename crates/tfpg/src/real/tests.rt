@@ -160,6 +160,8 @@ fn an_unreadable_file_is_a_read_fault(rt: HostRuntime) -> Result<(), Fail> {
     let end = run_on(&rt, UNREADABLE_FILE, &mut input, &mut output)?;
     assert_eq!(rt; end, End::ReadFault);
     assert_eq!(rt; end.status(), 5);
+    // So is a folder.
+    assert_eq!(rt; run_on(&rt, ".", &mut input, &mut output)?, End::ReadFault);
     // Neither was touched.
     assert_eq!(rt; input.faults(), 0);
     assert_eq!(rt; output.faults(), 0);
