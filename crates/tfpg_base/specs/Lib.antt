@@ -1,6 +1,7 @@
 pub mod Memory
 pub mod Outside
 pub mod Words
+pub mod Times
 pub mod Lines
 pub mod LineSearch
 pub mod LinesInside

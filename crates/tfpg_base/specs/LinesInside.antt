@@ -14,6 +14,7 @@ buffered_of a = record {
 }
 
 -- The buffer has its size, what waits and what is lent lies in it, and there are no more lines than bytes that do not wait.
+-- Before the end not too many bytes were taken.
 pub record IsInPlace (a : Inside) : Type 0 where
   pub room : vec_len a.buffer ≡ 65536
   pub waiting : a.waiting.start ≤ a.waiting.end

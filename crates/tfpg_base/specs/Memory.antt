@@ -2,6 +2,7 @@
 use Rattle.std.specs.Prelude.{◌≡◌, ◌<◌, ◌≤◌, ◌^◌, ◌+◌, ◌-◌, ℕ, min, List, ◌++◌, length, Option, Some, Result, Ok, Err}
 use Rattle.tfpg_base.specs.declared.outside.ShelfFault.{ShelfFault}
 use Rattle.tfpg_base.specs.declared.outside.ShelfFault.TheVariants as faults
+use Rattle.tfpg_base.specs.Outside.{longest_file}
 
 -- the count after one more, which stands still at the last value of its type
 abbrev pub count_after : ℕ → ℕ
@@ -34,11 +35,11 @@ pub record HasFiles : Type 0 where
   pub calls : ℕ
   pub faults : ℕ
 
--- What fetching a file answers, where there may be one of this content: the whole content where it has at most
--- 2^24 bytes, else its first 2^24 bytes and that it is too long. A failure is a fault.
+-- What fetching a file answers, where there may be one of this content: the whole content where it is not
+-- longer than a file may be, else as much of its front as a file may have and that it is too long. A failure is a fault.
 abbrev pub Fetches : Option (List ℕ) → Type 0 → List ℕ → Result (Unit {0}) ShelfFault → Type 0
-Fetches content rose copy (Ok done) = (content ≡ Some copy) × (length copy ≤ 2 ^ 24)
+Fetches content rose copy (Ok done) = (content ≡ Some copy) × (length copy ≤ longest_file)
 Fetches content rose copy (Err faults.TooLong) =
-    (length copy ≡ 2 ^ 24) × ((more : List ℕ) × (0 < length more) × (content ≡ Some (copy ++ more)))
+    (length copy ≡ longest_file) × ((more : List ℕ) × (0 < length more) × (content ≡ Some (copy ++ more)))
 Fetches content rose copy (Err faults.NoMemory) = Unit {0}
 Fetches content rose copy (Err faults.Failed) = rose

@@ -3,6 +3,10 @@ use Rattle.std.specs.Prelude.{◌≡◌, ◌⊎◌, ◌<◌, ◌-◌, ◌^◌, �
 use Rattle.tfpg_base.specs.declared.outside.ShelfFault.{ShelfFault}
 use Rattle.tfpg_base.specs.declared.outside.ShelfFault.TheVariants as faults
 
+-- how many bytes a file has at most
+abbrev pub longest_file : ℕ
+longest_file = 2 ^ 24
+
 -- A count of faults rose in a call, or stands at the last value of its type and can't rise.
 abbrev pub Rose : ℕ → ℕ → Type 0
 Rose before after = (before < after) ⊎ (after ≡ 2 ^ 64 - 1)
@@ -28,10 +32,10 @@ file_of (file ∷ files) name = if bytes_eq file.0 name then Some file.1 else fi
 abbrev pub Gives : Option (List (List ℕ × List ℕ)) → List ℕ → List ℕ → Type 0
 Gives files name bytes = IfSome files (λ told. file_of told name ≡ Some bytes)
 
--- The file of that name begins with these 2^24 bytes, and has more.
+-- The file of that name begins with these bytes, as many as a file may have, and has more.
 abbrev pub PassesLimit : Option (List (List ℕ × List ℕ)) → List ℕ → List ℕ → Type 0
 PassesLimit files name bytes =
-    (length bytes ≡ 2 ^ 24) × IfSome files (λ told. (more : List ℕ) × (0 < length more) × (file_of told name ≡ Some (bytes ++ more)))
+    (length bytes ≡ longest_file) × IfSome files (λ told. (more : List ℕ) × (0 < length more) × (file_of told name ≡ Some (bytes ++ more)))
 
 -- The name was asked for, unless memory was wanting.
 abbrev pub Asks : Option (List (List ℕ)) → Option (List (List ℕ)) → List ℕ → Result (Unit {0}) ShelfFault → Type 0

@@ -1,11 +1,14 @@
 //! What a reader of lines answers.
 
+/// How many bytes a line has at most.
+pub const LONGEST_LINE: usize = 4_096;
+
 /// What the next line is.
 #[derive(Clone, Copy, Debug, PartialEq, Eq)]
 pub enum Line {
-    /// A line of at most 4,096 bytes.
+    /// A line of at most [`LONGEST_LINE`] bytes.
     Text,
-    /// A line of more than 4,096 bytes, which was skipped and counted.
+    /// A line of more than [`LONGEST_LINE`] bytes, which was skipped and counted.
     TooLong,
     /// There is no further line.
     End,

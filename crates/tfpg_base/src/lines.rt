@@ -13,12 +13,9 @@ mod search;
 #[cfg(test)]
 mod tests;
 
-use crate::{Line, LineFault, NoMemory, Source};
+use crate::{LONGEST_LINE, Line, LineFault, NoMemory, Source};
 use std::alloc::Global;
 use std::marker::Model;
-
-/// How many bytes a line may have.
-const LONGEST: usize = 4_096;
 
 /// How many bytes the buffer has: more than a line may have.
 const ROOM: usize = 65_536;
@@ -150,7 +147,7 @@ fn line_end(bytes: &[u8]) -> Option<usize>
 fn kind(count: usize) -> Line
     ensures { (line : List ℕ) → length line ≡ count → result ≡ kind_of line }
 {
-    if count <= LONGEST {
+    if count <= LONGEST_LINE {
         Line::Text
     } else {
         Line::TooLong
@@ -165,7 +162,7 @@ fn lent(start: usize, count: usize) -> Span
     ensures text { (bytes : List ℕ) → start + count ≤ length bytes
         → slice_range bytes result.start result.end ≡ lent_of (slice_range bytes start (start + count)) }
 {
-    let end = if count <= LONGEST {
+    let end = if count <= LONGEST_LINE {
         start + count
     } else {
         start

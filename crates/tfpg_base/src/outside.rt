@@ -8,6 +8,9 @@ ghost use Rattle.tfpg_base.specs.Outside.{Rose, Takes, Puts, IsAtEnd, Asks, Give
 
 use std::alloc::Global;
 
+/// How many bytes a file has at most.
+pub const LONGEST_FILE: usize = 1 << 24;
+
 /// The outside failed.
 #[derive(Clone, Copy, Debug, PartialEq, Eq)]
 pub struct Failed;
@@ -17,7 +20,7 @@ pub struct Failed;
 pub enum ShelfFault {
     /// The file is absent, or reading it failed.
     Failed,
-    /// The file has more than 2^24 bytes.
+    /// The file has more than [`LONGEST_FILE`] bytes, which are 2^24.
     TooLong,
     /// There is no room for the file.
     NoMemory,

@@ -1,6 +1,7 @@
 //! The words of a line.
 
-ghost use Rattle.std.specs.Prelude.{◌≡◌, ◌<◌, length, map, MatchOption};
+ghost use Rattle.std.specs.Prelude.{◌≡◌, ◌<◌, ◌==◌, length, map, MatchOption};
+ghost use Rattle.std.specs.List.{list_any};
 ghost use Rattle.tfpg_base.specs.Words.{words_of};
 
 use std::marker::Model;
@@ -51,6 +52,13 @@ impl<'a> Words<'a> {
     }
 }
 
+/// Whether one of the words is empty, as one is where a line has a space at an end, or two in a row.
+pub fn has_empty_word(words: &[&[u8]]) -> bool
+    ensures { result ≡ list_any (λ word. length word.now == 0) words.now }
+{
+    words.iter().any(|word| word.is_empty())
+}
+
 #[cfg(test)]
 mod tests {
     use super::*;
@@ -62,6 +70,7 @@ mod tests {
             [b"5", b"alarm", b"", b"N\t", b""] => {}
             other => panic!(&rt; "{other:?}"),
         }
+        assert!(rt; has_empty_word(words.as_slice()));
         assert!(rt; Words::of(b"1 2 3 4 5 6 7 8 9").is_some());
         assert!(rt; Words::of(b"1 2 3 4 5 6 7 8 9 ").is_none());
     }

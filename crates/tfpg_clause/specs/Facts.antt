@@ -3,17 +3,13 @@ use Rattle.std.specs.Prelude.{ℕ, ◌+◌, ◌-◌, pos, List, length, Bool, no
 use Rattle.std.specs.List.{list_any}
 use Rattle.tfpg_base.specs.declared.constraint.Constraint.{Constraint}
 use Rattle.tfpg_graph.specs.Graph.{Tfpg, lag_at}
-use Rattle.tfpg_graph.specs.Valid.{most_time}
+use Rattle.tfpg_base.specs.Times.{never}
 use Rattle.tfpg_log.specs.declared.event.Event.{Event}
 use Rattle.tfpg_log.specs.declared.event.Event.TheVariants.{Alarm, Silent, Sweep, Tick, Mode}
 use Rattle.tfpg_log.specs.Log.{Logbook, now_of, event_at, quiet_at}
 use Rattle.tfpg_evidence.specs.declared.reason.Reason.{Reason}
 use Rattle.tfpg_evidence.specs.declared.reason.Reason.TheVariants.{Zero, Top, Unreached, From, Upto, Quiet, Pick}
 use Rattle.tfpg_clause.specs.Bounds.{at_most, at_least}
-
--- a time after the last one, which stands for never
-abbrev pub never : ℕ
-never = most_time + 1
 
 -- the constraint, where the test holds
 abbrev pub where_so : Bool → Constraint → Option Constraint

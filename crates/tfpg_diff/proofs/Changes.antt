@@ -10,7 +10,7 @@ use Rattle.tfpg_diff.specs.declared.bounds.Bounds.{Bounds}
 use Rattle.tfpg_diff.specs.declared.pick.Pick.{Pick}
 use Rattle.tfpg_diff.specs.Demands.{Demands, Demanded, Bounded}
 use Rattle.tfpg_diff.specs.Solution.{Meets, IsSolution}
-use Rattle.tfpg_diff.specs.State.{never}
+use Rattle.tfpg_base.specs.Times.{never}
 use Rattle.tfpg_diff.specs.Kept.{IsLink, IsWithin, IsKept, IsSound, demands_of}
 use Rattle.tfpg_diff.proofs.Lists.{slice_get-set_other, slice_get-set_same, Contains-take}
 

@@ -10,7 +10,8 @@ use Rattle.tfpg_diff.specs.declared.pick.Pick.{Pick}
 use Rattle.tfpg_diff.specs.Demands.{edge_of}
 use Rattle.tfpg_diff.specs.Solution.{Meets}
 use Rattle.tfpg_diff.specs.Cycle.{NamesNegativeCycle}
-use Rattle.tfpg_diff.specs.State.{never, widest, unbounded_from}
+use Rattle.tfpg_base.specs.Times.{never}
+use Rattle.tfpg_diff.specs.State.{widest, unbounded_from}
 use Rattle.tfpg_diff.specs.Kept.{IsKept, IsStart, IsSettled, IsWithin, demands_of}
 use Rattle.tfpg_diff.proofs.Totals.{HasNoSolution-cycle}
 use Rattle.tfpg_diff.proofs.Changes.{IsSolution-take}

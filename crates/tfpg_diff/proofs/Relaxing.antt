@@ -12,7 +12,7 @@ use Rattle.tfpg_diff.specs.declared.why.Why.TheVariants.{Floor}
 use Rattle.tfpg_diff.specs.Demands.{Demands, Bounded, edge_of}
 use Rattle.std.specs.List.{HoldsAt}
 use Rattle.tfpg_diff.specs.Solution.{Meets}
-use Rattle.tfpg_diff.specs.State.{never}
+use Rattle.tfpg_base.specs.Times.{never}
 use Rattle.tfpg_diff.specs.Kept.{IsSound, IsKept, IsWithin, Walked, IsWalk}
 use Rattle.tfpg_diff.proofs.Lowering.{IsBroken, Labelled-kept}
 use Rattle.tfpg_diff.proofs.Climb.{length-Climbs}

@@ -7,7 +7,7 @@ use Rattle.tfpg_diff.specs.declared.pick.Pick.{Pick}
 use Rattle.tfpg_diff.specs.declared.edge.Edge.{Edge}
 use Rattle.tfpg_diff.specs.Demands.{Demands, Demanded, Bounded, edge_of, ceiling_of}
 use Rattle.tfpg_diff.specs.Solution.{Meets, IsSolution}
-use Rattle.tfpg_diff.specs.State.{never}
+use Rattle.tfpg_base.specs.Times.{never}
 
 -- These are the links on the way from one number to another. The way does not go on from zero.
 abbrev pub Climbs : List Edge → ℕ → List Edge → ℕ → Type 0

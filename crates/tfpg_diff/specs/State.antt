@@ -1,5 +1,6 @@
 -- What contracts see of a system, and what its calls change.
-use Rattle.std.specs.Prelude.{◌≡◌, Result, Ok, Err, ℕ, zero, suc, ◌+◌, ◌^◌, List, [], ◌∷◌, ◌++◌, take, nat_lt, if◌then◌else◌}
+use Rattle.std.specs.Prelude.{◌≡◌, Result, Ok, Err, ℕ, zero, suc, ◌+◌, List, [], ◌∷◌, ◌++◌, take, nat_lt, if◌then◌else◌}
+use Rattle.tfpg_base.specs.Times.{never}
 use Rattle.tfpg_base.specs.declared.constraint.Constraint.{Constraint}
 use Rattle.tfpg_diff.specs.declared.why.Why.{Why}
 use Rattle.tfpg_diff.specs.declared.why.Why.TheVariants.{Floor, Ceiling, Given}
@@ -14,10 +15,6 @@ pub record State : Type 0 where
   pub demands : Demands
   pub spare : ℕ
   pub cycle : List Why
-
--- one past the last millisecond: what a variable is at most
-abbrev pub never : ℕ
-never = 10 ^ 12 + 1
 
 -- the bounds of a variable that nothing is known of
 abbrev pub widest : ℕ → Bounds

@@ -5,9 +5,7 @@ ghost use Rattle.tfpg_diff.specs.State.{widest, unbounded_from};
 
 use crate::why::Why;
 use std::alloc::{AllocError, Global};
-
-/// One past the last millisecond, `10^12 + 1`: what a variable is at most.
-pub const NEVER: u64 = 1_000_000_000_001;
+use tfpg_base::NEVER;
 
 /// The greatest lower bound and the least upper bound that a variable was given so far, in milliseconds, each
 /// with the tag of what gave it.
@@ -32,7 +30,7 @@ fn widest_bounds(variable: u32) -> Bounds
 }
 
 /// The bounds of so many variables that nothing is known of.
-pub fn unbounded(alloc: Global, count: u32) -> Result<Vec<Bounds>, AllocError>
+pub(crate) fn unbounded(alloc: Global, count: u32) -> Result<Vec<Bounds>, AllocError>
     ensures { IfOk result (λ bounds. bounds.items ≡ unbounded_from 0 count) }
 {
     let mut bounds = Vec::with_capacity(alloc, count as usize)?;

@@ -4,7 +4,7 @@ ghost use Rattle.std.specs.Prelude.{◌≡◌, ◌^◌, ◌+◌, ◌<◌, ◌≤
 ghost use Rattle.tfpg_diff.specs.Demands.{edge_of};
 ghost use Rattle.tfpg_diff.specs.Solution.{Meets};
 ghost use Rattle.tfpg_diff.specs.Cycle.{NamesNegativeCycle};
-ghost use Rattle.tfpg_diff.specs.State.{never};
+ghost use Rattle.tfpg_base.specs.Times.{never};
 ghost use Rattle.tfpg_diff.specs.Kept.{IsRooted, IsLabelled, Walked, IsSound, IsKept, Relaxes, demands_of};
 
 use crate::bounds::Bounds;
@@ -15,7 +15,7 @@ use crate::tree::Tree;
 use crate::why::{Conflict, Why};
 
 /// The pick in the form that bounds share.
-pub fn edge_of_pick(pick: &Pick) -> Edge
+pub(crate) fn edge_of_pick(pick: &Pick) -> Edge
     ensures { result ≡ edge_of pick.now }
 {
     Edge {
@@ -27,7 +27,7 @@ pub fn edge_of_pick(pick: &Pick) -> Edge
 }
 
 /// Whether the values break the constraint. A difference of two values fits, whatever the bound is.
-pub fn is_broken(values: &[u64], edge: Edge) -> bool
+pub(crate) fn is_broken(values: &[u64], edge: Edge) -> bool
     requires left { edge.left < length values.now }
     requires right { edge.right < length values.now }
     requires small { All (λ value. value ≤ never) values.now }
@@ -40,7 +40,7 @@ pub fn is_broken(values: &[u64], edge: Edge) -> bool
 }
 
 /// The greatest value that a broken constraint allows its left side, where that is not below a floor.
-pub fn allowed(values: &[u64], edge: Edge, floor: u64) -> Option<u64>
+pub(crate) fn allowed(values: &[u64], edge: Edge, floor: u64) -> Option<u64>
     requires left { edge.left < length values.now }
     requires right { edge.right < length values.now }
     requires small { All (λ value. value ≤ never) values.now }
@@ -59,7 +59,13 @@ pub fn allowed(values: &[u64], edge: Edge, floor: u64) -> Option<u64>
 
 /// Begins a cycle with the tag of a constraint, and walks from its right side up to its left side or to zero.
 /// Answers whether the walk ended at the left side.
-pub fn begin_cycle(links: &[Edge], right: u32, left: u32, why: Why, cycle: &mut Vec<Why>) -> bool
+pub(crate) fn begin_cycle(
+    links: &[Edge],
+    right: u32,
+    left: u32,
+    why: Why,
+    cycle: &mut Vec<Why>,
+) -> bool
     requires rooted { IsRooted links.now }
     requires labelled { IsLabelled links.now }
     requires right { right < length links.now }
@@ -77,7 +83,7 @@ pub fn begin_cycle(links: &[Edge], right: u32, left: u32, why: Why, cycle: &mut 
 ///
 /// Conflict comes where that closes a negative cycle, whose tags then stand in `cycle`. It costs a walk along
 /// the links where the pick is broken.
-pub fn relax(
+pub(crate) fn relax(
     bounds: &[Bounds],
     picks: &[Pick],
     place: usize,

@@ -4,7 +4,7 @@ ghost use Rattle.std.specs.Prelude.{◌≡◌, ℕ, ◌+◌, ◌-◌, ◌^◌, �
 ghost use Rattle.tfpg_diff.specs.declared.bounds.Bounds.{Bounds as BoundsOf};
 ghost use Rattle.tfpg_diff.specs.Demands.{ceiling_of};
 ghost use Rattle.tfpg_diff.specs.Cycle.{NamesNegativeCycle};
-ghost use Rattle.tfpg_diff.specs.State.{never};
+ghost use Rattle.tfpg_base.specs.Times.{never};
 ghost use Rattle.tfpg_diff.specs.Kept.{IsSound, IsKept, IsStart, MeetsPicks, Passes, demands_of};
 
 use crate::bounds::Bounds;
@@ -45,7 +45,7 @@ fn pass(
 ///
 /// Conflict comes where there is no solution; the tags of a negative cycle then stand in `cycle`. There are at
 /// most as many passes over the picks as there are numbers, and one more.
-pub fn settle(
+pub(crate) fn settle(
     bounds: &[Bounds],
     picks: &[Pick],
     tree: &mut Tree,
@@ -67,7 +67,7 @@ pub fn settle(
 }
 
 /// The upper bound of a variable as a constraint. The bound is below 2^63.
-pub fn ceiling_edge(variable: u32, bounds: Bounds) -> Edge
+pub(crate) fn ceiling_edge(variable: u32, bounds: Bounds) -> Edge
     requires variable { variable < 2 ^ 32 - 1 }
     requires small { bounds.ceiling ≤ never }
     ensures { result ≡ ceiling_of variable bounds }
@@ -81,7 +81,7 @@ pub fn ceiling_edge(variable: u32, bounds: Bounds) -> Edge
 }
 
 /// Gives each variable the value of its upper bound, and that bound as its link.
-pub fn start(bounds: &[Bounds], tree: &mut Tree)
+pub(crate) fn start(bounds: &[Bounds], tree: &mut Tree)
     requires few { length bounds.now < 2 ^ 32 }
     requires ceilings { (variable : ℕ) (limits : BoundsOf) → slice_get bounds.now variable ≡ Some limits → limits.ceiling ≤ never }
     requires values { vec_len tree.old.values ≡ length bounds.now + 1 }
@@ -97,7 +97,7 @@ pub fn start(bounds: &[Bounds], tree: &mut Tree)
 }
 
 /// Copies values and links. It allocates nothing.
-pub fn save(tree: &Tree, into: &mut Tree)
+pub(crate) fn save(tree: &Tree, into: &mut Tree)
     requires values { vec_len into.old.values ≡ vec_len tree.now.values }
     requires links { vec_len into.old.links ≡ vec_len tree.now.links }
     ensures values { into.new.values.items ≡ tree.now.values.items }
@@ -110,7 +110,7 @@ pub fn save(tree: &Tree, into: &mut Tree)
 /// Lowers values until they meet every pick, and puts the backup in their place where that can't be.
 ///
 /// Conflict comes where there is no solution; the tags of a negative cycle then stand in `cycle`.
-pub fn settle_or_restore(
+pub(crate) fn settle_or_restore(
     bounds: &[Bounds],
     picks: &[Pick],
     tree: &mut Tree,

@@ -2,7 +2,8 @@
 
 ghost use Rattle.std.specs.Prelude.{◌≡◌, ◌+◌, ◌-◌, ◌<◌, ◌≤◌, [], length, All, IfOk, OnOk, IsOk};
 ghost use Rattle.tfpg_diff.specs.Solution.{IsLatest};
-ghost use Rattle.tfpg_diff.specs.State.{never, unbounded_from, with_floor, with_ceiling, with_pick, popped_to, Adds};
+ghost use Rattle.tfpg_base.specs.Times.{never};
+ghost use Rattle.tfpg_diff.specs.State.{unbounded_from, with_floor, with_ceiling, with_pick, popped_to, Adds};
 
 use crate::bounds::{Bounds, unbounded};
 use crate::edge::Edge;

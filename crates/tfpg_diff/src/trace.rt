@@ -7,7 +7,7 @@ use crate::edge::Edge;
 use crate::why::Why;
 
 /// Appends a tag, for which there is room.
-pub fn note(cycle: &mut Vec<Why>, why: Why)
+pub(crate) fn note(cycle: &mut Vec<Why>, why: Why)
     requires { vec_len cycle.old < vec_capacity cycle.old }
     ensures items { cycle.new.items ≡ cycle.old.items ++ why ∷ [] }
     ensures capacity { vec_capacity cycle.old ≤ vec_capacity cycle.new }
@@ -17,7 +17,7 @@ pub fn note(cycle: &mut Vec<Why>, why: Why)
 
 /// Walks along the links from a number up to the one that is sought or to zero, whichever comes first, and
 /// appends the tags of the links on the way. Answers whether the walk ended at the one that is sought.
-pub fn trace(links: &[Edge], from: u32, sought: u32, cycle: &mut Vec<Why>) -> bool
+pub(crate) fn trace(links: &[Edge], from: u32, sought: u32, cycle: &mut Vec<Why>) -> bool
     requires rooted { IsRooted links.now }
     requires labelled { IsLabelled links.now }
     requires start { from < length links.now }

@@ -10,9 +10,9 @@ use std::alloc::{AllocError, Global};
 /// its value is at least as large as. The right side of a link is the number's parent, and zero is the root.
 /// Zero has the value 0, and a link that says nothing.
 #[derive(Drop)]
-pub struct Tree {
-    pub values: Vec<u64>,
-    pub links: Vec<Edge>,
+pub(crate) struct Tree {
+    pub(crate) values: Vec<u64>,
+    pub(crate) links: Vec<Edge>,
 }
 
 /// A constraint that says nothing.
@@ -25,7 +25,7 @@ const NO_EDGE: Edge = Edge {
 
 impl Tree {
     /// The value 0 for each of so many numbers, with links that say nothing.
-    pub fn new(alloc: Global, numbers: usize) -> Result<Tree, AllocError>
+    pub(crate) fn new(alloc: Global, numbers: usize) -> Result<Tree, AllocError>
         ensures values { IfOk result (λ tree. vec_len tree.values ≡ numbers) }
         ensures links { IfOk result (λ tree. vec_len tree.links ≡ numbers) }
         ensures zero { IfOk result (λ tree. slice_index tree.values.items 0 ≡ 0) }

@@ -15,7 +15,8 @@ use Rattle.tfpg_graph.specs.declared.edge.Edge.{Edge}
 use Rattle.tfpg_graph.specs.Graph.{Tfpg, Node, name_at}
 use Rattle.tfpg_base.specs.Words.{line_of}
 use Rattle.tfpg_graph.specs.Text.{mode_line, node_words, watch_words, tmax_word, edge_line, modes_word, all_modes}
-use Rattle.tfpg_graph.specs.Valid.{HasValidNumber, IsValidEdge, most_time}
+use Rattle.tfpg_base.specs.Times.{most_time}
+use Rattle.tfpg_graph.specs.Valid.{HasValidNumber, IsValidEdge}
 use Rattle.tfpg_graph.specs.Written.{modes_before, mode_names_before}
 use Rattle.tfpg_graph.proofs.ModeBits.{modes_before-few}
 use Rattle.tfpg_graph.proofs.ModeNames.{All-named, length-named}

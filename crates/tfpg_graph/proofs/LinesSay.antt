@@ -13,7 +13,8 @@ use Rattle.tfpg_base.proofs.Separators.{Lacks, name_lacks, decimal_lacks}
 use Rattle.tfpg_graph.specs.declared.kind.Kind.{Kind}
 use Rattle.tfpg_graph.specs.declared.kind.Kind.TheVariants.{Failure, Or, And}
 use Rattle.tfpg_graph.specs.Text.{mode_line, node_words, tmax_word}
-use Rattle.tfpg_graph.specs.Valid.{HasValidNumber, most_time}
+use Rattle.tfpg_base.specs.Times.{most_time}
+use Rattle.tfpg_graph.specs.Valid.{HasValidNumber}
 use Rattle.tfpg_graph.specs.Statements.{NodeWords, FailureWords, OrWords, AndWords, Statement, DeclaresMode, DeclaresNode, DeclaresEdge, Ends, statement_in, said_by}
 use Rattle.tfpg_graph.proofs.LineLengths.{short_mode, short_node}
 

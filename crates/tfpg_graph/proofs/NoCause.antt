@@ -15,7 +15,8 @@ use Rattle.tfpg_graph.specs.declared.kind.Kind.{Kind}
 use Rattle.tfpg_graph.specs.declared.kind.Kind.TheVariants.{Failure, Or, And}
 use Rattle.tfpg_graph.specs.Graph.{Tfpg, is_kind_at, is_failure, failures, incoming, node_named, mode_named, edge_from_to}
 use Rattle.tfpg_graph.specs.Text.{tmax_word}
-use Rattle.tfpg_graph.specs.Valid.{HasValidNumber, most_time, most_rarity}
+use Rattle.tfpg_base.specs.Times.{most_time}
+use Rattle.tfpg_graph.specs.Valid.{HasValidNumber, most_rarity}
 use Rattle.tfpg_graph.specs.Statements.{Statement, DeclaresMode, DeclaresNode, DeclaresEdge, Ends}
 use Rattle.tfpg_graph.specs.Declares.{modes_listed}
 use Rattle.tfpg_graph.specs.Causes.{has_bad_name, has_duplicate_name, has_unknown_name, has_bad_number, has_large_number, has_min_over_max, enters_failure, is_self_edge, is_second_edge, names_no_mode, lacks_node_room, lacks_failure_room, lacks_edge_room, lacks_mode_room, lacks_incoming_room, are_failure_words, has_twice, caused_where, first_cause, causes}

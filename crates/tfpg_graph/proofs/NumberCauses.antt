@@ -7,7 +7,7 @@ use Rattle.tfpg_base.specs.Words.{is_number, number_of, number_up_to}
 use Rattle.tfpg_base.specs.declared.word.Number.TheVariants.{Value, TooLarge}
 use Rattle.tfpg_graph.specs.declared.cause.GraphCause.{GraphCause}
 use Rattle.tfpg_graph.specs.declared.cause.GraphCause.TheVariants.{BadNumber, NumberTooLarge, MinOverMax}
-use Rattle.tfpg_graph.specs.Valid.{most_time}
+use Rattle.tfpg_base.specs.Times.{most_time}
 use Rattle.tfpg_graph.specs.Declares.{delays_of_words}
 use Rattle.tfpg_graph.specs.Causes.{first_cause, caused_where}
 use Rattle.tfpg_graph.specs.LineCauses.{number_causes, delay_causes}

@@ -14,7 +14,8 @@ use Rattle.tfpg_graph.specs.declared.kind.Kind.TheVariants.{Failure, Or, And}
 use Rattle.tfpg_graph.specs.declared.edge.Edge.{Edge}
 use Rattle.tfpg_graph.specs.Graph.{Tfpg, name_at, node_named}
 use Rattle.tfpg_graph.specs.Text.{node_words, watch_words, tmax_word, SpellsEdge}
-use Rattle.tfpg_graph.specs.Valid.{most_time, most_rarity}
+use Rattle.tfpg_base.specs.Times.{most_time}
+use Rattle.tfpg_graph.specs.Valid.{most_rarity}
 use Rattle.tfpg_graph.specs.Statements.{NodeWords, FailureWords, OrWords, AndWords, DeclaresNode, DeclaresEdge}
 use Rattle.tfpg_graph.specs.Declares.{lag_of_word, kind_of_words, tmax_of_word, delays_of_words, ends_named, edge_declared, modes_of_word}
 use Rattle.tfpg_graph.specs.Causes.{has_bad_number, has_large_number, lag_number, node_number}

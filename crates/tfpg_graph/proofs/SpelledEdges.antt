@@ -14,7 +14,8 @@ use Rattle.tfpg_graph.specs.declared.kind.Kind.TheVariants.{Failure}
 use Rattle.tfpg_graph.specs.declared.edge.Edge.{Edge}
 use Rattle.tfpg_graph.specs.Graph.{Tfpg, Node, name_at, node_named, mode_named}
 use Rattle.tfpg_graph.specs.Text.{tmax_word, all_modes, SpellsModes, edge_line}
-use Rattle.tfpg_graph.specs.Valid.{IsValid, IsValidEdge, most_time}
+use Rattle.tfpg_base.specs.Times.{most_time}
+use Rattle.tfpg_graph.specs.Valid.{IsValid, IsValidEdge}
 use Rattle.tfpg_graph.specs.Statements.{Statement, DeclaresEdge, said_by}
 use Rattle.tfpg_graph.specs.Declares.{modes_listed, modes_of_word, edge_declared}
 use Rattle.tfpg_graph.specs.Causes.{has_twice}

@@ -16,7 +16,8 @@ use Rattle.tfpg_base.proofs.Elements.{AllPairs-head, AllPairs-tail}
 use Rattle.tfpg_graph.specs.declared.kind.Kind.{Kind}
 use Rattle.tfpg_graph.specs.declared.kind.Kind.TheVariants.{Failure, Or, And}
 use Rattle.tfpg_graph.specs.Text.{tmax_word}
-use Rattle.tfpg_graph.specs.Valid.{HasValidNumber, most_time}
+use Rattle.tfpg_base.specs.Times.{most_time}
+use Rattle.tfpg_graph.specs.Valid.{HasValidNumber}
 use Rattle.tfpg_graph.specs.Declares.{kind_of_words, lag_of_word, tmax_of_word, modes_listed}
 use Rattle.tfpg_graph.specs.Causes.{has_twice}
 use Rattle.tfpg_graph.proofs.Positions.{position-cons}

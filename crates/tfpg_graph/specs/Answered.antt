@@ -8,6 +8,7 @@ use Rattle.tfpg_graph.specs.declared.reader.LineRefusal.TheVariants as line
 use Rattle.tfpg_graph.specs.Faults.{IsClean, IsWholeFault}
 use Rattle.tfpg_graph.specs.Turns.{Progress}
 
+-- The reader's answer to a line is that of the line's turn, unless memory was wanting.
 abbrev pub Answers : Result Progress GraphCause → Result Progress LineRefusal → Type 0
 Answers turned (Ok progress) = turned ≡ Ok progress
 Answers turned (Err (line.Cause cause)) = turned ≡ Err cause

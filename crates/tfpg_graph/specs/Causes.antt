@@ -8,7 +8,8 @@ use Rattle.tfpg_graph.specs.declared.cause.GraphCause.{GraphCause}
 use Rattle.tfpg_graph.specs.declared.cause.GraphCause.TheVariants.{BadHeader, BadLine, BadName, DuplicateName, UnknownName, BadNumber, NumberTooLarge, MinOverMax, EdgeIntoFailure, SelfEdge, DuplicateEdge, NoModes, TooManyNodes, TooManyFailures, TooManyEdges, TooManyModes, TooManyIncoming, AfterEnd}
 use Rattle.tfpg_graph.specs.Graph.{Tfpg, is_kind_at, is_failure, failures, incoming, node_named, mode_named, edge_from_to}
 use Rattle.tfpg_graph.specs.Text.{header}
-use Rattle.tfpg_graph.specs.Valid.{most_time, most_rarity}
+use Rattle.tfpg_base.specs.Times.{most_time}
+use Rattle.tfpg_graph.specs.Valid.{most_rarity, most_nodes, most_failures, most_edges, most_modes, most_incoming}
 use Rattle.tfpg_graph.specs.Statements.{NodeWords, FailureWords, OrWords, AndWords, Statement, DeclaresMode, DeclaresNode, DeclaresEdge, Ends, said_by, said_by_all, is_passed_over, declares_mode, declares_edge, ends_text}
 use Rattle.tfpg_graph.specs.Declares.{modes_listed, ends_named, graph_said}
 
@@ -48,6 +49,11 @@ is_out_of_order before (DeclaresMode name) = list_any (λ said. not (declares_mo
 is_out_of_order before (DeclaresNode name words) = not (list_any declares_mode before) || list_any declares_edge before
 is_out_of_order before (DeclaresEdge source target tmin tmax modes) = not (list_any declares_mode before)
 is_out_of_order before Ends = not (list_any declares_mode before)
+
+-- The line has none of the shapes, or stands out of its order.
+abbrev pub is_bad_line : List Statement → Option Statement → Bool
+is_bad_line before None = true
+is_bad_line before (Some said) = is_out_of_order before said
 
 -- a word in the place of a name is not one
 abbrev pub has_bad_name : Statement → Bool
@@ -115,10 +121,11 @@ names_no_mode Ends = false
 -- there is no room for one more node
 abbrev pub lacks_node_room : Tfpg → Statement → Bool
 lacks_node_room graph (DeclaresMode name) = false
-lacks_node_room graph (DeclaresNode name words) = nat_le 512 (length graph.nodes)
+lacks_node_room graph (DeclaresNode name words) = nat_le most_nodes (length graph.nodes)
 lacks_node_room graph (DeclaresEdge source target tmin tmax modes) = false
 lacks_node_room graph Ends = false
 
+-- they say that the node is a failure mode
 abbrev pub are_failure_words : NodeWords → Bool
 are_failure_words (FailureWords rarity) = true
 are_failure_words (OrWords lag) = false
@@ -127,7 +134,7 @@ are_failure_words (AndWords lag) = false
 -- there is no room for one more failure mode
 abbrev pub lacks_failure_room : Tfpg → Statement → Bool
 lacks_failure_room graph (DeclaresMode name) = false
-lacks_failure_room graph (DeclaresNode name words) = are_failure_words words && nat_le 64 (length (failures graph))
+lacks_failure_room graph (DeclaresNode name words) = are_failure_words words && nat_le most_failures (length (failures graph))
 lacks_failure_room graph (DeclaresEdge source target tmin tmax modes) = false
 lacks_failure_room graph Ends = false
 
@@ -135,12 +142,12 @@ lacks_failure_room graph Ends = false
 abbrev pub lacks_edge_room : Tfpg → Statement → Bool
 lacks_edge_room graph (DeclaresMode name) = false
 lacks_edge_room graph (DeclaresNode name words) = false
-lacks_edge_room graph (DeclaresEdge source target tmin tmax modes) = nat_le 2048 (length graph.edges)
+lacks_edge_room graph (DeclaresEdge source target tmin tmax modes) = nat_le most_edges (length graph.edges)
 lacks_edge_room graph Ends = false
 
 -- there is no room for one more mode
 abbrev pub lacks_mode_room : Tfpg → Statement → Bool
-lacks_mode_room graph (DeclaresMode name) = nat_le 64 (length graph.modes)
+lacks_mode_room graph (DeclaresMode name) = nat_le most_modes (length graph.modes)
 lacks_mode_room graph (DeclaresNode name words) = false
 lacks_mode_room graph (DeclaresEdge source target tmin tmax modes) = false
 lacks_mode_room graph Ends = false
@@ -149,7 +156,7 @@ lacks_mode_room graph Ends = false
 abbrev pub lacks_incoming_room : Tfpg → Statement → Bool
 lacks_incoming_room graph (DeclaresMode name) = false
 lacks_incoming_room graph (DeclaresNode name words) = false
-lacks_incoming_room graph (DeclaresEdge source target tmin tmax modes) = option_map_or (λ node. nat_le 32 (length (incoming graph node))) (node_named graph target) false
+lacks_incoming_room graph (DeclaresEdge source target tmin tmax modes) = option_map_or (λ node. nat_le most_incoming (length (incoming graph node))) (node_named graph target) false
 lacks_incoming_room graph Ends = false
 
 -- the cause, where its condition holds
@@ -164,8 +171,8 @@ first_cause (None ∷ others) = first_cause others
 
 -- the causes that a statement can have, in the order in which they are tested
 abbrev pub causes : Bool → Tfpg → Statement → List (Option GraphCause)
-causes out_of_order graph said =
-    caused_where out_of_order BadLine
+causes bad_line graph said =
+    caused_where bad_line BadLine
     ∷ caused_where (has_bad_name said) BadName
     ∷ caused_where (has_duplicate_name graph said) DuplicateName
     ∷ caused_where (has_unknown_name graph said) UnknownName
@@ -185,15 +192,23 @@ causes out_of_order graph said =
 
 -- the cause of a line that says this, or that has no shape
 abbrev pub cause_of_said : List Statement → Option Statement → Option GraphCause
-cause_of_said before None = Some BadLine
-cause_of_said before (Some said) = first_cause (causes (is_out_of_order before said) (graph_said before) said)
+cause_of_said before None = caused_where (is_bad_line before None) BadLine
+cause_of_said before (Some said) = first_cause (causes (is_bad_line before (Some said)) (graph_said before) said)
+
+-- the line stands behind one that ends the text
+abbrev pub is_behind_end : List Statement → Bool
+is_behind_end before = list_any ends_text before
 
 -- The cause of a line behind the header, by what the lines before it say. Behind the end every line but one that is passed over is too much.
 abbrev pub cause_behind : List Statement → List ℕ → Option GraphCause
 cause_behind before line =
-    if is_passed_over line then None else (if list_any ends_text before then Some AfterEnd else cause_of_said before (said_by line))
+    if is_passed_over line then None else (if is_behind_end before then Some AfterEnd else cause_of_said before (said_by line))
+
+-- the line is the header
+abbrev pub is_header : List ℕ → Bool
+is_header line = bytes_eq line header
 
 -- The cause of the line at this place, counted from 0. The first line is tested for the header alone.
 abbrev pub cause_at : List (List ℕ) → ℕ → Option GraphCause
-cause_at lines zero = if bytes_eq (slice_index_or lines 0 []) header then None else Some BadHeader
+cause_at lines zero = if is_header (slice_index_or lines 0 []) then None else Some BadHeader
 cause_at lines (suc place) = cause_behind (said_by_all (take (suc place) lines)) (slice_index_or lines (suc place) [])

@@ -4,7 +4,8 @@ use Rattle.tfpg_base.specs.Words.{is_name}
 use Rattle.tfpg_graph.specs.declared.kind.Kind.{Kind}
 use Rattle.tfpg_graph.specs.declared.edge.Edge.{Edge}
 use Rattle.tfpg_graph.specs.Graph.{Tfpg, is_failure, is_kind_at, failures, incoming, node_named, mode_named, edge_from_to}
-use Rattle.tfpg_graph.specs.Valid.{HasValidNumber, IsValidEdge, most_time}
+use Rattle.tfpg_base.specs.Times.{most_time}
+use Rattle.tfpg_graph.specs.Valid.{HasValidNumber, IsValidEdge}
 
 -- There is no edge yet and room for a mode, and its name is one that no mode has.
 pub record CanDeclareMode (graph : Tfpg) (name : List ℕ) : Type 0 where

@@ -22,16 +22,19 @@ abbrev pub numbers_from : {X : Type 0} → ℕ → (X → Bool) → List X → L
 numbers_from number passes [] = []
 numbers_from number passes (x ∷ xs) = if passes x then number ∷ numbers_from (number + 1) passes xs else numbers_from (number + 1) passes xs
 
+-- a failure mode
 abbrev pub is_failure : Kind → Bool
 is_failure (Failure rarity) = true
 is_failure (Or lag) = false
 is_failure (And lag) = false
 
+-- a discrepancy that is activated from any source
 abbrev pub is_or : Kind → Bool
 is_or (Failure rarity) = false
 is_or (Or lag) = true
 is_or (And lag) = false
 
+-- a discrepancy that is activated from all its sources at once
 abbrev pub is_and : Kind → Bool
 is_and (Failure rarity) = false
 is_and (Or lag) = false
@@ -55,6 +58,7 @@ is_kind_at is_kind graph node = is_some (option_and_then (λ kind. if is_kind ki
 abbrev pub lag_at : Tfpg → ℕ → Option ℕ
 lag_at graph node = option_and_then lag_of (kind_at graph node)
 
+-- the node of this number is a discrepancy with a monitor
 abbrev pub is_monitored : Tfpg → ℕ → Bool
 is_monitored graph node = is_some (lag_at graph node)
 

@@ -88,24 +88,28 @@ said_by_all lines = filter_map said_by lines
 abbrev pub is_passed_over : List ℕ → Bool
 is_passed_over line = is_empty_or_comment line && nat_le (length line) longest_line
 
+-- it declares a mode
 abbrev pub declares_mode : Statement → Bool
 declares_mode (DeclaresMode name) = true
 declares_mode (DeclaresNode name words) = false
 declares_mode (DeclaresEdge source target tmin tmax modes) = false
 declares_mode Ends = false
 
+-- it declares a node
 abbrev pub declares_node : Statement → Bool
 declares_node (DeclaresMode name) = false
 declares_node (DeclaresNode name words) = true
 declares_node (DeclaresEdge source target tmin tmax modes) = false
 declares_node Ends = false
 
+-- it declares an edge
 abbrev pub declares_edge : Statement → Bool
 declares_edge (DeclaresMode name) = false
 declares_edge (DeclaresNode name words) = false
 declares_edge (DeclaresEdge source target tmin tmax modes) = true
 declares_edge Ends = false
 
+-- it ends the text
 abbrev pub ends_text : Statement → Bool
 ends_text (DeclaresMode name) = false
 ends_text (DeclaresNode name words) = false

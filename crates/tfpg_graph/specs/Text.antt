@@ -9,9 +9,11 @@ use Rattle.tfpg_graph.specs.declared.kind.Kind.TheVariants.{Failure, Or, And}
 use Rattle.tfpg_graph.specs.declared.edge.Edge.{Edge}
 use Rattle.tfpg_graph.specs.Graph.{Tfpg, Node, name_at}
 
+-- the first line
 abbrev pub header : List ℕ
 header = codes "tfpg 1"
 
+-- the line of a mode
 abbrev pub mode_line : List ℕ → List ℕ
 mode_line name = line_of (codes "mode" ∷ name ∷ [])
 
@@ -26,6 +28,7 @@ node_words name (Failure rarity) = codes "failure" ∷ name ∷ decimal rarity �
 node_words name (Or lag) = codes "or" ∷ name ∷ watch_words lag
 node_words name (And lag) = codes "and" ∷ name ∷ watch_words lag
 
+-- the line of a node
 abbrev pub node_line : Node → List ℕ
 node_line node = line_of (node_words node.name node.kind)
 

@@ -1,17 +1,35 @@
 -- Which graphs are valid.
 use Rattle.std.specs.Prelude.{◌≡◌, ◌≢◌, ℕ, zero, suc, ◌≤◌, ◌<◌, ◌^◌, [], length, All, AllPairs, Contains, IsTrue, IfSome, not}
+use Rattle.tfpg_base.specs.Times.{most_time}
 use Rattle.tfpg_base.specs.Words.{is_name}
 use Rattle.tfpg_graph.specs.declared.kind.Kind.{Kind}
 use Rattle.tfpg_graph.specs.declared.kind.Kind.TheVariants.{Failure, Or, And}
 use Rattle.tfpg_graph.specs.declared.edge.Edge.{Edge}
 use Rattle.tfpg_graph.specs.Graph.{Tfpg, is_kind_at, is_failure, failures, incoming}
 
--- the greatest time, delay and lag, in milliseconds
-abbrev pub most_time : ℕ
-most_time = 10 ^ 12
-
+-- the greatest rarity
 abbrev pub most_rarity : ℕ
 most_rarity = 1000000
+
+-- how many nodes a graph has at most
+abbrev pub most_nodes : ℕ
+most_nodes = 512
+
+-- how many of them are failure modes at most
+abbrev pub most_failures : ℕ
+most_failures = 64
+
+-- how many edges it has at most
+abbrev pub most_edges : ℕ
+most_edges = 2048
+
+-- how many edges go into one node at most
+abbrev pub most_incoming : ℕ
+most_incoming = 32
+
+-- how many modes it has at most
+abbrev pub most_modes : ℕ
+most_modes = 64
 
 -- its number is within its limit
 abbrev pub HasValidNumber : Kind → Type 0
@@ -55,8 +73,8 @@ pub record IsValid (graph : Tfpg) : Type 0 where
   pub has_incoming : (node : ℕ) → node < length graph.nodes → IsTrue (not (is_kind_at is_failure graph node)) → incoming graph node ≢ []
   pub no_zero_cycle : (node steps : ℕ) → WalksInNoTime graph node node (suc steps) → ⊥
   pub has_mode : 0 < length graph.modes
-  pub few_nodes : length graph.nodes ≤ 512
-  pub few_failures : length (failures graph) ≤ 64
-  pub few_edges : length graph.edges ≤ 2048
-  pub few_modes : length graph.modes ≤ 64
-  pub few_incoming : (node : ℕ) → length (incoming graph node) ≤ 32
+  pub few_nodes : length graph.nodes ≤ most_nodes
+  pub few_failures : length (failures graph) ≤ most_failures
+  pub few_edges : length graph.edges ≤ most_edges
+  pub few_modes : length graph.modes ≤ most_modes
+  pub few_incoming : (node : ℕ) → length (incoming graph node) ≤ most_incoming

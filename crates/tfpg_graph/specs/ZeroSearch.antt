@@ -28,6 +28,7 @@ pub record AreTurned (rows turned : List (List ℕ)) : Type 0 where
 abbrev pub mark_of : List (Option ℕ) → ℕ → Option ℕ
 mark_of marks node = slice_index_or marks node None
 
+-- The node has a mark.
 abbrev pub IsMarked : List (Option ℕ) → ℕ → Type 0
 IsMarked marks node = (mark : ℕ) × (mark_of marks node ≡ Some mark)
 

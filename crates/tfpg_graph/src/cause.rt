@@ -5,26 +5,47 @@
 /// counts, but that an `AfterEnd` comes before the others.
 #[derive(Clone, Copy, Debug, PartialEq, Eq)]
 pub enum GraphCause {
+    /// The first line is not `tfpg 1`, or there is none.
     BadHeader,
+    /// The line is too long, has none of the shapes, or stands out of its order.
     BadLine,
+    /// A word in the place of a name is not one.
     BadName,
+    /// The declared name is taken, or a mode is named twice.
     DuplicateName,
+    /// A name is that of no node or mode declared so far.
     UnknownName,
+    /// A word in the place of a number is not one.
     BadNumber,
+    /// A number is above its limit.
     NumberTooLarge,
+    /// The least delay is above the greatest.
     MinOverMax,
+    /// The edge enters a failure mode.
     EdgeIntoFailure,
+    /// The edge leads back to its source.
     SelfEdge,
+    /// There is an edge from this source to this target already.
     DuplicateEdge,
+    /// The edge is active in no mode.
     NoModes,
+    /// No edge enters a discrepancy.
     NoIncoming,
+    /// Edges that may take no time make a cycle.
     ZeroCycle,
+    /// The line declares a 513th node.
     TooManyNodes,
+    /// The line declares a 65th failure mode.
     TooManyFailures,
+    /// The line declares a 2,049th edge.
     TooManyEdges,
+    /// The line declares a 65th mode.
     TooManyModes,
+    /// The line declares a 33rd edge into a node.
     TooManyIncoming,
+    /// No line is `end`.
     MissingEnd,
+    /// The line stands behind `end`, and is not skipped.
     AfterEnd,
 }
 

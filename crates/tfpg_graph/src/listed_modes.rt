@@ -8,6 +8,7 @@ ghost use Rattle.tfpg_graph.specs.Causes.{has_twice};
 ghost use Rattle.tfpg_graph.specs.LineCauses.{with_option};
 
 use crate::declared::Declared;
+use crate::modes_word::all_modes;
 use std::alloc::Global;
 use tfpg_base::{NoMemory, Set};
 
@@ -31,7 +32,8 @@ fn parts_at_commas<'a>(alloc: Global, word: &'a [u8]) -> Result<Vec<&'a [u8]>, N
     Ok(names)
 }
 
-/// Whether a name stands twice. Takes time in the square of their number, which is at most 64 in a text without a fault.
+/// Whether a name stands twice. Takes time in the square of their number, which is at most 64 in a text without a fault, and
+/// calls as deep as there are names.
 pub(crate) fn has_twice(names: &[&[u8]]) -> bool
     ensures { result ≡ has_twice (map (λ name. name.now) names.now) }
 {
@@ -70,19 +72,6 @@ pub(crate) fn modes_of(declared: &Declared, word: &[u8], names: &[&[u8]]) -> u64
         return all_modes(declared.mode_count());
     }
     named_modes(declared, names).bits()
-}
-
-/// The bits of so many modes, from 1 to 64.
-fn all_modes(count: u32) -> u64
-    requires some { 0 < count }
-    requires few { count ≤ 64 }
-    ensures { result ≡ 2 ^ count - 1 }
-{
-    if count == 64 {
-        u64::MAX
-    } else {
-        (1 << count) - 1
-    }
 }
 
 /// The modes of these names, as the set of their numbers.

@@ -24,7 +24,7 @@ pub(crate) fn put_modes_word(graph: &Graph, modes: u64, into: &mut Vec<u8>) -> R
 }
 
 /// The bits of all modes, of which there are `count`.
-fn all_modes(count: u32) -> u64
+pub(crate) fn all_modes(count: u32) -> u64
     requires some { 0 < count }
     requires few { count ≤ 64 }
     ensures { result ≡ 2 ^ count - 1 }

@@ -2,7 +2,8 @@
 
 ghost use Rattle.std.specs.Prelude.{◌≡◌, ◌≤◌, ◌∷◌, [], IfOk, IfSome, Some, Ok, Err, nat_lt, if◌then◌else◌};
 ghost use Rattle.tfpg_base.specs.Words.{number_of};
-ghost use Rattle.tfpg_graph.specs.Valid.{HasValidNumber, most_time, most_rarity};
+ghost use Rattle.tfpg_base.specs.Times.{most_time};
+ghost use Rattle.tfpg_graph.specs.Valid.{HasValidNumber, most_rarity};
 ghost use Rattle.tfpg_graph.specs.Declares.{kind_of_words, lag_of_word, delays_of_words};
 ghost use Rattle.tfpg_graph.specs.Causes.{first_cause, node_number, lag_number};
 ghost use Rattle.tfpg_graph.specs.LineCauses.{number_causes, delay_causes};
@@ -14,10 +15,7 @@ ghost use Rattle.tfpg_graph.specs.declared.cause.GraphCause.TheVariants.{MinOver
 use crate::cause::GraphCause;
 use crate::kind::Kind;
 use crate::statement::NodeWords;
-use tfpg_base::{Number, read_number};
-
-/// The greatest time, delay and lag, in milliseconds.
-const MOST_TIME: u64 = 1_000_000_000_000;
+use tfpg_base::{MOST_TIME, Number, read_number};
 
 /// The greatest rarity.
 const MOST_RARITY: u64 = 1_000_000;

@@ -109,7 +109,8 @@ impl Reader {
         }
     }
 
-    /// Reads one more line. Takes time in the length of the line, but for look-ups by name.
+    /// Reads one more line. Takes time in the length of the line, but for look-ups by name, and for an edge in the square of
+    /// the number of modes that it lists, which is at most 64 but in a line that has a fault.
     pub(crate) fn take(self, alloc: Global, line: &[u8]) -> Result<Reader, LineRefusal>
         ensures { Answers (turn self line.now) result }
     {

@@ -1,15 +1,11 @@
 //! What a line of a graph's text says by its words alone: no name is looked up, and no number is read.
 
-ghost use Rattle.std.specs.Prelude.{◌≡◌, ◌∷◌, [], length, map, option_map, ◌==◌};
-ghost use Rattle.std.specs.List.{list_any};
+ghost use Rattle.std.specs.Prelude.{◌≡◌, ◌∷◌, [], length, map, option_map};
 ghost use Rattle.tfpg_graph.specs.Text.{is_empty_or_comment};
 ghost use Rattle.tfpg_graph.specs.Statements.{said_by, statement_in, mode_in, failure_in, or_in, and_in, edge_in, end_in, lag_in, is_passed_over};
 ghost use Rattle.tfpg_graph.specs.StatementInside.{said_of, word_seen};
 
-use tfpg_base::Words;
-
-/// How many bytes a line has at most.
-const LONGEST_LINE: usize = 4096;
+use tfpg_base::{LONGEST_LINE, Words, has_empty_word};
 
 /// What a line behind the header says.
 #[derive(Clone, Copy)]
@@ -72,12 +68,6 @@ pub(crate) fn statement_of(line: &[u8]) -> Option<Statement<'_>>
         return None;
     }
     statement_in(words)
-}
-
-fn has_empty_word(words: &[&[u8]]) -> bool
-    ensures { result ≡ list_any (λ word. length word.now == 0) words.now }
-{
-    words.iter().any(|word| word.is_empty())
 }
 
 /// What a line of these words says.

@@ -1,6 +1,8 @@
 //! Texts of graphs: what reading each of them answers, and what is written, copied and reached of what was read.
 
-use crate::{Edge, GraphCause, GraphFault, GraphRefusal, Kind, read, write};
+ghost use Rattle.std.specs.Prelude.{◌≡◌};
+
+use crate::{Edge, Graph, GraphCause, GraphFault, GraphRefusal, Kind, read, write};
 use std::alloc::{AllocError, Global};
 use std::test::Fail;
 use tfpg_base::Set;
@@ -114,24 +116,63 @@ fn writes_the_canonical_text(rt: HostRuntime) -> Result<(), Fail> {
     Ok(())
 }
 
+/// Two failure modes, of which one shows through two monitors, and the other in one of two modes alone.
+const TWO_MODES: &[u8] =
+    b"tfpg 1\nmode N\nmode D\nfailure F1 3\nfailure F2 5\nor A watch 0\nor B hidden\nand C watch 0\nedge F1 A 10 20 N,D\nedge F2 A 5 5 N\nedge F1 B 0 inf *\nedge A C 0 10 *\nedge B C 0 10 *\nend\n";
+
+/// Whether every look-up by a number in range, and every one by a name, answers alike.
+fn answer_alike(one: &Graph, other: &Graph) -> bool
+    requires { other.now ≡ one.now }
+{
+    for node in 0..one.node_count() {
+        if other.kind(node) != one.kind(node)
+            || other.name(node) != one.name(node)
+            || other.find(one.name(node)) != Some(node)
+            || other.incoming(node) != one.incoming(node)
+            || other.place_of(node) != one.place_of(node)
+        {
+            return false;
+        }
+    }
+    for edge in 0..one.edge_count() {
+        if other.edge(edge) != one.edge(edge) {
+            return false;
+        }
+    }
+    for mode in 0..one.mode_count() {
+        if other.mode_name(mode) != one.mode_name(mode)
+            || other.find_mode(one.mode_name(mode)) != Some(mode)
+        {
+            return false;
+        }
+    }
+    for place in 0..one.failure_count() {
+        if other.failure_node(place) != one.failure_node(place) {
+            return false;
+        }
+    }
+    other.node_count() == one.node_count() && other.edge_count() == one.edge_count()
+}
+
 #[test]
 fn a_copy_has_the_same_look_ups(rt: HostRuntime) -> Result<(), Fail> {
-    let graph = read(rt.alloc(), THREE_MODES)?;
-    let copy = graph.copy(rt.alloc())?;
-    assert_eq!(rt; copy.node_count(), 4);
-    assert_eq!(rt; copy.edge_count(), 4);
-    assert_eq!(rt; copy.mode_count(), 3);
-    assert_eq!(rt; copy.failure_count(), 2);
-    for number in 0..4 {
-        assert_eq!(rt; copy.kind(number), graph.kind(number));
-        assert_eq!(rt; copy.name(number), graph.name(number));
-        assert_eq!(rt; copy.edge(number), graph.edge(number));
-        assert_eq!(rt; copy.incoming(number), graph.incoming(number));
-        assert_eq!(rt; copy.place_of(number), graph.place_of(number));
+    for text in [TWO_ALARMS, THREE_MODES, TWO_MODES] {
+        let graph = read(rt.alloc(), text)?;
+        let copy = graph.copy(rt.alloc())?;
+        assert!(rt; answer_alike(&graph, &copy), "of {text:?}");
     }
-    assert_eq!(rt; copy.find(b"F1"), Some(2));
-    assert_eq!(rt; copy.find_mode(b"R"), Some(2));
-    assert_eq!(rt; copy.edge_between(3, 1), Some(3));
+    let copy = read(rt.alloc(), TWO_MODES)?.copy(rt.alloc())?;
+    assert_eq!(rt; copy.node_count(), 5);
+    assert_eq!(rt; copy.edge_count(), 5);
+    assert_eq!(rt; copy.mode_count(), 2);
+    assert_eq!(rt; copy.failure_count(), 2);
+    assert_eq!(rt; copy.find(b"C"), Some(4));
+    assert_eq!(rt; copy.find(b"D"), None);
+    assert_eq!(rt; copy.find_mode(b"D"), Some(1));
+    assert_eq!(rt; copy.failure_node(1), 1);
+    assert_eq!(rt; copy.mode_name(1), b"D".as_slice());
+    assert_eq!(rt; copy.edge_between(2, 4), Some(3));
+    assert_eq!(rt; copy.edge_between(0, 4), None);
     Ok(())
 }
 
@@ -181,7 +222,7 @@ const READ: [&[u8]; 10] = [
 ];
 
 /// Texts with something wrong: alone, with a later cause in the same line, or with a cause in a later line.
-const WRONG: [(&[u8], u64, GraphCause); 83] = [
+const WRONG: [(&[u8], u64, GraphCause); 85] = [
     (b"", 1, GraphCause::BadHeader),
     (b"\ntfpg 1\nmode N\nend\n", 1, GraphCause::BadHeader),
     (b"# none\ntfpg 1\nmode N\nend\n", 1, GraphCause::BadHeader),
@@ -279,8 +320,18 @@ const WRONG: [(&[u8], u64, GraphCause); 83] = [
         GraphCause::DuplicateName,
     ),
     (
+        b"tfpg 1\nmode N\nfailure F 1\nfailure F 1\nend\n",
+        4,
+        GraphCause::DuplicateName,
+    ),
+    (
         b"tfpg 1\nmode N\nfailure F 1\nor F watch x\nend\n",
         4,
+        GraphCause::DuplicateName,
+    ),
+    (
+        b"tfpg 1\nmode N\nfailure F 1\nor A hidden\nedge F A 1 1 N,N\nend\n",
+        5,
         GraphCause::DuplicateName,
     ),
     (
@@ -620,6 +671,11 @@ fn each_limit_is_exact(rt: HostRuntime) -> Result<(), Fail> {
             "with {modes} {failures} {discrepancies}"
         );
     }
+    // A later line's fault changes nothing.
+    let mut text = full_text(rt.alloc(), 1, 33, 1)?;
+    text.extend_from_slice(b"mode 1\n")?;
+    let refusal = refusal_of(rt.alloc(), &text);
+    assert_eq!(rt; refusal, fault(69, GraphCause::TooManyIncoming));
     Ok(())
 }
 

@@ -17,8 +17,9 @@ use tfpg_base::{NoMemory, put_line};
 pub fn write(graph: &Graph, into: &mut Vec<u8>) -> Result<(), NoMemory>
     ensures text { Appends result into.old.items into.new.items (canonical_text graph.now) }
 
-    // The text spells the graph, so what is read of it is this graph.
+    // The text spells the graph, which is valid, so what is read of it is this graph.
     ensures spelled { Spells (canonical_text graph.now) graph.now }
+    ensures valid { IsValid graph.now }
 {
     let nodes = graph.node_count();
     put_line(into, &[b"tfpg", b"1"])?;

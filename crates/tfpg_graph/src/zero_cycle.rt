@@ -2,6 +2,7 @@
 
 ghost use Rattle.std.specs.Prelude.{◌≡◌, ℕ, ◌<◌, ◌↔◌, length, All, IsTrue, IfOk, IfNone, IfSome};
 ghost use Rattle.tfpg_graph.specs.Valid.{IsValidEdge};
+ghost use Rattle.tfpg_graph.specs.Indexes.{IsValidSoFar};
 ghost use Rattle.tfpg_graph.specs.ZeroCycle.{LiesOnZeroCycle, HasZeroOrder};
 ghost use Rattle.tfpg_graph.specs.ZeroEdges.{AreZeroGroups, StaysInGroup};
 
@@ -15,20 +16,20 @@ use tfpg_base::NoMemory;
 /// The first edge that lies on a cycle of edges that may take no time.
 ///
 /// An edge lies on such a cycle exactly where it may take no time and its ends lie in one group of nodes that reach
-/// each other in no time. The groups are found by two searches in depth (Sharir 1981, after Kosaraju), and then the
-/// edges are gone through once. Takes time and memory in the numbers of nodes and edges, and calls as deep as there are
+/// each other in no time. The groups are the strongly connected components of the edges that may take no time. Two
+/// depth-first searches find them, the first along the turned edges (Kosaraju; Sharir 1981), and then the edges are gone
+/// through once. Takes time and memory in the numbers of nodes and edges, and calls as deep as there are
 /// nodes.
 pub(crate) fn first_on_zero_cycle(
     alloc: Global,
     declared: &Declared,
 ) -> Result<Option<u32>, NoMemory>
+    requires { IsValidSoFar declared.now }
     ensures order { IfOk result (λ number. IfNone number (HasZeroOrder declared.now)) }
     ensures lies { IfOk result (λ number. IfSome number (LiesOnZeroCycle declared.now)) }
     ensures first { IfOk result
         (λ number. IfSome number (λ n. (earlier : ℕ) → earlier < n → LiesOnZeroCycle declared.now earlier → ⊥)) }
 {
-    // Of this call only its clause is used: what is declared breaks no rule so far, so that the ends of edges are nodes.
-    let _lacking = declared.without_incoming();
     let groups = zero_groups(alloc, declared)?;
     Ok(first_in_group(declared, &groups))
 }

@@ -1,4 +1,4 @@
-//! The groups of nodes that reach each other, by two searches in depth.
+//! The groups of nodes that reach each other, which are the strongly connected components, by two depth-first searches.
 
 ghost use Rattle.std.specs.Prelude.{◌≡◌, ◌<◌, [], None, length, replicate, IfOk, OnOk};
 ghost use Rattle.tfpg_graph.specs.ZeroSearch.{IsSearched, HasVisited, IsFinishingOrder, AreTurned, AreGroups};
@@ -29,8 +29,8 @@ impl Search {
     }
 }
 
-/// Gives a mark to the node and all that it reaches over nodes without one, and is done with each of these when it is
-/// done with those that it reaches. It calls itself as deep as there are nodes.
+/// Searches depth-first: gives a mark to the node and all that it reaches over nodes without one, and is done with each of
+/// these when it is done with those that it reaches. It calls itself as deep as there are nodes.
 fn visit(steps: &ZeroSteps, node: u32, mark: usize, search: &mut Search) -> Result<(), NoMemory>
     requires node { node < length steps.now }
     requires count { length search.old.marks.items ≡ length steps.now }
@@ -68,7 +68,7 @@ fn finishing_order(alloc: Global, count: u32, steps: &ZeroSteps) -> Result<Vec<u
 /// A mark for each node, so that nodes with one mark reach each other and no step goes to a lesser mark.
 ///
 /// The first search goes along the turned steps. The second takes the nodes from last to first in the order of the
-/// first, and gives each group the place of its first node in that order (Sharir 1981, after Kosaraju). Takes time in
+/// first, and gives each group the place of its first node in that order (Kosaraju; Sharir 1981). Takes time in
 /// the numbers of nodes and steps, and memory for a mark and a place for each node.
 pub(crate) fn groups(
     alloc: Global,

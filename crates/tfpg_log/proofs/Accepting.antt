@@ -6,7 +6,7 @@ use Rattle.std.proofs.lemmas.Bool.{ltb-false, leb-false, cases_lt}
 use Rattle.std.proofs.lemmas.List.Elements.{All-push}
 use Rattle.std.proofs.lemmas.List.Quantifiers.{all_pairs_push, position-Some}
 use Rattle.tfpg_graph.specs.Graph.{Tfpg, node_named, mode_named, is_monitored}
-use Rattle.tfpg_graph.specs.Valid.{most_time}
+use Rattle.tfpg_base.specs.Times.{most_time}
 use Rattle.tfpg_log.specs.declared.event.Event.{Event}
 use Rattle.tfpg_log.specs.declared.event.Event.TheVariants as kinds
 use Rattle.tfpg_log.specs.declared.event.Offered.{Offered}

@@ -3,7 +3,7 @@ use Rattle.std.specs.Prelude.{ℕ, List, [], ◌∷◌, length, count_by, not, n
 use Rattle.std.specs.Str.Parse.{digits_value}
 use Rattle.tfpg_base.specs.Words.{is_number}
 use Rattle.tfpg_graph.specs.Graph.{Tfpg, node_named, mode_named, is_monitored}
-use Rattle.tfpg_graph.specs.Valid.{most_time}
+use Rattle.tfpg_base.specs.Times.{most_time}
 use Rattle.tfpg_log.specs.declared.event.Event.{Event}
 use Rattle.tfpg_log.specs.declared.event.Offered.{Offered}
 use Rattle.tfpg_log.specs.declared.event.Offered.TheVariants.{Accepted, Refused}

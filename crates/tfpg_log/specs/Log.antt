@@ -3,7 +3,7 @@ use Rattle.std.specs.Prelude.{◌≤◌, AllPairs, ◌≡◌, ℕ, zero, suc, �
 use Rattle.tfpg_log.specs.declared.event.Event.{Event}
 use Rattle.tfpg_log.specs.declared.event.Event.TheVariants.{Alarm, Silent, Sweep, Tick, Mode}
 use Rattle.tfpg_graph.specs.Graph.{Tfpg, is_monitored}
-use Rattle.tfpg_graph.specs.Valid.{most_time}
+use Rattle.tfpg_base.specs.Times.{most_time}
 
 -- a log: its events in order, numbered from 1
 pub record Logbook : Type 0 where

@@ -1,11 +1,10 @@
 //! What a line of the log says by its words alone: no name is looked up, and no number read.
 
-ghost use Rattle.std.specs.Prelude.{◌≡◌, length, map, codes, bytes_eq, option_map, if◌then◌else◌, ◌==◌};
-ghost use Rattle.std.specs.List.{list_any};
+ghost use Rattle.std.specs.Prelude.{◌≡◌, length, map, codes, bytes_eq, option_map, if◌then◌else◌};
 ghost use Rattle.tfpg_log.specs.Accepted.{said_by, shape_of, Alarm, Silent, Sweep, Tick, Mode};
 ghost use Rattle.tfpg_log.specs.LogLine.{said_of, parts_of};
 
-use tfpg_base::Words;
+use tfpg_base::{Words, has_empty_word};
 
 /// What a line says behind its time, with the names unread.
 #[derive(Clone, Copy)]
@@ -34,12 +33,6 @@ pub(crate) fn read_line(line: &[u8]) -> Option<LogLine<'_>>
         return None;
     }
     line_of(words)
-}
-
-fn has_empty_word(words: &[&[u8]]) -> bool
-    ensures { result ≡ list_any (λ word. length word.now == 0) words.now }
-{
-    words.iter().any(|word| word.is_empty())
 }
 
 /// The line of these words.

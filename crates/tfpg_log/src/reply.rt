@@ -11,11 +11,8 @@ use crate::event::{Event, Offered};
 use crate::log::Log;
 use crate::log_line::{Said, read_line};
 use crate::refusal::Refusal;
-use tfpg_base::{Number, read_number};
+use tfpg_base::{MOST_TIME, Number, read_number};
 use tfpg_graph::{Graph, Kind};
-
-/// The greatest time of a line, in milliseconds.
-const MOST_TIME: u64 = 1_000_000_000_000;
 
 /// What becomes of the line. Takes time in its length, and at most one look-up by name.
 pub(crate) fn reply(graph: &Graph, log: &Log, line: &[u8]) -> Offered

@@ -5,8 +5,8 @@ ghost use Rattle.tfpg_base.specs.Outside.{Rose};
 ghost use Rattle.tfpg_base.specs.Lines.{HasNoLineEnd, longest_line, most_bytes};
 ghost use Rattle.tfpg_base.specs.LineSearch.{GivesLast, Searched};
 
-use super::{LONGEST, Lines, Span, line_end};
-use crate::{Line, LineFault, Source};
+use super::{Lines, Span, line_end};
+use crate::{LONGEST_LINE, Line, LineFault, Source};
 
 impl Lines {
     /// Takes bytes until the line that waits is whole, or there are no more.
@@ -19,7 +19,7 @@ impl Lines {
     {
         loop {
             let seen = self.waiting().len();
-            if seen > LONGEST {
+            if seen > LONGEST_LINE {
                 return self.skip_line(source);
             }
             if self.refill(source)? == 0 {

@@ -7,14 +7,15 @@ ghost use Rattle.tfpg_base.specs.Outside.{Rose};
 
 /// Counts calls and faults. The calls with these numbers, from 1, are to fail.
 #[derive(Debug, Drop)]
-pub struct FailingCalls<'a> {
-    pub failing: &'a [u64],
-    pub calls: u64,
-    pub faults: u64,
+pub(crate) struct FailingCalls<'a> {
+    pub(crate) failing: &'a [u64],
+    pub(crate) calls: u64,
+    pub(crate) faults: u64,
 }
 
 impl<'a> FailingCalls<'a> {
-    pub fn new(failing: &'a [u64]) -> FailingCalls<'a>
+    /// No call came yet, and those with these numbers are to fail.
+    pub(crate) fn new(failing: &'a [u64]) -> FailingCalls<'a>
         ensures failing { result.failing.now ≡ failing.now }
         ensures calls { result.calls ≡ 0 }
         ensures faults { result.faults ≡ 0 }
@@ -27,7 +28,7 @@ impl<'a> FailingCalls<'a> {
     }
 
     /// Counts a call, and says whether it is to fail. That counts as a fault.
-    pub fn next_fails(&mut self) -> bool
+    pub(crate) fn next_fails(&mut self) -> bool
         ensures counted { self.new.calls ≡ count_after self.old.calls }
         ensures fails { IsTrue result ↔ Contains self.old.failing.now self.new.calls }
         ensures failed { OnTrue result (self.new.faults ≡ count_after self.old.faults) }
@@ -45,7 +46,7 @@ impl<'a> FailingCalls<'a> {
     }
 
     /// Counts a fault.
-    pub fn raise(&mut self)
+    pub(crate) fn raise(&mut self)
         ensures counted { self.new.faults ≡ count_after self.old.faults }
         ensures rose { Rose self.old.faults self.new.faults }
         ensures never_falls { self.old.faults ≤ self.new.faults }

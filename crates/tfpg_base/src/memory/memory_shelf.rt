@@ -7,12 +7,9 @@ ghost use Rattle.tfpg_base.specs.Outside.{file_of, Rose};
 ghost use Rattle.tfpg_base.specs.Memory.{Fetches};
 
 use super::failing_calls::FailingCalls;
-use crate::{NoMemory, Shelf, ShelfFault};
+use crate::{LONGEST_FILE, NoMemory, Shelf, ShelfFault};
 use std::alloc::Global;
 use std::marker::Model;
-
-/// How many bytes a file may have.
-const LONGEST_FILE: usize = 1 << 24;
 
 /// Files by name, of which fetching fails at chosen calls and where there is no such file.
 #[derive(Debug, Drop)]

@@ -6,7 +6,7 @@ use Rattle.std.proofs.lemmas.List.Elements.{All-same}
 use Rattle.tfpg_diff.specs.declared.edge.Edge.{Edge}
 use Rattle.tfpg_diff.specs.declared.why.Why.{Why}
 use Rattle.tfpg_diff.specs.Kept.{demands_of, IsRooted, IsLabelled, Walked}
-use Rattle.tfpg_diff.specs.State.{never}
+use Rattle.tfpg_base.specs.Times.{never}
 use Rattle.tfpg_diff.proofs.Lowering.{IsBroken, cycle_from_met, cycle_from_floor, IsKept-lowered, Labelled-kept}
 use Rattle.tfpg_diff.proofs.Relaxing.{small-kept, IsBroken-pick, Bounded-read, no_bounds, no_pick, length-cycle, floor-kept}
 use Rattle.tfpg_diff.proofs.relax.relax.Goals as goal

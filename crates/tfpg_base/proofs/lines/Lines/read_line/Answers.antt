@@ -15,9 +15,9 @@ loop-self-init g c = record {
   faults = omega arith;
 }
 
-pub returns-then-seen-gt-LONGEST-clause-searched :
-    goal.returns-then-seen-gt-LONGEST-clause-searched
-returns-then-seen-gt-LONGEST-clause-searched g c =
+pub returns-then-seen-gt-LONGEST_LINE-clause-searched :
+    goal.returns-then-seen-gt-LONGEST_LINE-clause-searched
+returns-then-seen-gt-LONGEST_LINE-clause-searched g c =
     let f = g.S.Source.faults in
     let left = g.S.Source.left in
     let reading = c.loop-self.invariant.reading in
@@ -49,7 +49,7 @@ returns-then-branch-eq0-clause-searched g c =
     let left = g.S.Source.left in
     Searched-given_last c.args.self.now c.loop-self.self (left c.args.source.now) (left c.loop-self.source) c.loop-self.invariant.reading c.refill.new.self (left c.refill.new.source)
     c.in_ok-refill.field-0 c.in_ok-refill.ensures.refilled c.give_last.new.self (Rose (f c.args.source.now) (f c.refill.new.source)) c.give_last.result
-    c.if-branch-eq0.true (omega (arith, c.if-seen-gt-LONGEST.false, ap length c.waiting-seen.ensures)) c.give_last.ensures.given c.give_last.ensures.taken c.give_last.ensures.ended
+    c.if-branch-eq0.true (omega (arith, c.if-seen-gt-LONGEST_LINE.false, ap length c.waiting-seen.ensures)) c.give_last.ensures.given c.give_last.ensures.taken c.give_last.ensures.ended
 
 pub returns-in-Some-clause-searched : goal.returns-in-Some-clause-searched
 returns-in-Some-clause-searched g c =

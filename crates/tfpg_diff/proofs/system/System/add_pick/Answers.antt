@@ -8,7 +8,8 @@ use Rattle.tfpg_diff.specs.declared.pick.Pick.{Pick}
 use Rattle.tfpg_diff.specs.Demands.{Demands, edge_of}
 use Rattle.tfpg_diff.specs.Solution.{Meets, HasSolution}
 use Rattle.tfpg_diff.specs.Cycle.{NamesNegativeCycle}
-use Rattle.tfpg_diff.specs.State.{State, never, with_pick}
+use Rattle.tfpg_base.specs.Times.{never}
+use Rattle.tfpg_diff.specs.State.{State, with_pick}
 use Rattle.tfpg_diff.specs.Kept.{IsKept, IsSettled, demands_of}
 use Rattle.tfpg_diff.proofs.Totals.{HasNoSolution-cycle}
 use Rattle.tfpg_diff.proofs.Relaxing.{small-kept}

@@ -1,0 +1,7 @@
+//! The range of times.
+
+/// The greatest time, delay and lag, in milliseconds.
+pub const MOST_TIME: u64 = 1_000_000_000_000;
+
+/// One past the greatest time, which stands for never.
+pub const NEVER: u64 = MOST_TIME + 1;
