@@ -1,7 +1,7 @@
 -- What a set of failure modes reaches, and how it is found.
-use Rattle.std.proofs.Common.{◌≡◌, ℕ, ◌+◌, ◌<◌, ◌≤◌, Bool, cond, List, [], map, length, Option, Some, None, is_some, IfSome, IsTrue, ⊎_elim, refl, ap, sym, ◌∙◌, subst, arith}
+use Rattle.std.proofs.Common.{◌≡◌, ℕ, ◌+◌, ◌<◌, ◌≤◌, Bool, false, List, [], map, length, Option, Some, None, IfSome, IsTrue, ⊎_elim, refl, ap, sym, ◌∙◌, subst, arith}
 use Rattle.std.specs.List.{All, Contains}
-use Rattle.std.specs.Option.{IsSomeAnd, option_and_then}
+use Rattle.std.specs.Option.{IsSomeAnd, option_map_or}
 use Rattle.std.specs.Cmp.{nat_eq_equiv}
 use Rattle.std.proofs.lemmas.Bool.{false≢true, eqb-true, cases_lt}
 use Rattle.std.proofs.lemmas.List.{length-map}
@@ -27,16 +27,16 @@ use Rattle.tfpg_graph.proofs.NodeSets.{IsNodeSet-nil, IsNodeSet-with, length-wit
 module _ (graph : Tfpg) (node : ℕ) where
   -- what the tests on a node's kind say, and what they are told by
   is_or-kind : (lag : Option ℕ) → kind_at graph node ≡ Some (Or lag) → IsTrue (is_kind_at is_or graph node)
-  is_or-kind lag is = ap (λ kind. is_some (option_and_then (λ k. cond (is_or k) (Some k) None) kind)) is
+  is_or-kind lag is = ap (λ kind. option_map_or is_or kind false) is
 
   is_and-kind : (lag : Option ℕ) → kind_at graph node ≡ Some (And lag) → IsTrue (is_kind_at is_and graph node)
-  is_and-kind lag is = ap (λ kind. is_some (option_and_then (λ k. cond (is_and k) (Some k) None) kind)) is
+  is_and-kind lag is = ap (λ kind. option_map_or is_and kind false) is
 
   kind_from_is_or : IsTrue (is_kind_at is_or graph node) → (lag : Option ℕ) × (kind_at graph node ≡ Some (Or lag))
   kind_from_is_or passes = by (kind_at graph node) refl passes
     where
       by : (kind : Option Kind) → kind_at graph node ≡ kind
-          → IsTrue (is_some (option_and_then (λ k. cond (is_or k) (Some k) None) kind))
+          → IsTrue (option_map_or is_or kind false)
           → (lag : Option ℕ) × (kind_at graph node ≡ Some (Or lag))
       by None is passes = absurd (false≢true passes)
       by (Some (Failure rarity)) is passes = absurd (false≢true passes)
@@ -47,7 +47,7 @@ module _ (graph : Tfpg) (node : ℕ) where
   kind_from_is_and passes = by (kind_at graph node) refl passes
     where
       by : (kind : Option Kind) → kind_at graph node ≡ kind
-          → IsTrue (is_some (option_and_then (λ k. cond (is_and k) (Some k) None) kind))
+          → IsTrue (option_map_or is_and kind false)
           → (lag : Option ℕ) × (kind_at graph node ≡ Some (And lag))
       by None is passes = absurd (false≢true passes)
       by (Some (Failure rarity)) is passes = absurd (false≢true passes)

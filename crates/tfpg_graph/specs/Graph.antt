@@ -1,6 +1,7 @@
 -- What a timed failure propagation graph is.
-use Rattle.std.specs.Prelude.{ℕ, ◌+◌, List, [], ◌∷◌, filter, slice_get, Bool, true, false, ◌&&◌, ◌==◌, if◌then◌else◌, Option, Some, None, is_some, option_map, option_and_then, bytes_eq, position}
+use Rattle.std.specs.Prelude.{ℕ, ◌+◌, List, [], ◌∷◌, filter, slice_get, Bool, true, false, ◌&&◌, ◌==◌, if◌then◌else◌, Option, None, is_some, option_map, option_and_then, bytes_eq, position}
 use Rattle.std.specs.Int.{bit_at}
+use Rattle.std.specs.Option.{option_map_or}
 use Rattle.tfpg_graph.specs.declared.kind.Kind.{Kind}
 use Rattle.tfpg_graph.specs.declared.kind.Kind.TheVariants.{Failure, Or, And}
 use Rattle.tfpg_graph.specs.declared.edge.Edge.{Edge}
@@ -52,7 +53,7 @@ kind_at graph node = option_map (λ n. n.kind) (slice_get graph.nodes node)
 
 -- whether the node of this number is of such a kind
 abbrev pub is_kind_at : (Kind → Bool) → Tfpg → ℕ → Bool
-is_kind_at is_kind graph node = is_some (option_and_then (λ kind. if is_kind kind then Some kind else None) (kind_at graph node))
+is_kind_at is_kind graph node = option_map_or is_kind (kind_at graph node) false
 
 -- the lag of the node of this number, where it is monitored
 abbrev pub lag_at : Tfpg → ℕ → Option ℕ

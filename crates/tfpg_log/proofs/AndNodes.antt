@@ -1,6 +1,7 @@
 -- In a valid graph an AND node has an edge into it.
 use Rattle.std.proofs.Common.{◌≡◌, ◌≢◌, ℕ, zero, suc, ◌+◌, ◌<◌, Bool, true, false, cond, eqb, List, [], ◌∷◌, length, Option, Some, None, refl, arith}
-use Rattle.std.specs.Prelude.{IsTrue, is_some, option_and_then, option_map, not, slice_get, filter}
+use Rattle.std.specs.Option.{option_map_or}
+use Rattle.std.specs.Prelude.{IsTrue, is_some, option_map, not, slice_get, filter}
 use Rattle.tfpg_graph.specs.declared.edge.Edge.{Edge}
 use Rattle.tfpg_graph.specs.declared.kind.Kind.{Kind}
 use Rattle.tfpg_graph.specs.declared.kind.Kind.TheVariants.{Failure, Or, And}
@@ -21,8 +22,8 @@ first_edge number node (edge ∷ edges) some =
     first_by node edge edges _ refl (λ h. first_edge (number + 1) node edges (λ none. some (rw h none)))
 
 -- an AND node is a node, and no failure mode
-and_by : (kind : Option Kind) → IsTrue (is_some (option_and_then (λ k. cond (is_and k) (Some k) None) kind))
-    → IsTrue (not (is_some (option_and_then (λ k. cond (is_failure k) (Some k) None) kind))) × (is_some kind ≡ true)
+and_by : (kind : Option Kind) → IsTrue (option_map_or is_and kind false)
+    → IsTrue (not (option_map_or is_failure kind false)) × (is_some kind ≡ true)
 and_by None h = absurd cc
 and_by (Some (Failure rarity)) h = absurd cc
 and_by (Some (Or lag)) h = absurd cc

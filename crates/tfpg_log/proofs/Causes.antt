@@ -1,6 +1,7 @@
 -- Why a node is active in a trace that explains a log: it is a failure mode of the set, or the failure has arrived.
 use Rattle.std.proofs.Common.{◌≡◌, ℕ, zero, suc, ◌<◌, Bool, true, false, cond, eqb, ◌⊎◌, List, [], ◌∷◌, length, get_or, Option, Some, None, refl, sym, subst, inl, inr, arith}
-use Rattle.std.specs.Prelude.{IsTrue, is_some, option_and_then, option_map, slice_get}
+use Rattle.std.specs.Option.{option_map_or}
+use Rattle.std.specs.Prelude.{IsTrue, is_some, option_map, slice_get}
 use Rattle.std.proofs.lemmas.Bool.Decides.{Decides-eqb}
 use Rattle.tfpg_base.specs.declared.activation.Activation.{Activation}
 use Rattle.tfpg_base.specs.Trace.{time_of}
@@ -43,7 +44,7 @@ activation_of (first ∷ others) node time at = first_or first others node time 
 
 -- a node is a failure mode, an OR node or an AND node
 abbrev IsOfKind : (Kind → Bool) → Option Kind → Type 0
-IsOfKind is_kind kind = IsTrue (is_some (option_and_then (λ k. cond (is_kind k) (Some k) None) kind))
+IsOfKind is_kind kind = IsTrue (option_map_or is_kind kind false)
 
 kinds : (kind : Option Kind) → is_some kind ≡ true → IsOfKind is_failure kind ⊎ (IsOfKind is_or kind ⊎ IsOfKind is_and kind)
 kinds None h = absurd cc
