@@ -7,6 +7,9 @@
 //!   reach, and nothing at all without a failure mode.
 //! - [`age_is_the_greatest`], [`spans_are_runs_of_one_mode`] and [`windows_are_runs_of_spans`] are laws: they say in
 //!   other words what ages, spans and windows are.
+//! - [`age_is_the_time_in_the_window`], [`joint_window_is_what_all_have_in_common`] and
+//!   [`ages_at_once_are_the_time_in_the_joint_window`] are laws: they tell ages by windows, with no counting back
+//!   through instants.
 //!
 //! Its definitions, in `specs/`, are those that every crate above stands on: the mode of an instant, the age of an
 //! edge, the propagation rules, and which sets of failure modes fit the log.
@@ -22,6 +25,7 @@ mod reply;
 mod span;
 #[cfg(test)]
 mod tests;
+mod window_laws;
 
 pub use event::{Event, Offered};
 pub use laws::{
@@ -31,3 +35,7 @@ pub use laws::{
 pub use log::Log;
 pub use refusal::Refusal;
 pub use span::{Span, Window};
+pub use window_laws::{
+    age_is_the_time_in_the_window, ages_at_once_are_the_time_in_the_joint_window,
+    joint_window_is_what_all_have_in_common,
+};
