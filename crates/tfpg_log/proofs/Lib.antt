@@ -17,3 +17,5 @@ pub mod SpanRuns
 pub mod WindowRuns
 pub mod WindowAges
 pub mod JointWindows
+pub mod SameModes
+pub mod PastKept

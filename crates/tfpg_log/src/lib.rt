@@ -29,8 +29,8 @@ mod window_laws;
 
 pub use event::{Event, Offered};
 pub use laws::{
-    age_is_the_greatest, nothing_outside_reach, nothing_without_failures,
-    spans_are_runs_of_one_mode, windows_are_runs_of_spans,
+    a_log_that_goes_on_keeps_the_past, age_is_the_greatest, nothing_outside_reach,
+    nothing_without_failures, spans_are_runs_of_one_mode, windows_are_runs_of_spans,
 };
 pub use log::Log;
 pub use refusal::Refusal;
