@@ -1,24 +1,21 @@
--- A joint window is what the windows of all edges into a node have in common, and ages by it.
+-- A joint window is what the windows of all edges into a node have in common.
 use Rattle.std.proofs.Common.{◌≡◌, ℕ, ◌+◌, ◌-◌, ◌<◌, ◌≤◌, Bool, true, false, List, [], ◌∷◌, Some, inl, inr, refl, sym, ap, subst, ◌∙◌, arith}
-use Rattle.std.specs.Prelude.{◌↔◌, IsTrue, All, Contains, ◌&&◌}
+use Rattle.std.specs.Prelude.{IsTrue, Contains, ◌&&◌}
 use Rattle.std.specs.List.{list_all}
 use Rattle.std.proofs.lemmas.Bool.{both_ways, false_from_ne_true, cases_Bool, cases_lt}
 use Rattle.std.proofs.lemmas.List.Elements.{All-contains}
-use Rattle.std.proofs.lemmas.List.Sums.{AllPass-from_list_all, list_all-from_AllPass}
-use Rattle.tfpg_base.specs.declared.activation.Activation.{Activation}
-use Rattle.tfpg_base.proofs.Elements.{Contains-head, Contains-tail, All-from_members}
+use Rattle.std.proofs.lemmas.List.Sums.{AllPass-from_list_all}
+use Rattle.tfpg_base.proofs.Elements.{Contains-head, Contains-tail}
 use Rattle.tfpg_graph.specs.declared.edge.Edge.{Edge}
 use Rattle.tfpg_graph.specs.Graph.{Tfpg, is_allowed, edges_into}
 use Rattle.tfpg_log.specs.declared.span.Window.{Window}
 use Rattle.tfpg_log.specs.Log.{Logbook, now_of, mode_at}
-use Rattle.tfpg_log.specs.Rules.{IsActive, HasAge}
 use Rattle.tfpg_log.specs.Spans.{span_number, is_allowed_at, are_allowed_at, window_of, joint_of}
 use Rattle.tfpg_log.specs.Runs.{LiesIn, IsWindowRound}
-use Rattle.tfpg_log.specs.AgeInWindow.{HasAgeInWindow}
-use Rattle.tfpg_log.proofs.MaximalRuns.{takes_in, holds_since}
+use Rattle.tfpg_log.proofs.MaximalRuns.{takes_in}
 use Rattle.tfpg_log.proofs.SpanRuns.{is_span, has_span}
 use Rattle.tfpg_log.proofs.WindowRuns.{edge_window_there, node_window, node_window_there}
-use Rattle.tfpg_log.proofs.WindowAges.{is_window, lies_in, by_window}
+use Rattle.tfpg_log.proofs.WindowInstants.{lies_in, round_each, is_window}
 
 -- where not all pass, some member fails
 some_fails : {X : Type 0} (p : X → Bool) (xs : List X) → list_all p xs ≡ false → (x : X) × Contains xs x × (p x ≡ false)
@@ -33,8 +30,8 @@ each_passes : {X : Type 0} (p : X → Bool) (xs : List X) (x : X) → list_all p
 each_passes p xs x all member = All-contains (λ y. p y ≡ true) xs x (AllPass-from_list_all p xs all) member
 
 module _ (graph : Tfpg) (log : Logbook) (node : ℕ) where
-  -- the joint windows of a node as runs
-  is_joint : (number horizon : ℕ) (joint : Window) → joint_of graph log node number horizon ≡ Some joint
+  -- The joint windows of a node are runs.
+  pub is_joint : (number horizon : ℕ) (joint : Window) → joint_of graph log node number horizon ≡ Some joint
       → IsWindowRound log (are_allowed_at graph log node) number horizon joint
   is_joint number horizon joint e = (node_window graph log node number horizon joint).0 e
 
@@ -59,9 +56,16 @@ module _ (graph : Tfpg) (log : Logbook) (node : ℕ) where
       let lies = inside instant horizon joint.0 within joint.1 in
       (joint.0, joint.1, lies.0, lies.1)
 
+  -- A joint window is the one round the span of each of its instants.
+  pub throughout : (number horizon instant : ℕ) (joint : Window) → joint_of graph log node number horizon ≡ Some joint → joint.lo ≤ instant → instant ≤ joint.hi
+      → joint_of graph log node (span_number log instant) horizon ≡ Some joint
+  throughout number horizon instant joint e from upto =
+      (node_window graph log node (span_number log instant) horizon joint).1
+      (round_each log (are_allowed_at graph log node) number horizon instant joint (is_joint number horizon joint e) from upto)
+
   module _ (number horizon : ℕ) (joint : Window) (e : joint_of graph log node number horizon ≡ Some joint) where
-    -- each edge is active throughout
-    allowed_throughout : (edge : Edge) → Contains (edges_into graph node) edge → (x : ℕ) → joint.lo ≤ x → x ≤ joint.hi → IsTrue (is_allowed_at log edge x)
+    -- Each edge is active throughout.
+    pub allowed_throughout : (edge : Edge) → Contains (edges_into graph node) edge → (x : ℕ) → joint.lo ≤ x → x ≤ joint.hi → IsTrue (is_allowed_at log edge x)
     allowed_throughout edge member x from upto =
         each_passes (λ other. is_allowed_at log other x) (edges_into graph node) edge ((is_joint number horizon joint e).run.throughout x from upto) member
 
@@ -121,31 +125,3 @@ module _ (graph : Tfpg) (log : Logbook) (node : ℕ) where
           | inr within ↦ within
         ] in
         (some.0, some.1, window.0, window.1, omega (arith, window.3, upto))
-
-    module _ (trace : List Activation) (instant age : ℕ) (from : joint.lo ≤ instant) (upto : instant ≤ joint.hi) where
-      -- In it an edge has an age exactly where its own window and the activation of its source have it.
-      pub each_its_own : (edge : Edge) → Contains (edges_into graph node) edge
-          → HasAge log trace edge instant age ↔ HasAgeInWindow log trace edge number horizon instant age
-      each_its_own edge member =
-          let window = of_each edge member in
-          by_window log trace edge number horizon instant age window.0 window.1 (omega (arith, window.2, from)) (omega (arith, window.3, upto))
-
-      -- In it all edges have an age exactly where it has it itself and each source is active since then.
-      pub all_at_least : age ≤ instant → All (λ edge. HasAge log trace edge instant age) (edges_into graph node)
-          ↔ ((joint.lo + age ≤ instant) × All (λ edge. IsActive trace edge.source (instant - age)) (edges_into graph node))
-      all_at_least short = (
-        λ all. (
-          (holds_since (λ x. IsTrue (are_allowed_at graph log node x)) horizon joint.lo joint.hi instant age (is_joint number horizon joint e).run from upto short).0
-              (λ x after before. list_all-from_AllPass (λ edge. is_allowed_at log edge x) (edges_into graph node) (λ k d within. (all k d within).allowed x after before)),
-          λ k d within. let has = all k d within in (has.start, has.source, omega (arith, has.since)),
-        ),
-        λ both. All-from_members (λ edge. HasAge log trace edge instant age) (edges_into graph node)
-            (λ edge member.
-            let active = All-contains (λ other. IsActive trace other.source (instant - age)) (edges_into graph node) edge both.1 member in
-            record {
-              start = active.0;
-              source = active.1;
-              since = omega (arith, active.2, short);
-              allowed = λ x after before. allowed_throughout edge member x (omega (arith, both.0)) (omega (arith, upto));
-            }),
-      )

@@ -1,14 +1,16 @@
 -- A log that goes on keeps its past.
 use Rattle.std.proofs.Common.{◌≡◌, ℕ, ◌≤◌, Bool, cond, ltb, List, [], ◌∷◌, ◌++◌, refl, sym, ap, subst, ◌∙◌, arith}
-use Rattle.std.specs.Prelude.{fold, All, AllPairs}
+use Rattle.std.specs.Prelude.{◌↔◌, fold, All, AllPairs, IsTrue}
 use Rattle.std.proofs.lemmas.Bool.{le-ltb}
 use Rattle.std.proofs.lemmas.List.Elements.{All-tail}
+use Rattle.tfpg_base.specs.declared.activation.Activation.{Activation}
 use Rattle.tfpg_base.proofs.Elements.{AllPairs-head, AllPairs-tail}
 use Rattle.tfpg_graph.specs.declared.edge.Edge.{Edge}
-use Rattle.tfpg_graph.specs.Graph.{Tfpg}
+use Rattle.tfpg_graph.specs.Graph.{Tfpg, is_allowed}
 use Rattle.tfpg_log.specs.declared.event.Event.{Event}
 use Rattle.tfpg_log.specs.declared.event.Event.TheVariants.{Alarm, Silent, Sweep, Tick, Mode}
 use Rattle.tfpg_log.specs.Log.{Logbook, GoesOn, IsOf, now_of, time_of_event, mode_after, mode_at}
+use Rattle.tfpg_log.specs.Rules.{HasAge}
 use Rattle.tfpg_log.specs.Spans.{span_number, span_at, window_of, joint_of}
 use Rattle.tfpg_log.proofs.SameModes.{same_number, same_span, same_window, same_joint}
 
@@ -69,6 +71,16 @@ mode_kept held instant (Sweep time ∷ events) more from = mode_kept held instan
 mode_kept held instant (Tick time ∷ events) more from = mode_kept held instant events more from
 mode_kept held instant (Mode time mode ∷ events) more from = mode_kept (cond (ltb time instant) mode held) instant events more from
 
+-- An age is carried over where the modes up to the instant are the same.
+age_carried : (log other : Logbook) (trace : List Activation) (edge : Edge) (instant age : ℕ) → ((x : ℕ) → x ≤ instant → mode_at log x ≡ mode_at other x)
+    → HasAge log trace edge instant age → HasAge other trace edge instant age
+age_carried log other trace edge instant age alike has = record {
+  start = has.start;
+  source = has.source;
+  since = has.since;
+  allowed = λ x after before. subst (λ mode. IsTrue (is_allowed edge mode)) (alike x before) (has.allowed x after before);
+}
+
 module _ (graph : Tfpg) (earlier later : Logbook) (is : IsOf graph later) (goes_on : GoesOn earlier later) where
   order : AreInOrder (earlier.events ++ goes_on.0)
   order = subst AreInOrder goes_on.1 is.in_order
@@ -99,3 +111,11 @@ module _ (graph : Tfpg) (earlier later : Logbook) (is : IsOf graph later) (goes_
 
     pub joints_kept : (node : ℕ) → joint_of graph later node number horizon ≡ joint_of graph earlier node number horizon
     joints_kept node = same_joint later earlier (now_of earlier) modes_kept number horizon upto (omega (arith, upto, now_kept)) upto graph node
+
+  -- What ages an edge has depends on the modes up to the instant alone.
+  pub ages_kept : (trace : List Activation) (edge : Edge) (instant age : ℕ) → instant ≤ now_of earlier
+      → HasAge later trace edge instant age ↔ HasAge earlier trace edge instant age
+  ages_kept trace edge instant age upto = (
+    age_carried later earlier trace edge instant age (λ x before. modes_kept x (omega (arith, before, upto))),
+    age_carried earlier later trace edge instant age (λ x before. sym (modes_kept x (omega (arith, before, upto)))),
+  )

@@ -1,65 +1,17 @@
 -- The age of an edge by its window.
-use Rattle.std.proofs.Common.{◌≡◌, ℕ, ◌+◌, ◌-◌, ◌≤◌, Bool, List, Some, ap, subst, arith, max}
+use Rattle.std.proofs.Common.{◌≡◌, ℕ, ◌+◌, ◌-◌, ◌≤◌, List, Some, ap, arith, max}
 use Rattle.std.specs.Prelude.{◌↔◌, IsTrue}
 use Rattle.tfpg_base.specs.declared.activation.Activation.{Activation}
 use Rattle.tfpg_base.specs.Trace.{time_of}
 use Rattle.tfpg_graph.specs.declared.edge.Edge.{Edge}
-use Rattle.tfpg_graph.specs.Graph.{is_allowed}
 use Rattle.tfpg_log.specs.declared.span.Window.{Window}
-use Rattle.tfpg_log.specs.Log.{Logbook, now_of, mode_at}
-use Rattle.tfpg_log.specs.Rules.{IsActive, HasAge, IsAge}
+use Rattle.tfpg_log.specs.Log.{Logbook, now_of}
+use Rattle.tfpg_log.specs.Rules.{HasAge, IsAge}
 use Rattle.tfpg_log.specs.Spans.{span_number, is_allowed_at, window_of}
-use Rattle.tfpg_log.specs.Runs.{LiesIn, IsWindowRound}
 use Rattle.tfpg_log.specs.AgeInWindow.{HasAgeInWindow}
 use Rattle.tfpg_log.proofs.Ages.{age_since_start}
-use Rattle.tfpg_log.proofs.MaximalRuns.{holds_since, one_beginning}
-use Rattle.tfpg_log.proofs.SpanRuns.{is_span, has_span}
-use Rattle.tfpg_log.proofs.WindowRuns.{edge_window, edge_window_there}
-
--- An instant lies in each window round the span of its number.
-pub lies_in : (log : Logbook) (passes : ℕ → Bool) (instant horizon : ℕ) (window : Window) → instant ≤ horizon
-    → IsWindowRound log passes (span_number log instant) horizon window → (window.lo ≤ instant) × (instant ≤ window.hi)
-lies_in log passes instant horizon window within is =
-    let by_now = (is_span log (span_number log instant) horizon is.round.0 is.round.1).by_now in
-    let there = has_span log instant horizon within by_now in
-    let same : is.round.0 ≡ there.0 = cc (is.round.1, there.1) in
-    let lies : LiesIn there.0 window = subst (λ span. LiesIn span window) same is.round.2 in
-    (omega (arith, lies.0, there.2), omega (arith, lies.1, there.3))
-
-module _ (log : Logbook) (edge : Edge) where
-  -- The windows of an edge are runs.
-  pub is_window : (number horizon : ℕ) (window : Window) → window_of log edge number horizon ≡ Some window
-      → IsWindowRound log (is_allowed_at log edge) number horizon window
-  is_window number horizon window e = (edge_window log edge number horizon window).0 e
-
-  -- The instant lies in the window round its span, and the edge is active there.
-  pub inside : (instant horizon : ℕ) (window : Window) → instant ≤ horizon → window_of log edge (span_number log instant) horizon ≡ Some window
-      → (window.lo ≤ instant) × (instant ≤ window.hi) × IsTrue (is_allowed_at log edge instant)
-  inside instant horizon window within e =
-      let is = is_window (span_number log instant) horizon window e in
-      let lies = lies_in log (is_allowed_at log edge) instant horizon window within is in
-      (lies.0, lies.1, is.run.throughout instant lies.0 lies.1)
-
-  -- There is a window round the span of each instant at which the edge is active.
-  pub window_there : (instant horizon : ℕ) → instant ≤ horizon → horizon ≤ now_of log → IsTrue (is_allowed_at log edge instant)
-      → (window : Window) × (window_of log edge (span_number log instant) horizon ≡ Some window) × (window.lo ≤ instant) × (instant ≤ window.hi)
-  window_there instant horizon within by_now allowed =
-      let number : ℕ = span_number log instant in
-      let there = has_span log instant horizon within by_now in
-      let mode : mode_at log instant ≡ there.0.mode = (is_span log number horizon there.0 there.1).run.throughout instant there.2 there.3 in
-      let window = edge_window_there log edge number horizon there.0 there.1 (subst (λ m. IsTrue (is_allowed edge m)) mode allowed) in
-      let lies = inside instant horizon window.0 within window.1 in
-      (window.0, window.1, lies.0, lies.1)
-
-  -- It begins at the same instant for each horizon.
-  pub begins : (instant horizon further : ℕ) (window other : Window) → instant ≤ horizon → window_of log edge (span_number log instant) horizon ≡ Some window
-      → instant ≤ further → window_of log edge (span_number log instant) further ≡ Some other → window.lo ≡ other.lo
-  begins instant horizon further window other within e within_further f =
-      let lies = inside instant horizon window within e in
-      let others = inside instant further other within_further f in
-      one_beginning (λ x. IsTrue (is_allowed_at log edge x)) horizon further window.lo window.hi other.lo other.hi instant
-      (is_window (span_number log instant) horizon window e).run (is_window (span_number log instant) further other f).run
-      lies.0 lies.1 others.0 others.1
+use Rattle.tfpg_log.proofs.MaximalRuns.{holds_since}
+use Rattle.tfpg_log.proofs.WindowInstants.{is_window, inside, window_there}
 
 module _ (log : Logbook) (trace : List Activation) (edge : Edge) where
   -- In a window the edge has an age exactly where the window and the activation of its source have it.
@@ -104,6 +56,11 @@ module _ (log : Logbook) (trace : List Activation) (edge : Edge) where
         (by_window (span_number log instant) horizon instant age has.window has.there lies.0 lies.1).1 has,
   )
 
+  -- An edge has an age only where it is active and its source has it.
+  pub only_there : (instant age : ℕ) → HasAge log trace edge instant age
+      → IsTrue (is_allowed_at log edge instant) × (start : ℕ) × (time_of trace edge.source ≡ Some start) × (start + age ≤ instant)
+  only_there instant age has = (has.allowed instant (omega arith) (omega arith), has.start, has.source, has.since)
+
   -- The greatest age in a window is the time since the later of the two.
   pub age : (number horizon instant start : ℕ) (window : Window) → window_of log edge number horizon ≡ Some window → window.lo ≤ instant → instant ≤ window.hi
       → time_of trace edge.source ≡ Some start → start ≤ instant → IsAge log trace edge instant (instant - max window.lo start)
@@ -114,16 +71,9 @@ module _ (log : Logbook) (trace : List Activation) (edge : Edge) where
         omega (arith, both.0, both.1);
   }
 
-  -- A node is active at all instants of a window at which the edge has an age where it is so at the first.
-  pub first : (number horizon age start node : ℕ) (window : Window) → window_of log edge number horizon ≡ Some window → time_of trace edge.source ≡ Some start
-      → ((instant : ℕ) → window.lo ≤ instant → instant ≤ window.hi → HasAge log trace edge instant age → IsActive trace node instant)
-      ↔ (max window.lo start + age ≤ window.hi → IsActive trace node (max window.lo start + age))
-  first number horizon age start node window e at =
-      let soonest : ℕ = max window.lo start + age in (
-        λ each room. each soonest (omega arith) room ((at_least number horizon soonest age start window e (omega arith) room at).1 (omega arith, omega arith)),
-        λ then instant from upto has.
-            let both = (at_least number horizon instant age start window e from upto at).0 has in
-            let by_then : soonest ≤ instant = omega (arith, both.0, both.1) in
-            let active = then (omega (arith, by_then)) in
-            (active.0, active.1, omega (arith, active.2, by_then)),
-      )
+  -- An age that is reached stays to the end of the window.
+  pub stays : (number horizon instant later age : ℕ) (window : Window) → window_of log edge number horizon ≡ Some window → window.lo ≤ instant
+      → instant ≤ later → later ≤ window.hi → HasAge log trace edge instant age → HasAge log trace edge later age
+  stays number horizon instant later age window e from behind upto has =
+      let both = (at_least number horizon instant age has.start window e from (omega (arith, behind, upto)) has.source).0 has in
+      (at_least number horizon later age has.start window e (omega (arith, from, behind)) upto has.source).1 (omega (arith, both.0, behind), omega (arith, both.1, behind))

@@ -78,9 +78,10 @@ pub fn windows_are_runs_of_spans()
         (window : Window) × (joint_of graph log node number horizon ≡ Some window) }
 {}
 
-/// A log that goes on keeps its past: what comes later has a time of at least the old now, and a change of mode holds only
-/// behind its own instant. So each instant up to the old now keeps its mode and the number of its span, and at each horizon up
-/// to the old now each span and each window stays as it was. Now itself does not fall.
+/// A log that goes on keeps its past: what comes later has a time of at least the old now, and a change of mode holds
+/// only behind its own instant. So now does not fall; each instant up to the old now keeps its mode, the number of its
+/// span, and the ages that edges have there in a trace; and at each horizon up to the old now each span and each window
+/// stays as it was.
 pub fn a_log_that_goes_on_keeps_the_past()
     ensures now { (graph : Tfpg) (earlier later : Logbook) → IsOf graph later → GoesOn earlier later →
         now_of earlier ≤ now_of later }
@@ -97,4 +98,7 @@ pub fn a_log_that_goes_on_keeps_the_past()
     ensures joint { (graph : Tfpg) (earlier later : Logbook) → IsOf graph later → GoesOn earlier later →
         (number horizon : ℕ) → horizon ≤ now_of earlier →
         (node : ℕ) → joint_of graph later node number horizon ≡ joint_of graph earlier node number horizon }
+    ensures age { (graph : Tfpg) (earlier later : Logbook) → IsOf graph later → GoesOn earlier later →
+        (trace : List Activation) (edge : Edge) (instant age : ℕ) → instant ≤ now_of earlier →
+        HasAge later trace edge instant age ↔ HasAge earlier trace edge instant age }
 {}
