@@ -15,3 +15,10 @@ pub mod Trials
 pub mod MaximalRuns
 pub mod SpanRuns
 pub mod WindowRuns
+pub mod WindowInstants
+pub mod WindowAges
+pub mod FirstAges
+pub mod JointWindows
+pub mod JointAges
+pub mod SameModes
+pub mod PastKept

@@ -8,6 +8,7 @@ pub mod Rules
 pub mod Explains
 pub mod Spans
 pub mod Runs
+pub mod AgeInWindow
 pub mod Accepted
 pub mod LogOfLines
 pub mod LogInside

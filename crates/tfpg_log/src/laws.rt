@@ -10,7 +10,7 @@ ghost use Rattle.tfpg_graph.specs.Valid.{IsValid};
 ghost use Rattle.tfpg_graph.specs.ZeroCycle.{HasZeroOrder};
 ghost use Rattle.tfpg_log.specs.declared.span.Span.{Span};
 ghost use Rattle.tfpg_log.specs.declared.span.Window.{Window};
-ghost use Rattle.tfpg_log.specs.Log.{Logbook, now_of, mode_at};
+ghost use Rattle.tfpg_log.specs.Log.{Logbook, GoesOn, IsOf, now_of, mode_at};
 ghost use Rattle.tfpg_log.specs.Rules.{IsActive, HasAge, IsAge};
 ghost use Rattle.tfpg_log.specs.Spans.{span_number, span_at, is_allowed_at, are_allowed_at, window_of, joint_of};
 ghost use Rattle.tfpg_log.specs.Runs.{IsSpanOf, IsWindowRound};
@@ -76,4 +76,29 @@ pub fn windows_are_runs_of_spans()
         span_at log number horizon ≡ Some span →
         All (λ edge. IsTrue (is_allowed edge span.mode)) (edges_into graph node) →
         (window : Window) × (joint_of graph log node number horizon ≡ Some window) }
+{}
+
+/// A log that goes on keeps its past: what comes later has a time of at least the old now, and a change of mode holds
+/// only behind its own instant. So now does not fall; each instant up to the old now keeps its mode, the number of its
+/// span, and the ages that edges have there in a trace; and at each horizon up to the old now each span and each window
+/// stays as it was.
+pub fn a_log_that_goes_on_keeps_the_past()
+    ensures now { (graph : Tfpg) (earlier later : Logbook) → IsOf graph later → GoesOn earlier later →
+        now_of earlier ≤ now_of later }
+    ensures mode { (graph : Tfpg) (earlier later : Logbook) → IsOf graph later → GoesOn earlier later →
+        (instant : ℕ) → instant ≤ now_of earlier → mode_at later instant ≡ mode_at earlier instant }
+    ensures number { (graph : Tfpg) (earlier later : Logbook) → IsOf graph later → GoesOn earlier later →
+        (instant : ℕ) → instant ≤ now_of earlier → span_number later instant ≡ span_number earlier instant }
+    ensures span { (graph : Tfpg) (earlier later : Logbook) → IsOf graph later → GoesOn earlier later →
+        (number horizon : ℕ) → horizon ≤ now_of earlier →
+        span_at later number horizon ≡ span_at earlier number horizon }
+    ensures window { (graph : Tfpg) (earlier later : Logbook) → IsOf graph later → GoesOn earlier later →
+        (number horizon : ℕ) → horizon ≤ now_of earlier →
+        (edge : Edge) → window_of later edge number horizon ≡ window_of earlier edge number horizon }
+    ensures joint { (graph : Tfpg) (earlier later : Logbook) → IsOf graph later → GoesOn earlier later →
+        (number horizon : ℕ) → horizon ≤ now_of earlier →
+        (node : ℕ) → joint_of graph later node number horizon ≡ joint_of graph earlier node number horizon }
+    ensures age { (graph : Tfpg) (earlier later : Logbook) → IsOf graph later → GoesOn earlier later →
+        (trace : List Activation) (edge : Edge) (instant age : ℕ) → instant ≤ now_of earlier →
+        HasAge later trace edge instant age ↔ HasAge earlier trace edge instant age }
 {}

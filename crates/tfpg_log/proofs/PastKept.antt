@@ -1,0 +1,121 @@
+-- A log that goes on keeps its past.
+use Rattle.std.proofs.Common.{◌≡◌, ℕ, ◌≤◌, Bool, cond, ltb, List, [], ◌∷◌, ◌++◌, refl, sym, ap, subst, ◌∙◌, arith}
+use Rattle.std.specs.Prelude.{◌↔◌, fold, All, AllPairs, IsTrue}
+use Rattle.std.proofs.lemmas.Bool.{le-ltb}
+use Rattle.std.proofs.lemmas.List.Elements.{All-tail}
+use Rattle.tfpg_base.specs.declared.activation.Activation.{Activation}
+use Rattle.tfpg_base.proofs.Elements.{AllPairs-head, AllPairs-tail}
+use Rattle.tfpg_graph.specs.declared.edge.Edge.{Edge}
+use Rattle.tfpg_graph.specs.Graph.{Tfpg, is_allowed}
+use Rattle.tfpg_log.specs.declared.event.Event.{Event}
+use Rattle.tfpg_log.specs.declared.event.Event.TheVariants.{Alarm, Silent, Sweep, Tick, Mode}
+use Rattle.tfpg_log.specs.Log.{Logbook, GoesOn, IsOf, now_of, time_of_event, mode_after, mode_at}
+use Rattle.tfpg_log.specs.Rules.{HasAge}
+use Rattle.tfpg_log.specs.Spans.{span_number, span_at, window_of, joint_of}
+use Rattle.tfpg_log.proofs.SameModes.{same_number, same_span, same_window, same_joint}
+
+-- the times of the events never fall
+abbrev AreInOrder : List Event → Type 0
+AreInOrder events = AllPairs (λ earlier later. time_of_event earlier ≤ time_of_event later) events
+
+-- the events are not before an instant
+abbrev AreFrom : ℕ → List Event → Type 0
+AreFrom instant events = All (λ event. instant ≤ time_of_event event) events
+
+-- the time of the last event, or this one where there is none
+abbrev last_time : ℕ → List Event → ℕ
+last_time time events = fold (λ last event. time_of_event event) time events
+
+order_behind : (event : Event) (events : List Event) → AreInOrder (event ∷ events) → AreInOrder events
+order_behind event events order = AllPairs-tail (λ earlier later. time_of_event earlier ≤ time_of_event later) event events order
+
+from_first : (event : Event) (events : List Event) → AreInOrder (event ∷ events) → AreFrom (time_of_event event) events
+from_first event events order = AllPairs-head (λ earlier later. time_of_event earlier ≤ time_of_event later) event events order
+
+from_behind : (instant : ℕ) (event : Event) (events : List Event) → AreFrom instant (event ∷ events) → AreFrom instant events
+from_behind instant event events from = All-tail (λ e. instant ≤ time_of_event e) event events from
+
+-- what is added comes at the last time or later
+added_later : (time : ℕ) (events more : List Event) → AreInOrder (events ++ more) → AreFrom time (events ++ more) → AreFrom (last_time time events) more
+added_later time [] more order from = from
+added_later time (event ∷ events) more order from =
+    added_later (time_of_event event) events more (order_behind event (events ++ more) order) (from_first event (events ++ more) order)
+
+-- and the last time does not fall
+last_rises : (time : ℕ) (events : List Event) → AreInOrder events → AreFrom time events → time ≤ last_time time events
+last_rises time [] order from = omega arith
+last_rises time (event ∷ events) order from =
+    omega (arith, from 0 event (omega arith), last_rises (time_of_event event) events (order_behind event events order) (from_first event events order))
+
+now_rises : (time : ℕ) (events more : List Event) → AreInOrder (events ++ more) → AreFrom time (events ++ more) → last_time time events ≤ last_time time (events ++ more)
+now_rises time [] more order from = last_rises time more order from
+now_rises time (event ∷ events) more order from =
+    now_rises (time_of_event event) events more (order_behind event (events ++ more) order) (from_first event (events ++ more) order)
+
+-- Events that are not before an instant do not bear on its mode.
+unchanged : (held instant : ℕ) (events : List Event) → AreFrom instant events → mode_after held events instant ≡ held
+unchanged held instant [] from = refl
+unchanged held instant (Alarm time node ∷ events) from = unchanged held instant events (from_behind instant (Alarm time node) events from)
+unchanged held instant (Silent time node ∷ events) from = unchanged held instant events (from_behind instant (Silent time node) events from)
+unchanged held instant (Sweep time ∷ events) from = unchanged held instant events (from_behind instant (Sweep time) events from)
+unchanged held instant (Tick time ∷ events) from = unchanged held instant events (from_behind instant (Tick time) events from)
+unchanged held instant (Mode time mode ∷ events) from =
+    ap (λ (b : Bool). mode_after (cond b mode held) events instant) (le-ltb time instant (from 0 (Mode time mode) (omega arith)))
+    ∙ unchanged held instant events (from_behind instant (Mode time mode) events from)
+
+mode_kept : (held instant : ℕ) (events more : List Event) → AreFrom instant more → mode_after held (events ++ more) instant ≡ mode_after held events instant
+mode_kept held instant [] more from = unchanged held instant more from
+mode_kept held instant (Alarm time node ∷ events) more from = mode_kept held instant events more from
+mode_kept held instant (Silent time node ∷ events) more from = mode_kept held instant events more from
+mode_kept held instant (Sweep time ∷ events) more from = mode_kept held instant events more from
+mode_kept held instant (Tick time ∷ events) more from = mode_kept held instant events more from
+mode_kept held instant (Mode time mode ∷ events) more from = mode_kept (cond (ltb time instant) mode held) instant events more from
+
+-- An age is carried over where the modes up to the instant are the same.
+age_carried : (log other : Logbook) (trace : List Activation) (edge : Edge) (instant age : ℕ) → ((x : ℕ) → x ≤ instant → mode_at log x ≡ mode_at other x)
+    → HasAge log trace edge instant age → HasAge other trace edge instant age
+age_carried log other trace edge instant age alike has = record {
+  start = has.start;
+  source = has.source;
+  since = has.since;
+  allowed = λ x after before. subst (λ mode. IsTrue (is_allowed edge mode)) (alike x before) (has.allowed x after before);
+}
+
+module _ (graph : Tfpg) (earlier later : Logbook) (is : IsOf graph later) (goes_on : GoesOn earlier later) where
+  order : AreInOrder (earlier.events ++ goes_on.0)
+  order = subst AreInOrder goes_on.1 is.in_order
+
+  from_zero : AreFrom 0 (earlier.events ++ goes_on.0)
+  from_zero k d within = omega arith
+
+  -- Now does not fall.
+  pub now_kept : now_of earlier ≤ now_of later
+  now_kept = omega (arith, now_rises 0 earlier.events goes_on.0 order from_zero, ap (last_time 0) goes_on.1)
+
+  -- Each instant up to the old now keeps its mode.
+  pub modes_kept : (instant : ℕ) → instant ≤ now_of earlier → mode_at later instant ≡ mode_at earlier instant
+  modes_kept instant upto =
+      ap (λ events. mode_after 0 events instant) goes_on.1
+      ∙ mode_kept 0 instant earlier.events goes_on.0 (λ k d within. omega (arith, upto, added_later 0 earlier.events goes_on.0 order from_zero k d within))
+
+  -- So it keeps the number of its span.
+  pub numbers_kept : (instant : ℕ) → instant ≤ now_of earlier → span_number later instant ≡ span_number earlier instant
+  numbers_kept instant upto = same_number later earlier (now_of earlier) modes_kept instant upto
+
+  module _ (number horizon : ℕ) (upto : horizon ≤ now_of earlier) where
+    pub spans_kept : span_at later number horizon ≡ span_at earlier number horizon
+    spans_kept = same_span later earlier (now_of earlier) modes_kept number horizon upto (omega (arith, upto, now_kept)) upto
+
+    pub windows_kept : (edge : Edge) → window_of later edge number horizon ≡ window_of earlier edge number horizon
+    windows_kept edge = same_window later earlier (now_of earlier) modes_kept number horizon upto (omega (arith, upto, now_kept)) upto edge
+
+    pub joints_kept : (node : ℕ) → joint_of graph later node number horizon ≡ joint_of graph earlier node number horizon
+    joints_kept node = same_joint later earlier (now_of earlier) modes_kept number horizon upto (omega (arith, upto, now_kept)) upto graph node
+
+  -- What ages an edge has depends on the modes up to the instant alone.
+  pub ages_kept : (trace : List Activation) (edge : Edge) (instant age : ℕ) → instant ≤ now_of earlier
+      → HasAge later trace edge instant age ↔ HasAge earlier trace edge instant age
+  ages_kept trace edge instant age upto = (
+    age_carried later earlier trace edge instant age (λ x before. modes_kept x (omega (arith, before, upto))),
+    age_carried earlier later trace edge instant age (λ x before. sym (modes_kept x (omega (arith, before, upto)))),
+  )

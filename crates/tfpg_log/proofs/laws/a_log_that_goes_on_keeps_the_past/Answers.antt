@@ -1,0 +1,13 @@
+use Rattle.tfpg_log.proofs.PastKept.{now_kept, modes_kept, numbers_kept, spans_kept, windows_kept, joints_kept, ages_kept}
+use Rattle.tfpg_log.proofs.laws.a_log_that_goes_on_keeps_the_past.Goals as goal
+
+pub returns : goal.returns
+returns c = record {
+  now = now_kept;
+  mode = modes_kept;
+  number = numbers_kept;
+  span = spans_kept;
+  window = windows_kept;
+  joint = joints_kept;
+  age = ages_kept;
+}
