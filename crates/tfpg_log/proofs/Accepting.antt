@@ -9,8 +9,7 @@ use Rattle.tfpg_graph.specs.Graph.{Tfpg, node_named, mode_named, is_monitored}
 use Rattle.tfpg_base.specs.Times.{most_time}
 use Rattle.tfpg_log.specs.declared.event.Event.{Event}
 use Rattle.tfpg_log.specs.declared.event.Event.TheVariants as kinds
-use Rattle.tfpg_log.specs.declared.event.Offered.{Offered}
-use Rattle.tfpg_log.specs.declared.event.Offered.TheVariants.{Accepted, Refused}
+use Rattle.tfpg_log.specs.declared.event.Offered.TheVariants.{Accepted}
 use Rattle.tfpg_log.specs.declared.refusal.Refusal.{Refusal}
 use Rattle.tfpg_log.specs.declared.refusal.Refusal.TheVariants.{TimeTooLarge, TimeBack, NotMonitored, SecondAlarm, LogFull}
 use Rattle.tfpg_log.specs.Log.{Logbook, now_of, alarm_of, time_of_event, with_event, IsEventOf, IsOf}

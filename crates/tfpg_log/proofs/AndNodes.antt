@@ -1,5 +1,5 @@
 -- In a valid graph an AND node has an edge into it.
-use Rattle.std.proofs.Common.{◌≡◌, ◌≢◌, ℕ, zero, suc, ◌+◌, ◌<◌, Bool, true, false, cond, eqb, List, [], ◌∷◌, length, Option, Some, None, refl, arith}
+use Rattle.std.proofs.Common.{◌≡◌, ◌≢◌, ℕ, zero, suc, ◌+◌, ◌<◌, Bool, true, false, eqb, List, [], ◌∷◌, length, Option, Some, None, refl, arith}
 use Rattle.std.specs.Option.{option_map_or}
 use Rattle.std.specs.Prelude.{IsTrue, is_some, option_map, not, slice_get, filter}
 use Rattle.tfpg_graph.specs.declared.edge.Edge.{Edge}

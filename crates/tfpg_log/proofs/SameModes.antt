@@ -8,7 +8,8 @@ use Rattle.tfpg_graph.specs.Graph.{Tfpg, is_allowed, edges_into}
 use Rattle.tfpg_log.specs.declared.span.Span.{Span}
 use Rattle.tfpg_log.specs.declared.span.Window.{Window}
 use Rattle.tfpg_log.specs.Log.{Logbook, now_of, mode_at}
-use Rattle.tfpg_log.specs.Spans.{first_of_two, least, greatest, span_number, span_between, span_at, run_start, run_end, window_between, window_round, is_allowed_at, are_allowed_at, window_of, joint_of}
+use Rattle.std.specs.Option.{option_or}
+use Rattle.tfpg_log.specs.Spans.{least, greatest, span_number, span_between, span_at, run_start, run_end, window_between, window_round, is_allowed_at, are_allowed_at, window_of, joint_of}
 use Rattle.tfpg_log.proofs.Trials.{NonePassesUpTo, IsLeast, least_found}
 use Rattle.tfpg_log.proofs.SpanRuns.{found_span}
 
@@ -25,8 +26,8 @@ module _ (passes tests : ℕ → Bool) where
   least_same : (limit : ℕ) → AgreeUpTo passes tests limit → least passes limit ≡ least tests limit
   least_same zero agree = ap (λ b. cond b (Some 0) None) (agree 0 (omega arith))
   least_same (suc limit) agree =
-      ap (λ so_far. first_of_two so_far (cond (passes (suc limit)) (Some (suc limit)) None)) (least_same limit (agree_below limit agree))
-      ∙ ap (λ b. first_of_two (least tests limit) (cond b (Some (suc limit)) None)) (agree (suc limit) (omega arith))
+      ap (λ so_far. option_or so_far (cond (passes (suc limit)) (Some (suc limit)) None)) (least_same limit (agree_below limit agree))
+      ∙ ap (λ b. option_or (least tests limit) (cond b (Some (suc limit)) None)) (agree (suc limit) (omega arith))
 
   greatest_same : (limit : ℕ) → AgreeUpTo passes tests limit → greatest passes limit ≡ greatest tests limit
   greatest_same zero agree = ap (λ b. cond b (Some 0) None) (agree 0 (omega arith))

@@ -2,7 +2,8 @@
 use Rattle.std.proofs.Common.{◌≡◌, ℕ, zero, suc, ◌<◌, ◌≤◌, Bool, true, false, cond, inl, inr, Option, Some, None, refl, subst, arith}
 use Rattle.std.specs.Prelude.{MatchOption}
 use Rattle.std.proofs.lemmas.Bool.{both_ways, cases_eq}
-use Rattle.tfpg_log.specs.Spans.{first_of_two, least, greatest}
+use Rattle.std.specs.Option.{option_or}
+use Rattle.tfpg_log.specs.Spans.{least, greatest}
 
 -- no number up to the limit passes
 abbrev pub NonePassesUpTo : (ℕ → Bool) → ℕ → Type 0
@@ -38,7 +39,7 @@ module _ (passes : ℕ → Bool) where
   least_at_zero false fails = none_at_zero fails
 
   least_more : (limit : ℕ) (so_far : Option ℕ) (b : Bool) → passes (suc limit) ≡ b → MatchOption so_far (NonePassesUpTo passes limit) (IsLeast passes limit)
-      → MatchOption (first_of_two so_far (cond b (Some (suc limit)) None)) (NonePassesUpTo passes (suc limit)) (IsLeast passes (suc limit))
+      → MatchOption (option_or so_far (cond b (Some (suc limit)) None)) (NonePassesUpTo passes (suc limit)) (IsLeast passes (suc limit))
   least_more limit (Some found) b at is = record { within = omega (arith, is.within); here = is.here; none_below = is.none_below }
   least_more limit None true here none = record { within = omega arith; here = here; none_below = λ number below. none number (omega arith) }
   least_more limit None false fails none = none_more limit none fails

@@ -13,10 +13,11 @@ use Rattle.tfpg_log.specs.declared.refusal.Refusal.{Refusal}
 use Rattle.tfpg_log.specs.declared.refusal.Refusal.TheVariants.{BadLine, BadNumber, TimeTooLarge, TimeBack, UnknownName, NotMonitored, NotAMode, SecondAlarm, SilentAfterAlarm, LogFull, ModesFull}
 use Rattle.tfpg_log.specs.Log.{Logbook, now_of, alarm_of, is_mode_change}
 
--- how many events a log takes, and how many of them may be changes of mode
+-- how many events a log takes
 abbrev pub most_events : ℕ
 most_events = 16384
 
+-- how many of them may be changes of mode
 abbrev pub most_mode_changes : ℕ
 most_mode_changes = 1024
 

@@ -1,5 +1,5 @@
--- The log of a list of lines.
-use Rattle.std.specs.Prelude.{ℕ, List, [], length, fold, nat_lt, Bool, if◌then◌else◌}
+-- How a log grows line by line.
+use Rattle.std.specs.Prelude.{ℕ, List, [], length, nat_lt, Bool, if◌then◌else◌}
 use Rattle.tfpg_base.specs.Lines.{longest_line}
 use Rattle.tfpg_graph.specs.Graph.{Tfpg}
 use Rattle.tfpg_log.specs.declared.event.Offered.{Offered}
@@ -16,13 +16,10 @@ abbrev pub log_after_reply : Logbook → Offered → Logbook
 log_after_reply log (Accepted event) = with_event log event
 log_after_reply log (Refused refusal) = log
 
--- A line that is too long never reaches the log.
+-- a line that is too long, which never reaches the log
 abbrev pub is_too_long : List ℕ → Bool
 is_too_long line = nat_lt longest_line (length line)
 
+-- the log after one more line
 abbrev pub log_after : Tfpg → Logbook → List ℕ → Logbook
 log_after graph log line = if is_too_long line then log else log_after_reply log (reply_to graph log line)
-
--- The log of a list of lines starts empty, and each line in turn lengthens it or is refused.
-abbrev pub log_of_lines : Tfpg → List (List ℕ) → Logbook
-log_of_lines graph lines = fold (log_after graph) new_log lines

@@ -1,21 +1,17 @@
 -- Spans of one mode, and the windows of spans in which an edge, or all edges into a node, are active.
 use Rattle.std.specs.Prelude.{ℕ, zero, suc, ◌+◌, Bool, ◌&&◌, nat_le, ◌==◌, if◌then◌else◌, Option, Some, None, option_and_then}
 use Rattle.std.specs.List.{list_all}
+use Rattle.std.specs.Option.{option_or}
 use Rattle.tfpg_graph.specs.declared.edge.Edge.{Edge}
 use Rattle.tfpg_graph.specs.Graph.{Tfpg, is_allowed, edges_into}
 use Rattle.tfpg_log.specs.declared.span.Span.{Span}
 use Rattle.tfpg_log.specs.declared.span.Window.{Window}
 use Rattle.tfpg_log.specs.Log.{Logbook, now_of, mode_at}
 
--- the first of two that there is
-abbrev pub first_of_two : Option ℕ → Option ℕ → Option ℕ
-first_of_two (Some number) other = Some number
-first_of_two None other = other
-
 -- the least number up to a limit that passes
 abbrev pub least : (ℕ → Bool) → ℕ → Option ℕ
 least passes zero = if passes 0 then Some 0 else None
-least passes (suc limit) = first_of_two (least passes limit) (if passes (suc limit) then Some (suc limit) else None)
+least passes (suc limit) = option_or (least passes limit) (if passes (suc limit) then Some (suc limit) else None)
 
 -- the greatest number up to a limit that passes
 abbrev pub greatest : (ℕ → Bool) → ℕ → Option ℕ

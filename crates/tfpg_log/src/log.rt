@@ -125,7 +125,7 @@ impl Log {
         }
     }
 
-    /// A copy of the log. Takes time and memory linear in it.
+    /// A copy of the log. Takes time and memory linear in it, and in the greatest number of a node that has an alarm.
     pub fn copy(&self, alloc: Global) -> Result<Log, NoMemory>
         ensures { IfOk result (λ log. log ≡ self.now) }
     {
@@ -141,7 +141,8 @@ impl Log {
 
     /// What becomes of the line: it is accepted, and then its event is the last, or it is refused, and then the log stays
     /// as it was, as it does where there is no memory for the event. A refused line takes no memory. Takes time in the
-    /// length of the line, which may have any length, and at most one look-up by name.
+    /// length of the line, which may have any length, and at most one look-up by name, however long the log is: now and
+    /// then a list grows and is moved, which evens out over the calls, and an alarm may lengthen the index up to its node.
     pub fn offer(&mut self, graph: &Graph, line: &[u8]) -> Result<Offered, NoMemory>
         requires { IsOf graph.now self.old }
         ensures reply { IfOk result (λ reply. reply ≡ reply_to graph.now self.old line.now) }

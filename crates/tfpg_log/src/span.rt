@@ -8,7 +8,7 @@ pub struct Span {
     pub mode: u32,
 }
 
-/// A maximal run of spans, with the number of its first span.
+/// A maximal run of spans: the number of its first span, and its first and last instant, in milliseconds.
 #[derive(Clone, Copy, Debug, PartialEq, Eq)]
 pub struct Window {
     pub first: u32,

@@ -1,6 +1,6 @@
 //! Lines offered to a log, and what they leave.
 
-ghost use Rattle.std.specs.Prelude.{IfOk};
+ghost use Rattle.std.specs.Prelude.{◌≡◌, IfOk};
 ghost use Rattle.tfpg_log.specs.Log.{IsOf};
 
 use crate::event::{Event, Offered};
@@ -215,6 +215,45 @@ fn answers_questions_as_its_copy_does(rt: HostRuntime) -> Result<(), Fail> {
     }
     assert_eq!(rt; copy.now(), 25);
     assert_eq!(rt; copy.alarm_of(3), Some(10));
+    assert!(rt; answer_alike(&log, &copy));
+    Ok(())
+}
+
+/// Whether the events and the alarms of the first nodes are the same.
+fn answer_alike(one: &Log, other: &Log) -> bool
+    requires { other.now ≡ one.now }
+{
+    for number in 1..=one.len() {
+        if other.event(number) != one.event(number) {
+            return false;
+        }
+    }
+    for node in 0..8 {
+        if other.alarm_of(node) != one.alarm_of(node) {
+            return false;
+        }
+    }
+    other.len() == one.len()
+}
+
+/// Two failure modes, of which one shows through two monitors, and the other in one of two modes alone.
+const TWO_MODES: &[u8] =
+    b"tfpg 1\nmode N\nmode D\nfailure F1 3\nfailure F2 5\nor A watch 0\nor B hidden\nand C watch 0\nedge F1 A 10 20 N,D\nedge F2 A 5 5 N\nedge F1 B 0 inf *\nedge A C 0 10 *\nedge B C 0 10 *\nend\n";
+
+#[test]
+fn a_copy_has_the_same_events(rt: HostRuntime) -> Result<(), Fail> {
+    let graph = read(rt.alloc(), TWO_MODES)?;
+    let log = log_of(rt.alloc(), &graph, &[b"20 mode D", b"30 alarm A"])?;
+    let copy = log.copy(rt.alloc())?;
+    assert!(rt; answer_alike(&log, &copy));
+    assert_eq!(rt; copy.len(), 2);
+    assert_eq!(rt; copy.event(1), Event::Mode { time: 20, mode: 1 });
+    assert_eq!(rt; copy.event(2), Event::Alarm { time: 30, node: 2 });
+    assert_eq!(rt; copy.now(), 30);
+    assert_eq!(rt; copy.alarm_of(2), Some(30));
+    assert_eq!(rt; copy.alarm_of(4), None);
+    assert_eq!(rt; copy.mode_at(20), 0);
+    assert_eq!(rt; copy.mode_at(21), 1);
     Ok(())
 }
 
