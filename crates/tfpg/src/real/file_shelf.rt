@@ -33,6 +33,7 @@ impl<'a, R> FileShelf<'a, R> {
     }
 
     /// How often fetching has failed.
+    #[cfg(test)]
     pub(crate) fn faults(&self) -> u64
         ensures { result ≡ self.now.faults.count }
     {
@@ -78,6 +79,7 @@ fn read_whole<R: Read>(reader: &mut R, into: &mut Vec<u8>) -> Result<(), ShelfFa
     ensures too_long { IsErrOf result ShelfFault.TooLong → length into.new.items ≡ 2 ^ 24 }
 {
     let mut room = [0; BLOCK];
+    // The bound lets the call be proved to return; no run comes near it.
     for _ in 0..u64::MAX {
         match read_uncut(reader, &mut room) {
             Ok(0) => return Ok(()),
