@@ -1,5 +1,5 @@
 -- The block of a line, from what the diagnoser tells of it.
-use Rattle.std.proofs.Common.{◌≡◌, ℕ, ◌<◌, ◌≤◌, Bool, true, false, cond, List, [], ◌∷◌, ◌++◌, length, Result, Ok, Err, refl, sym, ap, subst, ◌∙◌, arith}
+use Rattle.std.proofs.Common.{◌≡◌, ℕ, ◌<◌, ◌≤◌, true, false, List, [], ◌∷◌, ◌++◌, length, Err, refl, sym, ap, subst, ◌∙◌, arith}
 use Rattle.std.proofs.lemmas.Bool.{le-ltb, lt-ltb}
 use Rattle.std.proofs.lemmas.List.{append-nil}
 use Rattle.tfpg_graph.specs.Graph.{Tfpg}
@@ -11,10 +11,9 @@ use Rattle.tfpg_log.specs.Log.{Logbook, with_event, IsOf, IsEventOf}
 use Rattle.tfpg_log.specs.Accepted.{reply_to}
 use Rattle.tfpg_log.specs.LogOfLines.{log_after_reply, log_after, is_too_long}
 use Rattle.tfpg_evidence.specs.declared.round.Round.{Round}
-use Rattle.tfpg_report.specs.declared.refused_line.RefusedLine.{RefusedLine}
 use Rattle.tfpg_report.specs.declared.refused_line.RefusedLine.TheVariants.{TooLong, Offer}
-use Rattle.tfpg_report.specs.Blocks.{Block, RefusedBlock, RoundBlock, block_text, refused_text, round_text}
-use Rattle.tfpg_check.specs.Report.{Progress, IsBlockOf, event_of_line, event_of_reply, after}
+use Rattle.tfpg_report.specs.Blocks.{RefusedBlock, RoundBlock, refused_text, round_text}
+use Rattle.tfpg_check.specs.Report.{Progress, IsBlockOf, event_of_line, event_of_reply}
 use Rattle.tfpg.specs.declared.diagnoser.Diagnoser.{Diagnoser}
 use Rattle.tfpg.specs.declared.diagnoser.Told.{Told}
 use Rattle.tfpg.specs.declared.diagnoser.Told.TheVariants as told

@@ -1,6 +1,6 @@
 -- What a diagnoser tells of an accepted event.
-use Rattle.std.proofs.Common.{◌≡◌, ◌≢◌, ℕ, zero, suc, ◌+◌, ◌<◌, ◌≤◌, Bool, true, false, cond, eqb, List, [], ◌∷◌, ◌++◌, length, get_or, map, All, Option, Some, None, refl, sym, ap, subst, ◌∙◌, arith}
-use Rattle.std.specs.Prelude.{IsTrue, slice_get, is_some, option_and_then, option_map}
+use Rattle.std.proofs.Common.{◌≡◌, ◌≢◌, ℕ, suc, ◌<◌, Bool, true, false, cond, eqb, List, [], ◌∷◌, ◌++◌, length, get_or, All, Option, Some, None, refl, sym, ap, subst, ◌∙◌, arith}
+use Rattle.std.specs.Prelude.{IsTrue, is_some, option_and_then}
 use Rattle.std.proofs.lemmas.List.{append-nil, length-append}
 use Rattle.std.proofs.lemmas.List.Elements.{All-nil, All-cons}
 use Rattle.tfpg_graph.specs.Graph.{Tfpg, is_monitored, lag_of, kind_at}
@@ -12,15 +12,14 @@ use Rattle.tfpg_log.specs.Log.{Logbook, now_of, alarm_among, alarm_of, event_at,
 use Rattle.tfpg_log.proofs.Events.{event_at-with_event, event_at-last}
 use Rattle.tfpg_evidence.specs.declared.finding.Finding.{Finding}
 use Rattle.tfpg_evidence.specs.declared.finding.Status.TheVariants.{Ranked, Rejected}
-use Rattle.tfpg_evidence.specs.declared.reason.Reason.{Reason}
 use Rattle.tfpg_evidence.specs.declared.reason.Reason.TheVariants.{Unreached, Upto}
 use Rattle.tfpg_evidence.specs.declared.round.Round.{Round}
 use Rattle.tfpg_evidence.specs.declared.step.Step.{Step}
 use Rattle.tfpg_evidence.specs.RoundOf.{Sizes, IsReasonOf, IsStepOf, IsFindingOf, IsRoundOf, IsRankedIn}
 use Rattle.tfpg_clause.specs.Trees.{Judged, IsRefutation}
-use Rattle.tfpg_hyp.specs.Rounds.{IsRound, steps_in, steps_so_far}
+use Rattle.tfpg_hyp.specs.Rounds.{IsRound, steps_so_far}
 use Rattle.tfpg_check.specs.Report.{Progress}
-use Rattle.tfpg.specs.Told.{rejection, ranking_round, rejecting_round}
+use Rattle.tfpg.specs.EmptyRounds.{rejection, ranking_round, rejecting_round}
 use Rattle.tfpg.specs.declared.diagnoser.Diagnoser.{Diagnoser}
 use Rattle.tfpg.specs.Diagnoser.{budget, IsRejection, IsSettled, IsReady, HasHeard}
 use Rattle.tfpg.proofs.EmptySet.{refutes}
@@ -42,7 +41,7 @@ ranking_is_of sizes number line time =
     record {
       findings = All-cons (IsFindingOf sizes) finding [] (record { set = All-nil _; steps = All-nil _; status = All-nil _ }) (All-nil _);
       numbers_rise = λ i j d lt below. absurd (omega arith);
-      order = All-cons (IsRankedIn (finding ∷ [])) 0 [] (finding, refl, tt) (All-nil _);
+      order = All-cons (IsRankedIn (finding ∷ [])) 0 [] (finding, refl, refl) (All-nil _);
     }
 
 pub rejection_is_of : (sizes : Sizes) (number time node : ℕ) → node < sizes.nodes → All (IsStepOf sizes) (rejection number time node ∷ [])

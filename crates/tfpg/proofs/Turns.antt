@@ -1,5 +1,5 @@
 -- One turn of a diagnosis after another.
-use Rattle.std.proofs.Common.{◌-◌, ◌^◌, ◌≡◌, ◌⊎◌, ℕ, ◌+◌, ◌<◌, ◌≤◌, Bool, true, false, List, [], ◌∷◌, ◌++◌, length, take, drop, Option, Some, None, Result, Ok, Err, refl, sym, ap, subst, ◌∙◌, arith, inl, inr, append_assoc}
+use Rattle.std.proofs.Common.{◌-◌, ◌^◌, ◌≡◌, ℕ, ◌+◌, ◌<◌, ◌≤◌, List, [], ◌∷◌, ◌++◌, length, take, drop, Option, Result, Ok, Err, refl, sym, ap, subst, ◌∙◌, arith, inl, append_assoc}
 use Rattle.std.specs.Prelude.{flat_map, IsErrAnd, IfErr, OnErr}
 use Rattle.std.specs.List.{AllByRecursion, slice_split}
 use Rattle.std.proofs.lemmas.List.Splits.{length-slice_split}
@@ -10,7 +10,7 @@ use Rattle.tfpg_base.specs.declared.line.Line.{Line}
 use Rattle.tfpg_base.specs.declared.line.Line.TheVariants as line
 use Rattle.tfpg_base.specs.declared.line.LineFault.{LineFault}
 use Rattle.tfpg_base.specs.declared.line.LineFault.TheVariants as fault
-use Rattle.tfpg_base.specs.Outside.{Rose, Takes, Puts, IsAtEnd}
+use Rattle.tfpg_base.specs.Outside.{Rose, Puts}
 use Rattle.tfpg_base.specs.Lines.{Reading, Buffered, Continues, IsNext, with_bytes, with_line, lines_of, whole_lines, line_of_part, last_part, ends_line, most_bytes, new_reading}
 use Rattle.tfpg_base.specs.Lines as reader
 use Rattle.tfpg_base.proofs.LinesOf.{take-lines_of}
@@ -20,7 +20,7 @@ use Rattle.tfpg_graph.specs.Graph.{Tfpg}
 use Rattle.tfpg_report.specs.declared.refused_line.RefusedLine.TheVariants.{TooLong}
 use Rattle.tfpg_report.specs.Blocks.{Block, block_text, head_text, refused_text}
 use Rattle.tfpg.proofs.Answering.{block_of_long_line}
-use Rattle.tfpg_check.specs.Report.{Progress, IsBlock, AreBlocks, IsReport, BeginsReport, report_text, start, after, after_all}
+use Rattle.tfpg_check.specs.Report.{Progress, IsBlock, AreBlocks, BeginsReport, report_text, start, after, after_all}
 use Rattle.tfpg.specs.declared.diagnoser.Diagnoser.{Diagnoser}
 use Rattle.tfpg.specs.declared.end.End.{End}
 use Rattle.tfpg.specs.declared.end.End.TheVariants as ends

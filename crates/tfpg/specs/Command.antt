@@ -1,5 +1,5 @@
 -- The words of the command line, and the one shape of them so far.
-use Rattle.std.specs.Prelude.{ℕ, List, [], ◌∷◌, length, Bool, true, false, ◌&&◌, ◌==◌, nat_lt, if◌then◌else◌, Option, Some, None, codes, bytes_eq}
+use Rattle.std.specs.Prelude.{ℕ, List, [], ◌∷◌, Bool, false, ◌&&◌, ◌==◌, if◌then◌else◌, Option, Some, None, codes, bytes_eq}
 
 -- A word that begins with a hyphen and has another byte is an option, and never a name. The hyphen alone is a word like any other.
 abbrev pub is_option_word : List ℕ → Bool

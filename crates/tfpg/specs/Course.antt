@@ -16,7 +16,8 @@ use Rattle.tfpg.specs.declared.course.Turn.TheVariants.{Answered, Ended}
 use Rattle.tfpg.specs.Diagnoser.{budget, LosesNone, StandsFor}
 use Rattle.tfpg.specs.Run.{Streams, Diagnoses}
 
--- Each line that the reader has given is answered, and the answers are put, since the streams were so.
+-- A diagnosis that began with the streams as they were before has come to this: each line that the reader has given is
+-- answered, its block is put, and nothing else was put but the head.
 pub record IsUnderWay (graph : Tfpg) (before now : Streams) (lines : Buffered) (diagnoser : Diagnoser) : Type 0 where
   pub reading : Reading
   pub takes : Takes before.left now.left reading.taken

@@ -1,8 +1,5 @@
 -- What a diagnoser of the empty hypothesis stands for.
-use Rattle.std.specs.Prelude.{◌≡◌, ℕ, ◌<◌, ◌≤◌, List, [], ◌∷◌, ◌++◌, length, Bool, true, false, Option, Some, None}
-use Rattle.tfpg_base.specs.Lines.{longest_line}
-use Rattle.tfpg_base.specs.declared.line.Line.{Line}
-use Rattle.tfpg_base.specs.declared.line.Line.TheVariants as line
+use Rattle.std.specs.Prelude.{◌≡◌, ℕ, ◌<◌, List, [], ◌∷◌, ◌++◌, length, Bool, true, false, Some, None}
 use Rattle.tfpg_graph.specs.Graph.{Tfpg}
 use Rattle.tfpg_graph.specs.Valid.{IsValid}
 use Rattle.tfpg_log.specs.declared.event.Event.{Event}
@@ -16,11 +13,10 @@ use Rattle.tfpg_evidence.specs.RoundOf.{Sizes, IsRoundOf}
 use Rattle.tfpg_hyp.specs.Rounds.{steps_so_far, IsRound}
 use Rattle.tfpg_report.specs.Blocks.{Block, RefusedBlock, RoundBlock, block_text}
 use Rattle.tfpg_check.specs.Report.{Progress, IsBlock, after}
-use Rattle.tfpg_report.specs.declared.refused_line.RefusedLine.TheVariants.{Offer}
 use Rattle.tfpg.specs.declared.diagnoser.Diagnoser.{Diagnoser}
 use Rattle.tfpg.specs.declared.diagnoser.Told.{Told}
 use Rattle.tfpg.specs.declared.diagnoser.Told.TheVariants as told
-use Rattle.tfpg.specs.Told.{rejection}
+use Rattle.tfpg.specs.EmptyRounds.{rejection}
 
 -- No panel is lost, since there are no panels yet.
 abbrev pub LosesNone : Block → Type 0

@@ -1,5 +1,5 @@
 -- The status and the line for each end of the program.
-use Rattle.std.specs.Prelude.{ℕ, List, [], ◌∷◌, codes, decimal, Option, Some, None}
+use Rattle.std.specs.Prelude.{ℕ, List, [], ◌∷◌, codes, decimal}
 use Rattle.tfpg_base.specs.Words.{line_of}
 use Rattle.tfpg_graph.specs.declared.cause.GraphCause.{GraphCause}
 use Rattle.tfpg_graph.specs.declared.cause.GraphCause.TheVariants as graph
@@ -8,6 +8,7 @@ use Rattle.tfpg.specs.declared.end.End.TheVariants.{Done, Usage, Graph, ReadFaul
 use Rattle.tfpg.specs.declared.end.UsageCause.{UsageCause}
 use Rattle.tfpg.specs.declared.end.UsageCause.TheVariants as usage
 
+-- the status with which the program exits
 abbrev pub status_of : End → ℕ
 status_of Done = 0
 status_of (Usage cause) = 2
@@ -17,10 +18,11 @@ status_of WriteFault = 6
 status_of TooMuchInput = 7
 status_of NoMemory = 8
 
+-- the name of why the words of the command line are refused
 abbrev pub usage_name : UsageCause → List ℕ
 usage_name usage.NotBuilt = codes "NotBuilt"
 
--- the name of a cause
+-- the name of what is wrong with a graph
 abbrev pub graph_cause_name : GraphCause → List ℕ
 graph_cause_name graph.BadHeader = codes "BadHeader"
 graph_cause_name graph.BadLine = codes "BadLine"

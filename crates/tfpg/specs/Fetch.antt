@@ -1,6 +1,6 @@
 -- What fetching the graph of a file gives.
-use Rattle.std.specs.Prelude.{◌≡◌, ◌⊎◌, ℕ, ◌≤◌, ◌^◌, List, [], ◌∷◌, ◌++◌, length, Option, Some, None, IfSome}
-use Rattle.tfpg_base.specs.Outside.{Gives, PassesLimit}
+use Rattle.std.specs.Prelude.{◌≡◌, ◌⊎◌, ℕ, ◌≤◌, List, [], ◌∷◌, ◌++◌, length, Option, Some, None, IfSome}
+use Rattle.tfpg_base.specs.Outside.{Gives, PassesLimit, longest_file}
 use Rattle.tfpg_graph.specs.Graph.{Tfpg}
 use Rattle.tfpg_graph.specs.Text.{Spells}
 use Rattle.tfpg_graph.specs.Valid.{IsValid}
@@ -12,7 +12,7 @@ use Rattle.tfpg.specs.declared.end.End.TheVariants.{Done, Usage, Graph, ReadFaul
 pub record GivesGraph (files : Option (List (List ℕ × List ℕ))) (name : List ℕ) (graph : Tfpg) : Type 0 where
   pub text : List ℕ
   pub gives : Gives files name text
-  pub small : length text ≤ 2 ^ 24
+  pub small : length text ≤ longest_file
   pub spells : Spells text graph
   pub valid : IsValid graph
 
@@ -21,7 +21,7 @@ pub record GivesGraph (files : Option (List (List ℕ × List ℕ))) (name : Lis
 abbrev pub FetchEnds : Option (List (List ℕ × List ℕ)) → List ℕ → Type 0 → End → Type 0
 FetchEnds files name rose ReadFault = rose
 FetchEnds files name rose TooMuchInput = (front : List ℕ) × PassesLimit files name front
-FetchEnds files name rose (Graph line cause) = (text : List ℕ) × Gives files name text × (length text ≤ 2 ^ 24) × IsFirstFault text (record { line = line; cause = cause })
+FetchEnds files name rose (Graph line cause) = (text : List ℕ) × Gives files name text × (length text ≤ longest_file) × IsFirstFault text (record { line = line; cause = cause })
 FetchEnds files name rose NoMemory = Unit {0}
 FetchEnds files name rose Done = ⊥
 FetchEnds files name rose (Usage cause) = ⊥

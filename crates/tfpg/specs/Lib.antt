@@ -1,4 +1,4 @@
-pub mod Told
+pub mod EmptyRounds
 pub mod Diagnoser
 pub mod Command
 pub mod Ends

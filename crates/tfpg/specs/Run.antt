@@ -1,5 +1,5 @@
 -- What a run of the program does with the outside.
-use Rattle.std.specs.Prelude.{◌≡◌, ◌⊎◌, ℕ, ◌+◌, ◌≤◌, ◌^◌, List, [], length, map, Option, Some, None}
+use Rattle.std.specs.Prelude.{◌≡◌, ◌⊎◌, ℕ, ◌+◌, List, length, Option, Some, None}
 use Rattle.std.specs.List.{AllByRecursion}
 use Rattle.tfpg_base.specs.Lines.{lines_of, most_bytes}
 use Rattle.tfpg_base.specs.Outside.{Rose, Takes, Puts, IsAtEnd}
@@ -20,6 +20,7 @@ pub record Streams : Type 0 where
   pub input_faults : ℕ
   pub sink_faults : ℕ
 
+-- the streams, from what is left of the input, what the output holds, and how often each has failed
 abbrev pub streams : Option (List ℕ) → Option (List ℕ) → ℕ → ℕ → Streams
 streams left holds input_faults sink_faults = record { left = left; holds = holds; input_faults = input_faults; sink_faults = sink_faults }
 

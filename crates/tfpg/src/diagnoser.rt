@@ -1,6 +1,7 @@
 //! The diagnosis of the one hypothesis that there is without failure modes: the empty set.
 
 ghost use Rattle.std.specs.Prelude.{◌≡◌, ◌≤◌, ◌∷◌, ◌++◌, [], IfOk, length};
+ghost use Rattle.tfpg_base.specs.Lines.{longest_line};
 ghost use Rattle.tfpg_graph.specs.Graph.{Tfpg};
 ghost use Rattle.tfpg_evidence.specs.RoundOf.{IsRoundOf};
 ghost use Rattle.tfpg_log.specs.Log.{IsEventOf};
@@ -8,7 +9,7 @@ ghost use Rattle.tfpg_hyp.specs.Rounds.{IsRound};
 ghost use Rattle.tfpg_graph.specs.Valid.{IsValid};
 ghost use Rattle.tfpg_report.specs.Blocks.{sizes_of, refused_text, round_text};
 ghost use Rattle.tfpg_check.specs.Report.{Progress, start};
-ghost use Rattle.tfpg.specs.Told.{ranking_round, rejecting_round, rejection};
+ghost use Rattle.tfpg.specs.EmptyRounds.{ranking_round, rejecting_round, rejection};
 ghost use Rattle.tfpg.specs.Diagnoser.{budget, StandsFor, HasHeard, IsReady, Tells, after_told, IsToldOf, HasBlock};
 
 use std::alloc::Global;
@@ -56,7 +57,7 @@ impl Diagnoser {
         text: &[u8],
     ) -> Result<Vec<u8>, NoMemory>
         requires { IsReady self.old }
-        ensures block { (before : Progress) → StandsFor self.old before → length text.now ≤ 4096
+        ensures block { (before : Progress) → StandsFor self.old before → length text.now ≤ longest_line
             → IfOk result (λ block. HasBlock self.old.graph before number text.now block.items self.new) }
         ensures graph { self.new.graph ≡ self.old.graph }
         ensures ready { IsReady self.new }
@@ -96,15 +97,15 @@ impl Diagnoser {
         let number = self.log.len();
         let now = self.log.now();
         if self.rejected {
-            return reject(alloc, number, line, now, StepList::new(alloc));
+            return rejecting_round(alloc, number, line, now, StepList::new(alloc));
         }
         match event {
             Event::Alarm { time, node } => {
                 self.rejected = true;
-                let steps = refute(alloc, number, time, node)?;
-                reject(alloc, number, line, now, steps)
+                let steps = rejection(alloc, number, time, node)?;
+                rejecting_round(alloc, number, line, now, steps)
             }
-            _ => rank(alloc, number, line, now),
+            _ => ranking_round(alloc, number, line, now),
         }
     }
 }
@@ -133,7 +134,7 @@ fn round_block(alloc: Global, graph: &Graph, round: &Round) -> Result<Vec<u8>, N
 }
 
 /// The step that rejects the empty set by the alarm of this event.
-fn refute(alloc: Global, event: u32, time: u64, node: u32) -> Result<StepList, NoMemory>
+fn rejection(alloc: Global, event: u32, time: u64, node: u32) -> Result<StepList, NoMemory>
     ensures { IfOk result (λ steps. steps ≡ rejection event time node ∷ []) }
 {
     let mut reasons = Reasons::new(alloc);
@@ -148,7 +149,7 @@ fn refute(alloc: Global, event: u32, time: u64, node: u32) -> Result<StepList, N
 }
 
 /// A round that ranks the empty set, with the empty trace.
-fn rank(alloc: Global, number: u32, line: u64, now: u64) -> Result<Round, NoMemory>
+fn ranking_round(alloc: Global, number: u32, line: u64, now: u64) -> Result<Round, NoMemory>
     ensures { IfOk result (λ round. round ≡ ranking_round number line now) }
 {
     let status = Status::Ranked {
@@ -163,7 +164,7 @@ fn rank(alloc: Global, number: u32, line: u64, now: u64) -> Result<Round, NoMemo
         number,
         line,
         now,
-        findings: find(alloc, StepList::new(alloc), status)?,
+        findings: finding_on_empty_set(alloc, StepList::new(alloc), status)?,
         order,
         counts: Counts {
             ranked: 1,
@@ -175,7 +176,7 @@ fn rank(alloc: Global, number: u32, line: u64, now: u64) -> Result<Round, NoMemo
 }
 
 /// A round in which the empty set is rejected, with these steps.
-fn reject(
+fn rejecting_round(
     alloc: Global,
     number: u32,
     line: u64,
@@ -188,7 +189,7 @@ fn reject(
         number,
         line,
         now,
-        findings: find(alloc, steps, Status::Rejected)?,
+        findings: finding_on_empty_set(alloc, steps, Status::Rejected)?,
         order: NumberList::new(alloc),
         counts: Counts {
             ranked: 0,
@@ -200,7 +201,11 @@ fn reject(
 }
 
 /// The one finding, on the empty set.
-fn find(alloc: Global, steps: StepList, status: Status) -> Result<Findings, NoMemory>
+fn finding_on_empty_set(
+    alloc: Global,
+    steps: StepList,
+    status: Status,
+) -> Result<Findings, NoMemory>
     ensures { IfOk result (λ findings. findings ≡ record { number = 0; set = []; steps = steps; status = status } ∷ []) }
 {
     let mut findings = Findings::new(alloc);

@@ -1,6 +1,6 @@
 //! How a run of the program ends.
 
-ghost use Rattle.std.specs.Prelude.{◌≡◌, ◌++◌, ◌∷◌, [], codes, decimal};
+ghost use Rattle.std.specs.Prelude.{◌≡◌, ◌∷◌, [], codes, decimal};
 ghost use Rattle.tfpg_base.specs.Append.{Appends};
 ghost use Rattle.tfpg_base.specs.Words.{line_of};
 ghost use Rattle.tfpg.specs.Ends.{graph_cause_name, line_of_end, status_of, usage_name};
@@ -8,7 +8,7 @@ ghost use Rattle.tfpg.specs.EndsOf.{end_of_fault, end_of_shelf, end_of_refusal};
 ghost use Rattle.tfpg.specs.declared.end.End.TheVariants as ends;
 
 use itoa::Buffer;
-use tfpg_base::{Failed, LineFault, NoMemory, ShelfFault};
+use tfpg_base::{Failed, LineFault, NoMemory, ShelfFault, put_words};
 use tfpg_graph::{GraphCause, GraphRefusal};
 
 /// Why the words of the command line are refused.
@@ -97,12 +97,37 @@ impl From<Failed> for End {
     }
 }
 
+impl From<ShelfFault> for End {
+    ghost from_gives = { λ fault e. e ≡ end_of_shelf fault };
+
+    fn from(fault: ShelfFault) -> End {
+        match fault {
+            ShelfFault::Failed => End::ReadFault,
+            ShelfFault::TooLong => End::TooMuchInput,
+            ShelfFault::NoMemory => End::NoMemory,
+        }
+    }
+}
+
+impl From<GraphRefusal> for End {
+    ghost from_gives = { λ refusal e. e ≡ end_of_refusal refusal };
+
+    fn from(refusal: GraphRefusal) -> End {
+        match refusal {
+            GraphRefusal::Fault(fault) => End::Graph {
+                line: fault.line,
+                cause: fault.cause,
+            },
+            GraphRefusal::NoMemory => End::NoMemory,
+        }
+    }
+}
+
 /// Appends what is said of words that are refused.
 fn put_usage(cause: UsageCause, into: &mut Vec<u8>) -> Result<(), NoMemory>
     ensures { Appends result into.old.items into.new.items (line_of (codes "usage" ∷ usage_name cause ∷ [])) }
 {
-    put(b"usage", into)?;
-    put_next(usage_cause_word(cause), into)
+    put_words(into, &[b"usage", usage_cause_word(cause)])
 }
 
 /// Appends what is said of a graph that is refused.
@@ -110,17 +135,14 @@ fn put_graph(line: u64, cause: GraphCause, into: &mut Vec<u8>) -> Result<(), NoM
     ensures { Appends result into.old.items into.new.items (line_of (codes "graph" ∷ decimal line ∷ graph_cause_name cause ∷ [])) }
 {
     let mut digits = Buffer::new();
-    put(b"graph", into)?;
-    put_next(digits.format(line).as_bytes(), into)?;
-    put_next(graph_cause_word(cause), into)
-}
-
-/// Appends a word behind a space.
-fn put_next(word: &[u8], into: &mut Vec<u8>) -> Result<(), NoMemory>
-    ensures { Appends result into.old.items into.new.items (32 ∷ word.now) }
-{
-    put(b" ", into)?;
-    put(word, into)
+    put_words(
+        into,
+        &[
+            b"graph",
+            digits.format(line).as_bytes(),
+            graph_cause_word(cause),
+        ],
+    )
 }
 
 /// Appends a text.
@@ -166,31 +188,5 @@ fn graph_cause_word(cause: GraphCause) -> &'static [u8]
         GraphCause::TooManyIncoming => b"TooManyIncoming",
         GraphCause::MissingEnd => b"MissingEnd",
         GraphCause::AfterEnd => b"AfterEnd",
-    }
-}
-
-impl From<ShelfFault> for End {
-    ghost from_gives = { λ fault e. e ≡ end_of_shelf fault };
-
-    fn from(fault: ShelfFault) -> End {
-        match fault {
-            ShelfFault::Failed => End::ReadFault,
-            ShelfFault::TooLong => End::TooMuchInput,
-            ShelfFault::NoMemory => End::NoMemory,
-        }
-    }
-}
-
-impl From<GraphRefusal> for End {
-    ghost from_gives = { λ refusal e. e ≡ end_of_refusal refusal };
-
-    fn from(refusal: GraphRefusal) -> End {
-        match refusal {
-            GraphRefusal::Fault(fault) => End::Graph {
-                line: fault.line,
-                cause: fault.cause,
-            },
-            GraphRefusal::NoMemory => End::NoMemory,
-        }
     }
 }

@@ -145,7 +145,7 @@ const HEAD: &[u8] = b"report 1 k 0 budget 1000\n";
 
 /// Logs over the graph with two modes: how many bytes the first lines have, where they are nothing but `x`; the lines
 /// behind them; and what the report has behind its head.
-const LOGS: [(&[usize], &[u8], &[u8]); 8] = [
+const LOGS: [(&[usize], &[u8], &[u8]); 10] = [
     (&[], b"", b""),
     (
         &[],
@@ -171,6 +171,16 @@ const LOGS: [(&[usize], &[u8], &[u8]); 8] = [
         &[],
         b"10 sweep\n10 alarm A\n",
         b"round 1 1 10\nranked 0 cost 0 robust 1/1 set -\ncounts ranked 1 covered 0 rejected 0 open 0\nround 2 2 10\nhyp 0\ncycle 2\nwhy unreached A 10\nwhy upto 2\nrejected 0 set -\ncounts ranked 0 covered 0 rejected 1 open 0\n",
+    ),
+    (
+        &[],
+        b"10 silent A\n10 alarm A\n",
+        b"round 1 1 10\nranked 0 cost 0 robust 1/1 set -\ncounts ranked 1 covered 0 rejected 0 open 0\nround 2 2 10\nhyp 0\ncycle 2\nwhy unreached A 10\nwhy upto 2\nrejected 0 set -\ncounts ranked 0 covered 0 rejected 1 open 0\n",
+    ),
+    (
+        &[],
+        b"20 mode D\n30 alarm C\n",
+        b"round 1 1 20\nranked 0 cost 0 robust 1/1 set -\ncounts ranked 1 covered 0 rejected 0 open 0\nround 2 2 30\nhyp 0\ncycle 2\nwhy unreached C 30\nwhy upto 2\nrejected 0 set -\ncounts ranked 0 covered 0 rejected 1 open 0\n",
     ),
     (
         &[],

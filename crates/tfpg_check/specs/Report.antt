@@ -49,6 +49,7 @@ IsBlockOf graph k budget before number block (Ok event) =
     × IsRound graph k budget before.rounds (with_event before.log event) number round
     × AllPairs (λ earlier later. earlier.panel < later.panel) losses
 
+-- This is the block of a line of this number, behind what the report has come to.
 abbrev pub IsBlock : Tfpg → ℕ → ℕ → Progress → ℕ → List ℕ → Block → Type 0
 IsBlock graph k budget before number line block = IsBlockOf graph k budget before number block (event_of_line graph before.log line)
 

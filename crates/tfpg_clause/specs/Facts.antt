@@ -1,9 +1,9 @@
 -- Facts: constraints that every trace meets which explains the log from a set with this reach.
-use Rattle.std.specs.Prelude.{ℕ, ◌+◌, ◌-◌, pos, List, length, Bool, not, ◌&&◌, nat_lt, nat_le, ◌==◌, if◌then◌else◌, Option, Some, None, unwrap_or, option_map, option_and_then}
-use Rattle.std.specs.List.{list_any}
+use Rattle.std.specs.Prelude.{ℕ, ◌+◌, ◌-◌, pos, List, length, Bool, not, ◌&&◌, nat_lt, nat_le, if◌then◌else◌, Option, Some, None, unwrap_or, option_map, option_and_then}
+use Rattle.tfpg_base.specs.Times.{never}
 use Rattle.tfpg_base.specs.declared.constraint.Constraint.{Constraint}
 use Rattle.tfpg_graph.specs.Graph.{Tfpg, lag_at}
-use Rattle.tfpg_base.specs.Times.{never}
+use Rattle.tfpg_graph.specs.Reach.{is_among}
 use Rattle.tfpg_log.specs.declared.event.Event.{Event}
 use Rattle.tfpg_log.specs.declared.event.Event.TheVariants.{Alarm, Silent, Sweep, Tick, Mode}
 use Rattle.tfpg_log.specs.Log.{Logbook, now_of, event_at, quiet_at}
@@ -36,7 +36,7 @@ abbrev pub fact : Tfpg → Logbook → List ℕ → Reason → Option Constraint
 fact graph log reach (Zero node) = where_so (nat_lt node (length graph.nodes)) (at_least node 0)
 fact graph log reach (Top node) = where_so (nat_lt node (length graph.nodes)) (at_most node (pos never))
 fact graph log reach (Unreached node horizon) =
-    where_so (nat_lt node (length graph.nodes) && (nat_le horizon (now_of log) && not (list_any (λ reached. reached == node) reach))) (at_least node (horizon + 1))
+    where_so (nat_lt node (length graph.nodes) && (nat_le horizon (now_of log) && not (is_among reach node))) (at_least node (horizon + 1))
 fact graph log reach (From event) = option_and_then (from_alarm graph) (event_at log event)
 fact graph log reach (Upto event) = option_and_then upto_alarm (event_at log event)
 fact graph log reach (Quiet event node) = option_map (λ time. at_least node (time + 1)) (quiet_at graph log event node)

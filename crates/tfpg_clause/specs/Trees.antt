@@ -23,6 +23,7 @@ mutual
     Leaf : (seen : ℕ) (reasons : List Reason) → Tree
     Branch : (seen : ℕ) (name : ClauseName) (subtrees : Subtrees) → Tree
 
+  -- trees one behind the other
   pub data Subtrees : Type 0 where
     NoMore : Subtrees
     Next : (tree : Tree) (others : Subtrees) → Subtrees
@@ -33,10 +34,12 @@ abbrev mutual
   steps_of (Leaf seen reasons) = record { seen = seen; step = Cycle reasons } ∷ []
   steps_of (Branch seen name subtrees) = record { seen = seen; step = Split name } ∷ steps_of_all subtrees
 
+  -- the steps of the trees, one tree behind the other
   pub steps_of_all : Subtrees → List Judged
   steps_of_all NoMore = []
   steps_of_all (Next tree others) = steps_of tree ++ steps_of_all others
 
+-- how many subtrees there are
 abbrev pub count_of : Subtrees → ℕ
 count_of NoMore = 0
 count_of (Next tree others) = suc (count_of others)
@@ -48,6 +51,7 @@ abbrev mutual
   IsFinished graph log (Branch seen name subtrees) =
       (clause : List (List Constraint)) × (alternatives graph (first_events log seen) name ≡ Some clause) × (count_of subtrees ≡ length clause) × AreFinished graph log subtrees
 
+  -- Each of these trees is finished.
   pub AreFinished : Tfpg → Logbook → Subtrees → Type 0
   AreFinished graph log NoMore = Unit {0}
   AreFinished graph log (Next tree others) = IsFinished graph log tree × AreFinished graph log others
@@ -115,6 +119,7 @@ pub record IsRefutation (graph : Tfpg) (log : Logbook) (reach : List ℕ) (steps
   pub finished : IsFinished graph log tree
   pub closed : All (IsClosedLeaf graph log reach) (leaves graph log [] tree)
 
+-- the test of a step that closes a leaf by a cycle
 abbrev pub is_cycle : Step → Bool
 is_cycle (Split name) = false
 is_cycle (Cycle reasons) = true

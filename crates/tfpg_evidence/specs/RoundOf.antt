@@ -1,5 +1,5 @@
 -- Rounds that name only what a graph has: so many nodes, edges and failure modes.
-use Rattle.std.specs.Prelude.{◌≡◌, ℕ, ◌<◌, List, All, AllPairs, find, ◌==◌, Option, Some}
+use Rattle.std.specs.Prelude.{◌≡◌, ℕ, ◌<◌, List, All, AllPairs, Bool, true, false, IsTrue, find, ◌==◌, Option, Some}
 use Rattle.tfpg_evidence.specs.declared.clause_name.ClauseName.{ClauseName}
 use Rattle.tfpg_evidence.specs.declared.clause_name.ClauseName.TheVariants.{OrMay, AndMay, OrMust, AndMust}
 use Rattle.tfpg_evidence.specs.declared.reason.Reason.{Reason}
@@ -17,6 +17,7 @@ pub record Sizes : Type 0 where
   pub edges : ℕ
   pub failures : ℕ
 
+-- The reason names no node but those of the graph.
 abbrev pub IsReasonOf : Sizes → Reason → Type 0
 IsReasonOf sizes (Zero node) = node < sizes.nodes
 IsReasonOf sizes (Top node) = node < sizes.nodes
@@ -26,16 +27,19 @@ IsReasonOf sizes (Upto event) = Unit {0}
 IsReasonOf sizes (Quiet event node) = node < sizes.nodes
 IsReasonOf sizes (Pick split place) = Unit {0}
 
+-- The clause names a node or an edge of the graph.
 abbrev pub IsClauseOf : Sizes → ClauseName → Type 0
 IsClauseOf sizes (OrMay node span horizon) = node < sizes.nodes
 IsClauseOf sizes (AndMay edge span horizon) = edge < sizes.edges
 IsClauseOf sizes (OrMust edge span horizon) = edge < sizes.edges
 IsClauseOf sizes (AndMust node span horizon) = node < sizes.nodes
 
+-- The step names only what the graph has: in its clause, or in each of its reasons.
 abbrev pub IsStepOf : Sizes → Step → Type 0
 IsStepOf sizes (Split name) = IsClauseOf sizes name
 IsStepOf sizes (Cycle reasons) = All (IsReasonOf sizes) reasons
 
+-- The status names no node but those of the graph: a ranked one has a trace, the others name no node.
 abbrev pub IsStatusOf : Sizes → Status → Type 0
 IsStatusOf sizes (Ranked trace cost alarmed monitored) = All (λ activation. activation.node < sizes.nodes) trace
 IsStatusOf sizes (Covered by) = Unit {0}
@@ -48,11 +52,12 @@ pub record IsFindingOf (sizes : Sizes) (finding : Finding) : Type 0 where
   pub steps : All (IsStepOf sizes) finding.steps
   pub status : IsStatusOf sizes finding.status
 
-abbrev pub IsRankedStatus : Status → Type 0
-IsRankedStatus (Ranked trace cost alarmed monitored) = Unit {0}
-IsRankedStatus (Covered by) = ⊥
-IsRankedStatus Rejected = ⊥
-IsRankedStatus Open = ⊥
+-- the test of a status that ranks
+abbrev pub is_ranked : Status → Bool
+is_ranked (Ranked trace cost alarmed monitored) = true
+is_ranked (Covered by) = false
+is_ranked Rejected = false
+is_ranked Open = false
 
 -- the finding of a number
 abbrev pub finding_numbered : List Finding → ℕ → Option Finding
@@ -60,7 +65,7 @@ finding_numbered findings number = find (λ finding. finding.number == number) f
 
 -- the number is that of a ranked finding
 abbrev pub IsRankedIn : List Finding → ℕ → Type 0
-IsRankedIn findings number = (finding : Finding) × (finding_numbered findings number ≡ Some finding) × IsRankedStatus finding.status
+IsRankedIn findings number = (finding : Finding) × (finding_numbered findings number ≡ Some finding) × IsTrue (is_ranked finding.status)
 
 -- A round is of a graph of these sizes: it names only what the graph has, the numbers of its findings rise, and each number
 -- of its order is that of a ranked one.

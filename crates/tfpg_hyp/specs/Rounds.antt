@@ -10,30 +10,27 @@ use Rattle.tfpg_evidence.specs.declared.finding.Status.{Status}
 use Rattle.tfpg_evidence.specs.declared.finding.Status.TheVariants.{Ranked, Covered, Rejected, Open}
 use Rattle.tfpg_evidence.specs.declared.round.Round.{Round}
 use Rattle.tfpg_evidence.specs.declared.round.Counts.{Counts}
+use Rattle.tfpg_evidence.specs.RoundOf.{is_ranked}
 use Rattle.tfpg_clause.specs.Trees.{Judged, IsRefutation, IsPartial, is_cycle}
 use Rattle.tfpg_hyp.specs.Table.{IsTable}
 use Rattle.tfpg_hyp.specs.declared.place.Place.{Place}
 use Rattle.tfpg_hyp.specs.Ranking.{cost_of, robustness_of, IsRankedBefore}
 
--- tests of a status
-abbrev pub is_ranked : Status → Bool
-is_ranked (Ranked trace cost alarmed monitored) = true
-is_ranked (Covered by) = false
-is_ranked Rejected = false
-is_ranked Open = false
-
+-- the test of a status that is covered
 abbrev pub is_covered : Status → Bool
 is_covered (Ranked trace cost alarmed monitored) = false
 is_covered (Covered by) = true
 is_covered Rejected = false
 is_covered Open = false
 
+-- the test of a status that rejects
 abbrev pub is_rejected : Status → Bool
 is_rejected (Ranked trace cost alarmed monitored) = false
 is_rejected (Covered by) = false
 is_rejected Rejected = true
 is_rejected Open = false
 
+-- the test of a status that is open
 abbrev pub is_open : Status → Bool
 is_open (Ranked trace cost alarmed monitored) = false
 is_open (Covered by) = false
@@ -56,6 +53,7 @@ pub record IsRankedPart (findings : List Finding) (set : List ℕ) (number : ℕ
   pub ranked : IsTrue (is_ranked finding.status)
   pub part : IsProperPart finding.set set
 
+-- Some hypothesis is ranked whose set is a proper part of the set.
 abbrev pub HasRankedPart : List Finding → List ℕ → Type 0
 HasRankedPart findings set = (number : ℕ) × IsRankedPart findings set number
 
@@ -90,6 +88,7 @@ place_of_status number (Covered by) = None
 place_of_status number Rejected = None
 place_of_status number Open = None
 
+-- where the hypothesis of a number stands, if it is ranked
 abbrev pub place_at : List Finding → ℕ → Option Place
 place_at findings number = option_and_then (λ finding. place_of_status number finding.status) (slice_get findings number)
 

@@ -57,6 +57,7 @@ abbrev pub time_words : Option ℕ → List (List ℕ)
 time_words None = []
 time_words (Some time) = decimal time ∷ []
 
+-- the words for why a line is refused
 abbrev pub cause_words : RefusedLine → List (List ℕ)
 cause_words TooLong = codes "TooLong" ∷ []
 cause_words (Offer refusal) = refusal_name refusal ∷ time_words (refusal_time refusal)
@@ -78,12 +79,14 @@ abbrev pub set_word : Tfpg → List ℕ → List ℕ
 set_word graph [] = codes "-"
 set_word graph (place ∷ places) = join_with_byte 44 (map (λ p. unwrap_or (option_and_then (name_at graph) (failure_at graph p)) []) (place ∷ places))
 
+-- the words that name a clause
 abbrev pub clause_words : Tfpg → ClauseName → List (List ℕ)
 clause_words graph (OrMay node span horizon) = codes "ormay" ∷ name_word graph node ∷ decimal span ∷ decimal horizon ∷ []
 clause_words graph (AndMay edge span horizon) = codes "andmay" ∷ edge_words graph edge ++ decimal span ∷ decimal horizon ∷ []
 clause_words graph (OrMust edge span horizon) = codes "ormust" ∷ edge_words graph edge ++ decimal span ∷ decimal horizon ∷ []
 clause_words graph (AndMust node span horizon) = codes "andmust" ∷ name_word graph node ∷ decimal span ∷ decimal horizon ∷ []
 
+-- the words for a reason
 abbrev pub reason_words : Tfpg → Reason → List (List ℕ)
 reason_words graph (Zero node) = codes "zero" ∷ name_word graph node ∷ []
 reason_words graph (Top node) = codes "top" ∷ name_word graph node ∷ []
@@ -133,6 +136,7 @@ rejected_text graph finding (Covered by) = []
 rejected_text graph finding Rejected = if length finding.steps == 0 then [] else text_line (codes "rejected" ∷ hypothesis_words graph finding)
 rejected_text graph finding Open = []
 
+-- the line that says how many hypotheses have each status
 abbrev pub counts_text : Counts → List ℕ
 counts_text counts =
     text_line (codes "counts" ∷ codes "ranked" ∷ decimal counts.ranked ∷ codes "covered" ∷ decimal counts.covered ∷ codes "rejected" ∷ decimal counts.rejected
@@ -162,6 +166,7 @@ pub record Loss : Type 0 where
   pub panel : ℕ
   pub no_memory : Bool
 
+-- the line of a panel that was lost, or that found no memory
 abbrev pub lost_text : Loss → List ℕ
 lost_text loss = text_line (codes "panel" ∷ decimal loss.panel ∷ (if loss.no_memory then codes "memory" else codes "lost") ∷ [])
 
@@ -170,6 +175,7 @@ pub data Block : Type 0 where
   RefusedBlock : (line : ℕ) (cause : RefusedLine) → Block
   RoundBlock : (round : Round) (losses : List Loss) → Block
 
+-- the text of a block
 abbrev pub block_text : Tfpg → Block → List ℕ
 block_text graph (RefusedBlock line cause) = refused_text line cause
 block_text graph (RoundBlock round losses) = round_text graph round ++ flat_map lost_text losses

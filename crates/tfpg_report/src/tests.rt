@@ -1,7 +1,7 @@
 //! The texts of the blocks, by the shapes of the lines of a report.
 
-ghost use Rattle.std.specs.Prelude.{◌≡◌, All, IfOk};
-ghost use Rattle.tfpg_evidence.specs.RoundOf.{IsFindingOf, IsRankedStatus, IsReasonOf, IsRoundOf, IsStepOf};
+ghost use Rattle.std.specs.Prelude.{◌≡◌, All, IfOk, IsTrue};
+ghost use Rattle.tfpg_evidence.specs.RoundOf.{IsFindingOf, IsReasonOf, IsRoundOf, IsStepOf, is_ranked};
 
 use super::*;
 use std::alloc::Global;
@@ -58,7 +58,7 @@ fn rejected(alloc: Global) -> Result<Finding, NoMemory>
 
 /// F1 explains the alarm.
 fn ranked(alloc: Global) -> Result<Finding, NoMemory>
-    ensures { IfOk result (λ finding. IsFindingOf (record { nodes = 3; edges = 2; failures = 2 }) finding × (finding.number ≡ 1) × IsRankedStatus finding.status) }
+    ensures { IfOk result (λ finding. IsFindingOf (record { nodes = 3; edges = 2; failures = 2 }) finding × (finding.number ≡ 1) × IsTrue (is_ranked finding.status)) }
 {
     let clause = ClauseName::OrMay {
         node: 2,

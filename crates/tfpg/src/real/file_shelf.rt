@@ -8,10 +8,7 @@ use std::alloc::Global;
 use std::fs;
 use std::io::Read;
 use std::rt::Files;
-use tfpg_base::{Shelf, ShelfFault};
-
-/// How many bytes a file may have.
-const LONGEST_FILE: usize = 1 << 24;
+use tfpg_base::{LONGEST_FILE, Shelf, ShelfFault};
 
 /// How many bytes of a file are read at once.
 const BLOCK: usize = 4096;
@@ -33,6 +30,7 @@ impl<'a, R> FileShelf<'a, R> {
     }
 
     /// How often fetching has failed.
+    #[cfg(test)]
     pub(crate) fn faults(&self) -> u64
         ensures { result ≡ self.now.faults.count }
     {
@@ -78,6 +76,7 @@ fn read_whole<R: Read>(reader: &mut R, into: &mut Vec<u8>) -> Result<(), ShelfFa
     ensures too_long { IsErrOf result ShelfFault.TooLong → length into.new.items ≡ 2 ^ 24 }
 {
     let mut room = [0; BLOCK];
+    // The bound lets the call be proved to return; no run comes near it.
     for _ in 0..u64::MAX {
         match read_uncut(reader, &mut room) {
             Ok(0) => return Ok(()),

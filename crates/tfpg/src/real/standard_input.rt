@@ -24,6 +24,7 @@ impl<R> StandardInput<R> {
     }
 
     /// How often taking has failed.
+    #[cfg(test)]
     pub(crate) fn faults(&self) -> u64
         ensures { result ≡ self.now.faults.count }
     {

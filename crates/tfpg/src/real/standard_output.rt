@@ -25,6 +25,7 @@ impl<W> StandardOutput<W> {
     }
 
     /// How often putting has failed.
+    #[cfg(test)]
     pub(crate) fn faults(&self) -> u64
         ensures { result ≡ self.now.faults.count }
     {

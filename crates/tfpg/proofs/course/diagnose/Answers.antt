@@ -1,4 +1,4 @@
-use Rattle.std.proofs.Common.{◌≡◌, ◌-◌, ◌+◌, ◌<◌, ◌≤◌, ℕ, arith, subst}
+use Rattle.std.proofs.Common.{subst}
 use Rattle.tfpg.specs.Course.{LeadsTo}
 use Rattle.tfpg.proofs.Turns.{err_is, few_given, begins_under_way, begins_badly, falls_short}
 use Rattle.tfpg.proofs.course.diagnose.Goals as goal

@@ -1,7 +1,6 @@
-use Rattle.std.proofs.Common.{◌≡◌, sym, subst, ap, ◌∙◌}
+use Rattle.std.proofs.Common.{sym, subst, ◌∙◌}
 use Rattle.std.proofs.lemmas.Result.{IfOk-weaker}
 use Rattle.tfpg.specs.declared.end.End.TheVariants as ends
-use Rattle.tfpg.specs.declared.course.Turn.TheVariants.{Answered}
 use Rattle.tfpg.specs.EndsOf.{end_of_fault}
 use Rattle.tfpg.specs.Course.{LeadsTo}
 use Rattle.tfpg.proofs.Putting.{Puts-same}

@@ -1,4 +1,4 @@
-use Rattle.std.proofs.Common.{◌≡◌, ◌≤◌, ◌++◌, take, drop, List, ℕ, arith, ◌∙◌, ap, sym}
+use Rattle.std.proofs.Common.{◌++◌, take, List, ℕ, arith, ◌∙◌, ap, sym}
 use Rattle.tfpg.proofs.Putting.{Puts-append, more_is_put}
 use Rattle.tfpg.proofs.output.put_all.Goals as goal
 

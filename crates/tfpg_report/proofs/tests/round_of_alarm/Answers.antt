@@ -1,9 +1,10 @@
 use Rattle.std.proofs.Common.{◌≡◌, ℕ, ◌<◌, List, [], ◌∷◌, refl, sym, ap, subst, ◌∙◌, arith}
 use Rattle.std.proofs.lemmas.List.Elements.{All-nil, All-cons, All-same}
+use Rattle.std.specs.Prelude.{IsTrue}
 use Rattle.tfpg_base.proofs.Elements.{AllPairs-cons}
 use Rattle.tfpg_evidence.specs.declared.finding.Finding.{Finding}
 use Rattle.tfpg_evidence.specs.declared.round.Round.{Round}
-use Rattle.tfpg_evidence.specs.RoundOf.{Sizes, IsFindingOf, IsRankedStatus, IsRankedIn, IsRoundOf}
+use Rattle.tfpg_evidence.specs.RoundOf.{Sizes, IsFindingOf, IsRankedIn, IsRoundOf, is_ranked}
 use Rattle.tfpg_report.proofs.Findings.{RiseByNumber, finding_numbered-at}
 use Rattle.tfpg_report.proofs.tests.round_of_alarm.Goals as goal
 
@@ -16,7 +17,7 @@ rise_of_three a b d ab bd =
 
 -- a round of three findings of which the second is ranked
 round_of_three : (sizes : Sizes) (round : Round) (a b d : Finding) → round.findings ≡ a ∷ b ∷ d ∷ [] → round.order ≡ b.number ∷ []
-    → IsFindingOf sizes a → IsFindingOf sizes b → IsFindingOf sizes d → a.number < b.number → b.number < d.number → IsRankedStatus b.status → IsRoundOf sizes round
+    → IsFindingOf sizes a → IsFindingOf sizes b → IsFindingOf sizes d → a.number < b.number → b.number < d.number → IsTrue (is_ranked b.status) → IsRoundOf sizes round
 round_of_three sizes round a b d e o fa fb fd ab bd ranked =
     let rise : RiseByNumber round.findings = subst RiseByNumber (sym e) (rise_of_three a b d ab bd) in
     let P : Finding → Type 0 = IsFindingOf sizes in

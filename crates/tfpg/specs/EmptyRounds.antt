@@ -1,6 +1,5 @@
 -- The two kinds of round that the empty hypothesis alone has.
 use Rattle.std.specs.Prelude.{ℕ, List, [], ◌∷◌}
-use Rattle.tfpg_evidence.specs.declared.finding.Finding.{Finding}
 use Rattle.tfpg_evidence.specs.declared.finding.Status.{Status}
 use Rattle.tfpg_evidence.specs.declared.finding.Status.TheVariants.{Ranked, Rejected}
 use Rattle.tfpg_evidence.specs.declared.reason.Reason.TheVariants.{Unreached, Upto}
