@@ -15,3 +15,5 @@ pub mod Trials
 pub mod MaximalRuns
 pub mod SpanRuns
 pub mod WindowRuns
+pub mod SpanChanges
+pub mod SpanStarts

@@ -10,6 +10,7 @@ pub mod Spans
 pub mod Runs
 pub mod Accepted
 pub mod LogOfLines
+pub mod SpanIndex
 pub mod LogInside
 pub mod LogLine
 pub mod Judged
