@@ -33,9 +33,9 @@ module _ (changes : List ModeChange) (rise : (number : ℕ) → number < length 
   one_span one other instant is also = elim (cases_lt one other) [
     | inl below ↦ absurd (omega (arith, begins_rise (suc one) other (omega arith) also.counted, also.begun, is.unended (omega (arith, also.counted))))
     | inr upto ↦ elim (cases_lt other one) [
-        | inl above ↦ absurd (omega (arith, begins_rise (suc other) one (omega arith) is.counted, is.begun, also.unended (omega (arith, is.counted))))
-        | inr same ↦ omega arith
-      ]
+      | inl above ↦ absurd (omega (arith, begins_rise (suc other) one (omega arith) is.counted, is.begun, also.unended (omega (arith, is.counted))))
+      | inr same ↦ omega arith
+    ]
   ]
 
 -- ---- up to the time of the change
@@ -128,9 +128,9 @@ module _ (modes : ℕ → ℕ) (time mode : ℕ) (changes : List ModeChange) (sp
     differ = spans.differ;
     hold = λ number instant within. elim (cases_lt time instant) [
       | inl after ↦ (let last : number ≡ length changes = elim (cases_lt number (length changes)) [
-            | inl more ↦ absurd (omega (arith, by_time number instant within more))
-            | inr all ↦ omega (arith, within.counted)
-          ] in
+        | inl more ↦ absurd (omega (arith, by_time number instant within more))
+        | inr all ↦ omega (arith, within.counted)
+      ] in
           behind instant after ∙ sym same ∙ ap (mode_of changes) (sym last))
       | inr by ↦ before instant by ∙ spans.hold number instant by within
     ];
@@ -203,3 +203,19 @@ spans_with_change modes newer changes time mode spans upto before behind =
 pub begun_with_change : (modes : ℕ → ℕ) (changes : List ModeChange) (time mode : ℕ) → BeginSpans modes changes → begin_of changes (length changes) ≤ time + 1
     → begin_of (with_change changes time mode) (length (with_change changes time mode)) ≤ time + 1
 begun_with_change modes changes time mode spans upto = begun_with_it modes time mode (kept_at changes time) (kept modes changes spans time upto)
+
+fewer_kept : (changes : List ModeChange) (time : ℕ) → length (kept_at changes time) ≤ length changes
+fewer_kept changes time = elim (cases_Bool (eqb (begin_of changes (length changes)) (time + 1))) [
+  | inl again ↦ rw again (omega (arith, length-take-le (length changes - 1) changes (omega arith)))
+  | inr new ↦ rw new (omega arith)
+]
+
+-- There is at most one change more.
+pub one_more_change : (changes : List ModeChange) (time mode : ℕ) → length (with_change changes time mode) ≤ length changes + 1
+one_more_change changes time mode =
+    let front : List ModeChange = kept_at changes time in
+    let fewer = fewer_kept changes time in
+    elim (cases_Bool (eqb (mode_of front (length front)) mode)) [
+      | inl same ↦ rw same (omega arith)
+      | inr other ↦ (let change : ModeChange = record { time = time; mode = mode } in rw other (omega (arith, length_push front change)))
+    ]

@@ -1,6 +1,7 @@
 -- The spans of a log by the changes of mode that begin them.
 use Rattle.std.proofs.Common.{◌≡◌, ℕ, zero, suc, ◌+◌, ◌-◌, ◌<◌, ◌≤◌, Bool, true, false, cond, eqb, leb, ltb, List, length, Option, Some, None, ◌&&◌, refl, inl, inr, sym, ap, subst, ◌∙◌, arith}
-use Rattle.std.proofs.lemmas.Bool.{cases_lt, cases_Bool, and_parts, and_from, leb-true, le-leb, lt-leb, lt-ltb, le-ltb, ltb-true, cond-true, cond-false, both_ways}
+use Rattle.std.specs.List.Sorted.{IsPartitionPoint}
+use Rattle.std.proofs.lemmas.Bool.{cases_lt, cases_Bool, and_parts, and_from, leb-true, le-leb, lt-leb, lt-ltb, le-ltb, ltb-true, ltb-false, cond-true, cond-false, both_ways}
 use Rattle.std.proofs.lemmas.Bool.Decides.{nat_tests}
 use Rattle.tfpg_log.specs.declared.mode_change.ModeChange.{ModeChange}
 use Rattle.tfpg_log.specs.declared.span.Span.{Span}
@@ -16,6 +17,22 @@ count_kept before here count e = grind (arith, nat_tests)
 
 count_more : (before here count : ℕ) → (before ≡ here → ⊥) → count + cond (eqb before here) 0 1 ≡ suc count
 count_more before here count unlike = grind (arith, nat_tests)
+
+-- Where so many changes come before an instant and the others do not, it lies in the span of that number.
+pub within_point : (changes : List ModeChange) (number instant : ℕ) → number ≤ length changes
+    → IsPartitionPoint (λ (change : ModeChange). ltb change.time instant ≡ true) (λ (change : ModeChange). ltb change.time instant ≡ false) changes number
+    → IsWithin changes number instant
+within_point changes zero instant counted point = record {
+  counted = counted;
+  begun = omega arith;
+  unended = λ more. let late = ltb-false (change_at changes 0).time instant (point.1 0 (record { time = 0; mode = 0 }) (omega arith) more) in omega arith;
+}
+within_point changes (suc place) instant counted point = record {
+  counted = counted;
+  begun = let early = ltb-true (change_at changes place).time instant (point.0 place (record { time = 0; mode = 0 }) (omega arith) (omega arith)) in omega arith;
+  unended = λ more.
+      let late = ltb-false (change_at changes (suc place)).time instant (point.1 (suc place) (record { time = 0; mode = 0 }) (omega arith) more) in omega arith;
+}
 
 module _ (log : Logbook) (changes : List ModeChange) (spans : BeginSpans (mode_at log) changes) where
   -- ---- the number of an instant
@@ -44,12 +61,12 @@ module _ (log : Logbook) (changes : List ModeChange) (spans : BeginSpans (mode_a
       (sym (count_kept (mode_at log instant) (mode_at log (suc instant)) number (here ∙ sym (spans.hold number (suc instant) still)))) still in
       elim (cases_lt number (length changes)) [
         | inl more ↦ elim (cases_lt (suc instant) (begin_of changes (suc number))) [
-            | inl unended ↦ kept (λ lt. unended)
-            | inr begun ↦ (let next = next_within number instant within more begun in
-                subst (λ n. IsWithin changes n (suc instant))
-                (sym (count_more (mode_at log instant) (mode_at log (suc instant)) number
-                (λ same. spans.differ number more (sym here ∙ same ∙ spans.hold (suc number) (suc instant) next)))) next)
-          ]
+          | inl unended ↦ kept (λ lt. unended)
+          | inr begun ↦ (let next = next_within number instant within more begun in
+              subst (λ n. IsWithin changes n (suc instant))
+              (sym (count_more (mode_at log instant) (mode_at log (suc instant)) number
+              (λ same. spans.differ number more (sym here ∙ same ∙ spans.hold (suc number) (suc instant) next)))) next)
+        ]
         | inr all ↦ kept (λ more. absurd (omega arith))
       ]
 

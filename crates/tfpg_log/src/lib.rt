@@ -20,6 +20,7 @@ mod mode_change;
 mod refusal;
 mod reply;
 mod span;
+mod spans;
 #[cfg(test)]
 mod tests;
 
