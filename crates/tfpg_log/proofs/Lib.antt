@@ -17,3 +17,4 @@ pub mod SpanRuns
 pub mod WindowRuns
 pub mod SpanChanges
 pub mod SpanStarts
+pub mod WindowStarts

@@ -1,15 +1,15 @@
 -- The spans of a log by the changes of mode that begin them.
-use Rattle.std.proofs.Common.{◌≡◌, ℕ, zero, suc, ◌+◌, ◌-◌, ◌<◌, ◌≤◌, Bool, true, false, cond, eqb, leb, ltb, List, length, Option, Some, None, ◌&&◌, refl, inl, inr, sym, ap, subst, ◌∙◌, arith}
+use Rattle.std.proofs.Common.{◌≡◌, ℕ, zero, suc, ◌+◌, ◌<◌, ◌≤◌, Bool, true, false, cond, eqb, leb, ltb, List, length, Option, Some, None, ◌&&◌, refl, inl, inr, sym, subst, ◌∙◌, arith}
 use Rattle.std.specs.List.Sorted.{IsPartitionPoint}
-use Rattle.std.proofs.lemmas.Bool.{cases_lt, cases_Bool, and_parts, and_from, leb-true, le-leb, lt-leb, lt-ltb, le-ltb, ltb-true, ltb-false, cond-true, cond-false, both_ways}
+use Rattle.std.proofs.lemmas.Bool.{cases_lt, cases_Bool, and_parts, and_from, leb-true, le-leb, lt-ltb, ltb-true, ltb-false, cond-true, cond-false, both_ways}
 use Rattle.std.proofs.lemmas.Bool.Decides.{nat_tests}
 use Rattle.tfpg_log.specs.declared.mode_change.ModeChange.{ModeChange}
 use Rattle.tfpg_log.specs.declared.span.Span.{Span}
 use Rattle.tfpg_log.specs.Log.{Logbook, now_of, mode_at}
 use Rattle.tfpg_log.specs.Spans.{span_number, span_at}
-use Rattle.tfpg_log.specs.Runs.{IsMaximalRun, IsSpanOf}
+use Rattle.tfpg_log.specs.Runs.{IsSpanOf}
 use Rattle.tfpg_log.specs.SpanIndex.{change_at, begin_of, mode_of, end_of, span_in, IsWithin, BeginSpans}
-use Rattle.tfpg_log.proofs.SpanChanges.{begins_rise, one_span}
+use Rattle.tfpg_log.proofs.SpanChanges.{one_span}
 use Rattle.tfpg_log.proofs.SpanRuns.{is_span, span_is_found}
 
 count_kept : (before here count : ℕ) → before ≡ here → count + cond (eqb before here) 0 1 ≡ count
@@ -132,8 +132,8 @@ module _ (log : Logbook) (changes : List ModeChange) (spans : BeginSpans (mode_a
       record { counted = omega arith; begun = omega (arith, spans.rise number (omega arith)); unended = λ more. omega arith } in
       spans.differ number (omega arith) (sym (spans.hold number instant within) ∙ same)
 
-  -- what begins by the horizon is the span of its number
-  span_there : (number horizon : ℕ) → horizon ≤ now_of log → number ≤ length changes → begin_of changes number ≤ horizon
+  -- What begins by the horizon is the span of its number.
+  pub span_there : (number horizon : ℕ) → horizon ≤ now_of log → number ≤ length changes → begin_of changes number ≤ horizon
       → IsSpanOf log number horizon (record { lo = begin_of changes number; hi = end_of changes number horizon; mode = mode_of changes number })
   span_there number horizon by_now counted begun =
       let hi : ℕ = end_of changes number horizon in
@@ -150,8 +150,8 @@ module _ (log : Logbook) (changes : List ModeChange) (spans : BeginSpans (mode_a
         numbered = λ instant from upto. number_is number instant (in_span number horizon hi counted end instant from upto);
       }
 
-  -- the span of a number begins by the horizon
-  begins_by : (number horizon : ℕ) (span : Span) → span_at log number horizon ≡ Some span → (number ≤ length changes) × (begin_of changes number ≤ horizon)
+  -- The span of a number begins by the horizon.
+  pub begins_by : (number horizon : ℕ) (span : Span) → span_at log number horizon ≡ Some span → (number ≤ length changes) × (begin_of changes number ≤ horizon)
   begins_by number horizon span there =
       let is = is_span log number horizon span there in
       let within : IsWithin changes number span.lo = subst (λ n. IsWithin changes n span.lo) (is.numbered span.lo (omega arith) is.run.in_order) (number_within span.lo) in

@@ -12,6 +12,7 @@
 //! edge, the propagation rules, and which sets of failure modes fit the log.
 #![tactic(auto)]
 
+mod active_modes;
 mod event;
 mod laws;
 mod log;
@@ -23,6 +24,7 @@ mod span;
 mod spans;
 #[cfg(test)]
 mod tests;
+mod windows;
 
 pub use event::{Event, Offered};
 pub use laws::{
