@@ -18,3 +18,4 @@ pub mod WindowRuns
 pub mod SpanChanges
 pub mod SpanStarts
 pub mod WindowStarts
+pub mod ModesInto

@@ -1,5 +1,5 @@
 -- The windows of a log by the changes of mode that begin its spans.
-use Rattle.std.proofs.Common.{◌≡◌, ℕ, zero, suc, ◌+◌, ◌<◌, ◌≤◌, Bool, true, false, cond, leb, ltb, List, length, Option, Some, None, ◌&&◌, refl, inl, inr, sym, ap, ◌∙◌, arith}
+use Rattle.std.proofs.Common.{◌≡◌, ℕ, zero, suc, ◌+◌, ◌≤◌, Bool, true, false, cond, leb, ltb, List, length, Option, Some, None, ◌&&◌, inl, inr, sym, ap, ◌∙◌, arith}
 use Rattle.std.specs.Prelude.{IsTrue, option_and_then}
 use Rattle.std.proofs.lemmas.Bool.{cases_lt, and_from, le-leb, lt-ltb, cond-true, cond-false, both_ways}
 use Rattle.tfpg_log.specs.declared.active_modes.ActiveModes.{ActiveModes}
@@ -88,21 +88,21 @@ module _ (log : Logbook) (changes : List ModeChange) (spans : BeginSpans (mode_a
       from_first : (instant : ℕ) → begin_of changes first ≤ instant → first ≤ span_number log instant
       from_first instant from = let within = number_within log changes spans instant in elim (cases_lt (span_number log instant) first) [
         | inl below ↦ absurd (omega (
-            arith,
-            within.unended (omega (arith, is_first.upto, by.0)),
-            begins_rise changes spans.rise (suc (span_number log instant)) first (omega arith) (omega (arith, is_first.upto, by.0)),
-          ))
+          arith,
+          within.unended (omega (arith, is_first.upto, by.0)),
+          begins_rise changes spans.rise (suc (span_number log instant)) first (omega arith) (omega (arith, is_first.upto, by.0)),
+        ))
         | inr upto ↦ upto
       ]
 
       upto_last : (instant : ℕ) → instant ≤ end_of changes last horizon → span_number log instant ≤ last
       upto_last instant upto = let within = number_within log changes spans instant in elim (cases_lt last (span_number log instant)) [
         | inl above ↦ absurd (omega (
-            arith,
-            end.unended (omega (arith, within.counted)),
-            begins_rise changes spans.rise (suc last) (span_number log instant) (omega arith) within.counted,
-            within.begun,
-          ))
+          arith,
+          end.unended (omega (arith, within.counted)),
+          begins_rise changes spans.rise (suc last) (span_number log instant) (omega arith) within.counted,
+          within.begun,
+        ))
         | inr by_last ↦ by_last
       ]
 

@@ -1,19 +1,22 @@
 //! The log of accepted lines, with its look-ups.
 
-ghost use Rattle.std.specs.Prelude.{◌≡◌, ◌≤◌, ◌<◌, ◌-◌, ℕ, length, take, true, false, ◌&&◌, if◌then◌else◌, nat_lt, nat_le, Some, None, is_none, IfOk, OnOk, OnErr, count_by, vec_len};
+ghost use Rattle.std.specs.Prelude.{◌≡◌, ◌≤◌, ◌<◌, ◌-◌, ℕ, length, take, true, false, ◌&&◌, if◌then◌else◌, nat_lt, nat_le, Some, None, is_none, IfOk, OnOk, OnErr, count_by, vec_len, option_and_then, slice_get};
 ghost use Rattle.tfpg_log.specs.declared.refusal.Refusal.{Refusal};
 ghost use Rattle.tfpg_log.specs.Log.{IsOf, now_of, event_at, alarm_of, alarm_among, mode_at, quiet_at, with_event, time_of_event, is_mode_change};
-ghost use Rattle.tfpg_log.specs.Spans.{span_number, span_at};
+ghost use Rattle.tfpg_log.specs.Spans.{span_number, span_at, window_round, window_of, joint_of};
+ghost use Rattle.tfpg_log.specs.ActiveModes.{has_mode};
 ghost use Rattle.tfpg_log.specs.Accepted.{most_events, most_mode_changes, reply_to};
 ghost use Rattle.tfpg_log.specs.LogOfLines.{new_log, log_after_reply};
 ghost use Rattle.tfpg_log.specs.LogInside.{alarm_place, AreSameAlarms, IsNoSecondAlarm};
 ghost use Rattle.tfpg_graph.specs.Graph.{Tfpg, is_monitored};
 
+use crate::active_modes::{ActiveModes, modes_into};
 use crate::event::{Event, Offered};
 use crate::mode_change::ModeChange;
 use crate::reply::{is_monitored, reply};
-use crate::span::Span;
+use crate::span::{Span, Window};
 use crate::spans::{mode_of, number_of, span_in, take_change};
+use crate::windows::window_round;
 use std::alloc::Global;
 use std::marker::Model;
 use tfpg_base::NoMemory;
@@ -27,8 +30,8 @@ const MOST_MODE_CHANGES: u32 = 1_024;
 
 /// The events that were accepted so far, numbered from 1, and with them the time. A new log is of every graph.
 ///
-/// No look-up takes memory. Each takes constant time, but for that of a mode, which takes time in the logarithm of the
-/// number of mode changes.
+/// No look-up takes memory. Each takes constant time, but for those of the mode and the span of an instant, which take time
+/// in the logarithm of the number of mode changes, and those of windows, which go through the spans of the window.
 #[derive(Debug, Drop)]
 pub struct Log {
     events: Vec<Event>,
@@ -132,6 +135,28 @@ impl Log {
         span_in(&self.changes, number as usize, horizon)
     }
 
+    /// The window of an edge round the span of this number, of the instants up to a horizon in milliseconds: the maximal
+    /// run of spans in whose modes the edge is active. There is none where there is no such span, or the edge is not active
+    /// in its mode. Goes through the spans of the window.
+    pub fn window_of(&self, graph: &Graph, edge: u32, number: u32, horizon: u64) -> Option<Window>
+        requires { edge < length graph.now.edges }
+        ensures { result ≡ option_and_then (λ e. window_of self.now e number horizon) (slice_get graph.now.edges edge) }
+    {
+        let modes = ActiveModes::Bits(graph.edge(edge).modes);
+        self.window_round(&modes, number, horizon)
+    }
+
+    /// The same for all edges into the node at once: the maximal run of spans in whose modes each of them is active. There
+    /// is none where there is no such span, or one of them is not active in its mode. Goes through these edges, and
+    /// through the spans of the window.
+    pub fn joint_of(&self, graph: &Graph, node: u32, number: u32, horizon: u64) -> Option<Window>
+        requires { node < length graph.now.nodes }
+        ensures { result ≡ joint_of graph.now self.now node number horizon }
+    {
+        let modes = modes_into(graph, node);
+        self.window_round(&modes, number, horizon)
+    }
+
     /// The time of the event of this number, in milliseconds, where it is a silence of the node: its own silence, or a
     /// sweep, where the node is monitored and no event before is an alarm of it. Numbers begin with 1.
     pub fn quiet_at(&self, graph: &Graph, number: u32, node: u32) -> Option<u64>
@@ -182,6 +207,18 @@ impl Log {
             }
             Offered::Refused(_) => Ok(offered),
         }
+    }
+
+    /// The window, of spans with these modes, round the span of this number up to a horizon.
+    fn window_round(&self, modes: &ActiveModes, number: u32, horizon: u64) -> Option<Window>
+        ensures { result ≡ option_and_then
+            (λ span. window_round self.now (λ instant. has_mode modes.now (mode_at self.now instant)) span horizon)
+            (span_at self.now number horizon) }
+    {
+        if horizon > self.now() {
+            return None;
+        }
+        window_round(&self.changes, modes, number, horizon)
     }
 
     /// Whether it takes no further event.

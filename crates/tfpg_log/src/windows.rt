@@ -13,10 +13,15 @@ use crate::spans::{begin_by, end_of, mode_of, span_in};
 
 /// The window round the span of this number, up to a horizon. There is none where no such span begins by the horizon, or
 /// where its mode is none of these. Goes through the spans of the window.
-pub(crate) fn window_round(changes: &[ModeChange], modes: &ActiveModes, number: u32, horizon: u64) -> Option<Window>
+pub(crate) fn window_round(
+    changes: &[ModeChange],
+    modes: &ActiveModes,
+    number: u32,
+    horizon: u64,
+) -> Option<Window>
     ensures { (log : Logbook) → BeginSpans (mode_at log) changes.now → horizon ≤ now_of log →
         result ≡ option_and_then (λ span. window_round log (λ instant. has_mode modes.now (mode_at log instant)) span horizon)
-            (span_at log number horizon) }
+        (span_at log number horizon) }
 {
     let span = span_in(changes, number as usize, horizon)?;
     if !modes.has(span.mode) {
@@ -26,7 +31,11 @@ pub(crate) fn window_round(changes: &[ModeChange], modes: &ActiveModes, number: 
     let last = last_of(changes, modes, number as usize, horizon);
     let lo = begin_by(changes, first, horizon)?;
     let hi = end_of(changes, last, horizon);
-    Some(Window { first: first as u32, lo, hi })
+    Some(Window {
+        first: first as u32,
+        lo,
+        hi,
+    })
 }
 
 /// The first span of the run up to the span of this number.
@@ -65,7 +74,12 @@ fn is_active_before(changes: &[ModeChange], modes: &ActiveModes, number: usize) 
 }
 
 /// Whether a span behind that of this number begins by the horizon, and its mode is one of these.
-fn is_active_behind(changes: &[ModeChange], modes: &ActiveModes, number: usize, horizon: u64) -> bool
+fn is_active_behind(
+    changes: &[ModeChange],
+    modes: &ActiveModes,
+    number: usize,
+    horizon: u64,
+) -> bool
     ensures { result ≡ is_active_behind modes.now changes.now number horizon }
 {
     number < changes.len() && changes[number].time < horizon && modes.has(changes[number].mode)
