@@ -22,3 +22,7 @@ pub mod JointWindows
 pub mod JointAges
 pub mod SameModes
 pub mod PastKept
+pub mod SpanChanges
+pub mod SpanStarts
+pub mod WindowStarts
+pub mod ModesInto

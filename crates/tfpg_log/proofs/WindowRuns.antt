@@ -147,8 +147,8 @@ module _ (log : Logbook) (passes : ℕ → Bool) (horizon : ℕ) where
       (window.0, ap (option_and_then (λ s. window_round log passes s horizon)) e ∙ window.1)
 
   module _ (alike : (one other : ℕ) → mode_at log one ≡ mode_at log other → passes one ≡ passes other) where
-    -- a maximal run of passing instants has whole spans
-    whole : (window : Window) → IsMaximalRun (λ instant. IsTrue (passes instant)) window.lo window.hi horizon
+    -- A maximal run of passing instants has whole spans.
+    pub whole : (window : Window) → IsMaximalRun (λ instant. IsTrue (passes instant)) window.lo window.hi horizon
         → (number : ℕ) (span : Span) → span_at log number horizon ≡ Some span → Meets span window → LiesIn span window
     whole window run number span e meets =
         let is = (is_span log number horizon span e).run in

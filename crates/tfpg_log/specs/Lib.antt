@@ -11,6 +11,8 @@ pub mod Runs
 pub mod AgeInWindow
 pub mod Accepted
 pub mod LogOfLines
+pub mod SpanIndex
+pub mod ActiveModes
 pub mod LogInside
 pub mod LogLine
 pub mod Judged

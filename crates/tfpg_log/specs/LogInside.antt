@@ -1,11 +1,12 @@
--- What a log keeps beside its events: the place of each node's alarm among them, and their changes of mode.
-use Rattle.std.specs.Prelude.{◌≡◌, ℕ, suc, ◌≤◌, List, [], ◌∷◌, length, All, ◌==◌, if◌then◌else◌, Option, Some, None, option_map, slice_index_or}
+-- What a log keeps beside its events: the place of each node's alarm among them, and the changes that begin its spans.
+use Rattle.std.specs.Prelude.{◌≡◌, ℕ, suc, ◌+◌, ◌≤◌, List, [], ◌∷◌, length, count_by, ◌==◌, if◌then◌else◌, Option, Some, None, option_map, slice_index_or}
 use Rattle.std.specs.List.Sorted.{IsNonDecreasingBy}
 use Rattle.tfpg_log.specs.declared.event.Event.{Event}
 use Rattle.tfpg_log.specs.declared.event.Event.TheVariants.{Alarm, Silent, Sweep, Tick, Mode}
 use Rattle.tfpg_log.specs.declared.mode_change.ModeChange.{ModeChange}
-use Rattle.tfpg_log.specs.Log.{Logbook, now_of, alarm_of}
+use Rattle.tfpg_log.specs.Log.{Logbook, now_of, alarm_of, is_mode_change, mode_after}
 use Rattle.tfpg_log.specs.Accepted.{most_events}
+use Rattle.tfpg_log.specs.SpanIndex.{begin_of, BeginSpans}
 
 -- the place of the first alarm of a node, counted from 0
 abbrev pub alarm_place : List Event → ℕ → Option ℕ
@@ -17,23 +18,16 @@ alarm_place (Sweep time ∷ events) node = option_map suc (alarm_place events no
 alarm_place (Tick time ∷ events) node = option_map suc (alarm_place events node)
 alarm_place (Mode time mode ∷ events) node = option_map suc (alarm_place events node)
 
--- the changes of mode, in order
-abbrev pub changes_among : List Event → List ModeChange
-changes_among [] = []
-changes_among (Alarm time node ∷ events) = changes_among events
-changes_among (Silent time node ∷ events) = changes_among events
-changes_among (Sweep time ∷ events) = changes_among events
-changes_among (Tick time ∷ events) = changes_among events
-changes_among (Mode time mode ∷ events) = record { time = time; mode = mode } ∷ changes_among events
-
 -- The index of the events: at each node's place stands the place of its first alarm, where there is one. A node past
--- the end has none. The changes of mode stand beside it, and their times never fall.
-pub record IsIndexed (events : List Event) (alarms : List (Option ℕ)) (changes : List ModeChange) : Type 0 where
+-- the end has none. Beside it stand the changes of mode that begin the spans, and how many events are changes of mode.
+pub record IsIndexed (events : List Event) (alarms : List (Option ℕ)) (changes : List ModeChange) (count : ℕ) : Type 0 where
   pub few : length events ≤ most_events
   pub alarms_are : (node : ℕ) → slice_index_or alarms node None ≡ alarm_place events node
-  pub changes_are : changes ≡ changes_among events
+  pub counted : count ≡ count_by is_mode_change events
+  pub fewer : length changes ≤ count
+  pub spans : BeginSpans (mode_after 0 events) changes
   pub in_order : IsNonDecreasingBy (λ (change : ModeChange). change.time) changes
-  pub by_now : All (λ (change : ModeChange). change.time ≤ now_of (record { events = events })) changes
+  pub by_now : begin_of changes (length changes) ≤ now_of (record { events = events }) + 1
 
 -- the two say the same of each node
 abbrev pub AreSameAlarms : List (Option ℕ) → List (Option ℕ) → Type 0

@@ -3,6 +3,7 @@
 //! - [`Log`] is the log of accepted lines, with its look-ups.
 //! - [`Event`] is what a line of the log says, once it is accepted, and [`Offered`] what becomes of a line.
 //! - [`Refusal`] says why a line is refused.
+//! - [`Span`] is a run of instants of one mode, and [`Window`] a run of spans in which an edge is active.
 //! - [`nothing_outside_reach`] and [`nothing_without_failures`] are laws: nothing becomes active outside a set's
 //!   reach, and nothing at all without a failure mode.
 //! - [`age_is_the_greatest`], [`spans_are_runs_of_one_mode`] and [`windows_are_runs_of_spans`] are laws: they say in
@@ -17,6 +18,7 @@
 //! edge, the propagation rules, and which sets of failure modes fit the log.
 #![tactic(auto)]
 
+mod active_modes;
 mod event;
 mod laws;
 mod log;
@@ -25,9 +27,11 @@ mod mode_change;
 mod refusal;
 mod reply;
 mod span;
+mod spans;
 #[cfg(test)]
 mod tests;
 mod window_laws;
+mod windows;
 
 pub use event::{Event, Offered};
 pub use laws::{

@@ -1,18 +1,22 @@
 //! The log of accepted lines, with its look-ups.
 
-ghost use Rattle.std.specs.Prelude.{◌≡◌, ◌≤◌, ◌<◌, ◌-◌, ℕ, length, take, true, false, ◌&&◌, if◌then◌else◌, nat_lt, nat_le, Some, None, is_none, IfOk, OnOk, OnErr, count_by, vec_len};
-ghost use Rattle.std.specs.List.Sorted.{IsNonDecreasingBy, IsPartitionPoint};
+ghost use Rattle.std.specs.Prelude.{◌≡◌, ◌≤◌, ◌<◌, ◌-◌, ℕ, length, take, true, false, ◌&&◌, if◌then◌else◌, nat_lt, nat_le, Some, None, is_none, IfOk, OnOk, OnErr, count_by, vec_len, option_and_then, slice_get};
 ghost use Rattle.tfpg_log.specs.declared.refusal.Refusal.{Refusal};
-ghost use Rattle.tfpg_log.specs.declared.mode_change.ModeChange.{ModeChange};
 ghost use Rattle.tfpg_log.specs.Log.{IsOf, now_of, event_at, alarm_of, alarm_among, mode_at, quiet_at, with_event, time_of_event, is_mode_change};
+ghost use Rattle.tfpg_log.specs.Spans.{span_number, span_at, window_round, window_of, joint_of};
+ghost use Rattle.tfpg_log.specs.ActiveModes.{has_mode};
 ghost use Rattle.tfpg_log.specs.Accepted.{most_events, most_mode_changes, reply_to};
 ghost use Rattle.tfpg_log.specs.LogOfLines.{new_log, log_after_reply};
 ghost use Rattle.tfpg_log.specs.LogInside.{alarm_place, AreSameAlarms, IsNoSecondAlarm};
 ghost use Rattle.tfpg_graph.specs.Graph.{Tfpg, is_monitored};
 
+use crate::active_modes::{ActiveModes, modes_into};
 use crate::event::{Event, Offered};
 use crate::mode_change::ModeChange;
 use crate::reply::{is_monitored, reply};
+use crate::span::{Span, Window};
+use crate::spans::{mode_of, number_of, span_in, take_change};
+use crate::windows::window_round;
 use std::alloc::Global;
 use std::marker::Model;
 use tfpg_base::NoMemory;
@@ -22,19 +26,21 @@ use tfpg_graph::Graph;
 const MOST_EVENTS: usize = 16_384;
 
 /// How many of them may be changes of mode.
-const MOST_MODE_CHANGES: usize = 1_024;
+const MOST_MODE_CHANGES: u32 = 1_024;
 
 /// The events that were accepted so far, numbered from 1, and with them the time. A new log is of every graph.
 ///
-/// No look-up takes memory. Each takes constant time, but for that of a mode, which takes time in the logarithm of the
-/// number of mode changes.
+/// No look-up takes memory. Each takes constant time, but for those of the mode and the span of an instant, which take time
+/// in the logarithm of the number of mode changes, and those of windows, which go through the spans of the window.
 #[derive(Debug, Drop)]
 pub struct Log {
     events: Vec<Event>,
     /// The place of each node's first alarm among the events. A node past the end has none.
     alarms: Vec<Option<u32>>,
-    /// The changes of mode among the events.
+    /// The changes of mode among the events that begin a span.
     changes: Vec<ModeChange>,
+    /// How many events are changes of mode.
+    change_count: u32,
 }
 
 impl Model for Log {
@@ -46,7 +52,7 @@ impl Model for Log {
 
     ghost view = { λ log. record { events = log.events.items } };
 
-    ghost invariant = { λ log. IsIndexed log.events.items log.alarms.items log.changes.items };
+    ghost invariant = { λ log. IsIndexed log.events.items log.alarms.items log.changes.items log.change_count };
 }
 
 impl Log {
@@ -59,6 +65,7 @@ impl Log {
             events: Vec::new(alloc),
             alarms: Vec::new(alloc),
             changes: Vec::new(alloc),
+            change_count: 0,
         }
     }
 
@@ -103,11 +110,51 @@ impl Log {
     pub fn mode_at(&self, instant: u64) -> u32
         ensures { result ≡ mode_at self.now instant }
     {
-        let before = changes_before(&self.changes, instant);
-        if before == 0 {
-            return 0;
+        mode_of(&self.changes, number_of(&self.changes, instant))
+    }
+
+    /// The number of the span of an instant, in milliseconds: how many times the mode changed from one instant to the
+    /// next up to it. There is none of an instant after now. Takes time in the logarithm of the number of mode changes.
+    pub fn span_of(&self, instant: u64) -> Option<u32>
+        ensures { result ≡ (if nat_le instant (now_of self.now) then Some (span_number self.now instant) else None) }
+    {
+        if instant > self.now() {
+            return None;
         }
-        self.changes[before - 1].mode
+        Some(number_of(&self.changes, instant) as u32)
+    }
+
+    /// The span of this number, of the instants up to a horizon in milliseconds. There is none where the horizon is after
+    /// now, or where the span does not begin by it.
+    pub fn span(&self, number: u32, horizon: u64) -> Option<Span>
+        ensures { result ≡ span_at self.now number horizon }
+    {
+        if horizon > self.now() {
+            return None;
+        }
+        span_in(&self.changes, number as usize, horizon)
+    }
+
+    /// The window of an edge round the span of this number, of the instants up to a horizon in milliseconds: the maximal
+    /// run of spans in whose modes the edge is active. There is none where there is no such span, or the edge is not active
+    /// in its mode. Goes through the spans of the window.
+    pub fn window_of(&self, graph: &Graph, edge: u32, number: u32, horizon: u64) -> Option<Window>
+        requires { edge < length graph.now.edges }
+        ensures { result ≡ option_and_then (λ e. window_of self.now e number horizon) (slice_get graph.now.edges edge) }
+    {
+        let modes = ActiveModes::Bits(graph.edge(edge).modes);
+        self.window_round(&modes, number, horizon)
+    }
+
+    /// The same for all edges into the node at once: the maximal run of spans in whose modes each of them is active. There
+    /// is none where there is no such span, or one of them is not active in its mode. Goes through these edges, and
+    /// through the spans of the window.
+    pub fn joint_of(&self, graph: &Graph, node: u32, number: u32, horizon: u64) -> Option<Window>
+        requires { node < length graph.now.nodes }
+        ensures { result ≡ joint_of graph.now self.now node number horizon }
+    {
+        let modes = modes_into(graph, node);
+        self.window_round(&modes, number, horizon)
     }
 
     /// The time of the event of this number, in milliseconds, where it is a silence of the node: its own silence, or a
@@ -136,6 +183,7 @@ impl Log {
             events,
             alarms,
             changes,
+            change_count: self.change_count,
         })
     }
 
@@ -162,6 +210,18 @@ impl Log {
         }
     }
 
+    /// The window, of spans with these modes, round the span of this number up to a horizon.
+    fn window_round(&self, modes: &ActiveModes, number: u32, horizon: u64) -> Option<Window>
+        ensures { result ≡ option_and_then
+            (λ span. window_round self.now (λ instant. has_mode modes.now (mode_at self.now instant)) span horizon)
+            (span_at self.now number horizon) }
+    {
+        if horizon > self.now() {
+            return None;
+        }
+        window_round(&self.changes, modes, number, horizon)
+    }
+
     /// Whether it takes no further event.
     pub(crate) fn is_full(&self) -> bool
         ensures { result ≡ nat_le most_events (length self.now.events) }
@@ -173,7 +233,7 @@ impl Log {
     pub(crate) fn has_all_mode_changes(&self) -> bool
         ensures { result ≡ nat_le most_mode_changes (count_by is_mode_change self.now.events) }
     {
-        self.changes.len() >= MOST_MODE_CHANGES
+        self.change_count >= MOST_MODE_CHANGES
     }
 
     /// The place of the node's first alarm among the events, counted from 0.
@@ -247,7 +307,8 @@ impl Log {
     {
         self.changes.reserve(1)?;
         self.events.push(Event::Mode { time, mode })?;
-        self.changes.push(ModeChange { time, mode })?;
+        take_change(&mut self.changes, time, mode)?;
+        self.change_count += 1;
         Ok(())
     }
 }
@@ -268,14 +329,4 @@ fn time_where(holds: bool, time: u64) -> Option<u64>
     ensures { result ≡ (if holds then Some time else None) }
 {
     if holds { Some(time) } else { None }
-}
-
-/// How many changes come before the instant.
-fn changes_before(changes: &[ModeChange], instant: u64) -> usize
-    requires { IsNonDecreasingBy (λ (change : ModeChange). change.time) changes.now }
-    ensures bound { result ≤ length changes.now }
-    ensures point { IsPartitionPoint (λ (change : ModeChange). nat_lt change.time instant ≡ true)
-        (λ (change : ModeChange). nat_lt change.time instant ≡ false) changes.now result }
-{
-    changes.partition_point(|change| change.time < instant)
 }

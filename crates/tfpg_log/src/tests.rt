@@ -7,6 +7,7 @@ use crate::event::{Event, Offered};
 use crate::log::Log;
 use crate::refusal::Refusal;
 use crate::reply::reply;
+use crate::span::{Span, Window};
 use std::alloc::Global;
 use std::test::Fail;
 use tfpg_graph::{Graph, read};
@@ -301,5 +302,133 @@ fn takes_no_more_than_its_limits(rt: HostRuntime) -> Result<(), Fail> {
     assert_eq!(rt; log.offer(&graph, b"10 tick")?, full);
     assert_eq!(rt; judged_otherwise(&graph, &log, &REFUSED_WHEN_FULL), None);
     assert_eq!(rt; log.len(), 16_384);
+    Ok(())
+}
+
+/// An AND node with an edge in one mode and an edge in both, and behind it a node with an edge in the other mode.
+const TWO_EDGES: &[u8] =
+    b"tfpg 1\nmode N\nmode D\nfailure F 1\nfailure G 1\nand A watch 0\nor B hidden\nedge F A 1 3 N\nedge G A 1 3 *\nedge A B 1 1 D\nend\n";
+
+/// Lines with changes of mode: two at one time, one to the mode that holds, and one at the last instant.
+const CHANGES: [&[u8]; 7] = [
+    b"10 mode D",
+    b"10 mode N",
+    b"20 mode D",
+    b"30 mode D",
+    b"40 mode N",
+    b"50 tick",
+    b"50 mode D",
+];
+
+/// Instants with the numbers of their spans.
+const NUMBERS: [(u64, Option<u32>); 8] = [
+    (0, Some(0)),
+    (11, Some(0)),
+    (20, Some(0)),
+    (21, Some(1)),
+    (40, Some(1)),
+    (41, Some(2)),
+    (50, Some(2)),
+    (51, None),
+];
+
+/// Numbers and horizons with their spans, as first and last instant and mode.
+const SPANS: [(u32, u64, Option<(u64, u64, u32)>); 8] = [
+    (0, 0, Some((0, 0, 0))),
+    (0, 50, Some((0, 20, 0))),
+    (0, 51, None),
+    (1, 20, None),
+    (1, 21, Some((21, 21, 1))),
+    (1, 50, Some((21, 40, 1))),
+    (2, 50, Some((41, 50, 0))),
+    (3, 50, None),
+];
+
+/// Edges, numbers and horizons with their windows, as first span, and first and last instant.
+const WINDOWS: [(u32, u32, u64, Option<(u32, u64, u64)>); 9] = [
+    (0, 0, 15, Some((0, 0, 15))),
+    (0, 0, 50, Some((0, 0, 20))),
+    (0, 1, 50, None),
+    (0, 2, 50, Some((2, 41, 50))),
+    (1, 1, 20, None),
+    (1, 1, 30, Some((0, 0, 30))),
+    (1, 1, 50, Some((0, 0, 50))),
+    (2, 1, 50, Some((1, 21, 40))),
+    (2, 2, 51, None),
+];
+
+/// The same of all edges into a node.
+const JOINT_WINDOWS: [(u32, u32, u64, Option<(u32, u64, u64)>); 5] = [
+    (0, 1, 50, Some((0, 0, 50))),
+    (2, 0, 50, Some((0, 0, 20))),
+    (2, 1, 50, None),
+    (2, 2, 45, Some((2, 41, 45))),
+    (3, 1, 50, Some((1, 21, 40))),
+];
+
+/// The first instant of the table whose span has another number.
+fn other_number(log: &Log) -> Option<u64> {
+    for (instant, wanted) in &NUMBERS {
+        if log.span_of(*instant) != *wanted {
+            return Some(*instant);
+        }
+    }
+    None
+}
+
+/// The first number and horizon of the table with another span.
+fn other_span(log: &Log) -> Option<(u32, u64)> {
+    for (number, horizon, wanted) in &SPANS {
+        if ends_of_span(log.span(*number, *horizon)) != *wanted {
+            return Some((*number, *horizon));
+        }
+    }
+    None
+}
+
+/// The first edge, number and horizon of the table with another window, or an edge that is not there.
+fn other_window(graph: &Graph, log: &Log) -> Option<(u32, u32, u64)> {
+    for (edge, number, horizon, wanted) in &WINDOWS {
+        if *edge >= graph.edge_count()
+            || ends_of_window(log.window_of(graph, *edge, *number, *horizon)) != *wanted
+        {
+            return Some((*edge, *number, *horizon));
+        }
+    }
+    None
+}
+
+/// The first node, number and horizon of the table with another window, or a node that is not there.
+fn other_joint_window(graph: &Graph, log: &Log) -> Option<(u32, u32, u64)> {
+    for (node, number, horizon, wanted) in &JOINT_WINDOWS {
+        if *node >= graph.node_count()
+            || ends_of_window(log.joint_of(graph, *node, *number, *horizon)) != *wanted
+        {
+            return Some((*node, *number, *horizon));
+        }
+    }
+    None
+}
+
+/// The first and last instant and the mode of a span.
+fn ends_of_span(span: Option<Span>) -> Option<(u64, u64, u32)> {
+    let span = span?;
+    Some((span.lo, span.hi, span.mode))
+}
+
+/// The first span, and the first and last instant, of a window.
+fn ends_of_window(window: Option<Window>) -> Option<(u32, u64, u64)> {
+    let window = window?;
+    Some((window.first, window.lo, window.hi))
+}
+
+#[test]
+fn finds_spans_and_windows(rt: HostRuntime) -> Result<(), Fail> {
+    let graph = read(rt.alloc(), TWO_EDGES)?;
+    let log = log_of(rt.alloc(), &graph, &CHANGES)?;
+    assert_eq!(rt; other_number(&log), None);
+    assert_eq!(rt; other_span(&log), None);
+    assert_eq!(rt; other_window(&graph, &log), None);
+    assert_eq!(rt; other_joint_window(&graph, &log), None);
     Ok(())
 }

@@ -1,0 +1,59 @@
+-- The modes in which all edges into a node are active at once.
+use Rattle.std.proofs.Common.{◌≡◌, ℕ, suc, ◌+◌, ◌<◌, Bool, true, false, cond, eqb, List, [], ◌∷◌, length, take, filter, get_or, min, Option, Some, None, slice_get, ◌&&◌, refl, sym, ap, ◌∙◌, arith}
+use Rattle.std.specs.List.{list_all}
+use Rattle.std.specs.Int.{bit_at}
+use Rattle.std.specs.Prelude.{bit_and}
+use Rattle.std.proofs.lemmas.Bool.Decides.{nat_tests}
+use Rattle.std.proofs.lemmas.List.Folds.{list_all_more}
+use Rattle.std.proofs.lemmas.Nat.Bits.{bit_at-lt, bit_at_and}
+use Rattle.tfpg_graph.specs.declared.edge.Edge.{Edge}
+use Rattle.tfpg_graph.specs.Graph.{Tfpg, numbers_from, incoming, edges_into, is_allowed}
+use Rattle.tfpg_log.specs.declared.active_modes.ActiveModes.{ActiveModes}
+use Rattle.tfpg_log.specs.declared.active_modes.ActiveModes.TheVariants.{Bits}
+use Rattle.tfpg_log.specs.ActiveModes.{has_mode}
+
+-- the edge is there and active in the mode
+abbrev pub is_there_allowed : Option Edge → ℕ → Bool
+is_there_allowed None mode = false
+is_there_allowed (Some edge) mode = is_allowed edge mode
+
+-- the edges of these numbers are active in the mode
+abbrev pub are_allowed : List Edge → List ℕ → ℕ → Bool
+are_allowed edges numbers mode = list_all (λ number. is_there_allowed (slice_get edges number) mode) numbers
+
+both_ones : (one other both : ℕ) → one < 2 → other < 2 → both ≡ min one other → eqb both 1 ≡ (eqb one 1 && eqb other 1)
+both_ones one other both small low least = grind (arith, nat_tests)
+
+-- a mode is in both sets of bits where each has it
+pub both_bits : (modes : ActiveModes) (own bits : ℕ) → modes ≡ Bits own → (mode : ℕ) → eqb (bit_at (bit_and own bits) mode) 1 ≡ (has_mode modes mode && eqb (bit_at bits mode) 1)
+both_bits modes own bits is mode =
+    both_ones (bit_at own mode) (bit_at bits mode) (bit_at (bit_and own bits) mode) (bit_at-lt own mode) (bit_at-lt bits mode) (bit_at_and own bits mode)
+    ∙ ap (λ m. has_mode m mode && eqb (bit_at bits mode) 1) (sym is)
+
+-- one edge more
+pub allowed_more : (edges : List Edge) (numbers : List ℕ) (place : ℕ) (edge : Edge) (modes more : ActiveModes) → place < length numbers
+    → slice_get edges (get_or numbers place 0) ≡ Some edge → ((mode : ℕ) → has_mode modes mode ≡ are_allowed edges (take place numbers) mode)
+    → ((mode : ℕ) → has_mode more mode ≡ (has_mode modes mode && eqb (bit_at edge.modes mode) 1))
+    → (mode : ℕ) → has_mode more mode ≡ are_allowed edges (take (place + 1) numbers) mode
+allowed_more edges numbers place edge modes more within at so_far with_it mode =
+    with_it mode
+    ∙ (λ i. so_far mode i && is_there_allowed (sym at i) mode)
+    ∙ sym (list_all_more (λ number. is_there_allowed (slice_get edges number) mode) numbers place 0 within)
+
+-- what a test says of all items that pass another, by their numbers
+all_numbered : {X : Type 0} (p test : X → Bool) (q : ℕ → Bool) (n : ℕ) (xs : List X) → ((i : ℕ) (x : X) → slice_get xs i ≡ Some x → q (n + i) ≡ test x)
+    → list_all q (numbers_from n p xs) ≡ list_all test (filter p xs)
+all_numbered p test q n [] same = refl
+all_numbered p test q n (x ∷ xs) same =
+    by (p x) (ap q (omega arith) ∙ same 0 x refl) (all_numbered p test q (n + 1) xs (λ i y at. ap q (omega arith) ∙ same (suc i) y at))
+  where
+    by : (b : Bool) → q n ≡ test x → list_all q (numbers_from (n + 1) p xs) ≡ list_all test (filter p xs)
+        → list_all q (cond b (n ∷ numbers_from (n + 1) p xs) (numbers_from (n + 1) p xs)) ≡ list_all test (cond b (x ∷ filter p xs) (filter p xs))
+    by true here rest = λ i. here i && rest i
+    by false here rest = rest
+
+-- The edges of the numbers of those into a node are the edges into it.
+pub all_into : (graph : Tfpg) (node mode : ℕ) → are_allowed graph.edges (incoming graph node) mode ≡ list_all (λ edge. is_allowed edge mode) (edges_into graph node)
+all_into graph node mode =
+    all_numbered (λ edge. eqb edge.target node) (λ edge. is_allowed edge mode) (λ number. is_there_allowed (slice_get graph.edges number) mode) 0 graph.edges
+    (λ i edge at. ap (λ number. is_there_allowed (slice_get graph.edges number) mode) (omega arith) ∙ ap (λ there. is_there_allowed there mode) at)
