@@ -1,2 +1,5 @@
 pub mod NumberedItems
 pub mod FailureModes
+pub mod IncomingEdges
+pub mod AgesNow
+pub mod MayRule

@@ -5,6 +5,8 @@
 //! It goes by spans and windows, and through no instants.
 #![tactic(auto)]
 
+mod ages;
+mod may;
 mod strays;
 mod verdict;
 
