@@ -13,6 +13,7 @@ use Rattle.tfpg_log.specs.Spans.{span_number, window_of}
 use Rattle.tfpg_log.proofs.WindowInstants.{inside}
 use Rattle.tfpg_log.proofs.WindowAges.{exactly, at_least}
 
+-- the number of the span is found, since the instant is not after now
 number_there : (instant now number span : ℕ) → instant ≤ now → Some span ≡ cond (nat_le instant now) (Some number) None → span ≡ number
 number_there instant now number span by_now is = by (nat_le instant now) refl is
   where
@@ -32,6 +33,7 @@ module _ (log : Logbook) (trace : List Activation) (instant age : ℕ) (by_now :
       let lies = inside log edge instant (now_of log) window by_now found in
       at_least log trace edge (span_number log instant) (now_of log) instant age start window found lies.0 lies.1 at
 
+  -- where there is no window, the edge has no age
   without_window : (edge : Edge) → window_of log edge span horizon ≡ None → HasAge log trace edge instant age → ⊥
   without_window edge none has =
       let is : span ≡ span_number log instant = number_there instant (now_of log) (span_number log instant) span by_now number in
@@ -51,18 +53,6 @@ module _ (log : Logbook) (trace : List Activation) (instant age : ℕ) (by_now :
             → IsSomeAnd there (λ e. HasAge log trace e instant age) → IsTrue false
         by None none has = absurd has
         by (Some edge) none has = absurd (without_window edge (sym none) has)
-
-    -- no time of the source, no age
-    pub no_source : (edge : Edge) → slice_get edges place ≡ Some edge → None ≡ time_of trace edge.source
-        → IsTrue false ↔ IsSomeAnd (slice_get edges place) (λ e. HasAge log trace e instant age)
-    no_source edge at none = (
-      λ no. absurd (false≢true no),
-      λ has.
-          let it : HasAge log trace edge instant age = subst (λ there. IsSomeAnd there (λ e. HasAge log trace e instant age)) at has in
-          let source = it.source in
-          let bad : Some it.start ≡ None = sym source ∙ sym none in
-          cc,
-    )
 
     -- the age by window and source
     pub by_both : (edge : Edge) → slice_get edges place ≡ Some edge → (window : Window) → Some window ≡ option_and_then (λ e. window_of log e span horizon) (slice_get edges place)

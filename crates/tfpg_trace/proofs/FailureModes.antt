@@ -13,13 +13,16 @@ use Rattle.tfpg_log.specs.Explains.{IsMember}
 use Rattle.tfpg_trace.specs.Strays.{IsOutside}
 use Rattle.tfpg_trace.proofs.NumberedItems.{item_of, one_place, number_of}
 
+-- equal by the test is equal
 same_number : (one other : ℕ) → nat_eq one other ≡ true → one ≡ other
 same_number one other is = grind (arith, nat_tests)
 
+-- and not equal by it is another
 other_number : (one other : ℕ) → nat_eq one other ≡ false → one ≡ other → ⊥
 other_number one other isnt = grind (arith, nat_tests)
 
 module _ (graph : Tfpg) where
+  -- whether a node of the graph is a failure mode
   kind_of : (node : ℕ) (item : Node) → slice_get graph.nodes node ≡ Some item → is_kind_at is_failure graph node ≡ is_failure item.kind
   kind_of node item at = ap (λ (there : Option Node). option_map_or is_failure (option_map (λ n. n.kind) there) false) at
 

@@ -1,4 +1,4 @@
--- The may rule by the kind of the node.
+-- The may rule at an AND node.
 use Rattle.std.proofs.Common.{◌≡◌, ℕ, Bool, false, List, Option, Some, refl, ap, sym, ◌∙◌}
 use Rattle.std.specs.Prelude.{IsTrue, ◌↔◌}
 use Rattle.std.specs.Option.{option_map_or}
@@ -12,27 +12,15 @@ use Rattle.tfpg_log.specs.Log.{Logbook}
 use Rattle.tfpg_log.specs.Rules.{KeepsMay, SomeArrives, AllArrive}
 
 module _ (graph : Tfpg) (log : Logbook) (trace : List Activation) (node instant : ℕ) where
+  -- what the kind of the node is by a test
   kind_test : (test : Kind → Bool) (kind : Kind) → kind_at graph node ≡ Some kind → is_kind_at test graph node ≡ test kind
   kind_test test kind is = ap (λ (there : Option Kind). option_map_or test there false) is
 
+  -- and what it is not
   not_so : (test : Kind → Bool) (kind : Kind) → kind_at graph node ≡ Some kind → test kind ≡ false → IsTrue (is_kind_at test graph node) → ⊥
   not_so test kind is fails passes = false≢true (sym fails ∙ sym (kind_test test kind is) ∙ passes)
 
-  -- a failure mode always keeps it
-  pub may_of_failure : (rarity : ℕ) → kind_at graph node ≡ Some (Failure rarity) → KeepsMay graph log trace node instant
-  may_of_failure rarity is = record {
-    or_node = λ or at. absurd (not_so is_or (Failure rarity) is refl or);
-    and_node = λ and at. absurd (not_so is_and (Failure rarity) is refl and);
-  }
-
   module _ (result : Bool) (at : time_of trace node ≡ Some instant) (lag : Option ℕ) where
-    -- an OR node keeps it where some edge has carried the failure
-    pub may_of_or : kind_at graph node ≡ Some (Or lag) → IsTrue result ↔ SomeArrives graph log trace node instant → IsTrue result ↔ KeepsMay graph log trace node instant
-    may_of_or is same = (
-      λ yes. record { or_node = λ or _. same.0 yes; and_node = λ and _. absurd (not_so is_and (Or lag) is refl and) },
-      λ keeps. same.1 (keeps.or_node (kind_test is_or (Or lag) is) at),
-    )
-
     -- an AND node keeps it where each edge has
     pub may_of_and : kind_at graph node ≡ Some (And lag) → IsTrue result ↔ AllArrive graph log trace node instant → IsTrue result ↔ KeepsMay graph log trace node instant
     may_of_and is same = (

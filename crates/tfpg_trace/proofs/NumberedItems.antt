@@ -14,6 +14,7 @@ pub record IsItemOf {X : Type 0} (p : X → Bool) (first : ℕ) (xs : List X) (n
   pub passes : p item ≡ true
 
 module _ {X : Type 0} (p : X → Bool) where
+  -- an item of the rest is an item of the whole
   later : (first : ℕ) (x : X) (xs : List X) (number : ℕ) → IsItemOf p (first + 1) xs number → IsItemOf p first (x ∷ xs) number
   later first x xs number of = record { item = of.item; place = suc of.place; counted = omega (arith, of.counted); at = of.at; passes = of.passes }
 
