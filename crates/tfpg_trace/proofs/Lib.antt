@@ -3,3 +3,5 @@ pub mod FailureModes
 pub mod IncomingEdges
 pub mod AgesNow
 pub mod MayRule
+pub mod FirstNodes
+pub mod Sweeps

@@ -6,10 +6,10 @@ use Rattle.std.proofs.lemmas.Bool.{false≢true}
 use Rattle.tfpg_base.specs.declared.activation.Activation.{Activation}
 use Rattle.tfpg_base.specs.Trace.{time_of}
 use Rattle.tfpg_graph.specs.declared.kind.Kind.{Kind}
-use Rattle.tfpg_graph.specs.declared.kind.Kind.TheVariants.{Failure, Or, And}
+use Rattle.tfpg_graph.specs.declared.kind.Kind.TheVariants.{And}
 use Rattle.tfpg_graph.specs.Graph.{Tfpg, kind_at, is_kind_at, is_or, is_and}
 use Rattle.tfpg_log.specs.Log.{Logbook}
-use Rattle.tfpg_log.specs.Rules.{KeepsMay, SomeArrives, AllArrive}
+use Rattle.tfpg_log.specs.Rules.{KeepsMay, AllArrive}
 
 module _ (graph : Tfpg) (log : Logbook) (trace : List Activation) (node instant : ℕ) where
   -- what the kind of the node is by a test

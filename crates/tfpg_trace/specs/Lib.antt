@@ -5,3 +5,4 @@ pub use Rattle.tfpg_graph.specs.Graph
 pub mod Broken
 pub mod FirstFault
 pub mod Strays
+pub mod Shown

@@ -6,7 +6,10 @@
 #![tactic(auto)]
 
 mod ages;
+mod alarms;
 mod may;
+mod shows;
+mod silences;
 mod strays;
 mod verdict;
 
