@@ -5,3 +5,6 @@ pub mod AgesNow
 pub mod MayRule
 pub mod FirstNodes
 pub mod Sweeps
+pub mod Activations
+pub mod Decided
+pub mod Explained

@@ -6,3 +6,4 @@ pub mod Broken
 pub mod FirstFault
 pub mod Strays
 pub mod Shown
+pub mod RuleFaults
