@@ -1,10 +1,10 @@
 -- A trace without a fault explains the log from the set, and a trace with one does not.
-use Rattle.std.proofs.Common.{◌≡◌, ℕ, ◌<◌, ◌≤◌, Bool, true, false, ◌&&◌, cond, nat_eq, List, length, take, All, Option, Some, None, refl, sym, subst, arith}
+use Rattle.std.proofs.Common.{◌≡◌, ℕ, ◌<◌, ◌≤◌, Bool, true, false, ◌&&◌, cond, nat_eq, List, length, take, All, Option, Some, None, refl, subst, arith}
 use Rattle.std.specs.Prelude.{IsTrue, IsNone, is_none}
 use Rattle.std.proofs.lemmas.Bool.{false≢true, eqb-true}
 use Rattle.std.proofs.lemmas.List.Elements.{All-contains}
 use Rattle.tfpg_base.specs.declared.activation.Activation.{Activation}
-use Rattle.tfpg_base.specs.Trace.{IsRisingByNode, time_of}
+use Rattle.tfpg_base.specs.Trace.{IsRisingByNode}
 use Rattle.tfpg_base.proofs.Elements.{All-from_members}
 use Rattle.tfpg_graph.specs.Graph.{Tfpg, is_kind_at, is_failure, is_monitored}
 use Rattle.tfpg_log.specs.declared.event.Event.{Event}
