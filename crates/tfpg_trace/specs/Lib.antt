@@ -4,3 +4,6 @@ pub use Rattle.tfpg_log.specs.Log
 pub use Rattle.tfpg_graph.specs.Graph
 pub mod Broken
 pub mod FirstFault
+pub mod Strays
+pub mod Shown
+pub mod RuleFaults

@@ -1,0 +1,10 @@
+pub mod NumberedItems
+pub mod FailureModes
+pub mod IncomingEdges
+pub mod AgesNow
+pub mod MayRule
+pub mod FirstNodes
+pub mod Sweeps
+pub mod Activations
+pub mod Decided
+pub mod Explained
