@@ -5,6 +5,7 @@
 //! It goes by spans and windows, and through no instants.
 #![tactic(auto)]
 
+mod due;
 mod verdict;
 
 pub use verdict::Verdict;
