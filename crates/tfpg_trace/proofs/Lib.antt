@@ -1,2 +1,4 @@
 pub mod Beginnings
 pub mod DueEdges
+pub mod DueInto
+pub mod MustFaults

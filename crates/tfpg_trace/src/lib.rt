@@ -6,6 +6,7 @@
 #![tactic(auto)]
 
 mod due;
+mod must;
 mod verdict;
 
 pub use verdict::Verdict;

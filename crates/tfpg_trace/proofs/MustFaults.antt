@@ -1,0 +1,115 @@
+-- Where a node first breaks the must rule: where it first must be active and is not.
+use Rattle.std.proofs.Common.{◌≡◌, ℕ, ◌+◌, ◌<◌, ◌≤◌, ◌⊎◌, true, false, List, Option, Some, None, inl, inr, ap, sym, subst, ◌∙◌, arith}
+use Rattle.std.specs.Prelude.{IsTrue, All, Contains}
+use Rattle.std.specs.Option.{option_map_or}
+use Rattle.std.proofs.lemmas.Bool.{both_ways, cases_lt}
+use Rattle.tfpg_base.specs.declared.activation.Activation.{Activation}
+use Rattle.tfpg_base.specs.Trace.{time_of}
+use Rattle.tfpg_graph.specs.declared.kind.Kind.TheVariants.{Or, And}
+use Rattle.tfpg_graph.specs.declared.edge.Edge.{Edge}
+use Rattle.tfpg_graph.specs.Graph.{Tfpg, kind_at, is_kind_at, is_or, is_and, edges_into}
+use Rattle.tfpg_log.specs.declared.span.Span.{Span}
+use Rattle.tfpg_log.specs.Log.{Logbook, now_of}
+use Rattle.tfpg_log.specs.Rules.{IsActive, IsDue, KeepsMust}
+use Rattle.tfpg_log.specs.Spans.{span_number, span_at}
+use Rattle.tfpg_log.proofs.SpanRuns.{is_span, has_span}
+use Rattle.tfpg_trace.specs.Due.{BeginsAt, Begins, SomeDue, AllDue, MustBeActive, FirstBreaksIn, IsFirstFaultIn}
+use Rattle.tfpg_trace.proofs.Beginnings.{carried}
+
+module _ (graph : Tfpg) (log : Logbook) (trace : List Activation) (node : ℕ) where
+  -- An OR node must be active where some edge into it is due.
+  pub must_by_some : (lo hi : ℕ) (lag : Option ℕ) (found : Option ℕ) → kind_at graph node ≡ Some (Or lag) → Begins (SomeDue graph log trace node) lo hi found
+      → Begins (MustBeActive graph log trace node) lo hi found
+  must_by_some lo hi lag found kind begins =
+      let is : IsTrue (is_kind_at is_or graph node) = ap (λ k. option_map_or is_or k false) kind in
+      let is_no : is_kind_at is_and graph node ≡ false = ap (λ k. option_map_or is_and k false) kind in
+      carried (SomeDue graph log trace node) (MustBeActive graph log trace node) lo hi found (λ instant from upto some. inl (is, some))
+      (λ instant from upto must. elim must [
+        | inl some ↦ some.1
+        | inr all ↦ absurd (both_ways (is_kind_at is_and graph node) is_no all.0)
+      ])
+      begins
+
+  -- An AND node must be active where all edges into it are due.
+  pub must_by_all : (lo hi : ℕ) (lag : Option ℕ) (found : Option ℕ) → kind_at graph node ≡ Some (And lag) → Begins (AllDue graph log trace node) lo hi found
+      → Begins (MustBeActive graph log trace node) lo hi found
+  must_by_all lo hi lag found kind begins =
+      let is : IsTrue (is_kind_at is_and graph node) = ap (λ k. option_map_or is_and k false) kind in
+      let is_no : is_kind_at is_or graph node ≡ false = ap (λ k. option_map_or is_or k false) kind in
+      carried (AllDue graph log trace node) (MustBeActive graph log trace node) lo hi found (λ instant from upto all. inr (is, all))
+      (λ instant from upto must. elim must [
+        | inl some ↦ absurd (both_ways (is_kind_at is_or graph node) is_no some.0)
+        | inr all ↦ all.1
+      ])
+      begins
+
+  -- A node keeps the must rule where it must not be active,
+  pub keeps_unless : (instant : ℕ) → (MustBeActive graph log trace node instant → ⊥) → KeepsMust graph log trace node instant
+  keeps_unless instant never = record {
+    or_node = λ is edge member due. absurd (never (inl (is, (edge, member, due))));
+    and_node = λ is all. absurd (never (inr (is, all)));
+  }
+
+  -- and where it is active,
+  pub keeps_active : (instant : ℕ) → IsActive trace node instant → KeepsMust graph log trace node instant
+  keeps_active instant active = record {
+    or_node = λ is edge member due. active;
+    and_node = λ is all. active;
+  }
+
+  -- and nowhere else.
+  pub active_where_must : (instant : ℕ) → KeepsMust graph log trace node instant → MustBeActive graph log trace node instant → IsActive trace node instant
+  active_where_must instant keeps must = elim must [
+    | inl some ↦ keeps.or_node some.0 some.1.0 some.1.1 some.1.2
+    | inr all ↦ keeps.and_node all.0 all.1
+  ]
+
+  -- what is active stays so
+  pub still_active : (instant later : ℕ) → IsActive trace node instant → instant ≤ later → IsActive trace node later
+  still_active instant later active behind = (active.0, active.1, omega (arith, active.2, behind))
+
+  module _ (number : ℕ) where
+    -- Where there is no such span, none of its instants breaks the rule.
+    pub without_span : span_at log number (now_of log) ≡ None → IsFirstFaultIn graph log trace node number None
+    without_span none = λ instant within numbered.
+        let there = has_span log instant (now_of log) within (omega arith) in
+        let at : span_at log number (now_of log) ≡ Some there.0 = subst (λ n. span_at log n (now_of log) ≡ Some there.0) numbered there.1 in
+        absurd (cc (at, none))
+
+    module _ (span : Span) (here : span_at log number (now_of log) ≡ Some span) where
+      inside : (instant : ℕ) → instant ≤ now_of log → span_number log instant ≡ number → (span.lo ≤ instant) × (instant ≤ span.hi)
+      inside instant within numbered =
+          let there = has_span log instant (now_of log) within (omega arith) in
+          let at : span_at log number (now_of log) ≡ Some there.0 = subst (λ n. span_at log n (now_of log) ≡ Some there.0) numbered there.1 in
+          let same : there.0 ≡ span = cc (at, here) in
+          subst (λ (s : Span). (s.lo ≤ instant) × (instant ≤ s.hi)) same (there.2, there.3)
+
+      -- Where the node must be active at none of its instants, none breaks the rule.
+      pub never_due : Begins (MustBeActive graph log trace node) span.lo span.hi None → IsFirstFaultIn graph log trace node number None
+      never_due never = λ instant within numbered.
+          let lies = inside instant within numbered in
+          keeps_unless instant (never instant lies.0 lies.1)
+
+      module _ (due : ℕ) (begins : Begins (MustBeActive graph log trace node) span.lo span.hi (Some due)) where
+        -- Where it is active at the first of those at which it must be, none breaks the rule.
+        pub in_time : IsActive trace node due → IsFirstFaultIn graph log trace node number None
+        in_time active = λ instant within numbered.
+            let lies = inside instant within numbered in
+            elim (cases_lt instant due) [
+              | inl before ↦ keeps_unless instant (begins.not_before instant lies.0 before)
+              | inr behind ↦ keeps_active instant (still_active due instant active behind)
+            ]
+
+        -- And where it is not, that one is the first to break the rule.
+        pub first_fault : (IsActive trace node due → ⊥) → IsFirstFaultIn graph log trace node number (Some due)
+        first_fault not_active =
+            let is = is_span log number (now_of log) span here in
+            let by_now : due ≤ now_of log = omega (arith, begins.upto, is.run.in_range) in
+            record {
+              by_now = by_now;
+              inside = is.numbered due begins.from begins.upto;
+              broken = λ keeps. not_active (active_where_must due keeps (begins.since due (omega arith) begins.upto));
+              first = λ earlier before numbered.
+                  let lies = inside earlier (omega (arith, by_now, before)) numbered in
+                  keeps_unless earlier (begins.not_before earlier lies.0 before);
+            }

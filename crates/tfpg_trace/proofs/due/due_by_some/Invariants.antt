@@ -1,0 +1,7 @@
+use Rattle.tfpg_trace.specs.Due.{Begins}
+use Rattle.tfpg_trace.proofs.Beginnings.{OneOf}
+use Rattle.tfpg_trace.proofs.DueInto.{DueAt}
+use Rattle.tfpg_trace.proofs.due.due_by_some.Given as goal
+
+abbrev pub invariant-loop-edge : goal.invariant-loop-edge
+invariant-loop-edge l = Begins (OneOf (DueAt l.graph l.log l.trace l.incoming) l.edge-index) l.span.lo l.span.hi l.first
