@@ -16,6 +16,11 @@ use Rattle.tfpg_log.proofs.SpanRuns.{is_span, has_span}
 use Rattle.tfpg_trace.specs.Due.{BeginsAt, Begins, SomeDue, AllDue, MustBeActive, FirstBreaksIn, IsFirstFaultIn}
 use Rattle.tfpg_trace.proofs.Beginnings.{carried}
 
+-- what a look-up says of a span up to now
+pub told : (log : Logbook) (number now : ℕ) (answer : Option Span) → now ≡ now_of log → answer ≡ span_at log number now
+    → span_at log number (now_of log) ≡ answer
+told log number now answer now_is e = sym (e ∙ ap (span_at log number) now_is)
+
 module _ (graph : Tfpg) (log : Logbook) (trace : List Activation) (node : ℕ) where
   -- An OR node must be active where some edge into it is due.
   pub must_by_some : (lo hi : ℕ) (lag : Option ℕ) (found : Option ℕ) → kind_at graph node ≡ Some (Or lag) → Begins (SomeDue graph log trace node) lo hi found

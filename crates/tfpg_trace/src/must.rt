@@ -20,9 +20,8 @@ pub(crate) fn first_must_fault(graph: &Graph, log: &Log, trace: &Trace, node: u3
 {
     let last = log.span_of(last_to_try(log, trace, node))?;
     for number in 0..=last {
-        let fault = fault_in_span(graph, log, trace, node, number);
-        if fault.is_some() {
-            return fault;
+        if let Some(instant) = fault_in_span(graph, log, trace, node, number) {
+            return Some(instant);
         }
     }
     None
