@@ -1,42 +1,23 @@
--- Where, in a span, an edge begins to be due.
-use Rattle.std.proofs.Common.{◌≡◌, ℕ, ◌+◌, ◌≤◌, List, Option, Some, None, slice_get, sym, ap, subst, ◌∙◌, arith, max}
-use Rattle.std.specs.Prelude.{option_and_then}
+-- Where, in a span, an edge begins to be due, by the gap that it has when the span begins.
+use Rattle.std.proofs.Common.{◌≡◌, ℕ, ◌+◌, ◌<◌, ◌≤◌, false, List, Option, Some, None, inl, inr, slice_get, sym, subst, arith, max}
+use Rattle.std.specs.Prelude.{IsTrue}
+use Rattle.std.proofs.lemmas.Bool.{both_ways, cases_lt}
 use Rattle.tfpg_base.specs.declared.activation.Activation.{Activation}
 use Rattle.tfpg_base.specs.Trace.{time_of}
 use Rattle.tfpg_graph.specs.declared.edge.Edge.{Edge}
-use Rattle.tfpg_graph.specs.Graph.{Tfpg}
+use Rattle.tfpg_graph.specs.Graph.{Tfpg, is_allowed}
 use Rattle.tfpg_log.specs.declared.span.Span.{Span}
-use Rattle.tfpg_log.specs.declared.span.Window.{Window}
-use Rattle.tfpg_log.specs.Log.{Logbook, now_of}
+use Rattle.tfpg_log.specs.Log.{Logbook, now_of, mode_at}
 use Rattle.tfpg_log.specs.Rules.{HasAge, IsDue}
-use Rattle.tfpg_log.specs.Spans.{span_number, span_at, window_of}
-use Rattle.tfpg_log.specs.Runs.{LiesIn}
-use Rattle.tfpg_log.proofs.SpanRuns.{is_span}
-use Rattle.tfpg_log.proofs.WindowInstants.{is_window}
-use Rattle.tfpg_log.proofs.WindowAges.{at_least, exactly}
-use Rattle.tfpg_trace.specs.Due.{Begins, IsDueBy}
+use Rattle.tfpg_log.specs.Spans.{span_number, span_at, is_allowed_at}
+use Rattle.tfpg_log.proofs.Ages.{age_since_start}
+use Rattle.tfpg_trace.specs.Due.{Begins, IsDueBy, IsGapOf, IsGap, behind_gap}
 use Rattle.tfpg_trace.proofs.Beginnings.{carried}
-
--- A span has instants, from the first to the last of them.
-pub in_order : (log : Logbook) (number horizon : ℕ) (span : Span) → span_at log number horizon ≡ Some span → span.lo ≤ span.hi
-in_order log number horizon span here = (is_span log number horizon span here).run.in_order
-
--- The window round a span takes in the span.
-pub takes_in : (log : Logbook) (edge : Edge) (number horizon : ℕ) (span : Span) (window : Window) → span_at log number horizon ≡ Some span
-    → window_of log edge number horizon ≡ Some window → LiesIn span window
-takes_in log edge number horizon span window here there =
-    let is = is_window log edge number horizon window there in
-    let same : is.round.0 ≡ span = cc (is.round.1, here) in
-    subst (λ s. LiesIn s window) same is.round.2
+use Rattle.tfpg_trace.proofs.SpanOrder.{number_rises, inside, numbered, by_now, in_mode}
 
 module _ (graph : Tfpg) (log : Logbook) (trace : List Activation) (place number : ℕ) (span : Span) (edge : Edge) (at : slice_get graph.edges place ≡ Some edge) (here : span_at log number (now_of log) ≡ Some span) where
   own : (instant : ℕ) → IsDueBy graph log trace place instant → IsDue log trace edge instant
   own instant due = let same : due.0 ≡ edge = cc (due.1, at) in subst (λ e. IsDue log trace e instant) same due.2
-
-  -- what a look-up says of the edge's window
-  pub asked : (now : ℕ) (answer : Option Window) → now ≡ now_of log
-      → answer ≡ option_and_then (λ e. window_of log e number now) (slice_get graph.edges place) → window_of log edge number (now_of log) ≡ answer
-  asked now answer now_is e = sym (e ∙ (λ i. option_and_then (λ e. window_of log e number (now_is i)) (at i)))
 
   -- An edge without a greatest delay is never due.
   pub without_delay : edge.tmax ≡ None → Begins (IsDueBy graph log trace place) span.lo span.hi None
@@ -47,36 +28,85 @@ module _ (graph : Tfpg) (log : Logbook) (trace : List Activation) (place number 
   without_start none = λ instant from upto due. let own_due = own instant due in absurd (cc (own_due.2.source, none))
 
   -- Nor is one, in a span in whose mode it is not active.
-  pub without_window : window_of log edge number (now_of log) ≡ None → Begins (IsDueBy graph log trace place) span.lo span.hi None
-  without_window none = λ instant from upto due.
+  pub without_mode : is_allowed edge span.mode ≡ false → Begins (IsDueBy graph log trace place) span.lo span.hi None
+  without_mode shut = λ instant from upto due.
       let own_due = own instant due in
-      let is = is_span log number (now_of log) span here in
-      let in_window = (exactly log trace edge instant (now_of log) own_due.0 (omega (arith, upto, is.run.in_range)) (omega arith)).0 own_due.2 in
-      let numbered : span_number log instant ≡ number = is.numbered instant from upto in
-      let there : window_of log edge number (now_of log) ≡ Some in_window.window =
-      subst (λ n. window_of log edge n (now_of log) ≡ Some in_window.window) numbered in_window.there in
-      absurd (cc (there, none))
+      let open_here : IsTrue (is_allowed edge span.mode) =
+      subst (λ m. IsTrue (is_allowed edge m)) (in_mode log number span here instant from upto) (own_due.2.allowed instant (omega arith) (omega arith)) in
+      absurd (both_ways (is_allowed edge span.mode) shut open_here)
 
-  -- In its window it is due so long behind the later of two, the beginning of the window and the time of its source.
-  pub in_window : (window : Window) (start delay : ℕ) (found : Option ℕ) → edge.tmax ≡ Some delay → time_of trace edge.source ≡ Some start
-      → window_of log edge number (now_of log) ≡ Some window → Begins (λ instant. max window.lo start + delay ≤ instant) span.lo span.hi found
-      → Begins (IsDueBy graph log trace place) span.lo span.hi found
-  in_window window start delay found tmax source there begins =
-      let lies = takes_in log edge number (now_of log) span window here there in
-      carried (λ instant. max window.lo start + delay ≤ instant) (IsDueBy graph log trace place) span.lo span.hi found
-      (λ instant from upto behind. (
-        edge,
-        at,
-        (
-          delay,
-          tmax,
-          (at_least log trace edge number (now_of log) instant delay start window there (omega (arith, lies.0, from)) (omega (arith, lies.1, upto)) source).1
-              (omega (arith, behind), omega (arith, behind)),
-        ),
-      ))
-      (λ instant from upto due.
+  module _ (active : IsTrue (is_allowed edge span.mode)) where
+    -- where it is active from an instant on to the span, it is so on in the span
+    active_on : (begin : ℕ) → ((x : ℕ) → begin ≤ x → x ≤ now_of log → span_number log x < number → IsTrue (is_allowed_at log edge x))
+        → (instant x : ℕ) → span.lo ≤ instant → instant ≤ span.hi → begin ≤ x → x ≤ instant → IsTrue (is_allowed_at log edge x)
+    active_on begin given instant x from upto since before =
+        let within : instant ≤ now_of log = by_now log number span here instant upto in
+        let not_above : span_number log x ≤ span_number log instant = number_rises log x instant before in
+        let is : span_number log instant ≡ number = numbered log number span here instant from upto in
+        elim (cases_lt (span_number log x) number) [
+          | inl below ↦ given x since (omega (arith, before, within)) below
+          | inr above ↦ (
+              let lies = inside log number span here x (omega (arith, before, within)) (omega (arith, not_above, is, above)) in
+              subst (λ m. IsTrue (is_allowed edge m)) (sym (in_mode log number span here x lies.0 lies.1)) active)
+        ]
+
+    -- the edge is due where it is active for so long
+    due_for : (begin start delay instant : ℕ) → edge.tmax ≡ Some delay → time_of trace edge.source ≡ Some start
+        → ((x : ℕ) → begin ≤ x → x ≤ now_of log → span_number log x < number → IsTrue (is_allowed_at log edge x))
+        → span.lo ≤ instant → instant ≤ span.hi → start + delay ≤ instant → begin + delay ≤ instant → IsDueBy graph log trace place instant
+    due_for begin start delay instant tmax source given from upto since since_begin = (
+      edge,
+      at,
+      (
+        delay,
+        tmax,
+        record {
+          start = start;
+          source = source;
+          since = since;
+          allowed = λ x after before. active_on begin given instant x from upto (omega (arith, after, since_begin)) before;
+        },
+      ),
+    )
+
+    -- when it is due, its source is active for so long
+    since_start : (start delay instant : ℕ) → edge.tmax ≡ Some delay → time_of trace edge.source ≡ Some start → IsDueBy graph log trace place instant
+        → start + delay ≤ instant
+    since_start start delay instant tmax source due =
         let own_due = own instant due in
         let same : own_due.0 ≡ delay = cc (own_due.1, tmax) in
-        let both = (at_least log trace edge number (now_of log) instant own_due.0 start window there (omega (arith, lies.0, from)) (omega (arith, lies.1, upto)) source).0 own_due.2 in
-        omega (arith, both.0, both.1, same))
-      begins
+        omega (arith, age_since_start log trace edge instant own_due.0 start source own_due.2, same)
+
+    -- and so is it itself
+    since_gap : (gap delay instant : ℕ) → edge.tmax ≡ Some delay → span_number log gap < number → (IsTrue (is_allowed_at log edge gap) → ⊥)
+        → span.lo ≤ instant → instant ≤ span.hi → IsDueBy graph log trace place instant → gap + 1 + delay ≤ instant
+    since_gap gap delay instant tmax before shut from upto due =
+        let own_due = own instant due in
+        let same : own_due.0 ≡ delay = cc (own_due.1, tmax) in
+        let is : span_number log instant ≡ number = numbered log number span here instant from upto in
+        let earlier : gap ≤ instant = elim (cases_lt instant gap) [
+          | inl above ↦ absurd (omega (arith, number_rises log instant gap (omega (arith, above)), is, before))
+          | inr upto ↦ upto
+        ] in
+        elim (cases_lt (gap + delay) instant) [
+          | inl behind ↦ omega (arith, behind)
+          | inr short ↦ absurd (shut (own_due.2.allowed gap (omega (arith, short, same)) earlier))
+        ]
+
+    -- It is due so long after the later of two, the instant behind its gap and the time of its source.
+    pub behind : (gap : Option ℕ) (start delay : ℕ) (found : Option ℕ) → IsGap log edge number gap → edge.tmax ≡ Some delay
+        → time_of trace edge.source ≡ Some start → Begins (λ instant. behind_gap gap start + delay ≤ instant) span.lo span.hi found
+        → Begins (IsDueBy graph log trace place) span.lo span.hi found
+    behind None start delay found is_gap tmax source begins =
+        carried (λ instant. start + delay ≤ instant) (IsDueBy graph log trace place) span.lo span.hi found
+        (λ instant from upto late. due_for 0 start delay instant tmax source (λ x since within below. is_gap x within below) from upto late (omega (arith, late)))
+        (λ instant from upto due. since_start start delay instant tmax source due)
+        begins
+    behind (Some gap) start delay found is_gap tmax source begins =
+        carried (λ instant. max start (gap + 1) + delay ≤ instant) (IsDueBy graph log trace place) span.lo span.hi found
+        (λ instant from upto late.
+          due_for (gap + 1) start delay instant tmax source (λ x since within below. is_gap.active_since x (omega (arith, since)) within below) from upto
+          (omega (arith, late)) (omega (arith, late)))
+        (λ instant from upto due.
+          omega (arith, since_start start delay instant tmax source due, since_gap gap delay instant tmax is_gap.before is_gap.shut from upto due))
+        begins

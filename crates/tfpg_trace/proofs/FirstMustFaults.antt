@@ -8,20 +8,10 @@ use Rattle.tfpg_log.specs.Rules.{IsActive, KeepsMust}
 use Rattle.tfpg_log.specs.Spans.{span_number}
 use Rattle.tfpg_trace.specs.Broken.{FirstBreaksMust, IsFirstMustFault}
 use Rattle.tfpg_trace.specs.Due.{FirstBreaksIn, IsFirstFaultIn}
+use Rattle.tfpg_trace.proofs.SpanOrder.{number_rises}
 use Rattle.tfpg_trace.proofs.MustFaults.{keeps_active}
 
-count_rises : (before here count : ℕ) → count ≤ count + cond (eqb before here) 0 1
-count_rises before here count = omega arith
-
 module _ (log : Logbook) where
-  -- the numbers of spans rise
-  number_rises : (lo hi : ℕ) → lo ≤ hi → span_number log lo ≤ span_number log hi
-  number_rises lo zero upto = let same : lo ≡ 0 = omega arith in omega (arith, ap (span_number log) same)
-  number_rises lo (suc hi) upto = elim (cases_lt hi lo) [
-    | inl above ↦ (let same : lo ≡ suc hi = omega arith in omega (arith, ap (span_number log) same))
-    | inr below ↦ omega (arith, number_rises lo hi below, count_rises (mode_at log hi) (mode_at log (suc hi)) (span_number log hi))
-  ]
-
   -- what a look-up says of an instant up to now
   numbered : (horizon : ℕ) (answer : Option ℕ) → horizon ≤ now_of log → answer ≡ cond (leb horizon (now_of log)) (Some (span_number log horizon)) None
       → answer ≡ Some (span_number log horizon)
@@ -49,7 +39,7 @@ module _ (log : Logbook) where
       by_now = fault.by_now;
       broken = fault.broken;
       first = λ earlier lesser.
-          let upto : span_number log earlier ≤ span_number log instant = number_rises earlier instant (omega (arith, lesser)) in
+          let upto : span_number log earlier ≤ span_number log instant = number_rises log earlier instant (omega (arith, lesser)) in
           elim (cases_lt (span_number log earlier) number) [
             | inl below ↦ before earlier (omega (arith, lesser, fault.by_now)) below
             | inr above ↦ fault.first earlier lesser (omega (arith, upto, above, fault.inside))
@@ -65,5 +55,5 @@ module _ (log : Logbook) where
       | inr upto ↦ (
           let is : Some last ≡ Some (span_number log horizon) = numbered horizon (Some last) by_now e in
           let last_is : last ≡ span_number log horizon = cc in
-          before instant within (omega (arith, number_rises instant horizon upto, last_is, enough)))
+          before instant within (omega (arith, number_rises log instant horizon upto, last_is, enough)))
     ]

@@ -12,9 +12,9 @@ use Rattle.tfpg_log.specs.declared.span.Span.{Span}
 use Rattle.tfpg_log.specs.Log.{Logbook, now_of}
 use Rattle.tfpg_log.specs.Rules.{IsActive, IsDue, KeepsMust}
 use Rattle.tfpg_log.specs.Spans.{span_number, span_at}
-use Rattle.tfpg_log.proofs.SpanRuns.{is_span, has_span}
 use Rattle.tfpg_trace.specs.Due.{BeginsAt, Begins, SomeDue, AllDue, MustBeActive, FirstBreaksIn, IsFirstFaultIn}
 use Rattle.tfpg_trace.proofs.Beginnings.{carried}
+use Rattle.tfpg_trace.proofs.SpanOrder.{none_inside, inside, numbered, by_now}
 
 -- what a look-up says of a span up to now
 pub told : (log : Logbook) (number now : ℕ) (answer : Option Span) → now ≡ now_of log → answer ≡ span_at log number now
@@ -76,30 +76,20 @@ module _ (graph : Tfpg) (log : Logbook) (trace : List Activation) (node : ℕ) w
   module _ (number : ℕ) where
     -- Where there is no such span, none of its instants breaks the rule.
     pub without_span : span_at log number (now_of log) ≡ None → IsFirstFaultIn graph log trace node number None
-    without_span none = λ instant within numbered.
-        let there = has_span log instant (now_of log) within (omega arith) in
-        let at : span_at log number (now_of log) ≡ Some there.0 = subst (λ n. span_at log n (now_of log) ≡ Some there.0) numbered there.1 in
-        absurd (cc (at, none))
+    without_span none = λ instant within at. absurd (none_inside log number none instant within at)
 
     module _ (span : Span) (here : span_at log number (now_of log) ≡ Some span) where
-      inside : (instant : ℕ) → instant ≤ now_of log → span_number log instant ≡ number → (span.lo ≤ instant) × (instant ≤ span.hi)
-      inside instant within numbered =
-          let there = has_span log instant (now_of log) within (omega arith) in
-          let at : span_at log number (now_of log) ≡ Some there.0 = subst (λ n. span_at log n (now_of log) ≡ Some there.0) numbered there.1 in
-          let same : there.0 ≡ span = cc (at, here) in
-          subst (λ (s : Span). (s.lo ≤ instant) × (instant ≤ s.hi)) same (there.2, there.3)
-
       -- Where the node must be active at none of its instants, none breaks the rule.
       pub never_due : Begins (MustBeActive graph log trace node) span.lo span.hi None → IsFirstFaultIn graph log trace node number None
-      never_due never = λ instant within numbered.
-          let lies = inside instant within numbered in
+      never_due never = λ instant within at.
+          let lies = inside log number span here instant within at in
           keeps_unless instant (never instant lies.0 lies.1)
 
       module _ (due : ℕ) (begins : Begins (MustBeActive graph log trace node) span.lo span.hi (Some due)) where
         -- Where it is active at the first of those at which it must be, none breaks the rule.
         pub in_time : IsActive trace node due → IsFirstFaultIn graph log trace node number None
-        in_time active = λ instant within numbered.
-            let lies = inside instant within numbered in
+        in_time active = λ instant within at.
+            let lies = inside log number span here instant within at in
             elim (cases_lt instant due) [
               | inl before ↦ keeps_unless instant (begins.not_before instant lies.0 before)
               | inr behind ↦ keeps_active instant (still_active due instant active behind)
@@ -108,13 +98,12 @@ module _ (graph : Tfpg) (log : Logbook) (trace : List Activation) (node : ℕ) w
         -- And where it is not, that one is the first to break the rule.
         pub first_fault : (IsActive trace node due → ⊥) → IsFirstFaultIn graph log trace node number (Some due)
         first_fault not_active =
-            let is = is_span log number (now_of log) span here in
-            let by_now : due ≤ now_of log = omega (arith, begins.upto, is.run.in_range) in
+            let now : due ≤ now_of log = by_now log number span here due begins.upto in
             record {
-              by_now = by_now;
-              inside = is.numbered due begins.from begins.upto;
+              by_now = now;
+              inside = numbered log number span here due begins.from begins.upto;
               broken = λ keeps. not_active (active_where_must due keeps (begins.since due (omega arith) begins.upto));
-              first = λ earlier before numbered.
-                  let lies = inside earlier (omega (arith, by_now, before)) numbered in
+              first = λ earlier before at.
+                  let lies = inside log number span here earlier (omega (arith, now, before)) at in
                   keeps_unless earlier (begins.not_before earlier lies.0 before);
             }

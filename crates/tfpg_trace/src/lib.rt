@@ -6,6 +6,7 @@
 #![tactic(auto)]
 
 mod due;
+mod gaps;
 mod must;
 mod verdict;
 
