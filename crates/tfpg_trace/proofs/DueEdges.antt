@@ -7,28 +7,21 @@ use Rattle.tfpg_base.specs.Trace.{time_of}
 use Rattle.tfpg_graph.specs.declared.edge.Edge.{Edge}
 use Rattle.tfpg_graph.specs.Graph.{Tfpg, is_allowed}
 use Rattle.tfpg_log.specs.declared.span.Span.{Span}
-use Rattle.tfpg_log.specs.Log.{Logbook, now_of, mode_at}
-use Rattle.tfpg_log.specs.Rules.{HasAge, IsDue}
+use Rattle.tfpg_log.specs.Log.{Logbook, now_of}
+use Rattle.tfpg_log.specs.Rules.{IsDue}
 use Rattle.tfpg_log.specs.Spans.{span_number, span_at, is_allowed_at}
 use Rattle.tfpg_log.proofs.Ages.{age_since_start}
-use Rattle.tfpg_trace.specs.Due.{Begins, IsDueBy, IsGapOf, IsGap, behind_gap}
+use Rattle.tfpg_trace.specs.Due.{Begins, IsDueBy}
+use Rattle.tfpg_trace.specs.Gaps.{IsGap, behind_gap}
 use Rattle.tfpg_trace.proofs.Beginnings.{carried}
 use Rattle.tfpg_trace.proofs.SpanOrder.{number_rises, inside, numbered, by_now, in_mode}
 
-module _ (graph : Tfpg) (log : Logbook) (trace : List Activation) (place number : ℕ) (span : Span) (edge : Edge) (at : slice_get graph.edges place ≡ Some edge) (here : span_at log number (now_of log) ≡ Some span) where
-  own : (instant : ℕ) → IsDueBy graph log trace place instant → IsDue log trace edge instant
+module _ (graph : Tfpg) (log : Logbook) (trace : List Activation) (item number : ℕ) (span : Span) (edge : Edge) (at : slice_get graph.edges item ≡ Some edge) (here : span_at log number (now_of log) ≡ Some span) where
+  own : (instant : ℕ) → IsDueBy graph log trace item instant → IsDue log trace edge instant
   own instant due = let same : due.0 ≡ edge = cc (due.1, at) in subst (λ e. IsDue log trace e instant) same due.2
 
-  -- An edge without a greatest delay is never due.
-  pub without_delay : edge.tmax ≡ None → Begins (IsDueBy graph log trace place) span.lo span.hi None
-  without_delay none = λ instant from upto due. let own_due = own instant due in absurd (cc (own_due.1, none))
-
-  -- Nor is one whose source is never active.
-  pub without_start : time_of trace edge.source ≡ None → Begins (IsDueBy graph log trace place) span.lo span.hi None
-  without_start none = λ instant from upto due. let own_due = own instant due in absurd (cc (own_due.2.source, none))
-
-  -- Nor is one, in a span in whose mode it is not active.
-  pub without_mode : is_allowed edge span.mode ≡ false → Begins (IsDueBy graph log trace place) span.lo span.hi None
+  -- An edge is not due in a span in whose mode it is not active.
+  pub without_mode : is_allowed edge span.mode ≡ false → Begins (IsDueBy graph log trace item) span.lo span.hi None
   without_mode shut = λ instant from upto due.
       let own_due = own instant due in
       let open_here : IsTrue (is_allowed edge span.mode) =
@@ -53,7 +46,7 @@ module _ (graph : Tfpg) (log : Logbook) (trace : List Activation) (place number 
     -- the edge is due where it is active for so long
     due_for : (begin start delay instant : ℕ) → edge.tmax ≡ Some delay → time_of trace edge.source ≡ Some start
         → ((x : ℕ) → begin ≤ x → x ≤ now_of log → span_number log x < number → IsTrue (is_allowed_at log edge x))
-        → span.lo ≤ instant → instant ≤ span.hi → start + delay ≤ instant → begin + delay ≤ instant → IsDueBy graph log trace place instant
+        → span.lo ≤ instant → instant ≤ span.hi → start + delay ≤ instant → begin + delay ≤ instant → IsDueBy graph log trace item instant
     due_for begin start delay instant tmax source given from upto since since_begin = (
       edge,
       at,
@@ -70,7 +63,7 @@ module _ (graph : Tfpg) (log : Logbook) (trace : List Activation) (place number 
     )
 
     -- when it is due, its source is active for so long
-    since_start : (start delay instant : ℕ) → edge.tmax ≡ Some delay → time_of trace edge.source ≡ Some start → IsDueBy graph log trace place instant
+    since_start : (start delay instant : ℕ) → edge.tmax ≡ Some delay → time_of trace edge.source ≡ Some start → IsDueBy graph log trace item instant
         → start + delay ≤ instant
     since_start start delay instant tmax source due =
         let own_due = own instant due in
@@ -79,7 +72,7 @@ module _ (graph : Tfpg) (log : Logbook) (trace : List Activation) (place number 
 
     -- and so is it itself
     since_gap : (gap delay instant : ℕ) → edge.tmax ≡ Some delay → span_number log gap < number → (IsTrue (is_allowed_at log edge gap) → ⊥)
-        → span.lo ≤ instant → instant ≤ span.hi → IsDueBy graph log trace place instant → gap + 1 + delay ≤ instant
+        → span.lo ≤ instant → instant ≤ span.hi → IsDueBy graph log trace item instant → gap + 1 + delay ≤ instant
     since_gap gap delay instant tmax before shut from upto due =
         let own_due = own instant due in
         let same : own_due.0 ≡ delay = cc (own_due.1, tmax) in
@@ -96,17 +89,17 @@ module _ (graph : Tfpg) (log : Logbook) (trace : List Activation) (place number 
     -- It is due so long after the later of two, the instant behind its gap and the time of its source.
     pub behind : (gap : Option ℕ) (start delay : ℕ) (found : Option ℕ) → IsGap log edge number gap → edge.tmax ≡ Some delay
         → time_of trace edge.source ≡ Some start → Begins (λ instant. behind_gap gap start + delay ≤ instant) span.lo span.hi found
-        → Begins (IsDueBy graph log trace place) span.lo span.hi found
+        → Begins (IsDueBy graph log trace item) span.lo span.hi found
     behind None start delay found is_gap tmax source begins =
-        carried (λ instant. start + delay ≤ instant) (IsDueBy graph log trace place) span.lo span.hi found
+        carried (λ instant. start + delay ≤ instant) (IsDueBy graph log trace item) span.lo span.hi found
         (λ instant from upto late. due_for 0 start delay instant tmax source (λ x since within below. is_gap x within below) from upto late (omega (arith, late)))
         (λ instant from upto due. since_start start delay instant tmax source due)
         begins
     behind (Some gap) start delay found is_gap tmax source begins =
-        carried (λ instant. max start (gap + 1) + delay ≤ instant) (IsDueBy graph log trace place) span.lo span.hi found
+        carried (λ instant. max start (gap + 1) + delay ≤ instant) (IsDueBy graph log trace item) span.lo span.hi found
         (λ instant from upto late.
-          due_for (gap + 1) start delay instant tmax source (λ x since within below. is_gap.active_since x (omega (arith, since)) within below) from upto
-          (omega (arith, late)) (omega (arith, late)))
+        due_for (gap + 1) start delay instant tmax source (λ x since within below. is_gap.active_since x (omega (arith, since)) within below) from upto
+        (omega (arith, late)) (omega (arith, late)))
         (λ instant from upto due.
-          omega (arith, since_start start delay instant tmax source due, since_gap gap delay instant tmax is_gap.before is_gap.shut from upto due))
+        omega (arith, since_start start delay instant tmax source due, since_gap gap delay instant tmax is_gap.before is_gap.shut from upto due))
         begins

@@ -2,7 +2,7 @@
 use Rattle.std.proofs.Common.{◌≡◌, ℕ, suc, ◌+◌, ◌<◌, Bool, true, false, cond, List, [], ◌∷◌, length, filter, get_or, Option, Some, slice_get, refl, ap, subst, ◌∙◌, arith, eqb}
 use Rattle.std.specs.List.{All, AllByRecursion, Contains}
 use Rattle.std.proofs.lemmas.List.{get_or_default}
-use Rattle.std.proofs.lemmas.List.Elements.{All-from_recursion, recursion_from_All, All-contains, All-contains_itself, All-get_or, All-from_get_or, All-same, All-weaker}
+use Rattle.std.proofs.lemmas.List.Elements.{All-from_recursion, recursion_from_All, All-contains, All-contains_itself, All-get_or, All-from_get_or, All-same}
 use Rattle.tfpg_base.specs.declared.activation.Activation.{Activation}
 use Rattle.tfpg_graph.specs.declared.edge.Edge.{Edge}
 use Rattle.tfpg_graph.specs.Graph.{Tfpg, numbers_from, incoming, edges_into}
@@ -95,8 +95,8 @@ module _ (graph : Tfpg) (log : Logbook) (trace : List Activation) (node : ℕ) w
   has_place edge member =
       All-contains (HasPlace graph (incoming graph node)) (edges_into graph node) edge
       (all_edges graph node (Contains (incoming graph node)) (HasPlace graph (incoming graph node))
-        (λ i e at there. (there.0, there.1, ap (slice_get graph.edges) (get_or_default (incoming graph node) there.0 0 i there.1 ∙ there.2) ∙ at))
-        (All-contains_itself (incoming graph node)))
+      (λ i e at there. (there.0, there.1, ap (slice_get graph.edges) (get_or_default (incoming graph node) there.0 0 i there.1 ∙ there.2) ∙ at))
+      (All-contains_itself (incoming graph node)))
       member
 
   -- the edge of this number is one of those into the node
@@ -107,8 +107,8 @@ module _ (graph : Tfpg) (log : Logbook) (trace : List Activation) (node : ℕ) w
   is_into place below =
       All-get_or IsInto (incoming graph node) place 0 below
       (all_numbers graph node IsInto (Contains (edges_into graph node))
-        (λ i e at member edge there. let same : e ≡ edge = cc (at, there) in subst (Contains (edges_into graph node)) same member)
-        (All-contains_itself (edges_into graph node)))
+      (λ i e at member edge there. let same : e ≡ edge = cc (at, there) in subst (Contains (edges_into graph node)) same member)
+      (All-contains_itself (edges_into graph node)))
 
   some_from : (instant : ℕ) → SomeDue graph log trace node instant → OneOf (DueAt graph log trace (incoming graph node)) (length (incoming graph node)) instant
   some_from instant some =

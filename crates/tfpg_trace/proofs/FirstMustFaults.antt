@@ -1,13 +1,13 @@
 -- The first instant at which a node breaks the must rule, span after span.
-use Rattle.std.proofs.Common.{◌≡◌, ℕ, zero, suc, ◌+◌, ◌<◌, ◌≤◌, true, false, cond, eqb, leb, List, Option, Some, None, inl, inr, ap, sym, ◌∙◌, arith}
+use Rattle.std.proofs.Common.{◌≡◌, ℕ, ◌+◌, ◌<◌, ◌≤◌, cond, leb, List, Option, Some, None, inl, inr, ◌∙◌, arith}
 use Rattle.std.proofs.lemmas.Bool.{cases_lt, le-leb, cond-true}
 use Rattle.tfpg_base.specs.declared.activation.Activation.{Activation}
 use Rattle.tfpg_graph.specs.Graph.{Tfpg}
-use Rattle.tfpg_log.specs.Log.{Logbook, now_of, mode_at}
+use Rattle.tfpg_log.specs.Log.{Logbook, now_of}
 use Rattle.tfpg_log.specs.Rules.{IsActive, KeepsMust}
 use Rattle.tfpg_log.specs.Spans.{span_number}
 use Rattle.tfpg_trace.specs.Broken.{FirstBreaksMust, IsFirstMustFault}
-use Rattle.tfpg_trace.specs.Due.{FirstBreaksIn, IsFirstFaultIn}
+use Rattle.tfpg_trace.specs.FirstFaultIn.{FirstBreaksIn, IsFirstFaultIn}
 use Rattle.tfpg_trace.proofs.SpanOrder.{number_rises}
 use Rattle.tfpg_trace.proofs.MustFaults.{keeps_active}
 

@@ -1,5 +1,5 @@
 -- The gaps of the edges into a node, over the spans.
-use Rattle.std.proofs.Common.{◌≡◌, ℕ, ◌+◌, ◌<◌, ◌≤◌, Bool, true, false, cond, List, length, replicate, get_or, Option, Some, None, inl, inr, slice_get, sym, ap, subst, ◌∙◌, arith}
+use Rattle.std.proofs.Common.{◌≡◌, ℕ, ◌+◌, ◌<◌, ◌≤◌, Bool, true, false, cond, List, length, replicate, get_or, Option, Some, None, inl, inr, sym, ap, subst, ◌∙◌, arith}
 use Rattle.std.specs.Prelude.{IsTrue}
 use Rattle.std.specs.Option.{option_map_or}
 use Rattle.std.proofs.lemmas.Bool.{both_ways, cases_lt}
@@ -9,7 +9,7 @@ use Rattle.tfpg_graph.specs.Graph.{Tfpg, incoming, is_allowed}
 use Rattle.tfpg_log.specs.declared.span.Span.{Span}
 use Rattle.tfpg_log.specs.Log.{Logbook, now_of}
 use Rattle.tfpg_log.specs.Spans.{span_number, span_at, is_allowed_at}
-use Rattle.tfpg_trace.specs.Due.{IsGap, IsGapOf, AreGaps, gap_after}
+use Rattle.tfpg_trace.specs.Gaps.{IsGap, IsGapOf, AreGaps, gap_after}
 use Rattle.tfpg_trace.proofs.SpanOrder.{number_rises, none_inside, inside, numbered, in_mode, in_order}
 
 -- the gap at a place is that of the edge there
@@ -66,8 +66,8 @@ module _ (log : Logbook) (edge : Edge) (number : ℕ) where
     by_mode gap true active is =
         same_gap gap
         (λ instant within at.
-          let lies = inside log number span here instant within at in
-          subst (λ m. IsTrue (is_allowed edge m)) (sym (in_mode log number span here instant lies.0 lies.1)) active)
+        let lies = inside log number span here instant within at in
+        subst (λ m. IsTrue (is_allowed edge m)) (sym (in_mode log number span here instant lies.0 lies.1)) active)
         is
     by_mode gap false shut is = new_gap shut
 
@@ -83,7 +83,7 @@ module _ (graph : Tfpg) (log : Logbook) (node number : ℕ) where
   -- The gaps once a span is over.
   pub gaps_over : (span : Span) (gaps after : List (Option ℕ)) → span_at log number (now_of log) ≡ Some span
       → ((place : ℕ) → place < length (incoming graph node)
-        → get_or after place None ≡ gap_after graph span (get_or (incoming graph node) place 0) (get_or gaps place None))
+      → get_or after place None ≡ gap_after graph span (get_or (incoming graph node) place 0) (get_or gaps place None))
       → AreGaps graph log node number gaps → AreGaps graph log node (number + 1) after
   gaps_over span gaps after here passed are place below edge at =
       let gap : Option ℕ = get_or gaps place None in

@@ -1,18 +1,17 @@
 -- Where a node first breaks the must rule: where it first must be active and is not.
-use Rattle.std.proofs.Common.{◌≡◌, ℕ, ◌+◌, ◌<◌, ◌≤◌, ◌⊎◌, true, false, List, Option, Some, None, inl, inr, ap, sym, subst, ◌∙◌, arith}
-use Rattle.std.specs.Prelude.{IsTrue, All, Contains}
+use Rattle.std.proofs.Common.{◌≡◌, ℕ, ◌≤◌, false, List, Option, Some, None, inl, inr, ap, sym, ◌∙◌, arith}
+use Rattle.std.specs.Prelude.{IsTrue}
 use Rattle.std.specs.Option.{option_map_or}
 use Rattle.std.proofs.lemmas.Bool.{both_ways, cases_lt}
 use Rattle.tfpg_base.specs.declared.activation.Activation.{Activation}
-use Rattle.tfpg_base.specs.Trace.{time_of}
 use Rattle.tfpg_graph.specs.declared.kind.Kind.TheVariants.{Or, And}
-use Rattle.tfpg_graph.specs.declared.edge.Edge.{Edge}
-use Rattle.tfpg_graph.specs.Graph.{Tfpg, kind_at, is_kind_at, is_or, is_and, edges_into}
+use Rattle.tfpg_graph.specs.Graph.{Tfpg, kind_at, is_kind_at, is_or, is_and}
 use Rattle.tfpg_log.specs.declared.span.Span.{Span}
 use Rattle.tfpg_log.specs.Log.{Logbook, now_of}
-use Rattle.tfpg_log.specs.Rules.{IsActive, IsDue, KeepsMust}
-use Rattle.tfpg_log.specs.Spans.{span_number, span_at}
-use Rattle.tfpg_trace.specs.Due.{BeginsAt, Begins, SomeDue, AllDue, MustBeActive, FirstBreaksIn, IsFirstFaultIn}
+use Rattle.tfpg_log.specs.Rules.{IsActive, KeepsMust}
+use Rattle.tfpg_log.specs.Spans.{span_at}
+use Rattle.tfpg_trace.specs.Due.{Begins, SomeDue, AllDue, MustBeActive}
+use Rattle.tfpg_trace.specs.FirstFaultIn.{IsFirstFaultIn}
 use Rattle.tfpg_trace.proofs.Beginnings.{carried}
 use Rattle.tfpg_trace.proofs.SpanOrder.{none_inside, inside, numbered, by_now}
 

@@ -1,13 +1,10 @@
--- When a node must be active, span by span: what is known of each edge when a span begins, and where in the span it is due.
-use Rattle.std.specs.Prelude.{◌≡◌, ℕ, ◌+◌, ◌<◌, ◌≤◌, ◌⊎◌, List, length, All, Contains, IsTrue, if◌then◌else◌, Option, Some, None, slice_get, slice_index_or, min, max}
-use Rattle.std.specs.Option.{option_map_or}
+-- When a node must be active, and from which instant of a span on.
+use Rattle.std.specs.Prelude.{◌≡◌, ℕ, ◌<◌, ◌≤◌, ◌⊎◌, List, All, Contains, IsTrue, Option, Some, None, slice_get, min}
 use Rattle.tfpg_base.specs.declared.activation.Activation.{Activation}
 use Rattle.tfpg_graph.specs.declared.edge.Edge.{Edge}
-use Rattle.tfpg_graph.specs.Graph.{Tfpg, is_kind_at, is_or, is_and, is_allowed, incoming, edges_into}
-use Rattle.tfpg_log.specs.declared.span.Span.{Span}
-use Rattle.tfpg_log.specs.Log.{Logbook, now_of}
-use Rattle.tfpg_log.specs.Rules.{IsDue, KeepsMust}
-use Rattle.tfpg_log.specs.Spans.{span_number, is_allowed_at}
+use Rattle.tfpg_graph.specs.Graph.{Tfpg, is_kind_at, is_or, is_and, edges_into}
+use Rattle.tfpg_log.specs.Log.{Logbook}
+use Rattle.tfpg_log.specs.Rules.{IsDue}
 
 -- Of the instants from the one to the other something holds exactly from this one on.
 pub record BeginsAt (Holds : ℕ → Type 0) (lo hi begin : ℕ) : Type 0 where
@@ -27,10 +24,10 @@ earlier None other = other
 earlier (Some one) None = Some one
 earlier (Some one) (Some other) = Some (min one other)
 
--- the edge of this number is due
+-- the edge of this number in the graph is due
 abbrev pub IsDueBy : Tfpg → Logbook → List Activation → ℕ → ℕ → Type 0
-IsDueBy graph log trace number instant =
-    (edge : Edge) × (slice_get graph.edges number ≡ Some edge) × IsDue log trace edge instant
+IsDueBy graph log trace edge instant =
+    (e : Edge) × (slice_get graph.edges edge ≡ Some e) × IsDue log trace e instant
 
 -- some edge into the node is due
 abbrev pub SomeDue : Tfpg → Logbook → List Activation → ℕ → ℕ → Type 0
@@ -46,47 +43,3 @@ abbrev pub MustBeActive : Tfpg → Logbook → List Activation → ℕ → ℕ �
 MustBeActive graph log trace node instant =
     (IsTrue (is_kind_at is_or graph node) × SomeDue graph log trace node instant)
     ⊎ (IsTrue (is_kind_at is_and graph node) × AllDue graph log trace node instant)
-
--- In the spans before that of a number the edge is last not active at this instant.
-pub record IsLastGap (log : Logbook) (edge : Edge) (number gap : ℕ) : Type 0 where
-  pub before : span_number log gap < number
-  pub shut : IsTrue (is_allowed_at log edge gap) → ⊥
-  pub active_since : (instant : ℕ) → gap < instant → instant ≤ now_of log → span_number log instant < number → IsTrue (is_allowed_at log edge instant)
-
--- where it is last not active in them; with none it is active at all of their instants
-abbrev pub IsGap : Logbook → Edge → ℕ → Option ℕ → Type 0
-IsGap log edge number None =
-    (instant : ℕ) → instant ≤ now_of log → span_number log instant < number → IsTrue (is_allowed_at log edge instant)
-IsGap log edge number (Some gap) = IsLastGap log edge number gap
-
--- the same of the edge at a place in the graph
-abbrev pub IsGapOf : Tfpg → Logbook → ℕ → ℕ → Option ℕ → Type 0
-IsGapOf graph log place number gap = (edge : Edge) → slice_get graph.edges place ≡ Some edge → IsGap log edge number gap
-
--- these are the gaps of the edges into the node, in order
-abbrev pub AreGaps : Tfpg → Logbook → ℕ → ℕ → List (Option ℕ) → Type 0
-AreGaps graph log node number gaps =
-    (place : ℕ) → place < length (incoming graph node)
-    → IsGapOf graph log (slice_index_or (incoming graph node) place 0) number (slice_index_or gaps place None)
-
--- the later of an instant and the one behind a gap
-abbrev pub behind_gap : Option ℕ → ℕ → ℕ
-behind_gap None instant = instant
-behind_gap (Some gap) instant = max instant (gap + 1)
-
--- the gap of the edge at a place in the graph, once the span is over
-abbrev pub gap_after : Tfpg → Span → ℕ → Option ℕ → Option ℕ
-gap_after graph span place gap = option_map_or (λ edge. if is_allowed edge span.mode then gap else Some span.hi) (slice_get graph.edges place) gap
-
--- At this instant, and at none before in the span of this number, the node breaks the must rule.
-pub record FirstBreaksIn (graph : Tfpg) (log : Logbook) (trace : List Activation) (node number instant : ℕ) : Type 0 where
-  pub by_now : instant ≤ now_of log
-  pub inside : span_number log instant ≡ number
-  pub broken : KeepsMust graph log trace node instant → ⊥
-  pub first : (earlier : ℕ) → earlier < instant → span_number log earlier ≡ number → KeepsMust graph log trace node earlier
-
--- the first instant of the span of this number at which the node breaks the must rule, where there is one up to now
-abbrev pub IsFirstFaultIn : Tfpg → Logbook → List Activation → ℕ → ℕ → Option ℕ → Type 0
-IsFirstFaultIn graph log trace node number None =
-    (instant : ℕ) → instant ≤ now_of log → span_number log instant ≡ number → KeepsMust graph log trace node instant
-IsFirstFaultIn graph log trace node number (Some instant) = FirstBreaksIn graph log trace node number instant

@@ -5,3 +5,5 @@ pub use Rattle.tfpg_graph.specs.Graph
 pub mod Broken
 pub mod FirstFault
 pub mod Due
+pub mod Gaps
+pub mod FirstFaultIn

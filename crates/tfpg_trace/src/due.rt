@@ -6,7 +6,8 @@ ghost use Rattle.std.specs.Prelude.{◌≡◌, ◌<◌, ◌≤◌, ◌+◌, ℕ,
 ghost use Rattle.tfpg_graph.specs.Graph.{incoming};
 ghost use Rattle.tfpg_log.specs.Log.{Logbook, now_of};
 ghost use Rattle.tfpg_log.specs.Spans.{span_at};
-ghost use Rattle.tfpg_trace.specs.Due.{Begins, IsDueBy, SomeDue, AllDue, MustBeActive, IsGapOf, AreGaps, earlier, behind_gap};
+ghost use Rattle.tfpg_trace.specs.Due.{Begins, IsDueBy, SomeDue, AllDue, MustBeActive, earlier};
+ghost use Rattle.tfpg_trace.specs.Gaps.{IsGapOf, AreGaps, behind_gap};
 
 use crate::gaps::has_mode;
 use tfpg_base::Trace;
@@ -83,13 +84,7 @@ fn due_by_all(
 
 /// The first instant of the span at which the edge is due: its greatest delay after the later of two, the instant behind
 /// its gap and the time of its source.
-fn due_by_edge(
-    graph: &Graph,
-    trace: &Trace,
-    edge: u32,
-    span: Span,
-    gap: Option<u64>,
-) -> Option<u64>
+fn due_by_edge(graph: &Graph, trace: &Trace, edge: u32, span: Span, gap: Option<u64>) -> Option<u64>
     requires { edge < length graph.now.edges }
     ensures { (log : Logbook) (number : ℕ) → span_at log number (now_of log) ≡ Some span →
         IsGapOf graph.now log edge number gap →

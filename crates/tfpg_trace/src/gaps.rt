@@ -4,7 +4,7 @@
 ghost use Rattle.std.specs.Prelude.{◌≡◌, ◌<◌, ◌≤◌, ◌==◌, ℕ, length, slice_index_or, None};
 ghost use Rattle.std.specs.Int.{bit_at};
 ghost use Rattle.tfpg_graph.specs.Graph.{incoming};
-ghost use Rattle.tfpg_trace.specs.Due.{gap_after};
+ghost use Rattle.tfpg_trace.specs.Gaps.{gap_after};
 
 use tfpg_graph::Graph;
 use tfpg_log::Span;

@@ -1,4 +1,4 @@
-use Rattle.std.proofs.Common.{◌≡◌, ◌+◌, Some, None, length, sym, subst, arith}
+use Rattle.std.proofs.Common.{◌+◌, Some, None, length, sym, subst, arith}
 use Rattle.tfpg_trace.specs.Due.{Begins, AllDue}
 use Rattle.tfpg_trace.proofs.Beginnings.{EachOf, each_of_none, begins_each_more, never_each}
 use Rattle.tfpg_trace.proofs.SpanOrder.{in_order}
@@ -34,7 +34,7 @@ loop-place-preserved c log number here gaps =
     c.incoming-incoming.ensures c.loop-place-test.true c.requires.room gaps in
     subst (λ first. Begins (EachOf Due (c.loop-place.place + 1)) c.args.span.lo c.args.span.hi (Some first)) (sym c.max-first.ensures)
     (begins_each_more Due c.args.span.lo c.args.span.hi c.loop-place.place c.loop-place.first c.in_ok-due.due
-      (c.loop-place.invariant log number here gaps) (c.in_ok-due.ensures log number here gap))
+    (c.loop-place.invariant log number here gaps) (c.in_ok-due.ensures log number here gap))
 
 pub returns : goal.returns
 returns c log number here gaps =

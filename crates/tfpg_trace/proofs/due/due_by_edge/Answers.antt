@@ -1,4 +1,4 @@
-use Rattle.std.proofs.Common.{◌≡◌, sym, ◌∙◌}
+use Rattle.std.proofs.Common.{sym, ◌∙◌}
 use Rattle.tfpg_trace.proofs.DueEdges.{without_mode, behind}
 use Rattle.tfpg_trace.proofs.due.due_by_edge.Goals as goal
 

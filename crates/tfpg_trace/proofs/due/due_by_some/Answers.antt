@@ -16,7 +16,7 @@ loop-place-preserved c log number here gaps =
     c.incoming-incoming.ensures c.loop-place-test.true c.requires.room gaps in
     subst (Begins (OneOf Due (c.loop-place.place + 1)) c.args.span.lo c.args.span.hi) (sym c.earlier-first.ensures)
     (begins_one_more Due c.args.span.lo c.args.span.hi c.loop-place.place c.loop-place.first c.due_by_edge.result
-      (c.loop-place.invariant log number here gaps) (c.due_by_edge.ensures log number here gap))
+    (c.loop-place.invariant log number here gaps) (c.due_by_edge.ensures log number here gap))
 
 pub returns : goal.returns
 returns c log number here gaps =

@@ -1,4 +1,4 @@
-use Rattle.std.proofs.Common.{◌≡◌, ◌+◌, ◌<◌, ◌≤◌, length, arith}
+use Rattle.std.proofs.Common.{◌+◌, ◌≤◌, length, arith}
 use Rattle.tfpg_graph.specs.Graph.{incoming}
 use Rattle.tfpg_trace.proofs.GapsOver.{no_gaps}
 use Rattle.tfpg_trace.proofs.FirstMustFaults.{one_span_more, first_of_all, none_at_all}
