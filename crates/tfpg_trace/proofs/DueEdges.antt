@@ -17,6 +17,7 @@ use Rattle.tfpg_trace.proofs.Beginnings.{carried}
 use Rattle.tfpg_trace.proofs.SpanOrder.{number_rises, inside, numbered, by_now, in_mode}
 
 module _ (graph : Tfpg) (log : Logbook) (trace : List Activation) (item number : ℕ) (span : Span) (edge : Edge) (at : slice_get graph.edges item ≡ Some edge) (here : span_at log number (now_of log) ≡ Some span) where
+  -- what is due by its number is the edge itself
   own : (instant : ℕ) → IsDueBy graph log trace item instant → IsDue log trace edge instant
   own instant due = let same : due.0 ≡ edge = cc (due.1, at) in subst (λ e. IsDue log trace e instant) same due.2
 

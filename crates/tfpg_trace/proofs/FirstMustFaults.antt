@@ -17,10 +17,6 @@ module _ (log : Logbook) where
       → answer ≡ Some (span_number log horizon)
   numbered horizon answer by_now e = e ∙ cond-true (leb horizon (now_of log)) _ _ (le-leb horizon (now_of log) by_now)
 
-  -- there is a span of each instant up to now
-  pub no_number : (horizon : ℕ) → horizon ≤ now_of log → None ≡ cond (leb horizon (now_of log)) (Some (span_number log horizon)) None → ⊥
-  no_number horizon by_now e = let none : None ≡ Some (span_number log horizon) = numbered horizon None by_now e in cc
-
   module _ (graph : Tfpg) (trace : List Activation) (node : ℕ) where
     -- the node keeps the must rule at all instants up to now of spans before this one
     abbrev pub KeepsMustBefore : ℕ → Type 0

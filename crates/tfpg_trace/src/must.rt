@@ -20,12 +20,12 @@ const MOST_INCOMING: usize = 32;
 
 /// The first instant up to now, in milliseconds, at which the node breaks the must rule, where there is one. Takes no
 /// memory. Goes once through the spans up to the node's own time, or up to now where it has none, and in each through the
-/// edges into the node.
+/// edges into the node, with one look-up in the trace for each.
 pub(crate) fn first_must_fault(graph: &Graph, log: &Log, trace: &Trace, node: u32) -> Option<u64>
     requires { node < length graph.now.nodes }
     ensures { IsFirstMustFault graph.now log.now trace.now node result }
 {
-    // A graph's count of nodes comes with what holds of each valid graph: no node has more edges into it than there are gaps.
+    // With the count comes that the graph is valid: there are gaps enough for the edges into any node.
     let _nodes = graph.node_count();
     let last = log.span_of(last_to_try(log, trace, node))?;
     let mut gaps: [Option<u64>; MOST_INCOMING] = [None; MOST_INCOMING];
@@ -37,7 +37,7 @@ pub(crate) fn first_must_fault(graph: &Graph, log: &Log, trace: &Trace, node: u3
     None
 }
 
-/// The last instant up to now before which the node may break the must rule: behind it the node is active.
+/// The last instant up to now at which the node may break the must rule: behind it the node is active.
 fn last_to_try(log: &Log, trace: &Trace, node: u32) -> u64
     ensures by_now { result ≤ now_of log.now }
     ensures rest { (instant : ℕ) → result < instant → instant ≤ now_of log.now → IsActive trace.now node instant }
