@@ -8,3 +8,10 @@ pub mod Sweeps
 pub mod Activations
 pub mod Decided
 pub mod Explained
+pub mod Beginnings
+pub mod SpanOrder
+pub mod DueEdges
+pub mod DueInto
+pub mod MustFaults
+pub mod FirstMustFaults
+pub mod GapsOver

@@ -7,3 +7,6 @@ pub mod FirstFault
 pub mod Strays
 pub mod Shown
 pub mod RuleFaults
+pub mod Due
+pub mod Gaps
+pub mod FirstFaultIn

@@ -8,6 +8,8 @@
 
 mod ages;
 mod alarms;
+mod due;
+mod gaps;
 mod judge;
 mod may;
 mod must;
