@@ -1,0 +1,85 @@
+-- A trace without a fault explains the log from the set, and a trace with one does not.
+use Rattle.std.proofs.Common.{◌≡◌, ℕ, ◌<◌, ◌≤◌, Bool, true, false, ◌&&◌, cond, nat_eq, List, length, take, All, Option, Some, None, refl, subst, arith}
+use Rattle.std.specs.Prelude.{IsTrue, IsNone, is_none}
+use Rattle.std.proofs.lemmas.Bool.{false≢true, eqb-true}
+use Rattle.std.proofs.lemmas.List.Elements.{All-contains}
+use Rattle.tfpg_base.specs.declared.activation.Activation.{Activation}
+use Rattle.tfpg_base.specs.Trace.{IsRisingByNode}
+use Rattle.tfpg_base.proofs.Elements.{All-from_members}
+use Rattle.tfpg_graph.specs.Graph.{Tfpg, is_kind_at, is_failure, is_monitored}
+use Rattle.tfpg_log.specs.declared.event.Event.{Event}
+use Rattle.tfpg_log.specs.declared.event.Event.TheVariants.{Alarm, Silent, Sweep, Tick, Mode}
+use Rattle.tfpg_log.specs.Log.{Logbook, now_of, alarm_among, quiet_time}
+use Rattle.tfpg_log.specs.Explains.{IsMember, ShowsSilence, Shows, ShowsAll, Explains}
+use Rattle.tfpg_trace.specs.declared.verdict.Verdict.{Verdict}
+use Rattle.tfpg_trace.specs.declared.verdict.Verdict.TheVariants as verdict
+use Rattle.tfpg_trace.specs.Broken.{KeepRulesBefore}
+use Rattle.tfpg_trace.specs.FirstFault.{IsOnTimeFromSet, IsVerdict}
+use Rattle.tfpg_trace.proofs.Activations.{activation_there, time_there}
+use Rattle.tfpg_trace.proofs.Decided.{member_or_not, not_later}
+
+-- a test that gives a time passed
+asked : (passes : Bool) (own time : ℕ) → cond passes (Some own) None ≡ Some time → (passes ≡ true) × (own ≡ time)
+asked true own time is = (refl, cc)
+asked false own time is = cc
+
+-- where both pass, the node is monitored and has no alarm
+both_passed : (monitored : Bool) (alarm : Option ℕ) → (monitored && is_none alarm) ≡ true → IsTrue monitored × IsNone alarm
+both_passed true None pass = (refl, refl)
+both_passed true (Some alarm) pass = absurd (false≢true pass)
+both_passed false alarm pass = absurd (false≢true pass)
+
+-- an event that is shown is shown of each node of which it is a silence
+shows_quiet : (graph : Tfpg) (trace : List Activation) (before : List Event) (event : Event) (node time : ℕ) → Shows graph trace before event
+    → quiet_time graph before event node ≡ Some time → ShowsSilence trace node time
+shows_quiet graph trace before (Alarm own alarmed) node time shows is = cc
+shows_quiet graph trace before (Silent own silent) node time shows is =
+    let told = asked (nat_eq silent node) own time is in
+    subst (λ t. ShowsSilence trace node t) told.1 (subst (λ n. ShowsSilence trace n own) (eqb-true silent node told.0) shows)
+shows_quiet graph trace before (Sweep own) node time shows is =
+    let told = asked (is_monitored graph node && is_none (alarm_among before node)) own time is in
+    let both = both_passed (is_monitored graph node) (alarm_among before node) told.0 in
+    subst (λ t. ShowsSilence trace node t) told.1 (shows node both.0 both.1)
+shows_quiet graph trace before (Tick own) node time shows is = cc
+shows_quiet graph trace before (Mode own mode) node time shows is = cc
+
+module _ (graph : Tfpg) (log : Logbook) (set : List ℕ) (trace : List Activation) where
+  -- no fault
+  pub explained : IsRisingByNode trace → All (λ activation. activation.node < length graph.nodes) trace → IsOnTimeFromSet graph log set trace
+      → KeepRulesBefore graph log trace (length graph.nodes) → ShowsAll graph trace log.events → Explains graph log set trace
+  explained rising nodes own rules shows = record {
+    trace_of = (rising, nodes);
+    by_now = All-from_members (λ activation. activation.time ≤ now_of log) trace
+        (λ activation member.
+        not_later activation.time (now_of log)
+        (λ late.
+        own.on_time activation.node activation.time (All-contains (λ a. a.node < length graph.nodes) trace activation nodes member)
+        (record { at = time_there trace rising activation member; late = late })));
+    from_set = All-from_members (λ activation. IsTrue (is_kind_at is_failure graph activation.node) → IsMember graph set activation.node) trace
+        (λ activation member failure.
+        member_or_not graph set activation.node failure
+        (λ outside.
+        own.from_set activation.node activation.time (All-contains (λ a. a.node < length graph.nodes) trace activation nodes member)
+        (record { at = time_there trace rising activation member; failure = failure; outside = outside })));
+    rules = λ node instant in_graph by_now. let kept = rules node in_graph in (kept.may instant by_now, kept.must instant by_now);
+    shows = shows;
+  }
+
+  -- each fault excludes it
+  pub only_yes : (said : Verdict) → IsVerdict graph log set trace said → Explains graph log set trace → said ≡ verdict.Yes
+  only_yes verdict.Yes fault explains = refl
+  only_yes (verdict.Late node time) fault explains =
+      let by_now = All-contains (λ a. a.time ≤ now_of log) trace (record { node = node; time = time }) explains.by_now (activation_there trace node time fault.late.at) in
+      absurd (omega (arith, by_now, fault.late.late))
+  only_yes (verdict.Stranger node time) fault explains =
+      absurd
+      (fault.stranger.outside
+      (All-contains (λ a. IsTrue (is_kind_at is_failure graph a.node) → IsMember graph set a.node) trace (record { node = node; time = time }) explains.from_set
+      (activation_there trace node time fault.stranger.at) fault.stranger.failure))
+  only_yes (verdict.May node time) fault explains =
+      absurd (fault.breaks.broken (explains.rules node time fault.in_graph fault.breaks.by_now).0)
+  only_yes (verdict.Must node time) fault explains =
+      absurd (fault.breaks.broken (explains.rules node time fault.in_graph fault.breaks.by_now).1)
+  only_yes (verdict.Alarm node time) fault explains = absurd (fault.not_shown (explains.shows fault.place (Alarm time node) fault.event))
+  only_yes (verdict.Silence node time) fault explains =
+      absurd (fault.not_shown (shows_quiet graph trace (take fault.place log.events) fault.event node time (explains.shows fault.place fault.event fault.at) fault.silent))

@@ -1,0 +1,17 @@
+pub mod NumberedItems
+pub mod FailureModes
+pub mod IncomingEdges
+pub mod AgesNow
+pub mod MayRule
+pub mod FirstNodes
+pub mod Sweeps
+pub mod Activations
+pub mod Decided
+pub mod Explained
+pub mod Beginnings
+pub mod SpanOrder
+pub mod DueEdges
+pub mod DueInto
+pub mod MustFaults
+pub mod FirstMustFaults
+pub mod GapsOver

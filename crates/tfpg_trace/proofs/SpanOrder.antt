@@ -1,0 +1,52 @@
+-- Spans follow one another, and each has all instants of its number.
+use Rattle.std.proofs.Common.{◌≡◌, ℕ, zero, suc, ◌+◌, ◌≤◌, cond, eqb, Some, None, inl, inr, ap, subst, arith}
+use Rattle.std.proofs.lemmas.Bool.{cases_lt}
+use Rattle.tfpg_log.specs.declared.span.Span.{Span}
+use Rattle.tfpg_log.specs.Log.{Logbook, now_of, mode_at}
+use Rattle.tfpg_log.specs.Spans.{span_number, span_at}
+use Rattle.tfpg_log.proofs.SpanRuns.{is_span, has_span}
+
+count_rises : (before here count : ℕ) → count ≤ count + cond (eqb before here) 0 1
+count_rises before here count = omega arith
+
+module _ (log : Logbook) where
+  -- A later instant has no lesser number.
+  pub number_rises : (lo hi : ℕ) → lo ≤ hi → span_number log lo ≤ span_number log hi
+  number_rises lo zero upto = let same : lo ≡ 0 = omega arith in omega (arith, ap (span_number log) same)
+  number_rises lo (suc hi) upto = elim (cases_lt hi lo) [
+    | inl above ↦ (let same : lo ≡ suc hi = omega arith in omega (arith, ap (span_number log) same))
+    | inr below ↦ omega (arith, number_rises lo hi below, count_rises (mode_at log hi) (mode_at log (suc hi)) (span_number log hi))
+  ]
+
+  module _ (number : ℕ) where
+    -- Where there is no span of a number, no instant up to now has it.
+    pub none_inside : span_at log number (now_of log) ≡ None → (instant : ℕ) → instant ≤ now_of log → span_number log instant ≡ number → ⊥
+    none_inside none instant within numbered =
+        let there = has_span log instant (now_of log) within (omega arith) in
+        let at : span_at log number (now_of log) ≡ Some there.0 = subst (λ n. span_at log n (now_of log) ≡ Some there.0) numbered there.1 in
+        cc (at, none)
+
+    module _ (span : Span) (here : span_at log number (now_of log) ≡ Some span) where
+      -- each instant of the number lies in the span
+      pub inside : (instant : ℕ) → instant ≤ now_of log → span_number log instant ≡ number → (span.lo ≤ instant) × (instant ≤ span.hi)
+      inside instant within numbered =
+          let there = has_span log instant (now_of log) within (omega arith) in
+          let at : span_at log number (now_of log) ≡ Some there.0 = subst (λ n. span_at log n (now_of log) ≡ Some there.0) numbered there.1 in
+          let same : there.0 ≡ span = cc (at, here) in
+          subst (λ (s : Span). (s.lo ≤ instant) × (instant ≤ s.hi)) same (there.2, there.3)
+
+      -- each instant of the span has the number,
+      pub numbered : (instant : ℕ) → span.lo ≤ instant → instant ≤ span.hi → span_number log instant ≡ number
+      numbered = (is_span log number (now_of log) span here).numbered
+
+      -- is up to now,
+      pub by_now : (instant : ℕ) → instant ≤ span.hi → instant ≤ now_of log
+      by_now instant upto = omega (arith, upto, (is_span log number (now_of log) span here).run.in_range)
+
+      -- and has the span's mode
+      pub in_mode : (instant : ℕ) → span.lo ≤ instant → instant ≤ span.hi → mode_at log instant ≡ span.mode
+      in_mode = (is_span log number (now_of log) span here).run.throughout
+
+      -- The span has instants, from the first to the last.
+      pub in_order : span.lo ≤ span.hi
+      in_order = (is_span log number (now_of log) span here).run.in_order

@@ -1,0 +1,5 @@
+use Rattle.tfpg_trace.proofs.Explained.{only_yes}
+use Rattle.tfpg_trace.proofs.judge.explains.Goals as goal
+
+pub returns-clause-yes : goal.returns-clause-yes
+returns-clause-yes c = only_yes c.args.graph.now c.args.log.now c.args.set c.args.trace.now c.first_fault.result c.first_fault.ensures

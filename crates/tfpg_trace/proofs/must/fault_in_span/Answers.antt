@@ -1,0 +1,20 @@
+use Rattle.std.proofs.Common.{sym, subst}
+use Rattle.std.proofs.lemmas.Bool.{both_ways}
+use Rattle.tfpg_trace.specs.FirstFaultIn.{IsFirstFaultIn}
+use Rattle.tfpg_trace.proofs.MustFaults.{never_due, in_time, first_fault}
+use Rattle.tfpg_trace.proofs.must.fault_in_span.Goals as goal
+
+pub returns-in_err-due : goal.returns-in_err-due
+returns-in_err-due c log number here gaps =
+    subst (IsFirstFaultIn c.args.graph.now log c.args.trace.now c.args.node number) (sym c.from_residual.ensures)
+    (never_due c.args.graph.now log c.args.trace.now c.args.node number c.args.span here (c.in_err-due.ensures log number here gaps))
+
+pub returns-then-is_active : goal.returns-then-is_active
+returns-then-is_active c log number here gaps =
+    in_time c.args.graph.now log c.args.trace.now c.args.node number c.args.span here c.in_ok-due.due (c.in_ok-due.ensures log number here gaps)
+    (c.is_active.ensures.0 c.if-is_active.true)
+
+pub returns : goal.returns
+returns c log number here gaps =
+    first_fault c.args.graph.now log c.args.trace.now c.args.node number c.args.span here c.in_ok-due.due (c.in_ok-due.ensures log number here gaps)
+    (λ active. both_ways c.is_active.result c.if-is_active.false (c.is_active.ensures.1 active))

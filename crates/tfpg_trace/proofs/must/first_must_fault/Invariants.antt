@@ -1,0 +1,11 @@
+use Rattle.std.proofs.Common.{◌≡◌, length}
+use Rattle.tfpg_trace.specs.Gaps.{AreGaps}
+use Rattle.tfpg_trace.proofs.FirstMustFaults.{KeepsMustBefore}
+use Rattle.tfpg_trace.proofs.must.first_must_fault.Given as goal
+
+abbrev pub invariant-loop-number : goal.invariant-loop-number
+invariant-loop-number l = record {
+  keeps : KeepsMustBefore l.log l.graph l.trace l.node l.number;
+  gaps : AreGaps l.graph l.log l.node l.number l.gaps;
+  room : length l.gaps ≡ 32;
+}

@@ -1,0 +1,49 @@
+//! The age of an edge at an instant, by its window.
+
+ghost use Rattle.std.specs.Prelude.{◌≡◌, ◌+◌, ◌<◌, ◌≤◌, ◌↔◌, length, IsTrue, IsSomeAnd, slice_get};
+ghost use Rattle.tfpg_log.specs.Log.{now_of};
+ghost use Rattle.tfpg_log.specs.Rules.{HasAge};
+
+use tfpg_base::Trace;
+use tfpg_graph::Graph;
+use tfpg_log::Log;
+
+/// Whether the edge has an age of at least so many milliseconds at the instant: its window began so long before, and its
+/// source became active so long before. Goes through the spans of the window.
+pub(crate) fn has_age(
+    graph: &Graph,
+    log: &Log,
+    trace: &Trace,
+    edge: u32,
+    instant: u64,
+    age: u64,
+) -> bool
+    requires edge { edge < length graph.now.edges }
+    requires by_now { instant ≤ now_of log.now }
+    ensures { IsTrue result ↔ IsSomeAnd (slice_get graph.now.edges edge) (λ e. HasAge log.now trace.now e instant age) }
+{
+    let Some(span) = log.span_of(instant) else {
+        return false;
+    };
+    let Some(window) = log.window_of(graph, edge, span, log.now()) else {
+        return false;
+    };
+    match trace.at(graph.edge(edge).source) {
+        Some(start) => are_since(window.lo, start, age, instant),
+        None => false,
+    }
+}
+
+/// Whether the instant is so long after both, or longer.
+fn are_since(begin: u64, start: u64, age: u64, instant: u64) -> bool
+    ensures { IsTrue result ↔ ((begin + age ≤ instant) × (start + age ≤ instant)) }
+{
+    is_since(begin, age, instant) && is_since(start, age, instant)
+}
+
+/// Whether the instant is so long after the start, or longer.
+fn is_since(start: u64, age: u64, instant: u64) -> bool
+    ensures { IsTrue result ↔ (start + age ≤ instant) }
+{
+    start <= instant && age <= instant - start
+}

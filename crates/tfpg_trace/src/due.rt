@@ -1,0 +1,129 @@
+//! When a discrepancy must be active, span by span. In one span an edge that is due stays due, so the first instant at
+//! which it is says all. How long it was active when the span begins is told by its gap: the last instant before the
+//! span at which it was not.
+
+ghost use Rattle.std.specs.Prelude.{◌≡◌, ◌<◌, ◌≤◌, ◌+◌, ℕ, length, Option, Some, None, min};
+ghost use Rattle.tfpg_graph.specs.Graph.{incoming};
+ghost use Rattle.tfpg_log.specs.Log.{Logbook, now_of};
+ghost use Rattle.tfpg_log.specs.Spans.{span_at};
+ghost use Rattle.tfpg_trace.specs.Due.{Begins, IsDueBy, SomeDue, AllDue, MustBeActive, earlier};
+ghost use Rattle.tfpg_trace.specs.Gaps.{IsGapOf, AreGaps, behind_gap};
+
+use crate::gaps::has_mode;
+use tfpg_base::Trace;
+use tfpg_graph::{Graph, Kind};
+use tfpg_log::Span;
+
+/// The first instant of the span at which the node must be active, where there is one: it must be so from then on to the
+/// end of the span. The gaps are those of the edges into the node when the span begins. Goes through these edges.
+pub(crate) fn due_in_span(
+    graph: &Graph,
+    trace: &Trace,
+    node: u32,
+    span: Span,
+    gaps: &[Option<u64>],
+) -> Option<u64>
+    requires node { node < length graph.now.nodes }
+    requires room { length (incoming graph.now node) ≤ length gaps.now }
+    ensures { (log : Logbook) (number : ℕ) → span_at log number (now_of log) ≡ Some span →
+        AreGaps graph.now log node number gaps.now →
+        Begins (MustBeActive graph.now log trace.now node) span.lo span.hi result }
+{
+    match graph.kind(node) {
+        Kind::Failure { .. } => None,
+        Kind::Or { .. } => due_by_some(graph, trace, node, span, gaps),
+        Kind::And { .. } => due_by_all(graph, trace, node, span, gaps),
+    }
+}
+
+/// The first instant of the span at which some edge into the node is due: the least of those of its edges.
+fn due_by_some(
+    graph: &Graph,
+    trace: &Trace,
+    node: u32,
+    span: Span,
+    gaps: &[Option<u64>],
+) -> Option<u64>
+    requires node { node < length graph.now.nodes }
+    requires room { length (incoming graph.now node) ≤ length gaps.now }
+    ensures { (log : Logbook) (number : ℕ) → span_at log number (now_of log) ≡ Some span →
+        AreGaps graph.now log node number gaps.now →
+        Begins (SomeDue graph.now log trace.now node) span.lo span.hi result }
+{
+    let mut first = None;
+    let incoming = graph.incoming(node);
+    for (place, edge) in incoming.iter().enumerate() {
+        first = earlier(first, due_by_edge(graph, trace, *edge, span, gaps[place]));
+    }
+    first
+}
+
+/// The first instant of the span at which all edges into the node are due: the greatest of those of its edges, and that
+/// of the span where it has none.
+fn due_by_all(
+    graph: &Graph,
+    trace: &Trace,
+    node: u32,
+    span: Span,
+    gaps: &[Option<u64>],
+) -> Option<u64>
+    requires node { node < length graph.now.nodes }
+    requires room { length (incoming graph.now node) ≤ length gaps.now }
+    ensures { (log : Logbook) (number : ℕ) → span_at log number (now_of log) ≡ Some span →
+        AreGaps graph.now log node number gaps.now →
+        Begins (AllDue graph.now log trace.now node) span.lo span.hi result }
+{
+    let mut first = span.lo;
+    let incoming = graph.incoming(node);
+    for (place, edge) in incoming.iter().enumerate() {
+        let due = due_by_edge(graph, trace, *edge, span, gaps[place])?;
+        first = first.max(due);
+    }
+    Some(first)
+}
+
+/// The first instant of the span at which the edge is due: its greatest delay after the later of two, the instant behind
+/// its gap and the time of its source.
+fn due_by_edge(graph: &Graph, trace: &Trace, edge: u32, span: Span, gap: Option<u64>) -> Option<u64>
+    requires { edge < length graph.now.edges }
+    ensures { (log : Logbook) (number : ℕ) → span_at log number (now_of log) ≡ Some span →
+        IsGapOf graph.now log edge number gap →
+        Begins (IsDueBy graph.now log trace.now edge) span.lo span.hi result }
+{
+    let propagation = graph.edge(edge);
+    if !has_mode(propagation.modes, span.mode) {
+        return None;
+    }
+    let delay = propagation.tmax?;
+    let start = trace.at(propagation.source)?;
+    first_behind(gap, start, delay, span)
+}
+
+/// The first instant of the span that is so long after the later of two, the instant behind the gap and the start.
+fn first_behind(gap: Option<u64>, start: u64, delay: u64, span: Span) -> Option<u64>
+    ensures { Begins (λ instant. behind_gap gap start + delay ≤ instant) span.lo span.hi result }
+{
+    match gap {
+        Some(gap) => first_after(start.max(gap.checked_add(1)?), delay, span),
+        None => first_after(start, delay, span),
+    }
+}
+
+/// The first instant of the span that is so long after another.
+fn first_after(begin: u64, delay: u64, span: Span) -> Option<u64>
+    ensures { Begins (λ instant. begin + delay ≤ instant) span.lo span.hi result }
+{
+    let first = begin.checked_add(delay)?.max(span.lo);
+    if first > span.hi { None } else { Some(first) }
+}
+
+/// The lesser of the two, where both are there, and else the one that is.
+fn earlier(one: Option<u64>, other: Option<u64>) -> Option<u64>
+    ensures { result ≡ earlier one other }
+{
+    match (one, other) {
+        (Some(first), Some(second)) => Some(first.min(second)),
+        (Some(first), None) => Some(first),
+        (None, _) => other,
+    }
+}

@@ -1,0 +1,44 @@
+//! The gaps of the edges into a node: of each edge, by its place among them, the last instant so far at which it was not
+//! active, where there is one.
+
+ghost use Rattle.std.specs.Prelude.{◌≡◌, ◌<◌, ◌≤◌, ◌==◌, ℕ, length, slice_index_or, None};
+ghost use Rattle.std.specs.Int.{bit_at};
+ghost use Rattle.tfpg_graph.specs.Graph.{incoming};
+ghost use Rattle.tfpg_trace.specs.Gaps.{gap_after};
+
+use tfpg_graph::Graph;
+use tfpg_log::Span;
+
+/// Takes the gaps over the span: an edge that is not active in its mode has a gap at its end. Goes through the edges into
+/// the node.
+pub(crate) fn pass_span(graph: &Graph, node: u32, span: Span, gaps: &mut [Option<u64>])
+    requires node { node < length graph.now.nodes }
+    requires room { length (incoming graph.now node) ≤ length gaps.old }
+    ensures { (place : ℕ) → place < length (incoming graph.now node) →
+        slice_index_or gaps.new place None
+        ≡ gap_after graph.now span (slice_index_or (incoming graph.now node) place 0) (slice_index_or gaps.old place None) }
+{
+    let incoming = graph.incoming(node);
+    for (place, edge) in incoming.iter().enumerate() {
+        gaps[place] = gap_after(graph, *edge, span, gaps[place]);
+    }
+}
+
+/// The gap of the edge once the span is over.
+fn gap_after(graph: &Graph, edge: u32, span: Span, gap: Option<u64>) -> Option<u64>
+    requires { edge < length graph.now.edges }
+    ensures { result ≡ gap_after graph.now span edge gap }
+{
+    if has_mode(graph.edge(edge).modes, span.mode) {
+        gap
+    } else {
+        Some(span.hi)
+    }
+}
+
+/// Whether the set has the mode: its bit is set.
+pub(crate) fn has_mode(modes: u64, mode: u32) -> bool
+    ensures { result ≡ (bit_at modes mode == 1) }
+{
+    mode < 64 && modes >> mode & 1 == 1
+}

@@ -1,0 +1,51 @@
+//! The judge.
+
+ghost use Rattle.std.specs.Prelude.{◌≡◌, ◌<◌, length, All};
+ghost use Rattle.tfpg_log.specs.Log.{IsOf};
+ghost use Rattle.tfpg_log.specs.Explains.{Explains};
+ghost use Rattle.tfpg_trace.specs.FirstFault.{IsVerdict};
+
+use crate::Verdict;
+use crate::rules::broken_rule;
+use crate::shows::first_not_shown;
+use crate::strays::{first_late, first_stranger};
+use tfpg_base::{Set, Trace};
+use tfpg_graph::Graph;
+use tfpg_log::Log;
+
+/// Whether the trace explains the log from the set, and if not, its first fault: first of times after now, then of
+/// failure modes outside the set, then of the propagation rules, node by node, and then of the events in their order.
+///
+/// The set may be any; a member that is no position of a failure mode names no node. Goes through the nodes, and at each
+/// through the edges into it and their windows, and then through the events, and at each sweep through the nodes. Takes no
+/// memory.
+pub fn explains(graph: &Graph, log: &Log, set: Set, trace: &Trace) -> Verdict
+    requires of { IsOf graph.now log.now }
+    requires nodes { All (λ activation. activation.node < length graph.now.nodes) trace.now }
+    ensures verdict { IsVerdict graph.now log.now set trace.now result }
+    ensures yes { Explains graph.now log.now set trace.now → result ≡ Verdict.Yes }
+{
+    first_fault(graph, log, set, trace)
+}
+
+/// The first fault of the trace, or that it has none.
+fn first_fault(graph: &Graph, log: &Log, set: Set, trace: &Trace) -> Verdict
+    requires of { IsOf graph.now log.now }
+    requires nodes { All (λ activation. activation.node < length graph.now.nodes) trace.now }
+    ensures { IsVerdict graph.now log.now set trace.now result }
+{
+    let _rising = trace.as_slice();
+    if let Some((node, time)) = first_late(graph, log, trace) {
+        return Verdict::Late { node, time };
+    }
+    if let Some((node, time)) = first_stranger(graph, set, trace) {
+        return Verdict::Stranger { node, time };
+    }
+    if let Some(fault) = broken_rule(graph, log, trace) {
+        return fault;
+    }
+    if let Some(fault) = first_not_shown(graph, log, trace) {
+        return fault;
+    }
+    Verdict::Yes
+}

@@ -1,0 +1,25 @@
+//! The judge of traces: whether a trace explains a log from a set of failure modes, and if not, its first fault.
+//!
+//! - [`explains`] judges a trace.
+//! - [`Verdict`] is what is said of a trace.
+//!
+//! It goes by spans and windows, and through no instants.
+#![tactic(auto)]
+
+mod ages;
+mod alarms;
+mod due;
+mod gaps;
+mod judge;
+mod may;
+mod must;
+mod rules;
+mod shows;
+mod silences;
+mod strays;
+#[cfg(test)]
+mod tests;
+mod verdict;
+
+pub use judge::explains;
+pub use verdict::Verdict;

@@ -1,0 +1,167 @@
+//! Where a node breaks the must rule first: where it must be active and is not.
+
+ghost use Rattle.std.specs.Prelude.{◌≡◌, ◌<◌, ◌≤◌, ◌+◌, ◌↔◌, ℕ, length, IsTrue, Some};
+ghost use Rattle.tfpg_graph.specs.Graph.{incoming};
+ghost use Rattle.tfpg_log.specs.Log.{Logbook, now_of};
+ghost use Rattle.tfpg_log.specs.Rules.{IsActive};
+ghost use Rattle.tfpg_log.specs.Spans.{span_at};
+ghost use Rattle.tfpg_trace.specs.Broken.{IsFirstMustFault};
+ghost use Rattle.tfpg_trace.specs.Gaps.{AreGaps};
+ghost use Rattle.tfpg_trace.specs.FirstFaultIn.{IsFirstFaultIn};
+
+use crate::due::due_in_span;
+use crate::gaps::pass_span;
+use tfpg_base::Trace;
+use tfpg_graph::Graph;
+use tfpg_log::{Log, Span};
+
+/// How many edges go into one node at most.
+const MOST_INCOMING: usize = 32;
+
+/// The first instant up to now, in milliseconds, at which the node breaks the must rule, where there is one. Takes no
+/// memory. Goes once through the spans up to the node's own time, or up to now where it has none, and in each through the
+/// edges into the node, with one look-up in the trace for each.
+pub(crate) fn first_must_fault(graph: &Graph, log: &Log, trace: &Trace, node: u32) -> Option<u64>
+    requires { node < length graph.now.nodes }
+    ensures { IsFirstMustFault graph.now log.now trace.now node result }
+{
+    // With the count comes that the graph is valid: there are gaps enough for the edges into any node.
+    let _nodes = graph.node_count();
+    let last = log.span_of(last_to_try(log, trace, node))?;
+    let mut gaps: [Option<u64>; MOST_INCOMING] = [None; MOST_INCOMING];
+    for number in 0..=last {
+        if let Some(instant) = fault_at(graph, log, trace, node, number, &mut gaps) {
+            return Some(instant);
+        }
+    }
+    None
+}
+
+/// The last instant up to now at which the node may break the must rule: behind it the node is active.
+fn last_to_try(log: &Log, trace: &Trace, node: u32) -> u64
+    ensures by_now { result ≤ now_of log.now }
+    ensures rest { (instant : ℕ) → result < instant → instant ≤ now_of log.now → IsActive trace.now node instant }
+{
+    let now = log.now();
+    match trace.at(node) {
+        Some(time) => time.min(now),
+        None => now,
+    }
+}
+
+/// The first instant of the span of this number at which the node breaks the must rule, where there is one. Takes the gaps
+/// of the edges into the node over the span.
+fn fault_at(
+    graph: &Graph,
+    log: &Log,
+    trace: &Trace,
+    node: u32,
+    number: u32,
+    gaps: &mut [Option<u64>],
+) -> Option<u64>
+    requires node { node < length graph.now.nodes }
+    requires room { length (incoming graph.now node) ≤ length gaps.old }
+    requires gaps { AreGaps graph.now log.now node number gaps.old }
+    ensures fault { IsFirstFaultIn graph.now log.now trace.now node number result }
+    ensures gaps { AreGaps graph.now log.now node (number + 1) gaps.new }
+{
+    let span = log.span(number, log.now())?;
+    let fault = fault_in_span(graph, trace, node, span, gaps);
+    pass_span(graph, node, span, gaps);
+    fault
+}
+
+/// The same, of a span. The gaps are those when it begins.
+fn fault_in_span(
+    graph: &Graph,
+    trace: &Trace,
+    node: u32,
+    span: Span,
+    gaps: &[Option<u64>],
+) -> Option<u64>
+    requires node { node < length graph.now.nodes }
+    requires room { length (incoming graph.now node) ≤ length gaps.now }
+    ensures { (log : Logbook) (number : ℕ) → span_at log number (now_of log) ≡ Some span →
+        AreGaps graph.now log node number gaps.now →
+        IsFirstFaultIn graph.now log trace.now node number result }
+{
+    let due = due_in_span(graph, trace, node, span, gaps)?;
+    if is_active(trace, node, due) {
+        return None;
+    }
+    Some(due)
+}
+
+/// Whether the node is active at the instant.
+fn is_active(trace: &Trace, node: u32, instant: u64) -> bool
+    ensures { IsTrue result ↔ IsActive trace.now node instant }
+{
+    match trace.at(node) {
+        Some(time) => time <= instant,
+        None => false,
+    }
+}
+
+#[cfg(test)]
+mod tests {
+    use super::*;
+    use std::alloc::Global;
+    use std::test::Fail;
+    use tfpg_graph::read;
+
+    /// Two failure modes, an AND node and an OR node, in two modes.
+    const GRAPH: &[u8] =
+        b"tfpg 1\nmode N\nmode D\nfailure F 1\nfailure G 1\nand C watch 0\nor E hidden\nedge F C 0 10 *\nedge G C 0 5 D\nedge F E 0 10 N\nedge G E 0 inf *\nend\n";
+
+    /// Mode N from 0, D from 6, N from 21 and D from 41 on, up to 60.
+    const LINES: [&[u8]; 4] = [b"5 mode D", b"20 mode N", b"40 mode D", b"60 tick"];
+
+    /// Times of F, G and of a node, the number of that node, and where it breaks the must rule first.
+    const FAULTS: [(u64, u64, u64, u32, Option<u64>); 14] = [
+        (0, 0, 99, 2, Some(11)),
+        (0, 0, 12, 2, Some(11)),
+        (0, 0, 11, 2, None),
+        (0, 18, 99, 2, Some(46)),
+        (0, 15, 99, 2, Some(20)),
+        (0, 18, 46, 2, None),
+        (40, 0, 99, 2, Some(50)),
+        (51, 0, 99, 2, None),
+        (18446744073709551615, 0, 99, 2, None),
+        (0, 0, 99, 3, Some(31)),
+        (25, 0, 36, 3, Some(35)),
+        (25, 0, 35, 3, None),
+        (31, 0, 99, 3, None),
+        (61, 0, 99, 3, None),
+    ];
+
+    /// The log of the lines.
+    fn log_of(alloc: Global, graph: &Graph) -> Result<Log, Fail> {
+        let mut log = Log::new(alloc);
+        for line in &LINES {
+            log.offer(graph, *line)?;
+        }
+        Ok(log)
+    }
+
+    /// The node's first fault, where it is a node.
+    fn fault_of(graph: &Graph, log: &Log, trace: &Trace, node: u32) -> Option<u64> {
+        if node >= graph.node_count() {
+            return None;
+        }
+        first_must_fault(graph, log, trace, node)
+    }
+
+    #[test]
+    fn finds_the_first_instant_at_which_a_node_is_late(rt: HostRuntime) -> Result<(), Fail> {
+        let graph = read(rt.alloc(), GRAPH)?;
+        let log = log_of(rt.alloc(), &graph)?;
+        for (first, second, time, node, expected) in &FAULTS {
+            let mut trace = Trace::new(rt.alloc());
+            trace.set(0, *first)?;
+            trace.set(1, *second)?;
+            trace.set(*node, *time)?;
+            assert_eq!(rt; fault_of(&graph, &log, &trace, *node), *expected);
+        }
+        Ok(())
+    }
+}

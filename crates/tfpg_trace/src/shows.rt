@@ -1,0 +1,62 @@
+//! The first event of a log that a trace does not show.
+
+ghost use Rattle.std.specs.Prelude.{◌≡◌, ◌-◌, ◌≤◌, length, take, Some, MatchOption};
+ghost use Rattle.tfpg_log.specs.Log.{IsOf, IsEventOf, event_at};
+ghost use Rattle.tfpg_log.specs.Explains.{Shows, ShowsAll};
+ghost use Rattle.tfpg_trace.specs.Shown.{IsNotShown, IsFirstNotShown};
+
+use crate::Verdict;
+use crate::alarms::shows_alarm;
+use crate::silences::{first_not_quiet, is_active};
+use tfpg_base::Trace;
+use tfpg_graph::Graph;
+use tfpg_log::{Event, Log};
+
+/// What is said of the first event that the trace does not show. Goes through the events, and for each sweep through the
+/// nodes.
+pub(crate) fn first_not_shown(graph: &Graph, log: &Log, trace: &Trace) -> Option<Verdict>
+    requires { IsOf graph.now log.now }
+    ensures { MatchOption result
+        (ShowsAll graph.now trace.now log.now.events)
+        (IsFirstNotShown graph.now trace.now log.now.events) }
+{
+    for place in 0..log.len() {
+        let number = place + 1;
+        if let Some(fault) = not_shown(graph, log, trace, number, log.event(number)) {
+            return Some(fault);
+        }
+    }
+    None
+}
+
+/// What is said of the event of this number, where the trace does not show it.
+fn not_shown(graph: &Graph, log: &Log, trace: &Trace, number: u32, event: Event) -> Option<Verdict>
+    requires low { 1 ≤ number }
+    requires high { number ≤ length log.now.events }
+    requires at { event_at log.now number ≡ Some event }
+    requires own { IsEventOf graph.now event }
+    ensures { MatchOption result
+        (Shows graph.now trace.now (take (number - 1) log.now.events) event)
+        (IsNotShown graph.now trace.now (take (number - 1) log.now.events) event) }
+{
+    match event {
+        Event::Alarm { time, node } => {
+            if shows_alarm(graph, trace, node, time) {
+                return None;
+            }
+            Some(Verdict::Alarm { node, time })
+        }
+        Event::Silent { time, node } => {
+            if is_active(trace, node, time) {
+                return Some(Verdict::Silence { node, time });
+            }
+            None
+        }
+        Event::Sweep { time: _ } => match first_not_quiet(graph, log, trace, number) {
+            Some((node, time)) => Some(Verdict::Silence { node, time }),
+            None => None,
+        },
+        Event::Tick { time: _ } => None,
+        Event::Mode { time: _, mode: _ } => None,
+    }
+}

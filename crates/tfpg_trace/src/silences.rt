@@ -1,0 +1,62 @@
+//! The silences that a trace does not show.
+
+ghost use Rattle.std.specs.Prelude.{◌≡◌, ◌<◌, ◌≤◌, ◌↔◌, ℕ, length, IsTrue, MatchOption};
+ghost use Rattle.tfpg_log.specs.Rules.{IsActive};
+ghost use Rattle.tfpg_trace.specs.FirstFault.{NoneBefore};
+ghost use Rattle.tfpg_trace.specs.Strays.{IsFirstNode};
+ghost use Rattle.tfpg_trace.specs.Shown.{IsNotQuiet};
+
+use tfpg_base::Trace;
+use tfpg_graph::Graph;
+use tfpg_log::Log;
+
+/// The first node that the event of this number says is silent and that is active by then, and the time of the event.
+/// Goes through the nodes.
+pub(crate) fn first_not_quiet(
+    graph: &Graph,
+    log: &Log,
+    trace: &Trace,
+    number: u32,
+) -> Option<(u32, u64)>
+    requires low { 1 ≤ number }
+    requires high { number ≤ length log.now.events }
+    ensures { MatchOption result
+        (NoneBefore (IsNotQuiet graph.now log.now trace.now number) (length graph.now.nodes))
+        (λ found. IsFirstNode (IsNotQuiet graph.now log.now trace.now number) (length graph.now.nodes) found.0 found.1) }
+{
+    for node in 0..graph.node_count() {
+        if let Some(time) = not_quiet_time(graph, log, trace, number, node) {
+            return Some((node, time));
+        }
+    }
+    None
+}
+
+/// The time of the event of this number, where it says that the node is silent and the node is active by then.
+fn not_quiet_time(graph: &Graph, log: &Log, trace: &Trace, number: u32, node: u32) -> Option<u64>
+    requires low { 1 ≤ number }
+    requires high { number ≤ length log.now.events }
+    requires node { node < length graph.now.nodes }
+    ensures { MatchOption result
+        ((time : ℕ) → IsNotQuiet graph.now log.now trace.now number node time → ⊥)
+        (IsNotQuiet graph.now log.now trace.now number node) }
+{
+    match log.quiet_at(graph, number, node) {
+        Some(time) => if is_active(trace, node, time) {
+            Some(time)
+        } else {
+            None
+        },
+        None => None,
+    }
+}
+
+/// Whether the node is active at the instant.
+pub(crate) fn is_active(trace: &Trace, node: u32, instant: u64) -> bool
+    ensures { IsTrue result ↔ IsActive trace.now node instant }
+{
+    match trace.at(node) {
+        Some(time) => time <= instant,
+        None => false,
+    }
+}

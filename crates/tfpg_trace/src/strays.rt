@@ -1,0 +1,75 @@
+//! The nodes of a trace that cannot be in it: those that are active after now, and the failure modes that are no members
+//! of the set.
+
+ghost use Rattle.std.specs.Prelude.{◌≡◌, ◌<◌, ℕ, ◌↔◌, length, IsTrue, MatchOption};
+ghost use Rattle.tfpg_trace.specs.FirstFault.{NoneBefore, IsLate, IsStranger};
+ghost use Rattle.tfpg_trace.specs.Strays.{IsOutside, IsFirstNode};
+
+use tfpg_base::{Set, Trace};
+use tfpg_graph::Graph;
+use tfpg_log::Log;
+
+/// The first node that the trace makes active after now, and when. Goes through the nodes.
+pub(crate) fn first_late(graph: &Graph, log: &Log, trace: &Trace) -> Option<(u32, u64)>
+    ensures { MatchOption result
+        (NoneBefore (IsLate log.now trace.now) (length graph.now.nodes))
+        (λ found. IsFirstNode (IsLate log.now trace.now) (length graph.now.nodes) found.0 found.1) }
+{
+    for node in 0..graph.node_count() {
+        if let Some(time) = late_time(log, trace, node) {
+            return Some((node, time));
+        }
+    }
+    None
+}
+
+/// The first failure mode that becomes active in the trace and is no member of the set, and when. Goes through the nodes.
+pub(crate) fn first_stranger(graph: &Graph, set: Set, trace: &Trace) -> Option<(u32, u64)>
+    ensures { MatchOption result
+        (NoneBefore (IsStranger graph.now set trace.now) (length graph.now.nodes))
+        (λ found. IsFirstNode (IsStranger graph.now set trace.now) (length graph.now.nodes) found.0 found.1) }
+{
+    for node in 0..graph.node_count() {
+        if let Some(time) = stranger_time(graph, set, trace, node) {
+            return Some((node, time));
+        }
+    }
+    None
+}
+
+/// The time of the node, where it is after now.
+fn late_time(log: &Log, trace: &Trace, node: u32) -> Option<u64>
+    ensures { MatchOption result
+        ((time : ℕ) → IsLate log.now trace.now node time → ⊥)
+        (IsLate log.now trace.now node) }
+{
+    match trace.at(node) {
+        Some(time) => if time > log.now() { Some(time) } else { None },
+        None => None,
+    }
+}
+
+/// The time of the node, where it is a failure mode and no member of the set.
+fn stranger_time(graph: &Graph, set: Set, trace: &Trace, node: u32) -> Option<u64>
+    requires { node < length graph.now.nodes }
+    ensures { MatchOption result
+        ((time : ℕ) → IsStranger graph.now set trace.now node time → ⊥)
+        (IsStranger graph.now set trace.now node) }
+{
+    if is_outside(graph, set, node) {
+        trace.at(node)
+    } else {
+        None
+    }
+}
+
+/// Whether the node is a failure mode and no member of the set.
+fn is_outside(graph: &Graph, set: Set, node: u32) -> bool
+    requires { node < length graph.now.nodes }
+    ensures { IsTrue result ↔ IsOutside graph.now set node }
+{
+    match graph.place_of(node) {
+        Some(place) => !set.has(place),
+        None => false,
+    }
+}

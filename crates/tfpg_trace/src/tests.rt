@@ -1,0 +1,296 @@
+//! Traces with what is said of them.
+
+ghost use Rattle.std.specs.Prelude.{◌<◌, length, All, IsTrue, IfOk};
+ghost use Rattle.tfpg_log.specs.Log.{IsOf};
+
+use crate::{Verdict, explains};
+use std::alloc::Global;
+use std::test::Fail;
+use tfpg_base::{Set, Trace};
+use tfpg_graph::{Graph, read};
+use tfpg_log::Log;
+
+/// The log of the lines.
+fn log_of(alloc: Global, graph: &Graph, lines: &[&[u8]]) -> Result<Log, Fail>
+    ensures { IfOk result (IsOf graph.now) }
+{
+    let mut log = Log::new(alloc);
+    for line in lines {
+        log.offer(graph, *line)?;
+    }
+    Ok(log)
+}
+
+/// The trace with these nodes and times.
+fn trace_of(alloc: Global, times: &[(u32, u64)]) -> Result<Trace, Fail> {
+    let mut trace = Trace::new(alloc);
+    for (node, time) in times {
+        trace.set(*node, *time)?;
+    }
+    Ok(trace)
+}
+
+/// The set of these positions, where they are below 64.
+fn set_of(places: &[u32]) -> Set {
+    let mut set = Set::empty();
+    for place in places {
+        if *place < 64 {
+            set = set.with(*place);
+        }
+    }
+    set
+}
+
+/// Whether the nodes of the trace are nodes of the graph.
+fn is_of(graph: &Graph, trace: &Trace) -> bool
+    ensures { IsTrue result → All (λ activation. activation.node < length graph.now.nodes) trace.now }
+{
+    let activations = trace.as_slice();
+    for activation in activations {
+        if activation.node >= graph.node_count() {
+            return false;
+        }
+    }
+    true
+}
+
+/// What is said of a trace of these times by a graph, the lines of a log and the positions of a set, where its nodes are
+/// nodes of the graph.
+fn judged(
+    alloc: Global,
+    text: &[u8],
+    lines: &[&[u8]],
+    places: &[u32],
+    times: &[(u32, u64)],
+) -> Result<Option<Verdict>, Fail> {
+    let graph = read(alloc, text)?;
+    let log = log_of(alloc, &graph, lines)?;
+    let trace = trace_of(alloc, times)?;
+    if !is_of(&graph, &trace) {
+        return Ok(None);
+    }
+    Ok(Some(explains(&graph, &log, set_of(places), &trace)))
+}
+
+/// An AND node with an edge in each of two modes.
+const BY_MODES: &[u8] =
+    b"tfpg 1\nmode N\nmode D\nfailure F 1\nfailure G 1\nand C watch 0\nedge F C 0 inf N\nedge G C 0 inf D\nend\n";
+
+/// The same with both edges in both modes.
+const AT_ALL_TIMES: &[u8] =
+    b"tfpg 1\nmode N\nmode D\nfailure F 1\nfailure G 1\nand C watch 0\nedge F C 0 inf *\nedge G C 0 inf *\nend\n";
+
+/// The same with greatest delays.
+const DUE_IN_TEN: &[u8] =
+    b"tfpg 1\nmode N\nmode D\nfailure F 1\nfailure G 1\nand C watch 0\nedge F C 0 10 *\nedge G C 0 10 *\nend\n";
+
+/// An OR node with an edge in the first of two modes.
+const IN_ONE_MODE: &[u8] =
+    b"tfpg 1\nmode N\nmode D\nfailure F 1\nor A watch 5\nedge F A 10 20 N\nend\n";
+
+/// An OR node with two edges.
+const BY_EITHER: &[u8] =
+    b"tfpg 1\nmode N\nfailure F 1\nfailure G 1\nor A watch 0\nedge F A 0 5 *\nedge G A 3 inf *\nend\n";
+
+/// A log after which the first mode holds again from 16 on.
+const THERE_AND_BACK: [&[u8]; 3] = [b"5 mode D", b"15 mode N", b"40 tick"];
+
+/// A graph, the lines of a log, the positions of a set, the times of a trace, and what is said of it.
+type Row = (
+    &'static [u8],
+    &'static [&'static [u8]],
+    &'static [u32],
+    &'static [(u32, u64)],
+    Verdict,
+);
+
+/// Worked out by hand from the rules.
+const ROWS: [Row; 26] = [
+    (
+        BY_MODES,
+        &[b"5 mode D", b"20 alarm C"],
+        &[0, 1],
+        &[(0, 0), (1, 10), (2, 20)],
+        Verdict::May { node: 2, time: 20 },
+    ),
+    (
+        AT_ALL_TIMES,
+        &[b"5 mode D", b"20 alarm C"],
+        &[0, 1],
+        &[(0, 0), (1, 10), (2, 20)],
+        Verdict::Yes,
+    ),
+    (
+        DUE_IN_TEN,
+        &[b"30 tick"],
+        &[0, 1],
+        &[(0, 0), (1, 10)],
+        Verdict::Must { node: 2, time: 20 },
+    ),
+    (
+        DUE_IN_TEN,
+        &[b"30 tick"],
+        &[0, 1],
+        &[(0, 0), (1, 10), (2, 20)],
+        Verdict::Yes,
+    ),
+    (
+        DUE_IN_TEN,
+        &[b"19 tick"],
+        &[0, 1],
+        &[(0, 0), (1, 10)],
+        Verdict::Yes,
+    ),
+    (
+        AT_ALL_TIMES,
+        &[b"30 tick"],
+        &[1],
+        &[(0, 0), (1, 31), (2, 40)],
+        Verdict::Late { node: 1, time: 31 },
+    ),
+    (
+        AT_ALL_TIMES,
+        &[b"30 tick"],
+        &[0, 1],
+        &[(0, 0), (1, 30)],
+        Verdict::Yes,
+    ),
+    (
+        AT_ALL_TIMES,
+        &[b"20 alarm C"],
+        &[0, 63],
+        &[(0, 0), (1, 10), (2, 5)],
+        Verdict::Stranger { node: 1, time: 10 },
+    ),
+    (
+        AT_ALL_TIMES,
+        &[b"20 alarm C"],
+        &[0, 1],
+        &[(0, 0), (1, 10), (2, 9)],
+        Verdict::May { node: 2, time: 9 },
+    ),
+    (
+        AT_ALL_TIMES,
+        &[b"20 alarm C"],
+        &[0, 1],
+        &[(0, 0), (1, 10), (2, 19)],
+        Verdict::Alarm { node: 2, time: 20 },
+    ),
+    (
+        AT_ALL_TIMES,
+        &[b"19 alarm C", b"30 tick"],
+        &[0, 1],
+        &[(0, 0), (1, 10), (2, 20)],
+        Verdict::Alarm { node: 2, time: 19 },
+    ),
+    (
+        AT_ALL_TIMES,
+        &[b"20 alarm C"],
+        &[0, 1],
+        &[(0, 0)],
+        Verdict::Alarm { node: 2, time: 20 },
+    ),
+    (
+        AT_ALL_TIMES,
+        &[b"20 silent C"],
+        &[0, 1],
+        &[(0, 0), (1, 10), (2, 20)],
+        Verdict::Silence { node: 2, time: 20 },
+    ),
+    (
+        AT_ALL_TIMES,
+        &[b"20 silent C", b"30 tick"],
+        &[0, 1],
+        &[(0, 0), (1, 10), (2, 21)],
+        Verdict::Yes,
+    ),
+    (
+        AT_ALL_TIMES,
+        &[b"20 alarm C", b"25 sweep"],
+        &[0, 1],
+        &[(0, 0), (1, 10), (2, 20)],
+        Verdict::Yes,
+    ),
+    (
+        AT_ALL_TIMES,
+        &[b"25 sweep"],
+        &[0, 1],
+        &[(0, 0), (1, 10), (2, 20)],
+        Verdict::Silence { node: 2, time: 25 },
+    ),
+    (
+        IN_ONE_MODE,
+        &THERE_AND_BACK,
+        &[0],
+        &[(0, 0), (1, 26)],
+        Verdict::Yes,
+    ),
+    (
+        IN_ONE_MODE,
+        &THERE_AND_BACK,
+        &[0],
+        &[(0, 0), (1, 25)],
+        Verdict::May { node: 1, time: 25 },
+    ),
+    (
+        IN_ONE_MODE,
+        &THERE_AND_BACK,
+        &[0],
+        &[(0, 0)],
+        Verdict::Must { node: 1, time: 36 },
+    ),
+    (
+        IN_ONE_MODE,
+        &THERE_AND_BACK,
+        &[0],
+        &[(0, 0), (1, 37)],
+        Verdict::Must { node: 1, time: 36 },
+    ),
+    (
+        IN_ONE_MODE,
+        &[b"15 alarm A"],
+        &[0],
+        &[(0, 0), (1, 10)],
+        Verdict::Yes,
+    ),
+    (
+        IN_ONE_MODE,
+        &[b"16 alarm A"],
+        &[0],
+        &[(0, 0), (1, 10)],
+        Verdict::Alarm { node: 1, time: 16 },
+    ),
+    (
+        BY_EITHER,
+        &[b"10 tick"],
+        &[1],
+        &[(1, 0), (2, 3)],
+        Verdict::Yes,
+    ),
+    (
+        BY_EITHER,
+        &[b"10 tick"],
+        &[1],
+        &[(1, 0), (2, 2)],
+        Verdict::May { node: 2, time: 2 },
+    ),
+    (
+        BY_EITHER,
+        &[b"20 tick"],
+        &[0, 1],
+        &[(0, 10), (1, 0)],
+        Verdict::Must { node: 2, time: 15 },
+    ),
+    (BY_EITHER, &[b"0 tick"], &[], &[], Verdict::Yes),
+];
+
+#[test]
+fn judges_each_trace(rt: HostRuntime) -> Result<(), Fail> {
+    for (text, lines, places, times, verdict) in &ROWS {
+        assert_eq!(rt;
+            judged(rt.alloc(), *text, *lines, *places, *times)?,
+            Some(*verdict)
+        );
+    }
+    Ok(())
+}
