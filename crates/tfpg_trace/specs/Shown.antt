@@ -16,7 +16,7 @@ pub record IsNotQuiet (graph : Tfpg) (log : Logbook) (trace : List Activation) (
   pub silent : quiet_at graph log number node ≡ Some time
   pub active : IsActive trace node time
 
--- The event, behind these, is an alarm of the node at this time, and is not shown.
+-- The event is an alarm of the node at this time, and is not shown.
 pub record IsAlarmNotShown (graph : Tfpg) (trace : List Activation) (event : Event) (node time : ℕ) : Type 0 where
   pub alarm : event ≡ Alarm time node
   pub not_shown : ShowsAlarm graph trace node time → ⊥

@@ -1,4 +1,4 @@
-//! The judge.
+//! Whether a trace explains a log from a set of failure modes.
 
 ghost use Rattle.std.specs.Prelude.{◌≡◌, ◌<◌, length, All};
 ghost use Rattle.tfpg_log.specs.Log.{IsOf};
@@ -16,9 +16,9 @@ use tfpg_log::Log;
 /// Whether the trace explains the log from the set, and if not, its first fault: first of times after now, then of
 /// failure modes outside the set, then of the propagation rules, node by node, and then of the events in their order.
 ///
-/// The set may be any; a member that is no position of a failure mode names no node. Goes through the nodes, and at each
-/// through the edges into it and their windows, and then through the events, and at each sweep through the nodes. Takes no
-/// memory.
+/// The set may be any: a member that is no position of a failure mode names no node. Takes no memory. Goes through the
+/// nodes, at each through the spans, and in each span through the edges into the node; then through the events, and at
+/// each sweep through the nodes.
 pub fn explains(graph: &Graph, log: &Log, set: Set, trace: &Trace) -> Verdict
     requires of { IsOf graph.now log.now }
     requires nodes { All (λ activation. activation.node < length graph.now.nodes) trace.now }
@@ -34,6 +34,7 @@ fn first_fault(graph: &Graph, log: &Log, set: Set, trace: &Trace) -> Verdict
     requires nodes { All (λ activation. activation.node < length graph.now.nodes) trace.now }
     ensures { IsVerdict graph.now log.now set trace.now result }
 {
+    // The activations come with what holds of each trace: they stand by rising nodes.
     let _rising = trace.as_slice();
     if let Some((node, time)) = first_late(graph, log, trace) {
         return Verdict::Late { node, time };

@@ -1,6 +1,6 @@
 //! Where a node breaks the must rule first: where it must be active and is not.
 
-ghost use Rattle.std.specs.Prelude.{◌≡◌, ◌<◌, ◌≤◌, ◌+◌, ◌↔◌, ℕ, length, IsTrue, Some};
+ghost use Rattle.std.specs.Prelude.{◌≡◌, ◌<◌, ◌≤◌, ◌+◌, ℕ, length, Some};
 ghost use Rattle.tfpg_graph.specs.Graph.{incoming};
 ghost use Rattle.tfpg_log.specs.Log.{Logbook, now_of};
 ghost use Rattle.tfpg_log.specs.Rules.{IsActive};
@@ -11,6 +11,7 @@ ghost use Rattle.tfpg_trace.specs.FirstFaultIn.{IsFirstFaultIn};
 
 use crate::due::due_in_span;
 use crate::gaps::pass_span;
+use crate::silences::is_active;
 use tfpg_base::Trace;
 use tfpg_graph::Graph;
 use tfpg_log::{Log, Span};
@@ -90,16 +91,6 @@ fn fault_in_span(
         return None;
     }
     Some(due)
-}
-
-/// Whether the node is active at the instant.
-fn is_active(trace: &Trace, node: u32, instant: u64) -> bool
-    ensures { IsTrue result ↔ IsActive trace.now node instant }
-{
-    match trace.at(node) {
-        Some(time) => time <= instant,
-        None => false,
-    }
 }
 
 #[cfg(test)]
