@@ -1,6 +1,8 @@
 //! Standard input as a source.
 
-ghost use Rattle.std.specs.Prelude.{◌≡◌};
+ghost use Rattle.std.specs.Prelude.{◌≡◌, ◌≤◌, length, IfOk, OnErr};
+ghost use Rattle.std.specs.Io.KnownBytes.{ReadConsumes};
+ghost use Rattle.tfpg_base.specs.Outside.{Rose};
 
 use super::fault_count::FaultCount;
 use super::tries::read_uncut;
@@ -39,7 +41,12 @@ impl<R: Read> Source for StandardInput<R> {
 
     ghost left = { λ _. None };
 
-    fn take(&mut self, room: &mut [u8]) -> Result<usize, Failed> {
+    fn take(&mut self, room: &mut [u8]) -> Result<usize, Failed>
+        ensures within { IfOk result (λ count. count ≤ length room.old) }
+        ensures bytes { ReadConsumes (R.remaining self.old.reader) (R.remaining self.new.reader) result room.new }
+        ensures failed { OnErr result (Rose self.old.faults.count self.new.faults.count) }
+        ensures never_falls { self.old.faults.count ≤ self.new.faults.count }
+    {
         match read_uncut(&mut self.reader, room) {
             Ok(count) => Ok(count),
             Err(_) => {

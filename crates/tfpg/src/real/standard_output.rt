@@ -1,6 +1,8 @@
 //! Standard output as a sink.
 
-ghost use Rattle.std.specs.Prelude.{◌≡◌};
+ghost use Rattle.std.specs.Prelude.{◌≡◌, ◌<◌, ◌≤◌, length, IfOk, OnErr};
+ghost use Rattle.std.specs.Io.KnownBytes.{WriteAppends};
+ghost use Rattle.tfpg_base.specs.Outside.{Rose};
 
 use super::fault_count::FaultCount;
 use super::tries::write_uncut;
@@ -41,7 +43,13 @@ impl<W: Write> Sink for StandardOutput<W> {
     ghost holds = { λ _. None };
 
     /// A writer that takes nothing of a piece has failed.
-    fn put(&mut self, piece: &[u8]) -> Result<usize, Failed> {
+    fn put(&mut self, piece: &[u8]) -> Result<usize, Failed>
+        ensures within { IfOk result (λ count. count ≤ length piece.now) }
+        ensures bytes { WriteAppends (W.contents self.old.writer) (W.contents self.new.writer) result piece.now }
+        ensures progress { 0 < length piece.now → IfOk result (λ count. 0 < count) }
+        ensures failed { OnErr result (Rose self.old.faults.count self.new.faults.count) }
+        ensures never_falls { self.old.faults.count ≤ self.new.faults.count }
+    {
         match write_uncut(&mut self.writer, piece) {
             Ok(count) if count > 0 || piece.is_empty() => Ok(count),
             _ => {

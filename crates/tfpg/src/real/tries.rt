@@ -1,13 +1,15 @@
 //! Reads and writes that are tried again where a signal cut them off.
 
 ghost use Rattle.std.specs.Prelude.{◌≤◌, length, IfOk};
+ghost use Rattle.std.specs.Io.KnownBytes.{ReadConsumes, WriteAppends};
 
 use std::io;
 use std::io::{Error, ErrorKind, Read, Write};
 
 /// Reads once, and as often again as a signal cuts the read off. The count is 0 only at the end or for no room.
 pub(crate) fn read_uncut<R: Read>(reader: &mut R, room: &mut [u8]) -> io::Result<usize>
-    ensures { IfOk result (λ count. count ≤ length room.old) }
+    ensures within { IfOk result (λ count. count ≤ length room.old) }
+    ensures bytes { ReadConsumes (R.remaining reader.old) (R.remaining reader.new) result room.new }
 {
     // The bound lets the call be proved to return; no run comes near it.
     for _ in 0..u64::MAX {
@@ -21,7 +23,8 @@ pub(crate) fn read_uncut<R: Read>(reader: &mut R, room: &mut [u8]) -> io::Result
 
 /// Writes once, and as often again as a signal cuts the write off.
 pub(crate) fn write_uncut<W: Write>(writer: &mut W, piece: &[u8]) -> io::Result<usize>
-    ensures { IfOk result (λ count. count ≤ length piece.now) }
+    ensures within { IfOk result (λ count. count ≤ length piece.now) }
+    ensures bytes { WriteAppends (W.contents writer.old) (W.contents writer.new) result piece.now }
 {
     // The bound lets the call be proved to return; no run comes near it.
     for _ in 0..u64::MAX {
