@@ -11,9 +11,9 @@ more_is_told None now after given part front p q passed = tt
 more_is_told (Some told) None after given part front p q passed = absurd p
 more_is_told (Some told) (Some left) None given part front p q passed = absurd q
 more_is_told (Some told) (Some left) (Some rest) given part front p q passed = (
-    passed.0 ++ rest,
-    longer,
-    p ∙ ap (λ (l : List ℕ). given ++ l) q ∙ sym (append_assoc given part rest) ∙ ap (λ (l : List ℕ). l ++ rest) passed.2 ∙ append_assoc front passed.0 rest,
-  ) where
-    longer : 0 < length (passed.0 ++ rest)
-    longer = omega (arith, length-append passed.0 rest, passed.1)
+  passed.0 ++ rest,
+  longer,
+  p ∙ ap (λ (l : List ℕ). given ++ l) q ∙ sym (append_assoc given part rest) ∙ ap (λ (l : List ℕ). l ++ rest) passed.2 ∙ append_assoc front passed.0 rest,
+) where
+  longer : 0 < length (passed.0 ++ rest)
+  longer = omega (arith, length-append passed.0 rest, passed.1)

@@ -22,7 +22,9 @@ pub(crate) struct FileShelf<'a, R> {
 
 impl<'a, R> FileShelf<'a, R> {
     /// The shelf of these files, which has not failed.
-    pub(crate) fn new(files: &'a R) -> FileShelf<'a, R> {
+    pub(crate) fn new(files: &'a R) -> FileShelf<'a, R>
+        ensures no_fault { result.faults.count ≡ 0 }
+    {
         FileShelf {
             files,
             faults: FaultCount::new(),

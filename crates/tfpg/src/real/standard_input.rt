@@ -18,7 +18,10 @@ pub(crate) struct StandardInput<R> {
 
 impl<R> StandardInput<R> {
     /// A source over this reader, which has not failed.
-    pub(crate) fn new(reader: R) -> StandardInput<R> {
+    pub(crate) fn new(reader: R) -> StandardInput<R>
+        ensures reader { result.reader ≡ reader }
+        ensures no_fault { result.faults.count ≡ 0 }
+    {
         StandardInput {
             reader,
             faults: FaultCount::new(),

@@ -19,7 +19,10 @@ pub(crate) struct StandardOutput<W> {
 
 impl<W> StandardOutput<W> {
     /// A sink over this writer, which has not failed.
-    pub(crate) fn new(writer: W) -> StandardOutput<W> {
+    pub(crate) fn new(writer: W) -> StandardOutput<W>
+        ensures writer { result.writer ≡ writer }
+        ensures no_fault { result.faults.count ≡ 0 }
+    {
         StandardOutput {
             writer,
             faults: FaultCount::new(),
@@ -42,7 +45,6 @@ impl<W: Write> Sink for StandardOutput<W> {
 
     ghost holds = { λ _. None };
 
-    /// A writer that takes nothing of a piece has failed.
     fn put(&mut self, piece: &[u8]) -> Result<usize, Failed>
         ensures within { IfOk result (λ count. count ≤ length piece.now) }
         ensures bytes { WriteAppends (W.contents self.old.writer) (W.contents self.new.writer) result piece.now }
@@ -51,8 +53,8 @@ impl<W: Write> Sink for StandardOutput<W> {
         ensures never_falls { self.old.faults.count ≤ self.new.faults.count }
     {
         match write_uncut(&mut self.writer, piece) {
-            Ok(count) if count > 0 || piece.is_empty() => Ok(count),
-            _ => {
+            Ok(count) => Ok(count),
+            Err(_) => {
                 self.faults.raise();
                 Err(Failed)
             }

@@ -1,6 +1,6 @@
 //! Reads and writes that are tried again where a signal cut them off.
 
-ghost use Rattle.std.specs.Prelude.{◌≤◌, length, IfOk};
+ghost use Rattle.std.specs.Prelude.{◌<◌, ◌≤◌, length, IfOk};
 ghost use Rattle.std.specs.Io.KnownBytes.{ReadConsumes, WriteAppends};
 
 use std::io;
@@ -21,14 +21,16 @@ pub(crate) fn read_uncut<R: Read>(reader: &mut R, room: &mut [u8]) -> io::Result
     Err(Error::from(ErrorKind::TimedOut))
 }
 
-/// Writes once, and as often again as a signal cuts the write off.
+/// Writes once, and as often again as a signal cuts the write off. A writer that takes nothing of a piece has failed.
 pub(crate) fn write_uncut<W: Write>(writer: &mut W, piece: &[u8]) -> io::Result<usize>
     ensures within { IfOk result (λ count. count ≤ length piece.now) }
     ensures bytes { WriteAppends (W.contents writer.old) (W.contents writer.new) result piece.now }
+    ensures progress { 0 < length piece.now → IfOk result (λ count. 0 < count) }
 {
     // The bound lets the call be proved to return; no run comes near it.
     for _ in 0..u64::MAX {
         match writer.write(piece) {
+            Ok(0) if !piece.is_empty() => return Err(Error::from(ErrorKind::WriteZero)),
             Err(error) if error.kind() == ErrorKind::Interrupted => {}
             answer => return answer,
         }
