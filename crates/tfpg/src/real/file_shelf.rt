@@ -1,6 +1,6 @@
 //! The files of the system as a shelf.
 
-ghost use Rattle.std.specs.Prelude.{◌≡◌, ◌≢◌, ◌<◌, ◌≤◌, ◌^◌, ◌++◌, [], ℕ, List, length, Err, IfSome, OnOk, IsErrOf};
+ghost use Rattle.std.specs.Prelude.{◌≡◌, ◌≢◌, ◌<◌, ◌≤◌, ◌^◌, ◌+◌, ◌++◌, [], ℕ, List, length, vec_capacity, Err, IfSome, OnOk, IsErrOf};
 
 use super::fault_count::FaultCount;
 use super::tries::read_uncut;
@@ -98,6 +98,8 @@ fn append(part: &[u8], into: &mut Vec<u8>) -> Result<(), ShelfFault>
     ensures appended { OnOk result (into.new.items ≡ into.old.items ++ part.now) }
     ensures too_long { IsErrOf result ShelfFault.TooLong → length into.new.items ≡ 2 ^ 24 }
     ensures front { IsErrOf result ShelfFault.TooLong → (more : List ℕ) × (0 < length more) × (into.old.items ++ part.now ≡ into.new.items ++ more) }
+    ensures no_memory { IsErrOf result ShelfFault.NoMemory → vec_capacity into.old < length into.old.items + length part.now }
+    ensures no_fault { result ≢ Err ShelfFault.Failed }
 {
     let (kept, more) = part.split_at(part.len().min(LONGEST_FILE - into.len()));
     if into.extend_from_slice(kept).is_err() {

@@ -1,6 +1,7 @@
 //! Reads and writes that are tried again where a signal cut them off.
 
-ghost use Rattle.std.specs.Prelude.{◌<◌, ◌≤◌, length, IfOk};
+ghost use Rattle.std.specs.Prelude.{◌≢◌, ◌<◌, ◌≤◌, length, IfOk, IfErr};
+ghost use Rattle.std.specs.IoError.{error_kind};
 ghost use Rattle.std.specs.Io.KnownBytes.{ReadConsumes, WriteAppends};
 
 use std::io;
@@ -10,6 +11,7 @@ use std::io::{Error, ErrorKind, Read, Write};
 pub(crate) fn read_uncut<R: Read>(reader: &mut R, room: &mut [u8]) -> io::Result<usize>
     ensures within { IfOk result (λ count. count ≤ length room.old) }
     ensures bytes { ReadConsumes (R.remaining reader.old) (R.remaining reader.new) result room.new }
+    ensures uncut { IfErr result (λ error. error_kind error ≢ ErrorKind.Interrupted) }
 {
     // The bound lets the call be proved to return; no run comes near it.
     for _ in 0..u64::MAX {
@@ -25,6 +27,7 @@ pub(crate) fn read_uncut<R: Read>(reader: &mut R, room: &mut [u8]) -> io::Result
 pub(crate) fn write_uncut<W: Write>(writer: &mut W, piece: &[u8]) -> io::Result<usize>
     ensures within { IfOk result (λ count. count ≤ length piece.now) }
     ensures bytes { WriteAppends (W.contents writer.old) (W.contents writer.new) result piece.now }
+    ensures uncut { IfErr result (λ error. error_kind error ≢ ErrorKind.Interrupted) }
     ensures progress { 0 < length piece.now → IfOk result (λ count. 0 < count) }
 {
     // The bound lets the call be proved to return; no run comes near it.
