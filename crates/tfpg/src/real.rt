@@ -8,6 +8,7 @@ mod fault_count;
 mod file_shelf;
 mod standard_input;
 mod standard_output;
+pub mod steady;
 #[cfg(test)]
 mod tests;
 mod tries;

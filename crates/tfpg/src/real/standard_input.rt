@@ -1,12 +1,10 @@
 //! Standard input as a source.
 
-ghost use Rattle.std.specs.Prelude.{◌≡◌, ◌≤◌, length, IfOk, OnErr};
-ghost use Rattle.std.specs.Io.KnownBytes.{ReadConsumes};
-ghost use Rattle.tfpg_base.specs.Outside.{Rose};
+ghost use Rattle.std.specs.Prelude.{◌≡◌};
 
 use super::fault_count::FaultCount;
+use super::steady::SteadyRead;
 use super::tries::read_uncut;
-use std::io::Read;
 use tfpg_base::{Failed, Source};
 
 /// A reader as a source. Each call reads once, into the caller's room, so an answer comes as soon as there are bytes.
@@ -37,19 +35,12 @@ impl<R> StandardInput<R> {
     }
 }
 
-impl<R: Read> Source for StandardInput<R> {
-    ghost use Rattle.std.specs.Prelude.{None};
-
+impl<R: SteadyRead> Source for StandardInput<R> {
     ghost faults = { λ input. input.faults.count };
 
-    ghost left = { λ _. None };
+    ghost left = { λ input. R.remaining input.reader };
 
-    fn take(&mut self, room: &mut [u8]) -> Result<usize, Failed>
-        ensures within { IfOk result (λ count. count ≤ length room.old) }
-        ensures bytes { ReadConsumes (R.remaining self.old.reader) (R.remaining self.new.reader) result room.new }
-        ensures failed { OnErr result (Rose self.old.faults.count self.new.faults.count) }
-        ensures never_falls { self.old.faults.count ≤ self.new.faults.count }
-    {
+    fn take(&mut self, room: &mut [u8]) -> Result<usize, Failed> {
         match read_uncut(&mut self.reader, room) {
             Ok(count) => Ok(count),
             Err(_) => {

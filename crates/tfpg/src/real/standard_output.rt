@@ -1,12 +1,10 @@
 //! Standard output as a sink.
 
-ghost use Rattle.std.specs.Prelude.{◌≡◌, ◌<◌, ◌≤◌, length, IfOk, OnErr};
-ghost use Rattle.std.specs.Io.KnownBytes.{WriteAppends};
-ghost use Rattle.tfpg_base.specs.Outside.{Rose};
+ghost use Rattle.std.specs.Prelude.{◌≡◌};
 
 use super::fault_count::FaultCount;
+use super::steady::SteadyWrite;
 use super::tries::write_uncut;
-use std::io::Write;
 use tfpg_base::{Failed, Sink};
 
 /// A writer as a sink. The writer is to pass its bytes on in each call, as standard output does, so that a reader sees each
@@ -38,20 +36,12 @@ impl<W> StandardOutput<W> {
     }
 }
 
-impl<W: Write> Sink for StandardOutput<W> {
-    ghost use Rattle.std.specs.Prelude.{None};
-
+impl<W: SteadyWrite> Sink for StandardOutput<W> {
     ghost faults = { λ output. output.faults.count };
 
-    ghost holds = { λ _. None };
+    ghost holds = { λ output. W.contents output.writer };
 
-    fn put(&mut self, piece: &[u8]) -> Result<usize, Failed>
-        ensures within { IfOk result (λ count. count ≤ length piece.now) }
-        ensures bytes { WriteAppends (W.contents self.old.writer) (W.contents self.new.writer) result piece.now }
-        ensures progress { 0 < length piece.now → IfOk result (λ count. 0 < count) }
-        ensures failed { OnErr result (Rose self.old.faults.count self.new.faults.count) }
-        ensures never_falls { self.old.faults.count ≤ self.new.faults.count }
-    {
+    fn put(&mut self, piece: &[u8]) -> Result<usize, Failed> {
         match write_uncut(&mut self.writer, piece) {
             Ok(count) => Ok(count),
             Err(_) => {
