@@ -5,3 +5,4 @@ pub mod Telling
 pub mod Putting
 pub mod Answering
 pub mod Turns
+pub mod Whole

@@ -1,12 +1,14 @@
 //! The outside as it is: standard input, standard output and files by name.
 //!
-//! These adapters are the trusted edge. They tell the contracts nothing of their content, so no clause sees which bytes
-//! reach the system or come from it. Each counts the faults that it raises, up to the last value of the count.
+//! These adapters are the trusted edge: no clause sees which bytes reach the system or come from it, since a real file or
+//! stream tells of none. Where the reader or writer under an adapter does, as a slice or a vector, the adapter passes on
+//! exactly those. Each counts the faults that it raises, up to the last value of the count.
 
 mod fault_count;
 mod file_shelf;
 mod standard_input;
 mod standard_output;
+pub mod steady;
 #[cfg(test)]
 mod tests;
 mod tries;

@@ -1,6 +1,6 @@
 //! The files of the system as a shelf.
 
-ghost use Rattle.std.specs.Prelude.{◌≡◌, ◌≢◌, ◌≤◌, ◌^◌, [], length, Err, OnOk, IsErrOf};
+ghost use Rattle.std.specs.Prelude.{◌≡◌, ◌≢◌, ◌<◌, ◌≤◌, ◌^◌, ◌+◌, ◌++◌, [], ℕ, List, length, vec_capacity, Err, IfSome, OnOk, IsErrOf};
 
 use super::fault_count::FaultCount;
 use super::tries::read_uncut;
@@ -22,7 +22,9 @@ pub(crate) struct FileShelf<'a, R> {
 
 impl<'a, R> FileShelf<'a, R> {
     /// The shelf of these files, which has not failed.
-    pub(crate) fn new(files: &'a R) -> FileShelf<'a, R> {
+    pub(crate) fn new(files: &'a R) -> FileShelf<'a, R>
+        ensures no_fault { result.faults.count ≡ 0 }
+    {
         FileShelf {
             files,
             faults: FaultCount::new(),
@@ -74,6 +76,8 @@ fn read_whole<R: Read>(reader: &mut R, into: &mut Vec<u8>) -> Result<(), ShelfFa
     requires { into.old.items ≡ [] }
     ensures small { OnOk result (length into.new.items ≤ 2 ^ 24) }
     ensures too_long { IsErrOf result ShelfFault.TooLong → length into.new.items ≡ 2 ^ 24 }
+    ensures whole { OnOk result (IfSome (R.remaining reader.old) (λ told. into.new.items ≡ told)) }
+    ensures front { IsErrOf result ShelfFault.TooLong → IfSome (R.remaining reader.old) (λ told. (more : List ℕ) × (0 < length more) × (told ≡ into.new.items ++ more)) }
 {
     let mut room = [0; BLOCK];
     // The bound lets the call be proved to return; no run comes near it.
@@ -91,7 +95,11 @@ fn read_whole<R: Read>(reader: &mut R, into: &mut Vec<u8>) -> Result<(), ShelfFa
 fn append(part: &[u8], into: &mut Vec<u8>) -> Result<(), ShelfFault>
     requires { length into.old.items ≤ 2 ^ 24 }
     ensures small { OnOk result (length into.new.items ≤ 2 ^ 24) }
+    ensures appended { OnOk result (into.new.items ≡ into.old.items ++ part.now) }
     ensures too_long { IsErrOf result ShelfFault.TooLong → length into.new.items ≡ 2 ^ 24 }
+    ensures front { IsErrOf result ShelfFault.TooLong → (more : List ℕ) × (0 < length more) × (into.old.items ++ part.now ≡ into.new.items ++ more) }
+    ensures no_memory { IsErrOf result ShelfFault.NoMemory → vec_capacity into.old < length into.old.items + length part.now }
+    ensures no_fault { result ≢ Err ShelfFault.Failed }
 {
     let (kept, more) = part.split_at(part.len().min(LONGEST_FILE - into.len()));
     if into.extend_from_slice(kept).is_err() {

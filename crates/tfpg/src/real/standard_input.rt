@@ -3,8 +3,8 @@
 ghost use Rattle.std.specs.Prelude.{◌≡◌};
 
 use super::fault_count::FaultCount;
+use super::steady::SteadyRead;
 use super::tries::read_uncut;
-use std::io::Read;
 use tfpg_base::{Failed, Source};
 
 /// A reader as a source. Each call reads once, into the caller's room, so an answer comes as soon as there are bytes.
@@ -16,7 +16,10 @@ pub(crate) struct StandardInput<R> {
 
 impl<R> StandardInput<R> {
     /// A source over this reader, which has not failed.
-    pub(crate) fn new(reader: R) -> StandardInput<R> {
+    pub(crate) fn new(reader: R) -> StandardInput<R>
+        ensures reader { result.reader ≡ reader }
+        ensures no_fault { result.faults.count ≡ 0 }
+    {
         StandardInput {
             reader,
             faults: FaultCount::new(),
@@ -32,12 +35,10 @@ impl<R> StandardInput<R> {
     }
 }
 
-impl<R: Read> Source for StandardInput<R> {
-    ghost use Rattle.std.specs.Prelude.{None};
-
+impl<R: SteadyRead> Source for StandardInput<R> {
     ghost faults = { λ input. input.faults.count };
 
-    ghost left = { λ _. None };
+    ghost left = { λ input. R.remaining input.reader };
 
     fn take(&mut self, room: &mut [u8]) -> Result<usize, Failed> {
         match read_uncut(&mut self.reader, room) {

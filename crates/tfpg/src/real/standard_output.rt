@@ -3,8 +3,8 @@
 ghost use Rattle.std.specs.Prelude.{◌≡◌};
 
 use super::fault_count::FaultCount;
+use super::steady::SteadyWrite;
 use super::tries::write_uncut;
-use std::io::Write;
 use tfpg_base::{Failed, Sink};
 
 /// A writer as a sink. The writer is to pass its bytes on in each call, as standard output does, so that a reader sees each
@@ -17,7 +17,10 @@ pub(crate) struct StandardOutput<W> {
 
 impl<W> StandardOutput<W> {
     /// A sink over this writer, which has not failed.
-    pub(crate) fn new(writer: W) -> StandardOutput<W> {
+    pub(crate) fn new(writer: W) -> StandardOutput<W>
+        ensures writer { result.writer ≡ writer }
+        ensures no_fault { result.faults.count ≡ 0 }
+    {
         StandardOutput {
             writer,
             faults: FaultCount::new(),
@@ -33,18 +36,15 @@ impl<W> StandardOutput<W> {
     }
 }
 
-impl<W: Write> Sink for StandardOutput<W> {
-    ghost use Rattle.std.specs.Prelude.{None};
-
+impl<W: SteadyWrite> Sink for StandardOutput<W> {
     ghost faults = { λ output. output.faults.count };
 
-    ghost holds = { λ _. None };
+    ghost holds = { λ output. W.contents output.writer };
 
-    /// A writer that takes nothing of a piece has failed.
     fn put(&mut self, piece: &[u8]) -> Result<usize, Failed> {
         match write_uncut(&mut self.writer, piece) {
-            Ok(count) if count > 0 || piece.is_empty() => Ok(count),
-            _ => {
+            Ok(count) => Ok(count),
+            Err(_) => {
                 self.faults.raise();
                 Err(Failed)
             }

@@ -1,10 +1,12 @@
 ghost use Rattle.std.specs.Prelude.{◌≡◌, IfOk};
 
+use super::steady::{SteadyRead, SteadyWrite};
 use super::*;
 use crate::end::End;
 use crate::run::run;
 use crate::tests::words_of;
 use std::alloc::AllocError;
+use std::fs::File;
 use std::io::{Error, ErrorKind, PipeWriter, Read, Write};
 use std::test::Fail;
 use std::{fs, io};
@@ -48,6 +50,43 @@ impl Write for Faulty {
     fn flush(&mut self) -> io::Result<()> {
         Ok(())
     }
+}
+
+impl SteadyRead for Faulty {
+    ghost use Rattle.std.specs.Prelude.{refl};
+
+    ghost steady = { λ _ _ _. refl };
+}
+
+impl SteadyWrite for Faulty {
+    ghost use Rattle.std.specs.Prelude.{refl};
+
+    ghost steady = { λ _ _ _. refl };
+}
+
+impl SteadyRead for File {
+    ghost use Rattle.std.specs.Prelude.{refl};
+
+    ghost steady = { λ _ _ _. refl };
+}
+
+impl SteadyWrite for PipeWriter {
+    ghost use Rattle.std.specs.Prelude.{refl};
+
+    ghost steady = { λ _ _ _. refl };
+}
+
+impl SteadyWrite for &mut [u8] {
+    ghost use Rattle.std.specs.Prelude.{refl};
+
+    ghost steady = { λ _ _ _. refl };
+}
+
+impl SteadyRead for &[u8] {
+    ghost use Rattle.std.specs.Prelude.{Some};
+    ghost use Rattle.std.proofs.Common.{ap};
+
+    ghost steady = { λ _ _ same. ap Some same };
 }
 
 #[test]

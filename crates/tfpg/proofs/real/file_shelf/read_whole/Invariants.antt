@@ -1,6 +1,10 @@
 use Rattle.std.proofs.Common.{◌≤◌, ◌^◌, length}
+use Rattle.std.specs.Io.KnownBytes.{Consumes}
 use Rattle.tfpg.proofs.real.file_shelf.read_whole.Given as goal
 
--- what was read so far is no longer than a file may be
+-- what was read so far is no longer than a file may be, and is what the reader has given
 abbrev pub invariant-loop : goal.invariant-loop
-invariant-loop g l = length l.into.items ≤ 2 ^ 24
+invariant-loop g l = record {
+  small : length l.into.items ≤ 2 ^ 24;
+  given : Consumes (g.R.Read.remaining l.initial.reader) (g.R.Read.remaining l.reader) l.into.items;
+}
