@@ -17,7 +17,7 @@ pub record IsLate (log : Logbook) (trace : List Activation) (node time : ℕ) : 
   pub at : time_of trace node ≡ Some time
   pub late : now_of log < time
 
--- The trace gives the node this time, and it is a failure mode that is no member of the set.
+-- The trace gives this time to the node, which is a failure mode and no member of the set.
 pub record IsStranger (graph : Tfpg) (set : List ℕ) (trace : List Activation) (node time : ℕ) : Type 0 where
   pub at : time_of trace node ≡ Some time
   pub failure : IsTrue (is_kind_at is_failure graph node)
@@ -36,12 +36,12 @@ pub record IsOnTimeFromSet (graph : Tfpg) (log : Logbook) (set : List ℕ) (trac
   pub on_time : NoneLate graph log trace
   pub from_set : NoneBefore (IsStranger graph set trace) (length graph.nodes)
 
--- Nor does a node break a rule.
+-- No node of the graph is late or a stranger, and none breaks a rule.
 pub record KeepsAllRules (graph : Tfpg) (log : Logbook) (set : List ℕ) (trace : List Activation) : Type 0 where
   pub own : IsOnTimeFromSet graph log set trace
   pub rules : KeepRulesBefore graph log trace (length graph.nodes)
 
--- the trace shows each event before this place
+-- the trace shows each event before this place; places count from 0
 abbrev pub ShowsBefore : Tfpg → List Activation → List Event → ℕ → Type 0
 ShowsBefore graph trace events end =
     (place : ℕ) (event : Event) → place < end → slice_get events place ≡ Some event → Shows graph trace (take place events) event

@@ -1,4 +1,5 @@
--- How long an edge is active when a span begins: by its gap, the last instant before the span at which it is not.
+-- How long an edge has been active when a span begins: told by its gap, the last instant before the span at which it was
+-- not.
 use Rattle.std.specs.Prelude.{◌≡◌, ℕ, ◌+◌, ◌<◌, ◌≤◌, List, length, IsTrue, if◌then◌else◌, Option, Some, None, slice_get, slice_index_or, max}
 use Rattle.std.specs.Option.{option_map_or}
 use Rattle.tfpg_graph.specs.declared.edge.Edge.{Edge}

@@ -9,8 +9,8 @@ ghost use Rattle.tfpg_trace.specs.Gaps.{gap_after};
 use tfpg_graph::Graph;
 use tfpg_log::Span;
 
-/// Takes the gaps over the span: an edge that is not active in its mode has a gap at its end. Goes through the edges into
-/// the node.
+/// Takes the gaps over the span: an edge that is not active in the mode of the span has its gap at the end of the span.
+/// Goes through the edges into the node.
 pub(crate) fn pass_span(graph: &Graph, node: u32, span: Span, gaps: &mut [Option<u64>])
     requires node { node < length graph.now.nodes }
     requires room { length (incoming graph.now node) ≤ length gaps.old }

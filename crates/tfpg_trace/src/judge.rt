@@ -25,6 +25,7 @@ pub fn explains(graph: &Graph, log: &Log, set: Set, trace: &Trace) -> Verdict
     ensures verdict { IsVerdict graph.now log.now set trace.now result }
     ensures yes { Explains graph.now log.now set trace.now → result ≡ Verdict.Yes }
 {
+    // Apart, so that the clause `yes` follows from what is said alone.
     first_fault(graph, log, set, trace)
 }
 

@@ -40,7 +40,7 @@ fn some_arrives(graph: &Graph, log: &Log, trace: &Trace, node: u32, time: u64) -
     false
 }
 
-/// Whether each edge into the node has.
+/// Whether each edge into the node has carried the failure for its least delay.
 fn all_arrive(graph: &Graph, log: &Log, trace: &Trace, node: u32, time: u64) -> bool
     requires node { node < length graph.now.nodes }
     requires by_now { time ≤ now_of log.now }

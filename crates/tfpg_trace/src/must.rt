@@ -38,7 +38,7 @@ pub(crate) fn first_must_fault(graph: &Graph, log: &Log, trace: &Trace, node: u3
     None
 }
 
-/// The last instant up to now at which the node may break the must rule: behind it the node is active.
+/// An instant behind which the node is active up to now: its own time, or now where it has no time by then.
 fn last_to_try(log: &Log, trace: &Trace, node: u32) -> u64
     ensures by_now { result ≤ now_of log.now }
     ensures rest { (instant : ℕ) → result < instant → instant ≤ now_of log.now → IsActive trace.now node instant }
@@ -72,7 +72,8 @@ fn fault_at(
     fault
 }
 
-/// The same, of a span. The gaps are those when it begins.
+/// The first instant of the span at which the node breaks the must rule, where there is one. The gaps are those when the
+/// span begins.
 fn fault_in_span(
     graph: &Graph,
     trace: &Trace,

@@ -35,13 +35,11 @@ fn broken_at(graph: &Graph, log: &Log, trace: &Trace, node: u32) -> Option<Verdi
         (KeepsRulesOf graph.now log.now trace.now node)
         (IsBroken graph.now log.now trace.now node) }
 {
-    match may_fault(graph, log, trace, node) {
-        Some(time) => Some(Verdict::May { node, time }),
-        None => match first_must_fault(graph, log, trace, node) {
-            Some(time) => Some(Verdict::Must { node, time }),
-            None => None,
-        },
+    if let Some(time) = may_fault(graph, log, trace, node) {
+        return Some(Verdict::May { node, time });
     }
+    let time = first_must_fault(graph, log, trace, node)?;
+    Some(Verdict::Must { node, time })
 }
 
 /// The time of the node, where it breaks the may rule at it.
@@ -51,9 +49,7 @@ fn may_fault(graph: &Graph, log: &Log, trace: &Trace, node: u32) -> Option<u64>
         ((instant : ℕ) → instant ≤ now_of log.now → KeepsMay graph.now log.now trace.now node instant)
         (BreaksMay graph.now log.now trace.now node) }
 {
-    let Some(time) = trace.at(node) else {
-        return None;
-    };
+    let time = trace.at(node)?;
     if time > log.now() {
         return None;
     }

@@ -41,13 +41,11 @@ fn not_quiet_time(graph: &Graph, log: &Log, trace: &Trace, number: u32, node: u3
         ((time : ℕ) → IsNotQuiet graph.now log.now trace.now number node time → ⊥)
         (IsNotQuiet graph.now log.now trace.now number node) }
 {
-    match log.quiet_at(graph, number, node) {
-        Some(time) => if is_active(trace, node, time) {
-            Some(time)
-        } else {
-            None
-        },
-        None => None,
+    let time = log.quiet_at(graph, number, node)?;
+    if is_active(trace, node, time) {
+        Some(time)
+    } else {
+        None
     }
 }
 

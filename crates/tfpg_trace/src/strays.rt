@@ -43,10 +43,8 @@ fn late_time(log: &Log, trace: &Trace, node: u32) -> Option<u64>
         ((time : ℕ) → IsLate log.now trace.now node time → ⊥)
         (IsLate log.now trace.now node) }
 {
-    match trace.at(node) {
-        Some(time) => if time > log.now() { Some(time) } else { None },
-        None => None,
-    }
+    let time = trace.at(node)?;
+    if time > log.now() { Some(time) } else { None }
 }
 
 /// The time of the node, where it is a failure mode and no member of the set.

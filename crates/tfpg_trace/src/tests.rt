@@ -92,7 +92,11 @@ const IN_ONE_MODE: &[u8] =
 const BY_EITHER: &[u8] =
     b"tfpg 1\nmode N\nfailure F 1\nfailure G 1\nor A watch 0\nedge F A 0 5 *\nedge G A 3 inf *\nend\n";
 
-/// A log after which the first mode holds again from 16 on.
+/// Two OR nodes behind one failure mode.
+const TWO_BEHIND_ONE: &[u8] =
+    b"tfpg 1\nmode N\nfailure F 1\nor A watch 0\nor B watch 0\nedge F A 0 5 *\nedge F B 3 inf *\nend\n";
+
+/// Lines by which the first mode holds up to 5, and again from 16 on.
 const THERE_AND_BACK: [&[u8]; 3] = [b"5 mode D", b"15 mode N", b"40 tick"];
 
 /// A graph, the lines of a log, the positions of a set, the times of a trace, and what is said of it.
@@ -105,7 +109,7 @@ type Row = (
 );
 
 /// Worked out by hand from the rules.
-const ROWS: [Row; 26] = [
+const ROWS: [Row; 29] = [
     (
         BY_MODES,
         &[b"5 mode D", b"20 alarm C"],
@@ -282,6 +286,27 @@ const ROWS: [Row; 26] = [
         Verdict::Must { node: 2, time: 15 },
     ),
     (BY_EITHER, &[b"0 tick"], &[], &[], Verdict::Yes),
+    (
+        TWO_BEHIND_ONE,
+        &[b"10 tick"],
+        &[0],
+        &[(0, 0), (2, 1)],
+        Verdict::Must { node: 1, time: 5 },
+    ),
+    (
+        TWO_BEHIND_ONE,
+        &[b"25 sweep"],
+        &[0],
+        &[(0, 0), (1, 2), (2, 4)],
+        Verdict::Silence { node: 1, time: 25 },
+    ),
+    (
+        TWO_BEHIND_ONE,
+        &[b"2 alarm A", b"25 sweep"],
+        &[0],
+        &[(0, 0), (1, 2), (2, 4)],
+        Verdict::Silence { node: 2, time: 25 },
+    ),
 ];
 
 #[test]

@@ -15,6 +15,6 @@ pub enum Verdict {
     Must { node: u32, time: u64 },
     /// The alarm of the node at this time is not shown.
     Alarm { node: u32, time: u64 },
-    /// The silence of the node at this time is not shown: the node is active.
+    /// The silence of the node at this time, its own or that of a sweep, is not shown: the node is active.
     Silence { node: u32, time: u64 },
 }
