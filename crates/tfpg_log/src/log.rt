@@ -31,7 +31,8 @@ const MOST_MODE_CHANGES: u32 = 1_024;
 /// The events that were accepted so far, numbered from 1, and with them the time. A new log is of every graph.
 ///
 /// No look-up takes memory. Each takes constant time, but for those of the mode and the span of an instant, which take time
-/// in the logarithm of the number of mode changes, and those of windows, which go through the spans of the window.
+/// in the logarithm of the number of mode changes, and those of windows, which go through the spans of the window, and for
+/// all edges into a node at once also through these edges.
 #[derive(Debug, Drop)]
 pub struct Log {
     events: Vec<Event>,
