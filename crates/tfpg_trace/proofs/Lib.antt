@@ -1,7 +1,7 @@
 pub mod NumberedItems
 pub mod FailureModes
 pub mod IncomingEdges
-pub mod AgesNow
+pub mod AgesByWindow
 pub mod MayRule
 pub mod FirstNodes
 pub mod Sweeps

@@ -9,7 +9,7 @@ use tfpg_graph::Graph;
 use tfpg_log::Log;
 
 /// Whether the edge has an age of at least so many milliseconds at the instant: its window began so long before, and its
-/// source became active so long before. Goes through the spans of the window.
+/// source became active so long before. Goes through the spans of the window up to the instant.
 pub(crate) fn has_age(
     graph: &Graph,
     log: &Log,
@@ -25,7 +25,7 @@ pub(crate) fn has_age(
     let Some(span) = log.span_of(instant) else {
         return false;
     };
-    let Some(window) = log.window_of(graph, edge, span, log.now()) else {
+    let Some(window) = log.window_of(graph, edge, span, instant) else {
         return false;
     };
     match trace.at(graph.edge(edge).source) {
