@@ -10,3 +10,4 @@ pub mod Trace
 pub mod Append
 pub mod SetBits
 pub mod TextLine
+pub mod Choice

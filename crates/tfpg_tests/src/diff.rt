@@ -1,0 +1,1 @@
+//! The public calls of `tfpg_diff`.
