@@ -11,7 +11,7 @@ use Rattle.tfpg_base.specs.declared.line.Line.TheVariants as line
 use Rattle.tfpg_base.specs.declared.line.LineFault.{LineFault}
 use Rattle.tfpg_base.specs.declared.line.LineFault.TheVariants as fault
 use Rattle.tfpg_base.specs.Outside.{Rose, Puts}
-use Rattle.tfpg_base.specs.Lines.{Reading, Buffered, Continues, IsNext, with_bytes, with_line, lines_of, whole_lines, line_of_part, last_part, ends_line, most_bytes, new_reading}
+use Rattle.tfpg_base.specs.Lines.{Reading, Buffered, Continues, IsNext, with_bytes, with_line, lines_of, whole_lines, line_of_part, last_part, ends_line, max_bytes, new_reading}
 use Rattle.tfpg_base.specs.Lines as reader
 use Rattle.tfpg_base.proofs.LinesOf.{take-lines_of}
 use Rattle.tfpg_base.proofs.Taking.{Takes-append, Takes-nothing, Rose-later}
@@ -124,10 +124,10 @@ ends_by_fault graph before now lines lines' diagnoser left input_faults fault.To
     let turn = Continues-turn reading now.left left (Rose now.input_faults input_faults) (Err fault.TooMuchInput) lines' under.goes_on (λ e. cc) continues in
     let taken = reading.taken ++ turn.0 in
     let answers = turn.3 in
-    let firsts = take most_bytes taken in
+    let firsts = take max_bytes taken in
     let front : take (length reading.given) (lines_of taken) ≡ reading.given =
     subst (λ (ls : List (List ℕ)). take (length ls) (lines_of taken) ≡ ls) answers.0
-    (subst (λ (t : List ℕ). take (length (whole_lines firsts)) (lines_of t) ≡ whole_lines firsts) (take-append-drop most_bytes taken) (take-lines_of firsts (drop most_bytes taken))) in
+    (subst (λ (t : List ℕ). take (length (whole_lines firsts)) (lines_of t) ≡ whole_lines firsts) (take-append-drop max_bytes taken) (take-lines_of firsts (drop max_bytes taken))) in
     record {
       taken = taken;
       takes = Takes-append before.left now.left left reading.taken turn.0 under.takes turn.1;

@@ -2,7 +2,7 @@
 use Rattle.std.specs.Prelude.{◌+◌, ◌≡◌, ◌⊎◌, ℕ, ◌≤◌, List, [], ◌++◌, length, take, Option, Some, None, Ok}
 use Rattle.std.specs.List.{AllByRecursion}
 use Rattle.tfpg_base.specs.declared.line.Line.TheVariants as line
-use Rattle.tfpg_base.specs.Lines.{Reading, Buffered, lines_of, most_bytes}
+use Rattle.tfpg_base.specs.Lines.{Reading, Buffered, lines_of, max_bytes}
 use Rattle.tfpg_base.specs.Lines as reader
 use Rattle.tfpg_base.specs.Outside.{Rose, Takes, Puts, IsAtEnd}
 use Rattle.tfpg_graph.specs.Graph.{Tfpg}
@@ -21,7 +21,7 @@ use Rattle.tfpg.specs.Run.{Streams, Diagnoses}
 pub record IsUnderWay (graph : Tfpg) (before now : Streams) (lines : Buffered) (diagnoser : Diagnoser) : Type 0 where
   pub reading : Reading
   pub takes : Takes before.left now.left reading.taken
-  pub few : length reading.taken ≤ most_bytes
+  pub few : length reading.taken ≤ max_bytes
   pub stands : reader.StandsFor lines reading
   pub goes_on : (reading.ended ≡ None) ⊎ ((reading.ended ≡ Some (Ok line.End)) × IsAtEnd now.left)
   pub front : take (length reading.given) (lines_of reading.taken) ≡ reading.given

@@ -1,7 +1,7 @@
 -- What a run of the program does with the outside.
 use Rattle.std.specs.Prelude.{◌≡◌, ◌⊎◌, ℕ, ◌+◌, List, length, Option, Some, None}
 use Rattle.std.specs.List.{AllByRecursion}
-use Rattle.tfpg_base.specs.Lines.{lines_of, most_bytes}
+use Rattle.tfpg_base.specs.Lines.{lines_of, max_bytes}
 use Rattle.tfpg_base.specs.Outside.{Rose, Takes, Puts, IsAtEnd}
 use Rattle.tfpg_graph.specs.Graph.{Tfpg}
 use Rattle.tfpg_report.specs.Blocks.{Block}
@@ -31,7 +31,7 @@ DiagnosisEnds graph before now taken put blocks Done = IsReport graph 0 budget (
 -- Else what was put is nothing, or begins the report of the first lines; and the end has its cause.
 DiagnosisEnds graph before now taken put blocks ReadFault = Rose before.input_faults now.input_faults × BeginsReport graph 0 budget (lines_of taken) blocks put
 DiagnosisEnds graph before now taken put blocks WriteFault = Rose before.sink_faults now.sink_faults × BeginsReport graph 0 budget (lines_of taken) blocks put
-DiagnosisEnds graph before now taken put blocks TooMuchInput = (length taken ≡ most_bytes + 1) × BeginsReport graph 0 budget (lines_of taken) blocks put
+DiagnosisEnds graph before now taken put blocks TooMuchInput = (length taken ≡ max_bytes + 1) × BeginsReport graph 0 budget (lines_of taken) blocks put
 DiagnosisEnds graph before now taken put blocks NoMemory = BeginsReport graph 0 budget (lines_of taken) blocks put
 DiagnosisEnds graph before now taken put blocks (Usage cause) = ⊥
 DiagnosisEnds graph before now taken put blocks (Graph line cause) = ⊥

@@ -9,7 +9,7 @@ use Rattle.tfpg_base.specs.declared.line.Line.TheVariants as line
 use Rattle.tfpg_base.specs.declared.line.LineFault.{LineFault}
 use Rattle.tfpg_base.specs.declared.line.LineFault.TheVariants as fault
 use Rattle.tfpg_base.specs.Outside.{Takes, IsAtEnd}
-use Rattle.tfpg_base.specs.Lines.{Buffered, Reading, StandsFor, Continues, HasNoLineEnd, ends_line, longest_line, most_bytes}
+use Rattle.tfpg_base.specs.Lines.{Buffered, Reading, StandsFor, Continues, HasNoLineEnd, ends_line, longest_line, max_bytes}
 use Rattle.tfpg_base.specs.LineSearch.{IsAtLineEnd, kind_of, lent_of, IsGiven, IsEnded, GivesLast, Found, Took, Refilled, IsRefilled, Searched}
 use Rattle.tfpg_base.proofs.Taking.{Takes-nothing, Takes-append}
 use Rattle.tfpg_base.proofs.Histories.{Continues-found}
@@ -25,7 +25,7 @@ pub record SoFar (old : Buffered) (before mid : Option (List ℕ)) (taken : ℕ)
 pub record IsReading (old now : Buffered) (before mid : Option (List ℕ)) : Type 0 where
   pub so_far : SoFar old before mid now.taken
   pub waiting : now.waiting ≡ old.waiting ++ so_far.more
-  pub few : now.taken ≤ most_bytes
+  pub few : now.taken ≤ max_bytes
   pub number : now.number ≡ old.number
   pub ended : now.ended ≡ None
 
@@ -80,7 +80,7 @@ module _ (old : Buffered) (before mid : Option (List ℕ)) (taken : ℕ) where
       }
 
       -- a line ended among the bytes of the last turn
-      pub Searched-whole : (front : List ℕ) → more ≡ front ++ 10 ∷ now.waiting → HasNoLineEnd front → now.taken ≤ most_bytes → now.ended ≡ None → now.number ≡ old.number + 1 → now.text ≡ lent_of (old.waiting ++ so_far.more ++ front) → Searched old before after rose (Ok (kind_of (old.waiting ++ so_far.more ++ front))) now
+      pub Searched-whole : (front : List ℕ) → more ≡ front ++ 10 ∷ now.waiting → HasNoLineEnd front → now.taken ≤ max_bytes → now.ended ≡ None → now.number ≡ old.number + 1 → now.text ≡ lent_of (old.waiting ++ so_far.more ++ front) → Searched old before after rose (Ok (kind_of (old.waiting ++ so_far.more ++ front))) now
       Searched-whole front is clean few going number text =
           let first : List ℕ = old.waiting ++ so_far.more ++ front in (
             so_far.more ++ more,
@@ -99,7 +99,7 @@ module _ (old : Buffered) (before mid : Option (List ℕ)) (taken : ℕ) where
           )
 
       -- the source ended behind a line without a line end
-      pub Searched-last : length more ≡ 0 → 0 < length (old.waiting ++ so_far.more) → IsAtEnd after → now.taken ≤ most_bytes → now.ended ≡ Some (Ok line.End) → now.number ≡ old.number + 1 → now.text ≡ lent_of (old.waiting ++ so_far.more) → Searched old before after rose (Ok (kind_of (old.waiting ++ so_far.more))) now
+      pub Searched-last : length more ≡ 0 → 0 < length (old.waiting ++ so_far.more) → IsAtEnd after → now.taken ≤ max_bytes → now.ended ≡ Some (Ok line.End) → now.number ≡ old.number + 1 → now.text ≡ lent_of (old.waiting ++ so_far.more) → Searched old before after rose (Ok (kind_of (old.waiting ++ so_far.more))) now
       Searched-last none some source_ended few ended number text =
           let first : List ℕ = old.waiting ++ so_far.more in (
             so_far.more ++ more,
@@ -120,12 +120,12 @@ module _ (old : Buffered) (before mid : Option (List ℕ)) (taken : ℕ) where
           )
 
       -- the source ended, and no byte waits
-      pub Searched-end : length more ≡ 0 → old.waiting ++ so_far.more ≡ [] → IsAtEnd after → now.taken ≤ most_bytes → IsEnded old.number (Ok line.End) now → Searched old before after rose (Ok line.End) now
+      pub Searched-end : length more ≡ 0 → old.waiting ++ so_far.more ≡ [] → IsAtEnd after → now.taken ≤ max_bytes → IsEnded old.number (Ok line.End) now → Searched old before after rose (Ok line.End) now
       Searched-end none empty source_ended few is =
           (so_far.more ++ more, Took-more, (bytes-more [] (nil_from_length more none) ∙ append-nil (old.waiting ++ so_far.more) ∙ empty, source_ended, few, is))
 
       -- a line that is too long ended among the bytes of the last turn
-      pub Searched-long : longest_line < length old.waiting → (front : List ℕ) → more ≡ front ++ 10 ∷ now.waiting → HasNoLineEnd front → now.taken ≤ most_bytes → now.ended ≡ None → now.number ≡ old.number + 1 → now.text ≡ [] → Searched old before after rose (Ok line.TooLong) now
+      pub Searched-long : longest_line < length old.waiting → (front : List ℕ) → more ≡ front ++ 10 ∷ now.waiting → HasNoLineEnd front → now.taken ≤ max_bytes → now.ended ≡ None → now.number ≡ old.number + 1 → now.text ≡ [] → Searched old before after rose (Ok line.TooLong) now
       Searched-long long front is clean few going number text =
           let first : List ℕ = old.waiting ++ so_far.more ++ front in
           let longer : longest_line < length first = omega (arith, length-append (old.waiting ++ so_far.more) front, length-append old.waiting so_far.more) in
@@ -133,7 +133,7 @@ module _ (old : Buffered) (before mid : Option (List ℕ)) (taken : ℕ) where
           (Searched-whole front is clean few going number (text ∙ sym (lent_of-long first longer)))
 
       -- the source ended behind a line that is too long
-      pub Searched-long_last : longest_line < length old.waiting → length more ≡ 0 → IsAtEnd after → now.taken ≤ most_bytes → now.ended ≡ Some (Ok line.End) → now.number ≡ old.number + 1 → now.text ≡ [] → Searched old before after rose (Ok line.TooLong) now
+      pub Searched-long_last : longest_line < length old.waiting → length more ≡ 0 → IsAtEnd after → now.taken ≤ max_bytes → now.ended ≡ Some (Ok line.End) → now.number ≡ old.number + 1 → now.text ≡ [] → Searched old before after rose (Ok line.TooLong) now
       Searched-long_last long none source_ended few ended number text =
           let first : List ℕ = old.waiting ++ so_far.more in
           let longer : longest_line < length first = omega (arith, length-append old.waiting so_far.more) in
@@ -187,7 +187,7 @@ Searched-further old now end before mid after risen rose so_far later waits same
     )
 
 -- a reader reads on from where it is
-pub IsReading-start : (old : Buffered) (before : Option (List ℕ)) → HasNoLineEnd old.waiting → old.taken ≤ most_bytes → old.ended ≡ None → IsReading old old before before
+pub IsReading-start : (old : Buffered) (before : Option (List ℕ)) → HasNoLineEnd old.waiting → old.taken ≤ max_bytes → old.ended ≡ None → IsReading old old before before
 unfolding SoFar-start
 IsReading-start old before part few going = record {
   so_far = SoFar-start old before before old.taken part;
@@ -258,7 +258,7 @@ module _ (old now : Buffered) (before mid : Option (List ℕ)) (reading : IsRead
         (record { number = gives.2 ∙ filled.number ∙ reading.number; text = gives.1; ended = ended })
 
 -- a line that waits whole is given at once, and nothing is taken
-pub Continues-at_once : (old now : Buffered) (left : Option (List ℕ)) (rose : Type 0) (kind : Line) (bytes : List ℕ) (place : ℕ) → bytes ≡ old.waiting → IsAtLineEnd bytes place → old.ended ≡ None → old.taken ≤ most_bytes → kind ≡ kind_of (take place old.waiting) → now.waiting ≡ drop (place + 1) old.waiting → now.text ≡ lent_of (take place old.waiting) → now.number ≡ old.number + 1 → now.taken ≡ old.taken → now.ended ≡ old.ended → (reading : Reading) → StandsFor old reading → Continues reading reading.ended left left rose (Ok kind) now
+pub Continues-at_once : (old now : Buffered) (left : Option (List ℕ)) (rose : Type 0) (kind : Line) (bytes : List ℕ) (place : ℕ) → bytes ≡ old.waiting → IsAtLineEnd bytes place → old.ended ≡ None → old.taken ≤ max_bytes → kind ≡ kind_of (take place old.waiting) → now.waiting ≡ drop (place + 1) old.waiting → now.text ≡ lent_of (take place old.waiting) → now.number ≡ old.number + 1 → now.taken ≡ old.taken → now.ended ≡ old.ended → (reading : Reading) → StandsFor old reading → Continues reading reading.ended left left rose (Ok kind) now
 Continues-at_once old now left rose kind bytes place is_waiting is unended few kinds waits lends number taken ended reading stands =
     let first : List ℕ = take place old.waiting in
     let whole : old.waiting ++ [] ≡ first ++ 10 ∷ now.waiting =

@@ -5,7 +5,7 @@ use Rattle.tfpg_base.specs.declared.line.Line.TheVariants as line
 use Rattle.tfpg_base.specs.declared.line.LineFault.{LineFault}
 use Rattle.tfpg_base.specs.declared.line.LineFault.TheVariants as fault
 use Rattle.tfpg_base.specs.Outside.{Takes, IsAtEnd}
-use Rattle.tfpg_base.specs.Lines.{Buffered, HasNoLineEnd, longest_line, most_bytes}
+use Rattle.tfpg_base.specs.Lines.{Buffered, HasNoLineEnd, longest_line, max_bytes}
 
 -- The line ends at the first byte that ends one.
 pub record IsAtLineEnd (bytes : List ℕ) (count : ℕ) : Type 0 where
@@ -38,7 +38,7 @@ pub record IsGiven (bytes first : List ℕ) (lines : ℕ) (source_ended : Type 0
   pub line : HasNoLineEnd first
   pub ends : BeginsWith bytes first now ⊎ IsLast bytes first source_ended now
   pub number : now.number ≡ lines + 1
-  pub few : now.taken ≤ most_bytes
+  pub few : now.taken ≤ max_bytes
 
 -- All that waited was given as the last line, or there was nothing.
 abbrev pub GivesLast : Buffered → Line → Buffered → Type 0
@@ -59,11 +59,11 @@ Found bytes lines source_ended rose (Ok line.Text) now =
 Found bytes lines source_ended rose (Ok line.TooLong) now =
     (first : List ℕ) × IsGiven bytes first lines source_ended now × (longest_line < length first) × (now.text ≡ [])
 Found bytes lines source_ended rose (Ok line.End) now =
-    (bytes ≡ []) × source_ended × (now.taken ≤ most_bytes) × IsEnded lines (Ok line.End) now
+    (bytes ≡ []) × source_ended × (now.taken ≤ max_bytes) × IsEnded lines (Ok line.End) now
 Found bytes lines source_ended rose (Err fault.ReadFault) now =
-    HasNoLineEnd bytes × rose × (now.taken ≤ most_bytes) × IsEnded lines (Err fault.ReadFault) now
+    HasNoLineEnd bytes × rose × (now.taken ≤ max_bytes) × IsEnded lines (Err fault.ReadFault) now
 Found bytes lines source_ended rose (Err fault.TooMuchInput) now =
-    (first : List ℕ) × (last : ℕ) × HasNoLineEnd first × (bytes ≡ first ++ last ∷ []) × (now.taken ≡ most_bytes + 1) × IsEnded lines (Err fault.TooMuchInput) now
+    (first : List ℕ) × (last : ℕ) × HasNoLineEnd first × (bytes ≡ first ++ last ∷ []) × (now.taken ≡ max_bytes + 1) × IsEnded lines (Err fault.TooMuchInput) now
 
 -- these bytes were taken
 pub record Took (old now : Buffered) (before after : Option (List ℕ)) (more : List ℕ) : Type 0 where
@@ -76,7 +76,7 @@ pub record IsRefilled (old now : Buffered) (before after : Option (List ℕ)) (c
   pub took : Took old now before after more
   pub length : length more ≡ count
   pub end : count ≡ 0 → IsAtEnd after
-  pub few : now.taken ≤ most_bytes
+  pub few : now.taken ≤ max_bytes
   pub waiting : now.waiting ≡ old.waiting ++ more
   pub number : now.number ≡ old.number
   pub ended : now.ended ≡ old.ended
@@ -85,9 +85,9 @@ pub record IsRefilled (old now : Buffered) (before after : Option (List ℕ)) (c
 abbrev pub Refilled : Buffered → Option (List ℕ) → Option (List ℕ) → Type 0 → Result ℕ LineFault → Buffered → Type 0
 Refilled old before after rose (Ok count) now = IsRefilled old now before after count
 Refilled old before after rose (Err fault.ReadFault) now =
-    Took old now before after [] × rose × (now.taken ≤ most_bytes) × IsEnded old.number (Err fault.ReadFault) now
+    Took old now before after [] × rose × (now.taken ≤ max_bytes) × IsEnded old.number (Err fault.ReadFault) now
 Refilled old before after rose (Err fault.TooMuchInput) now =
-    (last : ℕ) × Took old now before after (last ∷ []) × (now.taken ≡ most_bytes + 1) × IsEnded old.number (Err fault.TooMuchInput) now
+    (last : ℕ) × Took old now before after (last ∷ []) × (now.taken ≡ max_bytes + 1) × IsEnded old.number (Err fault.TooMuchInput) now
 
 -- bytes were taken until one of the answers came
 abbrev pub Searched : Buffered → Option (List ℕ) → Option (List ℕ) → Type 0 → Result Line LineFault → Buffered → Type 0

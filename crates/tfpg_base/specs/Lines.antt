@@ -37,8 +37,8 @@ abbrev pub longest_line : ℕ
 longest_line = 4096
 
 -- how many bytes a reader takes, but for one to see that there are more
-abbrev pub most_bytes : ℕ
-most_bytes = 2 ^ 32
+abbrev pub max_bytes : ℕ
+max_bytes = 2 ^ 32
 
 -- The history of a reader of lines: all the bytes that it took, all the lines that it gave, and the answer
 -- that ended it, if one has.
@@ -53,7 +53,7 @@ new_reading = record { taken = []; given = []; ended = None }
 
 -- the next line that has come whole and is not given yet
 abbrev pub next_whole : Reading → Option (List ℕ)
-next_whole reading = slice_get (whole_lines (take most_bytes reading.taken)) (length reading.given)
+next_whole reading = slice_get (whole_lines (take max_bytes reading.taken)) (length reading.given)
 
 -- the history after these bytes were taken
 abbrev pub with_bytes : Reading → List ℕ → Reading
@@ -92,7 +92,7 @@ HasNoLineEnd bytes = All (λ byte. ends_line byte ≡ false) bytes
 pub record IsGoingOn (reader : Buffered) (reading : Reading) : Type 0 where
   pub bytes : reading.taken ≡ flat_map with_line_end reading.given ++ reader.waiting
   pub lines : All HasNoLineEnd reading.given
-  pub few : reader.taken ≤ most_bytes
+  pub few : reader.taken ≤ max_bytes
 
 -- The reader has this history.
 pub record StandsFor (reader : Buffered) (reading : Reading) : Type 0 where
@@ -104,7 +104,7 @@ pub record StandsFor (reader : Buffered) (reading : Reading) : Type 0 where
 
 -- The line is the next one, behind those given, of all the bytes taken, which are not too many. It has come whole, or the source has ended.
 pub record IsNext (reading : Reading) (line : List ℕ) (source_ended : Type 0) : Type 0 where
-  pub few : length reading.taken ≤ most_bytes
+  pub few : length reading.taken ≤ max_bytes
   pub front : take (length reading.given + 1) (lines_of reading.taken) ≡ reading.given ++ line ∷ []
   pub whole : (next_whole reading ≡ Some line) ⊎ source_ended
 
@@ -115,11 +115,11 @@ Answers reading source_ended rose (Ok line.Text) reader =
 Answers reading source_ended rose (Ok line.TooLong) reader =
     (next : List ℕ) × IsNext reading next source_ended × (longest_line < length next) × (reader.text ≡ []) × StandsFor reader (with_line reading next)
 Answers reading source_ended rose (Ok line.End) reader =
-    (lines_of reading.taken ≡ reading.given) × source_ended × (length reading.taken ≤ most_bytes) × (reader.text ≡ []) × StandsFor reader (ended_by reading (Ok line.End))
+    (lines_of reading.taken ≡ reading.given) × source_ended × (length reading.taken ≤ max_bytes) × (reader.text ≡ []) × StandsFor reader (ended_by reading (Ok line.End))
 Answers reading source_ended rose (Err fault.ReadFault) reader =
-    (whole_lines reading.taken ≡ reading.given) × rose × (length reading.taken ≤ most_bytes) × (reader.text ≡ []) × StandsFor reader (ended_by reading (Err fault.ReadFault))
+    (whole_lines reading.taken ≡ reading.given) × rose × (length reading.taken ≤ max_bytes) × (reader.text ≡ []) × StandsFor reader (ended_by reading (Err fault.ReadFault))
 Answers reading source_ended rose (Err fault.TooMuchInput) reader =
-    (whole_lines (take most_bytes reading.taken) ≡ reading.given) × (length reading.taken ≡ most_bytes + 1) × (reader.text ≡ [])
+    (whole_lines (take max_bytes reading.taken) ≡ reading.given) × (length reading.taken ≡ max_bytes + 1) × (reader.text ≡ [])
     × StandsFor reader (ended_by reading (Err fault.TooMuchInput))
 
 -- One call: what ended a reader is answered again, and nothing is taken. Else bytes are taken, but only where no whole line is left to give.

@@ -1,7 +1,7 @@
 -- What a reader of lines keeps.
 use Rattle.std.specs.Prelude.{◌≡◌, ◌+◌, ◌≤◌, slice_range, vec_len, None}
 use Rattle.tfpg_base.specs.declared.lines.Lines.TheInside.{Inside}
-use Rattle.tfpg_base.specs.Lines.{Buffered, most_bytes}
+use Rattle.tfpg_base.specs.Lines.{Buffered, max_bytes}
 
 -- what contracts see of it
 abbrev pub buffered_of : Inside → Buffered
@@ -22,4 +22,4 @@ pub record IsInPlace (a : Inside) : Type 0 where
   pub text : a.text.start ≤ a.text.end
   pub text_within : a.text.end ≤ 65536
   pub lines : a.number + a.waiting.end ≤ a.taken + a.waiting.start
-  pub few : a.ended ≡ None → a.taken ≤ most_bytes
+  pub few : a.ended ≡ None → a.taken ≤ max_bytes

@@ -7,12 +7,12 @@ ghost use Rattle.tfpg_base.specs.Words.{words_of};
 use std::marker::Model;
 
 /// How many words a line of any text format has at most.
-pub const MOST_WORDS: usize = 9;
+pub const MAX_WORDS: usize = 9;
 
-/// The words of a line that has at most [`MOST_WORDS`]. Contracts see them as the list of their bytes.
+/// The words of a line that has at most [`MAX_WORDS`]. Contracts see them as the list of their bytes.
 #[derive(Debug, Drop)]
 pub struct Words<'a> {
-    items: [&'a [u8]; MOST_WORDS],
+    items: [&'a [u8]; MAX_WORDS],
     count: usize,
 }
 
@@ -27,15 +27,15 @@ impl<'a> Model for Words<'a> {
 }
 
 impl<'a> Words<'a> {
-    /// The words of the line, or None where it has more than [`MOST_WORDS`]. Takes no memory, and time in the
+    /// The words of the line, or None where it has more than [`MAX_WORDS`]. Takes no memory, and time in the
     /// length of the line.
     pub fn of(line: &'a [u8]) -> Option<Words<'a>>
         ensures { MatchOption result (9 < length (words_of line.now)) (λ words. words ≡ words_of line.now) }
     {
-        let mut items: [&[u8]; MOST_WORDS] = [&[]; MOST_WORDS];
+        let mut items: [&[u8]; MAX_WORDS] = [&[]; MAX_WORDS];
         let mut count = 0;
         for word in line.split(|byte| *byte == b' ') {
-            if count == MOST_WORDS {
+            if count == MAX_WORDS {
                 return None;
             }
             items[count] = word;

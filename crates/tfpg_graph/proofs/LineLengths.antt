@@ -15,7 +15,7 @@ use Rattle.tfpg_graph.specs.declared.edge.Edge.{Edge}
 use Rattle.tfpg_graph.specs.Graph.{Tfpg, Node, name_at}
 use Rattle.tfpg_base.specs.Words.{line_of}
 use Rattle.tfpg_graph.specs.Text.{mode_line, node_words, watch_words, tmax_word, edge_line, modes_word, all_modes}
-use Rattle.tfpg_base.specs.Times.{most_time}
+use Rattle.tfpg_base.specs.Times.{max_time}
 use Rattle.tfpg_graph.specs.Valid.{HasValidNumber, IsValidEdge}
 use Rattle.tfpg_graph.specs.Written.{modes_before, mode_names_before}
 use Rattle.tfpg_graph.proofs.ModeBits.{modes_before-few}
@@ -28,13 +28,13 @@ name_short (first ∷ others) named =
     let fits = leb-true (length others) 31 (and_parts (list_all is_name_byte others) _ parts.1).1 in
     omega (arith, fits)
 
-number_short : (number : ℕ) → number ≤ most_time → length (decimal number) ≤ 13
+number_short : (number : ℕ) → number ≤ max_time → length (decimal number) ≤ 13
 number_short number small = length-decimal-le 13 number (omega arith) (omega arith) (omega arith)
 
 pub short_mode : (name : List ℕ) → IsTrue (is_name name) → length (mode_line name) ≤ longest_line
 short_mode name named = omega (arith, name_short name named)
 
-short_watch : (name : List ℕ) (lag : Option ℕ) → length name ≤ 32 → IfSome lag (λ l. l ≤ most_time) → length (line_of (name ∷ watch_words lag)) ≤ 100
+short_watch : (name : List ℕ) (lag : Option ℕ) → length name ≤ 32 → IfSome lag (λ l. l ≤ max_time) → length (line_of (name ∷ watch_words lag)) ≤ 100
 short_watch name None named small = omega (arith, length-append name (32 ∷ codes "hidden"))
 short_watch name (Some lag) named small = omega (arith, length-append name (32 ∷ codes "watch" ++ 32 ∷ decimal lag), number_short lag small)
 
@@ -48,7 +48,7 @@ short_name_in [] node named = omega arith
 short_name_in (first ∷ others) zero named = name_short first.name (All-head (λ n. IsTrue (is_name n.name)) first others named)
 short_name_in (first ∷ others) (suc node) named = short_name_in others node (All-tail (λ n. IsTrue (is_name n.name)) first others named)
 
-short_tmax : (tmax : Option ℕ) (tmin : ℕ) → IfSome tmax (λ time. (tmin ≤ time) × (time ≤ most_time)) → length (tmax_word tmax) ≤ 13
+short_tmax : (tmax : Option ℕ) (tmin : ℕ) → IfSome tmax (λ time. (tmin ≤ time) × (time ≤ max_time)) → length (tmax_word tmax) ≤ 13
 short_tmax None tmin small = omega arith
 short_tmax (Some tmax) tmin small = number_short tmax small.1
 

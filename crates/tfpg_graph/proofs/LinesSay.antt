@@ -13,7 +13,7 @@ use Rattle.tfpg_base.proofs.Separators.{Lacks, name_lacks, decimal_lacks}
 use Rattle.tfpg_graph.specs.declared.kind.Kind.{Kind}
 use Rattle.tfpg_graph.specs.declared.kind.Kind.TheVariants.{Failure, Or, And}
 use Rattle.tfpg_graph.specs.Text.{mode_line, node_words, tmax_word}
-use Rattle.tfpg_base.specs.Times.{most_time}
+use Rattle.tfpg_base.specs.Times.{max_time}
 use Rattle.tfpg_graph.specs.Valid.{HasValidNumber}
 use Rattle.tfpg_graph.specs.Statements.{NodeWords, FailureWords, OrWords, AndWords, Statement, DeclaresMode, DeclaresNode, DeclaresEdge, Ends, statement_in, said_by}
 use Rattle.tfpg_graph.proofs.LineLengths.{short_mode, short_node}
@@ -124,14 +124,14 @@ said_by-node name (And (Some lag)) named small =
     ) (short_node name (And
     (Some lag)) named small)
 
-IsWord-tmax : (tmax : Option ℕ) → IfSome tmax (λ time. time ≤ most_time) → IsWord (tmax_word tmax)
+IsWord-tmax : (tmax : Option ℕ) → IfSome tmax (λ time. time ≤ max_time) → IsWord (tmax_word tmax)
 IsWord-tmax None small = keyword (codes "inf") refl refl
 IsWord-tmax (Some time) small = IsWord-decimal time (omega arith)
 
 -- The line of an edge says that it declares the edge.
 pub said_by-edge : (source target : List ℕ) (tmin : ℕ) (tmax : Option ℕ) (modes : List ℕ) → IsTrue (is_name source)
-    → IsTrue (is_name target) → tmin ≤ most_time
-    → IfSome tmax (λ time. time ≤ most_time) → IsWord modes
+    → IsTrue (is_name target) → tmin ≤ max_time
+    → IfSome tmax (λ time. time ≤ max_time) → IsWord modes
     → length (line_of (codes "edge" ∷ source ∷ target ∷ decimal tmin ∷ tmax_word tmax ∷ modes ∷ [])) ≤ longest_line
     → said_by (line_of (codes "edge" ∷ source ∷ target ∷ decimal tmin ∷ tmax_word tmax ∷ modes ∷ []))
     ≡ Some (DeclaresEdge source target (decimal tmin) (tmax_word tmax) modes)

@@ -14,7 +14,7 @@ use Rattle.tfpg_graph.specs.declared.kind.Kind.TheVariants.{Failure}
 use Rattle.tfpg_graph.specs.declared.edge.Edge.{Edge}
 use Rattle.tfpg_graph.specs.Graph.{Tfpg, Node, name_at, node_named, mode_named}
 use Rattle.tfpg_graph.specs.Text.{tmax_word, all_modes, SpellsModes, edge_line}
-use Rattle.tfpg_base.specs.Times.{most_time}
+use Rattle.tfpg_base.specs.Times.{max_time}
 use Rattle.tfpg_graph.specs.Valid.{IsValid, IsValidEdge}
 use Rattle.tfpg_graph.specs.Statements.{Statement, DeclaresEdge, said_by}
 use Rattle.tfpg_graph.specs.Declares.{modes_listed, modes_of_word, edge_declared}
@@ -120,8 +120,8 @@ module _ (graph : Tfpg) (valid : IsValid graph) where
       (IsModesWord-names graph valid.mode_names valid.modes_differ listed.0 listed.1 listed.2 listed.3))
 
   module _ (edge : Edge) (is : IsValidEdge graph edge) where
-    tmax_small : (tmax : Option ℕ) → IfSome tmax (λ time. (edge.tmin ≤ time) × (time ≤ most_time))
-        → IfSome tmax (λ time. time ≤ most_time)
+    tmax_small : (tmax : Option ℕ) → IfSome tmax (λ time. (edge.tmin ≤ time) × (time ≤ max_time))
+        → IfSome tmax (λ time. time ≤ max_time)
     tmax_small None small = tt
     tmax_small (Some time) small = small.1
 

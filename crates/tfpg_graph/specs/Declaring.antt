@@ -4,7 +4,7 @@ use Rattle.tfpg_base.specs.Words.{is_name}
 use Rattle.tfpg_graph.specs.declared.kind.Kind.{Kind}
 use Rattle.tfpg_graph.specs.declared.edge.Edge.{Edge}
 use Rattle.tfpg_graph.specs.Graph.{Tfpg, is_failure, is_kind_at, failures, incoming, node_named, mode_named, edge_from_to}
-use Rattle.tfpg_base.specs.Times.{most_time}
+use Rattle.tfpg_base.specs.Times.{max_time}
 use Rattle.tfpg_graph.specs.Valid.{HasValidNumber, IsValidEdge}
 
 -- There is no edge yet and room for a mode, and its name is one that no mode has.
@@ -25,8 +25,8 @@ pub record CanDeclareNode (graph : Tfpg) (name : List ℕ) (kind : Kind) : Type 
 
 -- these delays are in order and within the limit
 pub record AreDelays (tmin : ℕ) (tmax : Option ℕ) : Type 0 where
-  pub least : tmin ≤ most_time
-  pub most : IfSome tmax (λ time. (tmin ≤ time) × (time ≤ most_time))
+  pub least : tmin ≤ max_time
+  pub most : IfSome tmax (λ time. (tmin ≤ time) × (time ≤ max_time))
 
 -- An edge from the one node to the other is forbidden by none of the rules on its ends.
 pub record CanJoin (graph : Tfpg) (source target : ℕ) : Type 0 where

@@ -8,7 +8,7 @@ use Rattle.tfpg_base.specs.Set.{with_member}
 use Rattle.tfpg_graph.specs.declared.cause.GraphCause.{GraphCause}
 use Rattle.tfpg_graph.specs.declared.cause.GraphCause.TheVariants.{BadLine, BadName, DuplicateName, UnknownName, BadNumber, NumberTooLarge, MinOverMax, EdgeIntoFailure, SelfEdge, DuplicateEdge, NoModes, TooManyNodes, TooManyFailures, TooManyEdges, TooManyModes, TooManyIncoming}
 use Rattle.tfpg_graph.specs.Graph.{Tfpg, is_kind_at, is_failure, failures, incoming, node_named, mode_named, edge_from_to}
-use Rattle.tfpg_base.specs.Times.{most_time}
+use Rattle.tfpg_base.specs.Times.{max_time}
 use Rattle.tfpg_graph.specs.Declares.{modes_listed, ends_named}
 use Rattle.tfpg_graph.specs.Causes.{has_twice, caused_where}
 
@@ -59,7 +59,7 @@ edge_unknown_causes graph source target modes =
 
 -- the words of its delays in the place of numbers
 abbrev pub delay_numbers : List ℕ → List ℕ → List (List ℕ × ℕ)
-delay_numbers tmin tmax = (tmin, most_time) ∷ (if bytes_eq tmax (codes "inf") then [] else (tmax, most_time) ∷ [])
+delay_numbers tmin tmax = (tmin, max_time) ∷ (if bytes_eq tmax (codes "inf") then [] else (tmax, max_time) ∷ [])
 
 -- the tests of its delays
 abbrev pub delay_causes : List ℕ → List ℕ → List (Option GraphCause)

@@ -1,6 +1,6 @@
 -- Which graphs are valid.
 use Rattle.std.specs.Prelude.{◌≡◌, ◌≢◌, ℕ, zero, suc, ◌≤◌, ◌<◌, ◌^◌, [], length, All, AllPairs, Contains, IsTrue, IfSome, not}
-use Rattle.tfpg_base.specs.Times.{most_time}
+use Rattle.tfpg_base.specs.Times.{max_time}
 use Rattle.tfpg_base.specs.Words.{is_name}
 use Rattle.tfpg_graph.specs.declared.kind.Kind.{Kind}
 use Rattle.tfpg_graph.specs.declared.kind.Kind.TheVariants.{Failure, Or, And}
@@ -8,34 +8,34 @@ use Rattle.tfpg_graph.specs.declared.edge.Edge.{Edge}
 use Rattle.tfpg_graph.specs.Graph.{Tfpg, is_kind_at, is_failure, failures, incoming}
 
 -- the greatest rarity
-abbrev pub most_rarity : ℕ
-most_rarity = 1000000
+abbrev pub max_rarity : ℕ
+max_rarity = 1000000
 
 -- how many nodes a graph has at most
-abbrev pub most_nodes : ℕ
-most_nodes = 512
+abbrev pub max_nodes : ℕ
+max_nodes = 512
 
 -- how many of them are failure modes at most
-abbrev pub most_failures : ℕ
-most_failures = 64
+abbrev pub max_failures : ℕ
+max_failures = 64
 
 -- how many edges it has at most
-abbrev pub most_edges : ℕ
-most_edges = 2048
+abbrev pub max_edges : ℕ
+max_edges = 2048
 
 -- how many edges go into one node at most
-abbrev pub most_incoming : ℕ
-most_incoming = 32
+abbrev pub max_incoming : ℕ
+max_incoming = 32
 
 -- how many modes it has at most
-abbrev pub most_modes : ℕ
-most_modes = 64
+abbrev pub max_modes : ℕ
+max_modes = 64
 
 -- its number is within its limit
 abbrev pub HasValidNumber : Kind → Type 0
-HasValidNumber (Failure rarity) = rarity ≤ most_rarity
-HasValidNumber (Or lag) = IfSome lag (λ l. l ≤ most_time)
-HasValidNumber (And lag) = IfSome lag (λ l. l ≤ most_time)
+HasValidNumber (Failure rarity) = rarity ≤ max_rarity
+HasValidNumber (Or lag) = IfSome lag (λ l. l ≤ max_time)
+HasValidNumber (And lag) = IfSome lag (λ l. l ≤ max_time)
 
 -- The edge goes from a node to another one that is a discrepancy, its delays are in order and within the limit, and it
 -- is active in some of the graph's modes and in no other.
@@ -44,8 +44,8 @@ pub record IsValidEdge (graph : Tfpg) (edge : Edge) : Type 0 where
   pub target : edge.target < length graph.nodes
   pub into_discrepancy : IsTrue (not (is_kind_at is_failure graph edge.target))
   pub no_self_edge : edge.source ≢ edge.target
-  pub least : edge.tmin ≤ most_time
-  pub most : IfSome edge.tmax (λ tmax. (edge.tmin ≤ tmax) × (tmax ≤ most_time))
+  pub least : edge.tmin ≤ max_time
+  pub most : IfSome edge.tmax (λ tmax. (edge.tmin ≤ tmax) × (tmax ≤ max_time))
   pub some_mode : 0 < edge.modes
   pub own_modes : edge.modes < 2 ^ length graph.modes
 
@@ -73,8 +73,8 @@ pub record IsValid (graph : Tfpg) : Type 0 where
   pub has_incoming : (node : ℕ) → node < length graph.nodes → IsTrue (not (is_kind_at is_failure graph node)) → incoming graph node ≢ []
   pub no_zero_cycle : (node steps : ℕ) → WalksInNoTime graph node node (suc steps) → ⊥
   pub has_mode : 0 < length graph.modes
-  pub few_nodes : length graph.nodes ≤ most_nodes
-  pub few_failures : length (failures graph) ≤ most_failures
-  pub few_edges : length graph.edges ≤ most_edges
-  pub few_modes : length graph.modes ≤ most_modes
-  pub few_incoming : (node : ℕ) → length (incoming graph node) ≤ most_incoming
+  pub few_nodes : length graph.nodes ≤ max_nodes
+  pub few_failures : length (failures graph) ≤ max_failures
+  pub few_edges : length graph.edges ≤ max_edges
+  pub few_modes : length graph.modes ≤ max_modes
+  pub few_incoming : (node : ℕ) → length (incoming graph node) ≤ max_incoming

@@ -20,10 +20,10 @@ use crate::statement::EdgeWords;
 use tfpg_base::read_name;
 
 /// How many edges there are at most.
-const MOST_EDGES: u32 = 2048;
+const MAX_EDGES: u32 = 2048;
 
 /// How many edges lead into a node at most.
-const MOST_INCOMING: usize = 32;
+const MAX_INCOMING: usize = 32;
 
 /// The edge that a line declares with these words, or the cause of the line. The names are those that the word for
 /// its modes lists. Takes two look-ups by name, and up to two for each mode.
@@ -151,9 +151,9 @@ fn room_cause(declared: &Declared, modes: &[u8], target: u32) -> Option<GraphCau
 {
     if modes == b"-".as_slice() {
         Some(GraphCause::NoModes)
-    } else if declared.edge_count() >= MOST_EDGES {
+    } else if declared.edge_count() >= MAX_EDGES {
         Some(GraphCause::TooManyEdges)
-    } else if declared.incoming(target).len() >= MOST_INCOMING {
+    } else if declared.incoming(target).len() >= MAX_INCOMING {
         Some(GraphCause::TooManyIncoming)
     } else {
         None

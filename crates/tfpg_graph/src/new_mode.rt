@@ -11,7 +11,7 @@ use crate::declared::Declared;
 use tfpg_base::read_name;
 
 /// How many modes there are at most.
-const MOST_MODES: u32 = 64;
+const MAX_MODES: u32 = 64;
 
 /// The cause of a line that declares a mode of this name, where there is one. Takes one look-up by name.
 pub(crate) fn mode_cause(declared: &Declared, name: &[u8]) -> Option<GraphCause>
@@ -24,7 +24,7 @@ pub(crate) fn mode_cause(declared: &Declared, name: &[u8]) -> Option<GraphCause>
         Some(GraphCause::BadName)
     } else if declared.find_mode(name).is_some() {
         Some(GraphCause::DuplicateName)
-    } else if declared.mode_count() >= MOST_MODES {
+    } else if declared.mode_count() >= MAX_MODES {
         Some(GraphCause::TooManyModes)
     } else {
         None

@@ -19,10 +19,10 @@ use crate::statement::NodeWords;
 use tfpg_base::read_name;
 
 /// How many nodes there are at most.
-const MOST_NODES: u32 = 512;
+const MAX_NODES: u32 = 512;
 
 /// How many of them are failure modes at most.
-const MOST_FAILURES: u32 = 64;
+const MAX_FAILURES: u32 = 64;
 
 /// The kind of the node that a line declares with this name and these words, or the cause of the line. Takes one
 /// look-up by name.
@@ -71,9 +71,9 @@ fn room_cause(declared: &Declared, kind: Kind) -> Option<GraphCause>
     ensures room { IfNone result (length declared.now.nodes < 512) }
     ensures failure_room { IfNone result (IsTrue (is_failure kind) → length (failures declared.now) < 64) }
 {
-    if declared.node_count() >= MOST_NODES {
+    if declared.node_count() >= MAX_NODES {
         Some(GraphCause::TooManyNodes)
-    } else if kind.is_failure() && declared.failure_count() >= MOST_FAILURES {
+    } else if kind.is_failure() && declared.failure_count() >= MAX_FAILURES {
         Some(GraphCause::TooManyFailures)
     } else {
         None

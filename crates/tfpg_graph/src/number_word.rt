@@ -2,8 +2,8 @@
 
 ghost use Rattle.std.specs.Prelude.{◌≡◌, ◌≤◌, ◌∷◌, [], IfOk, IfSome, Some, Ok, Err, nat_lt, if◌then◌else◌};
 ghost use Rattle.tfpg_base.specs.Words.{number_of};
-ghost use Rattle.tfpg_base.specs.Times.{most_time};
-ghost use Rattle.tfpg_graph.specs.Valid.{HasValidNumber, most_rarity};
+ghost use Rattle.tfpg_base.specs.Times.{max_time};
+ghost use Rattle.tfpg_graph.specs.Valid.{HasValidNumber, max_rarity};
 ghost use Rattle.tfpg_graph.specs.Declares.{kind_of_words, lag_of_word, delays_of_words};
 ghost use Rattle.tfpg_graph.specs.Causes.{first_cause, node_number, lag_number};
 ghost use Rattle.tfpg_graph.specs.LineCauses.{number_causes, delay_causes};
@@ -15,10 +15,10 @@ ghost use Rattle.tfpg_graph.specs.declared.cause.GraphCause.TheVariants.{MinOver
 use crate::cause::GraphCause;
 use crate::kind::Kind;
 use crate::statement::NodeWords;
-use tfpg_base::{MOST_TIME, Number, read_number};
+use tfpg_base::{MAX_TIME, Number, read_number};
 
 /// The greatest rarity.
-const MOST_RARITY: u64 = 1_000_000;
+const MAX_RARITY: u64 = 1_000_000;
 
 /// What the words say that a node is.
 pub(crate) fn read_kind(words: NodeWords<'_>) -> Result<Kind, GraphCause>
@@ -27,7 +27,7 @@ pub(crate) fn read_kind(words: NodeWords<'_>) -> Result<Kind, GraphCause>
 {
     match words {
         NodeWords::Failure { rarity } => {
-            let rarity = read_up_to(rarity, MOST_RARITY)?;
+            let rarity = read_up_to(rarity, MAX_RARITY)?;
             Ok(Kind::Failure { rarity })
         }
         NodeWords::Or { lag } => {
@@ -44,12 +44,12 @@ pub(crate) fn read_kind(words: NodeWords<'_>) -> Result<Kind, GraphCause>
 /// The lag that the word says, in milliseconds, where there is a word.
 fn read_lag(word: Option<&[u8]>) -> Result<Option<u64>, GraphCause>
     ensures lag { ReadAs (first_cause (number_causes (lag_number (word_seen word.entry)))) (lag_of_word (word_seen word.entry)) result }
-    ensures small { IfOk result (λ lag. IfSome lag (λ time. time ≤ most_time)) }
+    ensures small { IfOk result (λ lag. IfSome lag (λ time. time ≤ max_time)) }
 {
     match word {
         None => Ok(None),
         Some(word) => {
-            let time = read_up_to(word, MOST_TIME)?;
+            let time = read_up_to(word, MAX_TIME)?;
             Ok(Some(time))
         }
     }
@@ -73,10 +73,10 @@ pub(crate) fn read_delays(tmin: &[u8], tmax: &[u8]) -> Result<(u64, Option<u64>)
     ensures valid { IfOk result (λ delays. AreDelays delays.0 delays.1) }
 {
     if tmax == b"inf".as_slice() {
-        let least = read_up_to(tmin, MOST_TIME)?;
+        let least = read_up_to(tmin, MAX_TIME)?;
         return Ok((least, None));
     }
-    match (read_number(tmin, MOST_TIME), read_number(tmax, MOST_TIME)) {
+    match (read_number(tmin, MAX_TIME), read_number(tmax, MAX_TIME)) {
         (Number::NotANumber, _) => Err(GraphCause::BadNumber),
         (_, Number::NotANumber) => Err(GraphCause::BadNumber),
         (Number::TooLarge, _) => Err(GraphCause::NumberTooLarge),
@@ -87,7 +87,7 @@ pub(crate) fn read_delays(tmin: &[u8], tmax: &[u8]) -> Result<(u64, Option<u64>)
 
 /// The delays, where they are in order.
 fn in_order(least: u64, most: u64) -> Result<(u64, Option<u64>), GraphCause>
-    requires { most ≤ most_time }
+    requires { most ≤ max_time }
     ensures delays { result ≡ (if nat_lt most least then Err MinOverMax else Ok (least, Some most)) }
     ensures valid { IfOk result (λ delays. AreDelays delays.0 delays.1) }
 {

@@ -6,7 +6,7 @@ use Rattle.std.proofs.lemmas.Bool.{ltb-false, leb-false, cases_lt}
 use Rattle.std.proofs.lemmas.List.Elements.{All-push}
 use Rattle.std.proofs.lemmas.List.Quantifiers.{all_pairs_push, position-Some}
 use Rattle.tfpg_graph.specs.Graph.{Tfpg, node_named, mode_named, is_monitored}
-use Rattle.tfpg_base.specs.Times.{most_time}
+use Rattle.tfpg_base.specs.Times.{max_time}
 use Rattle.tfpg_log.specs.declared.event.Event.{Event}
 use Rattle.tfpg_log.specs.declared.event.Event.TheVariants as kinds
 use Rattle.tfpg_log.specs.declared.event.Offered.TheVariants.{Accepted}
@@ -14,14 +14,14 @@ use Rattle.tfpg_log.specs.declared.refusal.Refusal.{Refusal}
 use Rattle.tfpg_log.specs.declared.refusal.Refusal.TheVariants.{TimeTooLarge, TimeBack, NotMonitored, SecondAlarm, LogFull}
 use Rattle.tfpg_log.specs.Log.{Logbook, now_of, alarm_of, time_of_event, with_event, IsEventOf, IsOf}
 use Rattle.tfpg_log.specs.LogInside.{IsNoSecondAlarm}
-use Rattle.tfpg_log.specs.Accepted.{Said, Alarm, Silent, Sweep, Tick, Mode, said_by, refused_where, first_refusal, refusals, event_of, acceptance_of, reply_to_said, reply_to_shape, reply_to, most_events}
+use Rattle.tfpg_log.specs.Accepted.{Said, Alarm, Silent, Sweep, Tick, Mode, said_by, refused_where, first_refusal, refusals, event_of, acceptance_of, reply_to_said, reply_to_shape, reply_to, max_events}
 
 -- The event may come next: it is of the graph, not before now and not too late, no second alarm, and there is room for it.
 pub record MayCome (graph : Tfpg) (log : Logbook) (event : Event) : Type 0 where
   pub own : IsEventOf graph event
   pub not_back : now_of log ≤ time_of_event event
-  pub in_range : time_of_event event ≤ most_time
-  pub room : length log.events < most_events
+  pub in_range : time_of_event event ≤ max_time
+  pub room : length log.events < max_events
   pub first : IsNoSecondAlarm log event
 
 -- ---- what the tests say, where none refuses
@@ -109,13 +109,13 @@ comes : (graph : Tfpg) (log : Logbook) (time : List ℕ) (said : Said) (event : 
     → IsEventOf graph event → IsNoSecondAlarm log event → MayCome graph log event
 comes graph log time said event none at own first =
     let value : ℕ = digits_value 10 time in
-    let in_range : value ≤ most_time = ltb-false most_time value (not_refused (nat_lt most_time value) TimeTooLarge none.1.0) in
+    let in_range : value ≤ max_time = ltb-false max_time value (not_refused (nat_lt max_time value) TimeTooLarge none.1.0) in
     let not_back : now_of log ≤ value = ltb-false value (now_of log) (not_refused (nat_lt value (now_of log)) (TimeBack (now_of log)) none.1.1.0) in
     record {
       own = own;
       not_back = omega (arith, at, not_back);
       in_range = omega (arith, at, in_range);
-      room = leb-false most_events (length log.events) (not_refused (nat_le most_events (length log.events)) LogFull none.1.1.1.1.1.1.1.1.0);
+      room = leb-false max_events (length log.events) (not_refused (nat_le max_events (length log.events)) LogFull none.1.1.1.1.1.1.1.1.0);
       first = first;
     }
 
@@ -178,5 +178,5 @@ of-with_event graph log event of may = record {
   own = All-push (IsEventOf graph) log.events event of.own may.own;
   in_order = all_pairs_push (λ earlier later. time_of_event earlier ≤ time_of_event later) log.events event of.in_order
       (λ k d lt. let last = some_length log.events k lt in omega (arith, before_now log.events of.in_order k last.0 d last.1 (omega (arith, lt, last.1)), may.not_back));
-  in_range = All-push (λ e. time_of_event e ≤ most_time) log.events event of.in_range may.in_range;
+  in_range = All-push (λ e. time_of_event e ≤ max_time) log.events event of.in_range may.in_range;
 }

@@ -8,7 +8,7 @@ use Rattle.tfpg_log.specs.declared.event.Event.{Event}
 use Rattle.tfpg_log.specs.declared.event.Event.TheVariants.{Alarm, Silent, Sweep, Tick, Mode}
 use Rattle.tfpg_log.specs.declared.mode_change.ModeChange.{ModeChange}
 use Rattle.tfpg_log.specs.Log.{Logbook, now_of, alarm_among, time_of_event, is_mode_change, mode_after}
-use Rattle.tfpg_log.specs.Accepted.{most_events}
+use Rattle.tfpg_log.specs.Accepted.{max_events}
 use Rattle.tfpg_log.specs.SpanIndex.{begin_of, BeginSpans, with_change}
 use Rattle.tfpg_log.specs.LogInside.{IsIndexed, AreSameAlarms, alarm_place}
 use Rattle.tfpg_log.proofs.Events.{now-with_event}
@@ -30,7 +30,7 @@ same_spans events changes event no_change spans = record {
 }
 
 indexed_by : (events : List Event) (alarms longer : List (Option ℕ)) (changes : List ModeChange) (count : ℕ) (event : Event) → IsIndexed events alarms changes count
-    → length events < most_events → now_of (log_of events) ≤ time_of_event event → is_mode_change event ≡ false
+    → length events < max_events → now_of (log_of events) ≤ time_of_event event → is_mode_change event ≡ false
     → ((held instant : ℕ) → mode_after held (event ∷ []) instant ≡ held)
     → ((node : ℕ) → slice_index_or longer node None ≡ alarm_place (events ++ event ∷ []) node)
     → IsIndexed (events ++ event ∷ []) longer changes count
@@ -58,7 +58,7 @@ IsQuiet (Mode time mode) = ⊥
 
 -- A silence, a sweep and a tick leave the index as it is.
 pub indexed_quiet : (events : List Event) (alarms : List (Option ℕ)) (changes : List ModeChange) (count : ℕ) (event : Event) → IsIndexed events alarms changes count
-    → length events < most_events → now_of (record { events = events }) ≤ time_of_event event → IsQuiet event → IsIndexed (events ++ event ∷ []) alarms changes count
+    → length events < max_events → now_of (record { events = events }) ≤ time_of_event event → IsQuiet event → IsIndexed (events ++ event ∷ []) alarms changes count
 indexed_quiet events alarms changes count (Alarm time node) index room not_back quiet = absurd quiet
 indexed_quiet events alarms changes count (Silent time node) index room not_back quiet =
     indexed_by events alarms alarms changes count (Silent time node) index room not_back refl (λ held instant. refl)
@@ -73,7 +73,7 @@ indexed_quiet events alarms changes count (Mode time mode) index room not_back q
 
 -- A change of mode may begin a span, and is counted.
 pub indexed_mode : (events : List Event) (alarms : List (Option ℕ)) (changes : List ModeChange) (count time mode : ℕ) → IsIndexed events alarms changes count
-    → length events < most_events → now_of (record { events = events }) ≤ time
+    → length events < max_events → now_of (record { events = events }) ≤ time
     → IsIndexed (events ++ Mode time mode ∷ []) alarms (with_change changes time mode) (count + 1)
 indexed_mode events alarms changes count time mode index room not_back =
     let last : begin_of changes (length changes) ≤ time + 1 = omega (arith, index.by_now, not_back) in
@@ -92,7 +92,7 @@ indexed_mode events alarms changes count time mode index room not_back =
 
 -- The first alarm of a node stands at its place.
 pub indexed_alarm : (events : List Event) (alarms longer : List (Option ℕ)) (changes : List ModeChange) (count time alarmed place : ℕ) → IsIndexed events alarms changes count
-    → length events < most_events → now_of (record { events = events }) ≤ time → AreSameAlarms longer alarms → alarmed < length longer → alarm_among events alarmed ≡ None
+    → length events < max_events → now_of (record { events = events }) ≤ time → AreSameAlarms longer alarms → alarmed < length longer → alarm_among events alarmed ≡ None
     → place ≡ length events → IsIndexed (events ++ Alarm time alarmed ∷ []) (set longer alarmed (Some place)) changes count
 indexed_alarm events alarms longer changes count time alarmed place index room not_back same lt first at =
     indexed_by events alarms (set longer alarmed (Some place)) changes count (Alarm time alarmed) index room not_back refl (λ held instant. refl)

@@ -4,7 +4,7 @@ use Rattle.std.specs.List.{list_any}
 use Rattle.std.specs.Str.Parse.{digits_value}
 use Rattle.tfpg_base.specs.Words.{words_of, is_number}
 use Rattle.tfpg_graph.specs.Graph.{Tfpg, node_named, mode_named, is_monitored}
-use Rattle.tfpg_base.specs.Times.{most_time}
+use Rattle.tfpg_base.specs.Times.{max_time}
 use Rattle.tfpg_log.specs.declared.event.Event.{Event}
 use Rattle.tfpg_log.specs.declared.event.Event.TheVariants as kinds
 use Rattle.tfpg_log.specs.declared.event.Offered.{Offered}
@@ -14,12 +14,12 @@ use Rattle.tfpg_log.specs.declared.refusal.Refusal.TheVariants.{BadLine, BadNumb
 use Rattle.tfpg_log.specs.Log.{Logbook, now_of, alarm_of, is_mode_change}
 
 -- how many events a log takes
-abbrev pub most_events : ℕ
-most_events = 16384
+abbrev pub max_events : ℕ
+max_events = 16384
 
 -- how many of them may be changes of mode
-abbrev pub most_mode_changes : ℕ
-most_mode_changes = 1024
+abbrev pub max_mode_changes : ℕ
+max_mode_changes = 1024
 
 -- what a line says behind its time
 pub data Said : Type 0 where
@@ -94,15 +94,15 @@ alarm_of_named graph log name = option_and_then (alarm_of log) (node_named graph
 abbrev pub refusals : Tfpg → Logbook → List ℕ → Said → List (Option Refusal)
 refusals graph log time said =
     refused_where (not (is_number time)) BadNumber
-    ∷ refused_where (nat_lt most_time (digits_value 10 time)) TimeTooLarge
+    ∷ refused_where (nat_lt max_time (digits_value 10 time)) TimeTooLarge
     ∷ refused_where (nat_lt (digits_value 10 time) (now_of log)) (TimeBack (now_of log))
     ∷ option_and_then (λ name. refused_where (is_none (node_named graph name)) UnknownName) (monitor_named said)
     ∷ option_and_then (λ name. option_and_then (λ node. refused_where (not (is_monitored graph node)) NotMonitored) (node_named graph name)) (monitor_named said)
     ∷ option_and_then (λ name. refused_where (is_none (mode_named graph name)) NotAMode) (mode_of_line said)
     ∷ option_and_then (λ name. option_map SecondAlarm (alarm_of_named graph log name)) (alarm_named said)
     ∷ option_and_then (λ name. option_map SilentAfterAlarm (alarm_of_named graph log name)) (silence_named said)
-    ∷ refused_where (nat_le most_events (length log.events)) LogFull
-    ∷ option_and_then (λ name. refused_where (nat_le most_mode_changes (count_by is_mode_change log.events)) ModesFull) (mode_of_line said)
+    ∷ refused_where (nat_le max_events (length log.events)) LogFull
+    ∷ option_and_then (λ name. refused_where (nat_le max_mode_changes (count_by is_mode_change log.events)) ModesFull) (mode_of_line said)
     ∷ []
 
 -- the event of a line that nothing refuses

@@ -3,14 +3,14 @@ use Rattle.std.specs.Prelude.{ℕ, List, [], ◌∷◌, length, count_by, not, n
 use Rattle.std.specs.Str.Parse.{digits_value}
 use Rattle.tfpg_base.specs.Words.{is_number}
 use Rattle.tfpg_graph.specs.Graph.{Tfpg, node_named, mode_named, is_monitored}
-use Rattle.tfpg_base.specs.Times.{most_time}
+use Rattle.tfpg_base.specs.Times.{max_time}
 use Rattle.tfpg_log.specs.declared.event.Event.{Event}
 use Rattle.tfpg_log.specs.declared.event.Offered.{Offered}
 use Rattle.tfpg_log.specs.declared.event.Offered.TheVariants.{Accepted, Refused}
 use Rattle.tfpg_log.specs.declared.refusal.Refusal.{Refusal}
 use Rattle.tfpg_log.specs.declared.refusal.Refusal.TheVariants.{BadLine, BadNumber, TimeTooLarge, TimeBack, UnknownName, NotMonitored, NotAMode, SecondAlarm, SilentAfterAlarm, LogFull, ModesFull}
 use Rattle.tfpg_log.specs.Log.{Logbook, is_mode_change}
-use Rattle.tfpg_log.specs.Accepted.{Said, refused_where, first_refusal, monitor_named, alarm_named, silence_named, mode_of_line, alarm_of_named, event_of, most_events, most_mode_changes}
+use Rattle.tfpg_log.specs.Accepted.{Said, refused_where, first_refusal, monitor_named, alarm_named, silence_named, mode_of_line, alarm_of_named, event_of, max_events, max_mode_changes}
 
 -- The refusal, or else the value. What nothing refuses has a value.
 abbrev pub judged : {X : Type 0} → Option Refusal → Option X → Result X Refusal
@@ -27,7 +27,7 @@ offered_by (Err refusal) = Refused refusal
 abbrev pub time_refusals : ℕ → List ℕ → List (Option Refusal)
 time_refusals now time =
     refused_where (not (is_number time)) BadNumber
-    ∷ refused_where (nat_lt most_time (digits_value 10 time)) TimeTooLarge
+    ∷ refused_where (nat_lt max_time (digits_value 10 time)) TimeTooLarge
     ∷ refused_where (nat_lt (digits_value 10 time) now) (TimeBack now)
     ∷ []
 
@@ -40,7 +40,7 @@ monitor_refusals graph name =
 
 -- the test of whether there is room for an event
 abbrev pub room_refusal : Logbook → Option Refusal
-room_refusal log = refused_where (nat_le most_events (length log.events)) LogFull
+room_refusal log = refused_where (nat_le max_events (length log.events)) LogFull
 
 -- the tests of what a line says behind its time
 abbrev pub said_refusals : Tfpg → Logbook → Said → List (Option Refusal)
@@ -51,7 +51,7 @@ said_refusals graph log said =
     ∷ option_and_then (λ name. option_map SecondAlarm (alarm_of_named graph log name)) (alarm_named said)
     ∷ option_and_then (λ name. option_map SilentAfterAlarm (alarm_of_named graph log name)) (silence_named said)
     ∷ room_refusal log
-    ∷ option_and_then (λ name. refused_where (nat_le most_mode_changes (count_by is_mode_change log.events)) ModesFull) (mode_of_line said)
+    ∷ option_and_then (λ name. refused_where (nat_le max_mode_changes (count_by is_mode_change log.events)) ModesFull) (mode_of_line said)
     ∷ []
 
 -- the event of what a line says at this time, or the first of these tests that refuses it

@@ -3,7 +3,7 @@ use Rattle.std.specs.Prelude.{◌≤◌, AllPairs, ◌≡◌, ℕ, zero, suc, �
 use Rattle.tfpg_log.specs.declared.event.Event.{Event}
 use Rattle.tfpg_log.specs.declared.event.Event.TheVariants.{Alarm, Silent, Sweep, Tick, Mode}
 use Rattle.tfpg_graph.specs.Graph.{Tfpg, is_monitored}
-use Rattle.tfpg_base.specs.Times.{most_time}
+use Rattle.tfpg_base.specs.Times.{max_time}
 
 -- a log: its events in order, numbered from 1
 pub record Logbook : Type 0 where
@@ -100,4 +100,4 @@ IsEventOf graph (Mode time mode) = mode < length graph.modes
 pub record IsOf (graph : Tfpg) (log : Logbook) : Type 0 where
   pub own : All (IsEventOf graph) log.events
   pub in_order : AllPairs (λ earlier later. time_of_event earlier ≤ time_of_event later) log.events
-  pub in_range : All (λ event. time_of_event event ≤ most_time) log.events
+  pub in_range : All (λ event. time_of_event event ≤ max_time) log.events

@@ -5,7 +5,7 @@ use Rattle.tfpg_log.specs.declared.event.Event.{Event}
 use Rattle.tfpg_log.specs.declared.event.Event.TheVariants.{Alarm, Silent, Sweep, Tick, Mode}
 use Rattle.tfpg_log.specs.declared.mode_change.ModeChange.{ModeChange}
 use Rattle.tfpg_log.specs.Log.{Logbook, now_of, alarm_of, is_mode_change, mode_after}
-use Rattle.tfpg_log.specs.Accepted.{most_events}
+use Rattle.tfpg_log.specs.Accepted.{max_events}
 use Rattle.tfpg_log.specs.SpanIndex.{begin_of, BeginSpans}
 
 -- the place of the first alarm of a node, counted from 0
@@ -21,7 +21,7 @@ alarm_place (Mode time mode ∷ events) node = option_map suc (alarm_place event
 -- The index of the events: at each node's place stands the place of its first alarm, where there is one. A node past
 -- the end has none. Beside it stand the changes of mode that begin the spans, and how many events are changes of mode.
 pub record IsIndexed (events : List Event) (alarms : List (Option ℕ)) (changes : List ModeChange) (count : ℕ) : Type 0 where
-  pub few : length events ≤ most_events
+  pub few : length events ≤ max_events
   pub alarms_are : (node : ℕ) → slice_index_or alarms node None ≡ alarm_place events node
   pub counted : count ≡ count_by is_mode_change events
   pub fewer : length changes ≤ count

@@ -5,7 +5,7 @@ ghost use Rattle.tfpg_log.specs.declared.refusal.Refusal.{Refusal};
 ghost use Rattle.tfpg_log.specs.Log.{IsOf, now_of, event_at, alarm_of, alarm_among, mode_at, quiet_at, with_event, time_of_event, is_mode_change};
 ghost use Rattle.tfpg_log.specs.Spans.{span_number, span_at, window_round, window_of, joint_of};
 ghost use Rattle.tfpg_log.specs.ActiveModes.{has_mode};
-ghost use Rattle.tfpg_log.specs.Accepted.{most_events, most_mode_changes, reply_to};
+ghost use Rattle.tfpg_log.specs.Accepted.{max_events, max_mode_changes, reply_to};
 ghost use Rattle.tfpg_log.specs.LogOfLines.{new_log, log_after_reply};
 ghost use Rattle.tfpg_log.specs.LogInside.{alarm_place, AreSameAlarms, IsNoSecondAlarm};
 ghost use Rattle.tfpg_graph.specs.Graph.{Tfpg, is_monitored};
@@ -23,10 +23,10 @@ use tfpg_base::NoMemory;
 use tfpg_graph::Graph;
 
 /// How many events a log takes.
-const MOST_EVENTS: usize = 16_384;
+const MAX_EVENTS: usize = 16_384;
 
 /// How many of them may be changes of mode.
-const MOST_MODE_CHANGES: u32 = 1_024;
+const MAX_MODE_CHANGES: u32 = 1_024;
 
 /// The events that were accepted so far, numbered from 1, and with them the time. A new log is of every graph.
 ///
@@ -225,16 +225,16 @@ impl Log {
 
     /// Whether it takes no further event.
     pub(crate) fn is_full(&self) -> bool
-        ensures { result ≡ nat_le most_events (length self.now.events) }
+        ensures { result ≡ nat_le max_events (length self.now.events) }
     {
-        self.events.len() >= MOST_EVENTS
+        self.events.len() >= MAX_EVENTS
     }
 
     /// Whether it takes no further change of mode.
     pub(crate) fn has_all_mode_changes(&self) -> bool
-        ensures { result ≡ nat_le most_mode_changes (count_by is_mode_change self.now.events) }
+        ensures { result ≡ nat_le max_mode_changes (count_by is_mode_change self.now.events) }
     {
-        self.change_count >= MOST_MODE_CHANGES
+        self.change_count >= MAX_MODE_CHANGES
     }
 
     /// The place of the node's first alarm among the events, counted from 0.
@@ -268,7 +268,7 @@ impl Log {
 
     /// Takes the event as its last. Where there is no memory for it, the log stays as it was.
     fn accept(&mut self, event: Event) -> Result<(), NoMemory>
-        requires room { length self.old.events < most_events }
+        requires room { length self.old.events < max_events }
         requires not_back { now_of self.old ≤ time_of_event event }
         requires first { IsNoSecondAlarm self.old event }
         ensures ok { OnOk result (self.new ≡ with_event self.old event) }
@@ -286,7 +286,7 @@ impl Log {
 
     /// Takes a node's first alarm.
     fn accept_alarm(&mut self, time: u64, node: u32) -> Result<(), NoMemory>
-        requires room { length self.old.events < most_events }
+        requires room { length self.old.events < max_events }
         requires not_back { now_of self.old ≤ time }
         requires first { alarm_of self.old node ≡ None }
         ensures ok { OnOk result (self.new ≡ with_event self.old (Event.Alarm time node)) }
@@ -301,7 +301,7 @@ impl Log {
 
     /// Takes a change of mode.
     fn accept_mode_change(&mut self, time: u64, mode: u32) -> Result<(), NoMemory>
-        requires room { length self.old.events < most_events }
+        requires room { length self.old.events < max_events }
         requires not_back { now_of self.old ≤ time }
         ensures ok { OnOk result (self.new ≡ with_event self.old (Event.Mode time mode)) }
         ensures err { OnErr result (self.new ≡ self.old) }

@@ -11,7 +11,7 @@ use crate::event::{Event, Offered};
 use crate::log::Log;
 use crate::log_line::{Said, read_line};
 use crate::refusal::Refusal;
-use tfpg_base::{MOST_TIME, Number, read_number};
+use tfpg_base::{MAX_TIME, Number, read_number};
 use tfpg_graph::{Graph, Kind};
 
 /// What becomes of the line. Takes time in its length, and at most one look-up by name.
@@ -39,7 +39,7 @@ fn judge(graph: &Graph, log: &Log, line: &[u8]) -> Result<Event, Refusal>
 fn read_time(word: &[u8], now: u64) -> Result<u64, Refusal>
     ensures { result ≡ judged (first_refusal (time_refusals now word.now)) (Some (digits_value 10 word.now)) }
 {
-    match read_number(word, MOST_TIME) {
+    match read_number(word, MAX_TIME) {
         Number::NotANumber => Err(Refusal::BadNumber),
         Number::TooLarge => Err(Refusal::TimeTooLarge),
         Number::Value(time) if time < now => Err(Refusal::TimeBack { last: now }),

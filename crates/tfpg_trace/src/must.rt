@@ -17,7 +17,7 @@ use tfpg_graph::Graph;
 use tfpg_log::{Log, Span};
 
 /// How many edges go into one node at most.
-const MOST_INCOMING: usize = 32;
+const MAX_INCOMING: usize = 32;
 
 /// The first instant up to now, in milliseconds, at which the node breaks the must rule, where there is one. Takes no
 /// memory. Goes once through the spans up to the node's own time, or up to now where it has none, and in each through the
@@ -29,7 +29,7 @@ pub(crate) fn first_must_fault(graph: &Graph, log: &Log, trace: &Trace, node: u3
     // With the count comes that the graph is valid: there are gaps enough for the edges into any node.
     let _nodes = graph.node_count();
     let last = log.span_of(last_to_try(log, trace, node))?;
-    let mut gaps: [Option<u64>; MOST_INCOMING] = [None; MOST_INCOMING];
+    let mut gaps: [Option<u64>; MAX_INCOMING] = [None; MAX_INCOMING];
     for number in 0..=last {
         if let Some(instant) = fault_at(graph, log, trace, node, number, &mut gaps) {
             return Some(instant);

@@ -2,7 +2,7 @@
 
 ghost use Rattle.std.specs.Prelude.{◌≡◌, ◌<◌, ◌≤◌, ◌+◌, ◌-◌, take, length, slice_range, vec_len, IfOk, OnErr, Ok};
 ghost use Rattle.tfpg_base.specs.Outside.{Rose, Takes, IsAtEnd};
-ghost use Rattle.tfpg_base.specs.Lines.{longest_line, most_bytes};
+ghost use Rattle.tfpg_base.specs.Lines.{longest_line, max_bytes};
 ghost use Rattle.tfpg_base.specs.LineSearch.{Refilled};
 
 use super::{Lines, ROOM, Span};
@@ -15,7 +15,7 @@ impl Lines {
     /// Takes further bytes, and answers how many: none where the source has given its end. A fault ends the reader.
     pub(super) fn refill<S: Source>(&mut self, source: &mut S) -> Result<usize, LineFault>
         requires short { length self.old.waiting ≤ longest_line }
-        requires few { self.old.taken ≤ most_bytes }
+        requires few { self.old.taken ≤ max_bytes }
         ensures refilled { Refilled self.old (S.left source.old) (S.left source.new) (Rose (S.faults source.old) (S.faults source.new)) result self.new }
         ensures never_falls { S.faults source.old ≤ S.faults source.new }
     {
@@ -65,13 +65,13 @@ fn with_room(buffer: &mut Vec<u8>, waiting: Span) -> Span
 
 /// How many bytes to take at most: one where no more may be taken, to see whether there are more.
 fn wanted(taken: u64, free: usize) -> usize
-    requires few { taken ≤ most_bytes }
+    requires few { taken ≤ max_bytes }
     requires some { 0 < free }
     ensures some { 0 < result }
     ensures within { result ≤ free }
-    ensures few { taken < most_bytes → taken + result ≤ most_bytes }
-    ensures one { taken ≡ most_bytes → result ≡ 1 }
-    ensures all { taken + free ≤ most_bytes → result ≡ free }
+    ensures few { taken < max_bytes → taken + result ≤ max_bytes }
+    ensures one { taken ≡ max_bytes → result ≡ 1 }
+    ensures all { taken + free ≤ max_bytes → result ≡ free }
 {
     let left = MOST - taken;
     if left < free as u64 {

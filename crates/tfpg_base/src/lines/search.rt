@@ -2,7 +2,7 @@
 
 ghost use Rattle.std.specs.Prelude.{◌≡◌, ◌<◌, ◌≤◌, ◌+◌, [], drop, length, None, Some, Ok};
 ghost use Rattle.tfpg_base.specs.Outside.{Rose};
-ghost use Rattle.tfpg_base.specs.Lines.{HasNoLineEnd, longest_line, most_bytes};
+ghost use Rattle.tfpg_base.specs.Lines.{HasNoLineEnd, longest_line, max_bytes};
 ghost use Rattle.tfpg_base.specs.LineSearch.{GivesLast, Searched};
 
 use super::{Lines, Span, line_end};
@@ -13,7 +13,7 @@ impl Lines {
     pub(super) fn read_line<S: Source>(&mut self, source: &mut S) -> Result<Line, LineFault>
         requires goes_on { self.old.ended ≡ None }
         requires part { HasNoLineEnd self.old.waiting }
-        requires few { self.old.taken ≤ most_bytes }
+        requires few { self.old.taken ≤ max_bytes }
         ensures searched { Searched self.old (S.left source.old) (S.left source.new) (Rose (S.faults source.old) (S.faults source.new)) result self.new }
         ensures never_falls { S.faults source.old ≤ S.faults source.new }
     {
@@ -36,7 +36,7 @@ impl Lines {
         requires goes_on { self.old.ended ≡ None }
         requires part { HasNoLineEnd self.old.waiting }
         requires long { longest_line < length self.old.waiting }
-        requires few { self.old.taken ≤ most_bytes }
+        requires few { self.old.taken ≤ max_bytes }
         ensures searched { Searched self.old (S.left source.old) (S.left source.new) (Rose (S.faults source.old) (S.faults source.new)) result self.new }
         ensures never_falls { S.faults source.old ≤ S.faults source.new }
     {

@@ -1,5 +1,5 @@
 use Rattle.std.proofs.Common.{◌≤◌, ◌+◌, ◌-◌}
-use Rattle.tfpg_base.specs.Lines.{most_bytes}
+use Rattle.tfpg_base.specs.Lines.{max_bytes}
 use Rattle.tfpg_base.proofs.Searches.{IsReading}
 use Rattle.tfpg_base.proofs.lines.Lines.read_line.Given as goal
 
@@ -10,4 +10,4 @@ invariant-loop-self g l = record {
 }
 
 abbrev pub decreases-loop-self : goal.decreases-loop-self
-decreases-loop-self g l = most_bytes + 1 - l.self.taken
+decreases-loop-self g l = max_bytes + 1 - l.self.taken

@@ -1,5 +1,5 @@
 use Rattle.std.proofs.Common.{◌≡◌, ◌<◌, ◌≤◌, ◌+◌, ◌-◌, length, None}
-use Rattle.tfpg_base.specs.Lines.{most_bytes}
+use Rattle.tfpg_base.specs.Lines.{max_bytes}
 use Rattle.tfpg_base.proofs.Searches.{SoFar}
 use Rattle.tfpg_base.proofs.lines.Lines.skip_line.Given as goal
 
@@ -7,11 +7,11 @@ abbrev pub invariant-loop-self : goal.invariant-loop-self
 invariant-loop-self g l = record {
   so_far : SoFar l.fn.self (g.S.Source.left l.fn.source) (g.S.Source.left l.source) l.self.taken;
   some : 0 < length l.self.waiting;
-  few : l.self.taken ≤ most_bytes;
+  few : l.self.taken ≤ max_bytes;
   number : l.self.number ≡ l.fn.self.number;
   ended : l.self.ended ≡ None;
   faults : g.S.Source.faults l.fn.source ≤ g.S.Source.faults l.source;
 }
 
 abbrev pub decreases-loop-self : goal.decreases-loop-self
-decreases-loop-self g l = most_bytes + 1 - l.self.taken
+decreases-loop-self g l = max_bytes + 1 - l.self.taken

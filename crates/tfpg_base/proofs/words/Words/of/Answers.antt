@@ -5,11 +5,11 @@ use Rattle.std.proofs.lemmas.Iterator.Splits.{YieldsList-from_slice_split}
 use Rattle.tfpg_base.specs.Words.{words_of}
 use Rattle.tfpg_base.proofs.words.Words.of.Goals as goal
 
-pub returns-then-count-eq-MOST_WORDS : goal.returns-then-count-eq-MOST_WORDS
-returns-then-count-eq-MOST_WORDS c =
+pub returns-then-count-eq-MAX_WORDS : goal.returns-then-count-eq-MAX_WORDS
+returns-then-count-eq-MAX_WORDS c =
     let all = YieldsList-from_slice_split _ (λ byte. byte == 32) c.args.line.now (search rules) (search rules) (search rules) (λ x b q k. search (rules, tests)) in
     let turn = YieldsList-turn all c.loop-word.yielded _ c.loop-word.yielded_by _ _ c.in-Some.word c.in-Some.is c.next.ensures.steps in
-    subst (λ count. count < length (words_of c.args.line.now)) (sym c.loop-word.invariant.counted ∙ c.if-count-eq-MOST_WORDS.true) turn.0
+    subst (λ count. count < length (words_of c.args.line.now)) (sym c.loop-word.invariant.counted ∙ c.if-count-eq-MAX_WORDS.true) turn.0
 
 pub loop-word-preserved : goal.loop-word-preserved
 loop-word-preserved c = record {
