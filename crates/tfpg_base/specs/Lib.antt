@@ -11,3 +11,5 @@ pub mod Append
 pub mod SetBits
 pub mod TextLine
 pub mod Choice
+pub mod Constraint
+pub mod ConstraintCycle

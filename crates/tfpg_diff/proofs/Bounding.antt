@@ -5,20 +5,23 @@ use Rattle.std.proofs.lemmas.Int.{ints}
 use Rattle.std.proofs.lemmas.Bool.{cases_eq, cases_lt}
 use Rattle.std.proofs.lemmas.Option.{same_Some, slice_get_within, slice_get-get_or}
 use Rattle.std.proofs.lemmas.List.{length-set, get_or_past}
-use Rattle.std.proofs.lemmas.List.Elements.{All-nil, All-cons, Contains-push_cases}
-use Rattle.tfpg_diff.specs.declared.edge.Edge.{Edge}
+use Rattle.std.proofs.lemmas.List.Elements.{All-nil, All-cons, All-push}
+use Rattle.tfpg_diff.specs.declared.demand.Demand.{Demand}
 use Rattle.tfpg_diff.specs.declared.why.Why.{Why}
 use Rattle.tfpg_diff.specs.declared.why.Why.TheVariants.{Given}
 use Rattle.tfpg_diff.specs.declared.bounds.Bounds.{Bounds}
 use Rattle.tfpg_diff.specs.declared.pick.Pick.{Pick}
-use Rattle.tfpg_diff.specs.Demands.{Demands, Demanded, Bounded, floor_of, ceiling_of, edge_of}
-use Rattle.tfpg_diff.specs.Solution.{Meets, IsSolution}
+use Rattle.tfpg_base.specs.Constraint.{Meets}
+use Rattle.tfpg_diff.specs.Demands.{Demands, Demanded, Bounded, floor_of, ceiling_of, picked}
+use Rattle.tfpg_diff.specs.Solution.{IsBetween, IsSolution}
 use Rattle.tfpg_diff.specs.Cycle.{NamesNegativeCycle}
-use Rattle.tfpg_diff.specs.Kept.{IsRooted, Walked, IsLink, IsWithin, IsKept, IsStart, demands_of}
+use Rattle.tfpg_diff.specs.inside.Kept.{IsMetBy, IsRooted, Walked, IsLink, IsKept, IsStart, demands_of}
 use Rattle.tfpg_diff.proofs.Lists.{AllPairs-cons}
+use Rattle.tfpg_diff.proofs.Totals.{NamesNegativeCycle-chain}
+use Rattle.tfpg_diff.proofs.Solutions.{IsMetBy-solution, Meets-IsMetBy}
 use Rattle.tfpg_diff.proofs.Lowering.{cycle_from_links}
 use Rattle.tfpg_diff.proofs.Relaxing.{no_bounds}
-use Rattle.tfpg_diff.proofs.Changes.{IsKept-moved, IsSolution-moved, Bounded-set, Bounded-set_other, Bounded-set_same}
+use Rattle.tfpg_diff.proofs.Changes.{IsKept-moved, Demanded-pick_cases, Bounded-set, Bounded-set_other, Bounded-set_same}
 
 -- the bounds with this ceiling
 abbrev pub under : Bounds → ℕ → ℕ → Bounds
@@ -32,87 +35,103 @@ over old least tag = record { floor = least; floor_why = Given tag; ceiling = ol
 abbrev pub ceiling_pick : ℕ → ℕ → ℕ → Pick
 ceiling_pick v most tag = record { constraint = record { left = v + 1; right = 0; most = pos most }; tag = tag }
 
-module _ (bounds : List Bounds) (picks : List Pick) (v : ℕ) (old : Bounds) (at_v : Bounded (demands_of bounds picks) v old) where
-  -- a solution under a lower ceiling meets the higher one, and the lower one as a pick
-  pub IsSolution-ceiling : (most tag : ℕ) → most < old.ceiling → (times : List ℕ) → IsSolution (demands_of (set bounds v (under old most tag)) picks) times →
-      IsSolution (demands_of bounds (picks ++ ceiling_pick v most tag ∷ [])) times
-  IsSolution-ceiling most tag tighter times solution =
-      let new : Demands = demands_of (set bounds v (under old most tag)) picks in
-      let here : Meets (0 ∷ times) (ceiling_of v (under old most tag)) =
-      solution.meets (ceiling_of v (under old most tag))
-      (inl (v, under old most tag, Bounded-set_same bounds picks v old (under old most tag) at_v, refl)) in
-      IsSolution-moved (demands_of bounds (picks ++ ceiling_pick v most tag ∷ [])) new times solution (length-set bounds v (under old most tag))
-      (λ e demanded. elim demanded [
+module _ (bounds : List Bounds) (picks : List Pick) (v : ℕ) (old new : Bounds) (at_v : Bounded (demands_of bounds picks) v old) where
+  -- a solution stays one where the bounds of the variable get looser
+  IsSolution-looser : ((time : ℕ) → IsBetween new time → IsBetween old time) → (times : List ℕ) →
+      IsSolution (demands_of (set bounds v new) picks) times → IsSolution (demands_of bounds picks) times
+  IsSolution-looser looser times solution = record {
+    complete = solution.complete ∙ length-set bounds v new;
+    between = λ u b at. ⊎_elim
+        (λ (same : u ≡ v).
+        let own : old ≡ b = same_Some old b (sym at_v ∙ ap (slice_get bounds) (sym same) ∙ at) in
+        let here : IsBetween old (slice_index times v) =
+        looser (slice_index times v) (solution.between v new (Bounded-set_same bounds picks v old new at_v)) in
+        subst (λ (n : ℕ). IsBetween b (slice_index times n)) (sym same)
+        (subst (λ (c : Bounds). IsBetween c (slice_index times v)) own here))
+        (λ (other : u ≢ v). solution.between u b (Bounded-set_other bounds picks v new u b other at))
+        (cases_eq u v);
+    met = solution.met;
+  }
+
+  -- values that lie between the bounds do so after the change too, where the value of the variable does
+  IsBetween-changed : (values : List ℕ) →
+      ((u : ℕ) (b : Bounds) → Bounded (demands_of bounds picks) u b → IsBetween b (slice_index values (u + 1))) →
+      IsBetween new (slice_index values (v + 1)) →
+      (u : ℕ) (b : Bounds) → Bounded (demands_of (set bounds v new) picks) u b → IsBetween b (slice_index values (u + 1))
+  IsBetween-changed values between own u b at = ⊎_elim
+      (λ (is : (u ≡ v) × (b ≡ new)).
+      subst (λ (c : Bounds). IsBetween c (slice_index values (u + 1))) (sym is.1)
+      (subst (λ (n : ℕ). IsBetween new (slice_index values (n + 1))) (sym is.0) own))
+      (λ (is : (u ≢ v) × Bounded (demands_of bounds picks) u b). between u b is.1)
+      (Bounded-set bounds picks v new u b at)
+
+  -- what is demanded is so after the change too, but for the old bounds of the variable
+  Demanded-changed : (e : Demand) → Demanded (demands_of bounds picks) e →
+      (e ≡ ceiling_of v old → Demanded (demands_of (set bounds v new) picks) e) →
+      (e ≡ floor_of v old → Demanded (demands_of (set bounds v new) picks) e) →
+      Demanded (demands_of (set bounds v new) picks) e
+  Demanded-changed e demanded ceiling floor =
+      let own : (u : ℕ) (b : Bounds) → Bounded (demands_of bounds picks) u b → u ≡ v → b ≡ old =
+      λ u b at same. sym (same_Some old b (sym at_v ∙ ap (slice_get bounds) (sym same) ∙ at)) in
+      elim demanded [
         | inl is ↦ ⊎_elim
             (λ (same : is.0 ≡ v).
-            let one : old ≡ is.1 = same_Some old is.1 (sym at_v ∙ ap (slice_get bounds) (sym same) ∙ is.2) in
-            let met : Meets (0 ∷ times) (ceiling_of v old) = omega (arith, ints) in
-            subst (λ (f : Edge). Meets (0 ∷ times) f) (sym is.3)
-            (subst (λ (b : Bounds). Meets (0 ∷ times) (ceiling_of is.0 b)) one
-            (subst (λ (n : ℕ). Meets (0 ∷ times) (ceiling_of n old)) (sym same) met)))
-            (λ (other : is.0 ≢ v). solution.meets e (inl (is.0, is.1, Bounded-set_other bounds picks v (under old most tag) is.0 is.1 other is.2, is.3)))
+            ceiling (is.3 ∙ ap (λ (n : ℕ). ceiling_of n is.1) same ∙ ap (λ (b : Bounds). ceiling_of v b) (own is.0 is.1 is.2 same)))
+            (λ (other : is.0 ≢ v). inl (is.0, is.1, Bounded-set_other bounds picks v new is.0 is.1 other is.2, is.3))
             (cases_eq is.0 v)
         | inr others ↦ elim others [
           | inl is ↦ ⊎_elim
               (λ (same : is.0 ≡ v).
-              let one : old ≡ is.1 = same_Some old is.1 (sym at_v ∙ ap (slice_get bounds) (sym same) ∙ is.2) in
-              let met : Meets (0 ∷ times) (floor_of v old) =
-              solution.meets (floor_of v old) (inr (inl (v, under old most tag, Bounded-set_same bounds picks v old (under old most tag) at_v, refl))) in
-              subst (λ (f : Edge). Meets (0 ∷ times) f) (sym is.3)
-              (subst (λ (b : Bounds). Meets (0 ∷ times) (floor_of is.0 b)) one
-              (subst (λ (n : ℕ). Meets (0 ∷ times) (floor_of n old)) (sym same) met)))
-              (λ (other : is.0 ≢ v). solution.meets e (inr (inl (is.0, is.1, Bounded-set_other bounds picks v (under old most tag) is.0 is.1 other is.2, is.3))))
+              floor (is.3 ∙ ap (λ (n : ℕ). floor_of n is.1) same ∙ ap (λ (b : Bounds). floor_of v b) (own is.0 is.1 is.2 same)))
+              (λ (other : is.0 ≢ v). inr (inl (is.0, is.1, Bounded-set_other bounds picks v new is.0 is.1 other is.2, is.3)))
               (cases_eq is.0 v)
-          | inr is ↦ ⊎_elim
-              (λ (among : Contains picks is.0). solution.meets e (inr (inr (is.0, among, is.2))))
-              (λ (last : ceiling_pick v most tag ≡ is.0).
-              subst (λ (f : Edge). Meets (0 ∷ times) f) (sym is.2)
-              (subst (λ (p : Pick). Meets (0 ∷ times) (edge_of p)) last here))
-              (Contains-push_cases picks (ceiling_pick v most tag) is.0 is.1)
+          | inr is ↦ inr (inr is)
         ]
-      ])
+      ]
+
+module _ (bounds : List Bounds) (picks : List Pick) (v : ℕ) (old : Bounds) (at_v : Bounded (demands_of bounds picks) v old) where
+  -- a solution under a lower ceiling meets the higher one, and the lower one as a pick
+  IsSolution-ceiling : (most tag : ℕ) → most < old.ceiling → (times : List ℕ) → IsSolution (demands_of (set bounds v (under old most tag)) picks) times →
+      IsSolution (demands_of bounds (picks ++ ceiling_pick v most tag ∷ [])) times
+  IsSolution-ceiling most tag tighter times solution =
+      let low : Bounds = under old most tag in
+      let looser : (time : ℕ) → IsBetween low time → IsBetween old time =
+      λ time b. (let a = b.above in let c = b.below in record { above = omega arith; below = omega arith }) in
+      let without : IsSolution (demands_of bounds picks) times = IsSolution-looser bounds picks v old low at_v looser times solution in
+      record {
+        complete = without.complete;
+        between = without.between;
+        met = All-push (λ (pick : Pick). Meets times pick.constraint) picks (ceiling_pick v most tag) solution.met
+            (Meets-IsMetBy times (ceiling_of v low)
+            (IsMetBy-solution (demands_of (set bounds v low) picks) times solution (ceiling_of v low)
+            (inl (v, low, Bounded-set_same bounds picks v old low at_v, refl))));
+      }
 
   -- What is kept with the ceiling as a pick is kept with it as a ceiling, where the value is not above it: the old ceiling is no
   -- link then.
-  pub IsKept-ceiling : (most tag : ℕ) (values : List ℕ) (links : List Edge) → most < old.ceiling → old.floor ≤ slice_index values (v + 1) →
+  pub IsKept-ceiling : (most tag : ℕ) (values : List ℕ) (links : List Demand) → most < old.ceiling → old.floor ≤ slice_index values (v + 1) →
       slice_index values (v + 1) ≤ most →
       IsKept (demands_of bounds (picks ++ ceiling_pick v most tag ∷ [])) values links →
       IsKept (demands_of (set bounds v (under old most tag)) picks) values links
   IsKept-ceiling most tag values links tighter above low kept =
-      let before : Demands = demands_of bounds (picks ++ ceiling_pick v most tag ∷ []) in
-      let new : Demands = demands_of (set bounds v (under old most tag)) picks in
-      let own : Demanded new (ceiling_of v (under old most tag)) =
-      inl (v, under old most tag, Bounded-set_same bounds picks v old (under old most tag) at_v, refl) in
-      IsKept-moved before new values links kept (length-set bounds v (under old most tag))
+      let lower : Bounds = under old most tag in
+      let new : Demands = demands_of (set bounds v lower) picks in
+      IsKept-moved (demands_of bounds (picks ++ ceiling_pick v most tag ∷ [])) new values links kept (length-set bounds v lower)
       (IsSolution-ceiling most tag tighter)
-      (λ x e up at link. elim link.demanded [
-        | inl is ↦ ⊎_elim
-            (λ (same : is.0 ≡ v).
-            let one : old ≡ is.1 = same_Some old is.1 (sym at_v ∙ ap (slice_get bounds) (sym same) ∙ is.2) in
-            let left : x ≡ v + 1 = sym link.left ∙ ap (λ (f : Edge). f.left) is.3 ∙ ap (λ (n : ℕ). n + 1) same in
-            let ceiling : e.most ≡ pos old.ceiling = ap (λ (f : Edge). f.most) is.3 ∙ ap (λ (b : Bounds). pos b.ceiling) (sym one) in
-            let tight = link.tight in
-            let value : slice_index values x ≡ slice_index values (v + 1) = ap (slice_index values) left in
-            absurd (omega (arith, ints)))
-            (λ (other : is.0 ≢ v). inl (is.0, is.1, Bounded-set_other bounds picks v (under old most tag) is.0 is.1 other is.2, is.3))
-            (cases_eq is.0 v)
-        | inr others ↦ elim others [
-          | inl is ↦
-              let left : x ≡ 0 = sym link.left ∙ ap (λ (f : Edge). f.left) is.3 in
-              absurd (omega arith)
-          | inr is ↦ ⊎_elim
-              (λ (among : Contains picks is.0). inr (inr (is.0, among, is.2)))
-              (λ (last : ceiling_pick v most tag ≡ is.0).
-              subst (λ (f : Edge). Demanded new f) (sym is.2) (subst (λ (p : Pick). Demanded new (edge_of p)) last own))
-              (Contains-push_cases picks (ceiling_pick v most tag) is.0 is.1)
-        ]
-      ])
-      (λ u c at. ⊎_elim
-      (λ (is : (u ≡ v) × (c ≡ under old most tag)).
-      subst (λ (b : Bounds). IsWithin b (slice_index values (u + 1))) (sym is.1)
-      (subst (λ (n : ℕ). IsWithin (under old most tag) (slice_index values (n + 1))) (sym is.0) (record { above = above; below = low })))
-      (λ (is : (u ≢ v) × Bounded (demands_of bounds picks) u c). kept.within u c is.1)
-      (Bounded-set bounds picks v (under old most tag) u c at))
+      (λ x e up at link. ⊎_elim
+      (λ (demanded : Demanded (demands_of bounds picks) e). Demanded-changed bounds picks v old lower at_v e demanded
+      (λ (is : e ≡ ceiling_of v old).
+      let left : x ≡ v + 1 = sym link.left ∙ ap (λ (f : Demand). f.constraint.left) is in
+      let ceiling : e.constraint.most ≡ pos old.ceiling = ap (λ (f : Demand). f.constraint.most) is in
+      let tight = link.tight in
+      let value : slice_index values x ≡ slice_index values (v + 1) = ap (slice_index values) left in
+      absurd (omega (arith, ints)))
+      (λ (is : e ≡ floor_of v old).
+      let left : x ≡ 0 = sym link.left ∙ ap (λ (f : Demand). f.constraint.left) is in
+      absurd (omega arith)))
+      (λ (is : e ≡ picked (ceiling_pick v most tag)). inl (v, lower, Bounded-set_same bounds picks v old lower at_v, is))
+      (Demanded-pick_cases bounds picks (ceiling_pick v most tag) e link.demanded))
+      (IsBetween-changed bounds picks v old lower at_v values (λ u b at. kept.within u b at) (record { above = above; below = low }))
 
   -- a ceiling below the floor is a negative cycle
   pub cycle_from_ceiling : (most tag : ℕ) → most < old.floor →
@@ -120,98 +139,44 @@ module _ (bounds : List Bounds) (picks : List Pick) (v : ℕ) (old : Bounds) (at
   cycle_from_ceiling most tag low =
       let new : Demands = demands_of (set bounds v (under old most tag)) picks in
       let at_new = Bounded-set_same bounds picks v old (under old most tag) at_v in
-      let one : Edge = ceiling_of v (under old most tag) in
-      let two : Edge = floor_of v (under old most tag) in (
-        one ∷ two ∷ [],
-        v + 1,
-        record {
-          tags_are = refl;
-          demanded = All-cons (Demanded new) one (two ∷ []) (inl (v, under old most tag, at_new, refl))
-              (All-cons (Demanded new) two [] (inr (inl (v, under old most tag, at_new, refl))) (All-nil (Demanded new)));
-          closed = (refl, (refl, refl));
-          simple = AllPairs-cons (λ (a b : Edge). a.left ≢ b.left) one (two ∷ [])
-              (All-cons (λ (b : Edge). one.left ≢ b.left) two [] (omega arith) (All-nil (λ (b : Edge). one.left ≢ b.left)))
-              (λ i j d before inside. absurd (omega arith));
-          negative = omega (arith, ints);
-        },
-      )
-
-  -- a solution above a higher floor is above the lower one
-  pub IsSolution-floor : (least tag : ℕ) → old.floor < least → (times : List ℕ) → IsSolution (demands_of (set bounds v (over old least tag)) picks) times →
-      IsSolution (demands_of bounds picks) times
-  IsSolution-floor least tag tighter times solution =
-      let new : Demands = demands_of (set bounds v (over old least tag)) picks in
-      let at_new = Bounded-set_same bounds picks v old (over old least tag) at_v in
-      let here : Meets (0 ∷ times) (floor_of v (over old least tag)) =
-      solution.meets (floor_of v (over old least tag)) (inr (inl (v, over old least tag, at_new, refl))) in
-      IsSolution-moved (demands_of bounds picks) new times solution (length-set bounds v (over old least tag))
-      (λ e demanded. elim demanded [
-        | inl is ↦ ⊎_elim
-            (λ (same : is.0 ≡ v).
-            let one : old ≡ is.1 = same_Some old is.1 (sym at_v ∙ ap (slice_get bounds) (sym same) ∙ is.2) in
-            let met : Meets (0 ∷ times) (ceiling_of v old) =
-            solution.meets (ceiling_of v old) (inl (v, over old least tag, at_new, refl)) in
-            subst (λ (f : Edge). Meets (0 ∷ times) f) (sym is.3)
-            (subst (λ (b : Bounds). Meets (0 ∷ times) (ceiling_of is.0 b)) one
-            (subst (λ (n : ℕ). Meets (0 ∷ times) (ceiling_of n old)) (sym same) met)))
-            (λ (other : is.0 ≢ v). solution.meets e (inl (is.0, is.1, Bounded-set_other bounds picks v (over old least tag) is.0 is.1 other is.2, is.3)))
-            (cases_eq is.0 v)
-        | inr others ↦ elim others [
-          | inl is ↦ ⊎_elim
-              (λ (same : is.0 ≡ v).
-              let one : old ≡ is.1 = same_Some old is.1 (sym at_v ∙ ap (slice_get bounds) (sym same) ∙ is.2) in
-              let met : Meets (0 ∷ times) (floor_of v old) = omega (arith, ints) in
-              subst (λ (f : Edge). Meets (0 ∷ times) f) (sym is.3)
-              (subst (λ (b : Bounds). Meets (0 ∷ times) (floor_of is.0 b)) one
-              (subst (λ (n : ℕ). Meets (0 ∷ times) (floor_of n old)) (sym same) met)))
-              (λ (other : is.0 ≢ v). solution.meets e (inr (inl (is.0, is.1, Bounded-set_other bounds picks v (over old least tag) is.0 is.1 other is.2, is.3))))
-              (cases_eq is.0 v)
-          | inr is ↦ solution.meets e (inr (inr is))
-        ]
-      ])
+      let one : Demand = ceiling_of v (under old most tag) in
+      let two : Demand = floor_of v (under old most tag) in
+      NamesNegativeCycle-chain new (Given tag ∷ old.floor_why ∷ []) (v + 1) one (two ∷ []) refl
+      (All-cons (Demanded new) one (two ∷ []) (inl (v, under old most tag, at_new, refl))
+      (All-cons (Demanded new) two [] (inr (inl (v, under old most tag, at_new, refl))) (All-nil (Demanded new))))
+      (refl, (refl, refl))
+      (AllPairs-cons (λ (a b : Demand). a.constraint.left ≢ b.constraint.left) one (two ∷ [])
+      (All-cons (λ (b : Demand). one.constraint.left ≢ b.constraint.left) two [] (omega arith) (All-nil (λ (b : Demand). one.constraint.left ≢ b.constraint.left)))
+      (λ i j d before inside. absurd (omega arith)))
+      (omega (arith, ints))
 
   -- the links are demanded with another floor too, since no floor is a link
-  Demanded-floor : (least tag : ℕ) (values : List ℕ) (links : List Edge) → IsKept (demands_of bounds picks) values links →
-      (x : ℕ) (e : Edge) → 0 < x → slice_get links x ≡ Some e → Demanded (demands_of (set bounds v (over old least tag)) picks) e
+  Demanded-floor : (least tag : ℕ) (values : List ℕ) (links : List Demand) → IsKept (demands_of bounds picks) values links →
+      (x : ℕ) (e : Demand) → 0 < x → slice_get links x ≡ Some e → Demanded (demands_of (set bounds v (over old least tag)) picks) e
   Demanded-floor least tag values links kept x e up at =
+      let higher : Bounds = over old least tag in
       let link : IsLink (demands_of bounds picks) values x e = kept.linked x e up at in
-      let at_new = Bounded-set_same bounds picks v old (over old least tag) at_v in
-      let new : Demands = demands_of (set bounds v (over old least tag)) picks in
-      elim link.demanded [
-        | inl is ↦ ⊎_elim
-            (λ (same : is.0 ≡ v).
-            let one : old ≡ is.1 = same_Some old is.1 (sym at_v ∙ ap (slice_get bounds) (sym same) ∙ is.2) in
-            let own : Demanded new (ceiling_of v old) = inl (v, over old least tag, at_new, refl) in
-            subst (λ (f : Edge). Demanded new f) (sym is.3)
-            (subst (λ (b : Bounds). Demanded new (ceiling_of is.0 b)) one
-            (subst (λ (n : ℕ). Demanded new (ceiling_of n old)) (sym same) own)))
-            (λ (other : is.0 ≢ v). inl (is.0, is.1, Bounded-set_other bounds picks v (over old least tag) is.0 is.1 other is.2, is.3))
-            (cases_eq is.0 v)
-        | inr others ↦ elim others [
-          | inl is ↦
-              let left : x ≡ 0 = sym link.left ∙ ap (λ (f : Edge). f.left) is.3 in
-              absurd (omega arith)
-          | inr is ↦ inr (inr is)
-        ]
-      ]
+      Demanded-changed bounds picks v old higher at_v e link.demanded
+      (λ (is : e ≡ ceiling_of v old). inl (v, higher, Bounded-set_same bounds picks v old higher at_v, is))
+      (λ (is : e ≡ floor_of v old).
+      let left : x ≡ 0 = sym link.left ∙ ap (λ (f : Demand). f.constraint.left) is in
+      absurd (omega arith))
 
   -- what is kept is kept above a higher floor that the value is not below
-  pub IsKept-floor : (least tag : ℕ) (values : List ℕ) (links : List Edge) → old.floor < least → least ≤ slice_index values (v + 1) →
+  pub IsKept-floor : (least tag : ℕ) (values : List ℕ) (links : List Demand) → old.floor < least → least ≤ slice_index values (v + 1) →
       IsKept (demands_of bounds picks) values links → IsKept (demands_of (set bounds v (over old least tag)) picks) values links
   IsKept-floor least tag values links tighter high kept =
-      let was : IsWithin old (slice_index values (v + 1)) = kept.within v old at_v in
-      IsKept-moved (demands_of bounds picks) (demands_of (set bounds v (over old least tag)) picks) values links kept (length-set bounds v (over old least tag))
-      (IsSolution-floor least tag tighter)
+      let higher : Bounds = over old least tag in
+      let was : IsBetween old (slice_index values (v + 1)) = kept.within v old at_v in
+      let looser : (time : ℕ) → IsBetween higher time → IsBetween old time =
+      λ time b. (let a = b.above in let c = b.below in record { above = omega arith; below = omega arith }) in
+      IsKept-moved (demands_of bounds picks) (demands_of (set bounds v higher) picks) values links kept (length-set bounds v higher)
+      (IsSolution-looser bounds picks v old higher at_v looser)
       (λ x e up at link. Demanded-floor least tag values links kept x e up at)
-      (λ u c at. ⊎_elim
-      (λ (is : (u ≡ v) × (c ≡ over old least tag)).
-      subst (λ (b : Bounds). IsWithin b (slice_index values (u + 1))) (sym is.1)
-      (subst (λ (n : ℕ). IsWithin (over old least tag) (slice_index values (n + 1))) (sym is.0) (record { above = high; below = was.below })))
-      (λ (is : (u ≢ v) × Bounded (demands_of bounds picks) u c). kept.within u c is.1)
-      (Bounded-set bounds picks v (over old least tag) u c at))
+      (IsBetween-changed bounds picks v old higher at_v values (λ u b at. kept.within u b at) (record { above = high; below = was.below }))
 
   -- a floor above the value closes a negative cycle
-  pub cycle_from_raised : (least tag : ℕ) (values : List ℕ) (links : List Edge) (tags : List Why) → slice_index values (v + 1) < least →
+  pub cycle_from_raised : (least tag : ℕ) (values : List ℕ) (links : List Demand) (tags : List Why) → slice_index values (v + 1) < least →
       IsKept (demands_of bounds picks) values links → Walked links (v + 1) 0 0 (Given tag ∷ []) tags →
       NamesNegativeCycle (demands_of (set bounds v (over old least tag)) picks) tags
   cycle_from_raised least tag values links tags low kept walked =
@@ -224,7 +189,7 @@ module _ (bounds : List Bounds) (picks : List Pick) (v : ℕ) (old : Bounds) (at
       walked
 
 -- the way from each number is its ceiling
-start_way : (bounds : List Bounds) (links : List Edge) → length links ≡ length bounds + 1 →
+start_way : (bounds : List Bounds) (links : List Demand) → length links ≡ length bounds + 1 →
     ((v : ℕ) (b : Bounds) → v < length bounds → slice_get bounds v ≡ Some b → slice_get links (v + 1) ≡ Some (ceiling_of v b)) →
     IsRooted links
 start_way bounds links len are zero inside = ([], refl)
@@ -236,14 +201,14 @@ start_way bounds links len are (suc v) inside =
     (ceiling_of v b ∷ [], (omega arith, at, refl))
 
 -- every solution is at most the ceilings
-start_greatest : (bounds : List Bounds) (picks : List Pick) (values : List ℕ) (links : List Edge) → IsStart bounds values links (length bounds) →
+start_greatest : (bounds : List Bounds) (picks : List Pick) (values : List ℕ) (links : List Demand) → IsStart bounds values links (length bounds) →
     (times : List ℕ) → IsSolution (demands_of bounds picks) times → (x : ℕ) → slice_index (0 ∷ times) x ≤ slice_index values x
 start_greatest bounds picks values links start times solution zero = omega arith
 start_greatest bounds picks values links start times solution (suc v) = ⊎_elim
     (λ (inside : v < length bounds).
     let b : Bounds = get_or bounds v no_bounds in
     let at = slice_get-get_or bounds v no_bounds inside in
-    let met : Meets (0 ∷ times) (ceiling_of v b) = solution.meets (ceiling_of v b) (inl (v, b, at, refl)) in
+    let met : IsMetBy (0 ∷ times) (ceiling_of v b) = IsMetBy-solution (demands_of bounds picks) times solution (ceiling_of v b) (inl (v, b, at, refl)) in
     let value : slice_index values (v + 1) ≡ b.ceiling = start.values_are v b inside at in
     let number : v + 1 ≡ suc v = omega arith in
     let one : slice_index (0 ∷ times) (v + 1) ≡ slice_index (0 ∷ times) (suc v) = ap (slice_index (0 ∷ times)) number in
@@ -255,7 +220,7 @@ start_greatest bounds picks values links start times solution (suc v) = ⊎_elim
     (cases_lt v (length bounds))
 
 -- Values that are the ceilings are kept, where no floor is above its ceiling.
-pub IsKept-start : (bounds : List Bounds) (picks : List Pick) (values : List ℕ) (links : List Edge) → IsStart bounds values links (length bounds) →
+pub IsKept-start : (bounds : List Bounds) (picks : List Pick) (values : List ℕ) (links : List Demand) → IsStart bounds values links (length bounds) →
     ((v : ℕ) (b : Bounds) → slice_get bounds v ≡ Some b → b.floor ≤ b.ceiling) → IsKept (demands_of bounds picks) values links
 IsKept-start bounds picks values links start ordered =
     let read : (v : ℕ) → v < length bounds → slice_get bounds v ≡ Some (get_or bounds v no_bounds) = λ v inside. slice_get-get_or bounds v no_bounds inside in
@@ -272,7 +237,7 @@ IsKept-start bounds picks values links start ordered =
           let is : ceiling_of v b ≡ e = same_Some (ceiling_of v b) e (sym (start.links_are v b inside (read v inside)) ∙ ap (slice_get links) (sym number) ∙ at) in
           let value : slice_index values (v + 1) ≡ b.ceiling = start.values_are v b inside (read v inside) in
           let z = start.zero_stays in
-          subst (λ (f : Edge). IsLink (demands_of bounds picks) values x f) is
+          subst (λ (f : Demand). IsLink (demands_of bounds picks) values x f) is
           (record {
             left = sym number;
             right = omega arith;

@@ -1,26 +1,27 @@
 -- What stays true where the demands change: one more pick, a lower ceiling, a higher floor, fewer picks.
 use Rattle.std.proofs.Common.{◌≡◌, ◌≢◌, ℕ, ◌+◌, ◌<◌, ◌≤◌, List, [], ◌∷◌, ◌++◌, length, set, take, Some, refl, sym, ◌∙◌, ap, subst, arith, inl, inr, ⊎_elim, ◌⊎◌}
-use Rattle.std.specs.Prelude.{slice_get, slice_index, All}
+use Rattle.std.specs.Prelude.{slice_get, slice_index, All, Contains}
 use Rattle.std.proofs.lemmas.Bool.{cases_eq}
 use Rattle.std.proofs.lemmas.Option.{same_Some, slice_get_within}
 use Rattle.std.proofs.lemmas.List.{length-set}
-use Rattle.std.proofs.lemmas.List.Elements.{All-push, All-take, Contains-append_left}
-use Rattle.tfpg_diff.specs.declared.edge.Edge.{Edge}
+use Rattle.std.proofs.lemmas.List.Elements.{All-push, All-take, Contains-append_left, Contains-push_cases}
+use Rattle.tfpg_diff.specs.declared.demand.Demand.{Demand}
 use Rattle.tfpg_diff.specs.declared.bounds.Bounds.{Bounds}
 use Rattle.tfpg_diff.specs.declared.pick.Pick.{Pick}
-use Rattle.tfpg_diff.specs.Demands.{Demands, Demanded, Bounded}
-use Rattle.tfpg_diff.specs.Solution.{Meets, IsSolution}
+use Rattle.tfpg_base.specs.Constraint.{Meets}
+use Rattle.tfpg_diff.specs.Demands.{Demands, Demanded, Bounded, picked}
+use Rattle.tfpg_diff.specs.Solution.{IsBetween, IsSolution}
 use Rattle.tfpg_base.specs.Times.{never}
-use Rattle.tfpg_diff.specs.Kept.{IsLink, IsWithin, IsKept, IsSound, demands_of}
-use Rattle.tfpg_diff.proofs.Lists.{slice_get-set_other, slice_get-set_same, Contains-take}
+use Rattle.tfpg_diff.specs.inside.Kept.{IsLink, IsKept, IsSound, demands_of}
+use Rattle.tfpg_diff.proofs.Lists.{All-front, slice_get-set_other, slice_get-set_same}
 
 -- What is kept stays kept under other demands of as many variables: their solutions are solutions, they have the links, and
 -- the values are within their bounds.
-pub IsKept-moved : (old new : Demands) (values : List ℕ) (links : List Edge) → IsKept old values links →
+pub IsKept-moved : (old new : Demands) (values : List ℕ) (links : List Demand) → IsKept old values links →
     length new.bounds ≡ length old.bounds →
     ((times : List ℕ) → IsSolution new times → IsSolution old times) →
-    ((x : ℕ) (e : Edge) → 0 < x → slice_get links x ≡ Some e → IsLink old values x e → Demanded new e) →
-    ((v : ℕ) (b : Bounds) → Bounded new v b → IsWithin b (slice_index values (v + 1))) →
+    ((x : ℕ) (e : Demand) → 0 < x → slice_get links x ≡ Some e → IsLink old values x e → Demanded new e) →
+    ((v : ℕ) (b : Bounds) → Bounded new v b → IsBetween b (slice_index values (v + 1))) →
     IsKept new values links
 IsKept-moved old new values links kept same solutions demanded within = record {
   values_len = let k = kept.values_len in omega arith;
@@ -33,11 +34,6 @@ IsKept-moved old new values links kept same solutions demanded within = record {
   within = within;
   greatest = λ times solution. kept.greatest times (solutions times solution);
 }
-
--- A solution stays one under other demands of as many variables, whose constraints it meets.
-pub IsSolution-moved : (old new : Demands) (times : List ℕ) → IsSolution new times → length new.bounds ≡ length old.bounds →
-    ((e : Edge) → Demanded old e → Meets (0 ∷ times) e) → IsSolution old times
-IsSolution-moved old new times solution same meets = record { complete = solution.complete ∙ same; meets = meets }
 
 -- the bounds that a list has after a change of one variable's
 pub Bounded-set : (bounds : List Bounds) (picks : List Pick) (v : ℕ) (new : Bounds) (u : ℕ) (c : Bounds) →
@@ -60,7 +56,7 @@ pub Bounded-set_same : (bounds : List Bounds) (picks : List Pick) (v : ℕ) (old
 Bounded-set_same bounds picks v old new at = slice_get-set_same bounds v new (slice_get_within bounds v old at)
 
 -- a constraint of the demands is one of those with one more pick
-pub Demanded-pick : (bounds : List Bounds) (picks : List Pick) (pick : Pick) (e : Edge) →
+pub Demanded-pick : (bounds : List Bounds) (picks : List Pick) (pick : Pick) (e : Demand) →
     Demanded (demands_of bounds picks) e → Demanded (demands_of bounds (picks ++ pick ∷ [])) e
 Demanded-pick bounds picks pick e demanded = elim demanded [
   | inl is ↦ inl is
@@ -70,15 +66,31 @@ Demanded-pick bounds picks pick e demanded = elim demanded [
   ]
 ]
 
+-- a constraint of the demands with one more pick is one without it, or the pick
+pub Demanded-pick_cases : (bounds : List Bounds) (picks : List Pick) (pick : Pick) (e : Demand) →
+    Demanded (demands_of bounds (picks ++ pick ∷ [])) e → Demanded (demands_of bounds picks) e ⊎ (e ≡ picked pick)
+Demanded-pick_cases bounds picks pick e demanded = elim demanded [
+  | inl is ↦ inl (inl is)
+  | inr others ↦ elim others [
+    | inl is ↦ inl (inr (inl is))
+    | inr is ↦ ⊎_elim
+        (λ (among : Contains picks is.0). inl (inr (inr (is.0, among, is.2))))
+        (λ (last : pick ≡ is.0). inr (is.2 ∙ ap picked (sym last)))
+        (Contains-push_cases picks pick is.0 is.1)
+  ]
+]
+
 -- a solution with one more pick is one without it
 pub IsSolution-pick : (bounds : List Bounds) (picks : List Pick) (pick : Pick) (times : List ℕ) →
     IsSolution (demands_of bounds (picks ++ pick ∷ [])) times → IsSolution (demands_of bounds picks) times
-IsSolution-pick bounds picks pick times solution =
-    IsSolution-moved (demands_of bounds picks) (demands_of bounds (picks ++ pick ∷ [])) times solution refl
-    (λ e demanded. solution.meets e (Demanded-pick bounds picks pick e demanded))
+IsSolution-pick bounds picks pick times solution = record {
+  complete = solution.complete;
+  between = solution.between;
+  met = All-front (λ (p : Pick). Meets times p.constraint) picks (pick ∷ []) solution.met;
+}
 
 -- what is kept stays kept with one more pick
-pub IsKept-pick : (bounds : List Bounds) (picks : List Pick) (pick : Pick) (values : List ℕ) (links : List Edge) →
+pub IsKept-pick : (bounds : List Bounds) (picks : List Pick) (pick : Pick) (values : List ℕ) (links : List Demand) →
     IsKept (demands_of bounds picks) values links → IsKept (demands_of bounds (picks ++ pick ∷ [])) values links
 IsKept-pick bounds picks pick values links kept =
     IsKept-moved (demands_of bounds picks) (demands_of bounds (picks ++ pick ∷ [])) values links kept refl
@@ -124,12 +136,8 @@ IsSound-set bounds picks v new sound low =
 -- a solution with fewer picks from one with all
 pub IsSolution-take : (bounds : List Bounds) (picks : List Pick) (len : ℕ) (times : List ℕ) →
     IsSolution (demands_of bounds picks) times → IsSolution (demands_of bounds (take len picks)) times
-IsSolution-take bounds picks len times solution =
-    IsSolution-moved (demands_of bounds (take len picks)) (demands_of bounds picks) times solution refl
-    (λ e demanded. elim demanded [
-      | inl is ↦ solution.meets e (inl is)
-      | inr others ↦ elim others [
-        | inl is ↦ solution.meets e (inr (inl is))
-        | inr is ↦ solution.meets e (inr (inr (is.0, Contains-take picks len is.0 is.1, is.2)))
-      ]
-    ])
+IsSolution-take bounds picks len times solution = record {
+  complete = solution.complete;
+  between = solution.between;
+  met = All-take (λ (pick : Pick). Meets times pick.constraint) len picks solution.met;
+}

@@ -3,16 +3,16 @@ use Rattle.std.proofs.Common.{◌≡◌, ℕ, zero, suc, ◌+◌, ◌^◌, ◌<�
 use Rattle.std.specs.Prelude.{slice_get, slice_index}
 use Rattle.std.proofs.lemmas.Option.{same_Some, none-some}
 use Rattle.std.proofs.lemmas.List.Elements.{All-nil}
-use Rattle.tfpg_diff.specs.declared.edge.Edge.{Edge}
+use Rattle.tfpg_diff.specs.declared.demand.Demand.{Demand}
 use Rattle.tfpg_diff.specs.declared.why.Why.{Why}
 use Rattle.tfpg_diff.specs.declared.bounds.Bounds.{Bounds}
 use Rattle.tfpg_diff.specs.declared.pick.Pick.{Pick}
-use Rattle.tfpg_diff.specs.Demands.{edge_of}
-use Rattle.tfpg_diff.specs.Solution.{Meets}
+use Rattle.tfpg_diff.specs.Demands.{picked}
 use Rattle.tfpg_diff.specs.Cycle.{NamesNegativeCycle}
 use Rattle.tfpg_base.specs.Times.{never}
 use Rattle.tfpg_diff.specs.State.{widest, unbounded_from}
-use Rattle.tfpg_diff.specs.Kept.{IsKept, IsStart, IsSettled, IsWithin, demands_of}
+use Rattle.tfpg_diff.specs.Solution.{IsBetween}
+use Rattle.tfpg_diff.specs.inside.Kept.{IsMetBy, IsKept, IsStart, IsReady, demands_of}
 use Rattle.tfpg_diff.proofs.Totals.{HasNoSolution-cycle}
 use Rattle.tfpg_diff.proofs.Changes.{IsSolution-take}
 use Rattle.tfpg_diff.proofs.Bounding.{IsKept-start}
@@ -39,16 +39,16 @@ widest_from first (suc count) zero b at =
 widest_from first (suc count) (suc v) b at = widest_from (first + 1) count v b at
 
 -- a new system is settled
-pub IsSettled-new : (bounds now : List Bounds) (picks : List Pick) (count : ℕ) (values : List ℕ) (links : List Edge) (backup_values : List ℕ) (backup_links : List Edge)
+pub IsReady-new : (bounds now : List Bounds) (picks : List Pick) (count : ℕ) (values : List ℕ) (links : List Demand) (backup_values : List ℕ) (backup_links : List Demand)
     (capacity : ℕ) → now ≡ bounds → bounds ≡ unbounded_from 0 count → picks ≡ [] → count < 2 ^ 32 → IsStart now values links (length now) →
     length backup_values ≡ count + 1 → length backup_links ≡ count + 1 → count + 3 ≤ capacity →
-    IsSettled bounds picks values links backup_values backup_links capacity
-IsSettled-new bounds now picks count values links backup_values backup_links capacity same is none few start bv bl room =
+    IsReady bounds picks values links backup_values backup_links capacity
+IsReady-new bounds now picks count values links backup_values backup_links capacity same is none few start bv bl room =
     let len : length bounds ≡ count = ap length is ∙ length-unbounded_from 0 count in
     let widths : (v : ℕ) (b : Bounds) → slice_get bounds v ≡ Some b → (b.floor ≡ 0) × (b.ceiling ≡ never) =
     λ v b at. widest_from 0 count v b (sym (ap (λ (bs : List Bounds). slice_get bs v) is) ∙ at) in
     let begun : IsStart bounds values links (length bounds) = subst (λ (bs : List Bounds). IsStart bs values links (length bs)) same start in
-    subst (λ (ps : List Pick). IsSettled bounds ps values links backup_values backup_links capacity) (sym none)
+    subst (λ (ps : List Pick). IsReady bounds ps values links backup_values backup_links capacity) (sym none)
     (record {
       sound = record {
         few = omega arith;
@@ -57,20 +57,20 @@ IsSettled-new bounds now picks count values links backup_values backup_links cap
         rights = All-nil (λ (pick : Pick). pick.constraint.right ≤ length bounds);
       };
       kept = IsKept-start bounds [] values links begun (λ v b at. (let w = widths v b at in omega (arith, w.0)));
-      met = All-nil (λ (pick : Pick). Meets values (edge_of pick));
+      met = All-nil (λ (pick : Pick). IsMetBy values (picked pick));
       backup_values_len = omega arith;
       backup_links_len = omega arith;
       room = omega arith;
     })
 
-module _ (bounds : List Bounds) (picks : List Pick) (values : List ℕ) (links : List Edge) (backup_values : List ℕ) (backup_links : List Edge) (capacity : ℕ)
-    (settled : IsSettled bounds picks values links backup_values backup_links capacity) where
+module _ (bounds : List Bounds) (picks : List Pick) (values : List ℕ) (links : List Demand) (backup_values : List ℕ) (backup_links : List Demand) (capacity : ℕ)
+    (settled : IsReady bounds picks values links backup_values backup_links capacity) where
   -- a fresh start with other picks
-  pub IsKept-fresh : (others : List Pick) (values' : List ℕ) (links' : List Edge) → IsStart bounds values' links' (length bounds) →
+  pub IsKept-fresh : (others : List Pick) (values' : List ℕ) (links' : List Demand) → IsStart bounds values' links' (length bounds) →
       IsKept (demands_of bounds others) values' links'
   IsKept-fresh others values' links' start =
       IsKept-start bounds others values' links' start
-      (λ v b at. (let w : IsWithin b (slice_index values (v + 1)) = settled.kept.within v b at in
+      (λ v b at. (let w : IsBetween b (slice_index values (v + 1)) = settled.kept.within v b at in
       let above = w.above in let below = w.below in omega arith))
 
   -- with fewer picks there is no negative cycle

@@ -1,4 +1,5 @@
 pub mod Lists
+pub mod Solutions
 pub mod Climb
 pub mod Totals
 pub mod Walks

@@ -40,6 +40,11 @@ AllPairs-cons R x xs first others i zero d before inside = absurd (omega arith)
 AllPairs-cons R x xs first others zero (suc j) d before inside = first j d (omega arith)
 AllPairs-cons R x xs first others (suc i) (suc j) d before inside = others i j d (omega arith) (omega arith)
 
+-- what holds of all holds of a front part
+pub All-front : {X : Type 0} (P : X → Type 0) (xs ys : List X) → All P (xs ++ ys) → All P xs
+All-front {X} P xs ys all i d inside =
+    subst P (get_or_append_left xs ys d i inside) (all i d (omega (arith, length-append xs ys)))
+
 -- a relation in a front part
 pub AllPairs-front : {X : Type 0} (R : X → X → Type 0) (xs ys : List X) → AllPairs R (xs ++ ys) → AllPairs R xs
 AllPairs-front {X} R xs ys pairs i j d before inside =
@@ -57,8 +62,3 @@ length-le_distinct xs n apart below =
     let same : q ≡ some.1 = eqb-true q some.1 some.4 in
     let here : get_or xs some.0 some.1 < n = below some.0 some.1 some.2 in
     subst (λ (m : ℕ). m < n) (some.3 ∙ sym same) here)
-
--- what a front part contains
-pub Contains-take : {X : Type 0} (xs : List X) (n : ℕ) (x : X) → Contains (take n xs) x → Contains xs x
-Contains-take xs n x found =
-    subst (λ ys. Contains ys x) (take-append-drop n xs) (Contains-append_left (take n xs) (drop n xs) x found)

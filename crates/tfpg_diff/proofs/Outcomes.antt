@@ -5,16 +5,16 @@ use Rattle.std.proofs.lemmas.Option.{slice_get_read, slice_get_within}
 use Rattle.std.proofs.lemmas.List.{length-set, get_or-set_same}
 use Rattle.std.proofs.lemmas.List.Elements.{Contains-push, All-push}
 use Rattle.std.proofs.lemmas.Int.{ints}
-use Rattle.tfpg_diff.specs.declared.edge.Edge.{Edge}
+use Rattle.tfpg_diff.specs.declared.demand.Demand.{Demand}
 use Rattle.tfpg_diff.specs.declared.why.Why.{Why}
 use Rattle.tfpg_diff.specs.declared.why.Why.TheVariants.{Given}
 use Rattle.tfpg_diff.specs.declared.bounds.Bounds.{Bounds}
 use Rattle.tfpg_diff.specs.declared.pick.Pick.{Pick}
-use Rattle.tfpg_diff.specs.Demands.{Demands, ceiling_of, edge_of}
-use Rattle.tfpg_diff.specs.Solution.{Meets, HasSolution, HasNoSolution}
+use Rattle.tfpg_diff.specs.Demands.{Demands, ceiling_of, picked}
+use Rattle.tfpg_diff.specs.Solution.{IsBetween, HasSolution, HasNoSolution}
 use Rattle.tfpg_diff.specs.Cycle.{NamesNegativeCycle}
 use Rattle.tfpg_diff.specs.State.{with_floor, with_ceiling, with_pick}
-use Rattle.tfpg_diff.specs.Kept.{IsKept, IsSound, IsWithin, IsSettled, MeetsPicks, Walked, demands_of}
+use Rattle.tfpg_diff.specs.inside.Kept.{IsMetBy, IsKept, IsSound, IsReady, MeetsPicks, Walked, demands_of}
 use Rattle.tfpg_diff.proofs.Latest.{IsLatest-kept}
 use Rattle.tfpg_diff.proofs.Totals.{HasNoSolution-cycle}
 use Rattle.tfpg_diff.proofs.Bounding.{under, over, ceiling_pick, IsKept-floor, IsKept-ceiling, cycle_from_raised, cycle_from_ceiling}
@@ -24,7 +24,7 @@ use Rattle.tfpg_diff.proofs.Walks.{Walked-none}
 use Rattle.tfpg_diff.proofs.Updates.{with_floor-tighter, with_floor-looser, with_ceiling-tighter, with_ceiling-looser}
 
 -- values that are kept and meet the picks are a solution
-pub HasSolution-kept : (demands : Demands) (values : List ℕ) (links : List Edge) → IsKept demands values links → MeetsPicks values demands.picks → HasSolution demands
+pub HasSolution-kept : (demands : Demands) (values : List ℕ) (links : List Demand) → IsKept demands values links → MeetsPicks values demands.picks → HasSolution demands
 HasSolution-kept demands values links kept met = (drop 1 values, (IsLatest-kept demands values links kept met).solution)
 
 -- the same demands, as the code reads them
@@ -34,12 +34,12 @@ demands_read bounds now_bounds picks now_picks same_bounds same_picks =
     ap (λ (bs : List Bounds). demands_of bs now_picks) same_bounds ∙ ap (λ (ps : List Pick). demands_of bounds ps) same_picks
 
 -- what is kept and meets the picks is settled, as the code reads the demands
-pub IsSettled-read : (bounds now_bounds : List Bounds) (picks now_picks : List Pick) → now_bounds ≡ bounds → now_picks ≡ picks →
-    (values : List ℕ) (links : List Edge) (backup_values : List ℕ) (backup_links : List Edge) (capacity : ℕ) →
+pub IsReady-read : (bounds now_bounds : List Bounds) (picks now_picks : List Pick) → now_bounds ≡ bounds → now_picks ≡ picks →
+    (values : List ℕ) (links : List Demand) (backup_values : List ℕ) (backup_links : List Demand) (capacity : ℕ) →
     IsSound (demands_of bounds picks) → IsKept (demands_of now_bounds now_picks) values links → MeetsPicks values now_picks →
     length backup_values ≡ length now_bounds + 1 → length backup_links ≡ length now_bounds + 1 → length bounds + 3 ≤ capacity →
-    IsSettled bounds picks values links backup_values backup_links capacity
-IsSettled-read bounds now_bounds picks now_picks same_bounds same_picks values links backup_values backup_links capacity sound kept met bv bl room =
+    IsReady bounds picks values links backup_values backup_links capacity
+IsReady-read bounds now_bounds picks now_picks same_bounds same_picks values links backup_values backup_links capacity sound kept met bv bl room =
     let same = ap length same_bounds in
     record {
       sound = sound;
@@ -50,8 +50,8 @@ IsSettled-read bounds now_bounds picks now_picks same_bounds same_picks values l
       room = room;
     }
 
-module _ (bounds : List Bounds) (picks : List Pick) (values : List ℕ) (links : List Edge) (backup_values : List ℕ) (backup_links : List Edge) (capacity : ℕ)
-    (settled : IsSettled bounds picks values links backup_values backup_links capacity)
+module _ (bounds : List Bounds) (picks : List Pick) (values : List ℕ) (links : List Demand) (backup_values : List ℕ) (backup_links : List Demand) (capacity : ℕ)
+    (settled : IsReady bounds picks values links backup_values backup_links capacity)
     (demands : Demands) (seen : demands_of bounds picks ≡ demands) where
   -- a settled system has a solution
   pub HasSolution-settled : HasSolution demands
@@ -98,9 +98,9 @@ module _ (bounds : List Bounds) (picks : List Pick) (values : List ℕ) (links :
       sym (with_ceiling-tighter bounds picks v old at most tag tighter) ∙ ap (λ (d : Demands). with_ceiling d v most tag) seen
 
   -- a system stays settled above a higher floor that the value is not below
-  pub IsSettled-floor : (v : ℕ) (old : Bounds) (least tag : ℕ) → slice_get bounds v ≡ Some old → old.floor < least → least ≤ slice_index values (v + 1) →
-      IsSettled (set bounds v (over old least tag)) picks values links backup_values backup_links capacity
-  IsSettled-floor v old least tag at tighter high =
+  pub IsReady-floor : (v : ℕ) (old : Bounds) (least tag : ℕ) → slice_get bounds v ≡ Some old → old.floor < least → least ≤ slice_index values (v + 1) →
+      IsReady (set bounds v (over old least tag)) picks values links backup_values backup_links capacity
+  IsReady-floor v old least tag at tighter high =
       let same : length (set bounds v (over old least tag)) ≡ length bounds = length-set bounds v (over old least tag) in
       let low = settled.sound.ceilings v old at in
       let b = settled.backup_values_len in
@@ -120,7 +120,7 @@ module _ (bounds : List Bounds) (picks : List Pick) (values : List ℕ) (links :
       (demands_of (set bounds v (over old least tag)) picks ≡ with_floor demands v least tag) × HasSolution (with_floor demands v least tag)
   adds_floor v old least tag at tighter high =
       let is = with_floor-set v old least tag at tighter in
-      let s = IsSettled-floor v old least tag at tighter high in
+      let s = IsReady-floor v old least tag at tighter high in
       (is, subst HasSolution is (HasSolution-kept (demands_of (set bounds v (over old least tag)) picks) values links s.kept s.met))
 
   -- a floor above the value closes a negative cycle
@@ -142,14 +142,14 @@ module _ (bounds : List Bounds) (picks : List Pick) (values : List ℕ) (links :
   IsKept-ceiling_high : (v : ℕ) (old : Bounds) (most tag : ℕ) → slice_get bounds v ≡ Some old → most < old.ceiling → slice_index values (v + 1) ≤ most →
       IsKept (demands_of (set bounds v (under old most tag)) picks) values links
   IsKept-ceiling_high v old most tag at tighter high =
-      let was : IsWithin old (slice_index values (v + 1)) = settled.kept.within v old at in
+      let was : IsBetween old (slice_index values (v + 1)) = settled.kept.within v old at in
       IsKept-ceiling bounds picks v old at most tag values links tighter was.above high
       (IsKept-pick bounds picks (ceiling_pick v most tag) values links settled.kept)
 
   -- a system stays settled under a lower ceiling that the value is not above
-  pub IsSettled-ceiling : (v : ℕ) (old : Bounds) (most tag : ℕ) → slice_get bounds v ≡ Some old → most < old.ceiling → slice_index values (v + 1) ≤ most →
-      IsSettled (set bounds v (under old most tag)) picks values links backup_values backup_links capacity
-  IsSettled-ceiling v old most tag at tighter high =
+  pub IsReady-ceiling : (v : ℕ) (old : Bounds) (most tag : ℕ) → slice_get bounds v ≡ Some old → most < old.ceiling → slice_index values (v + 1) ≤ most →
+      IsReady (set bounds v (under old most tag)) picks values links backup_values backup_links capacity
+  IsReady-ceiling v old most tag at tighter high =
       let same : length (set bounds v (under old most tag)) ≡ length bounds = length-set bounds v (under old most tag) in
       let b = settled.backup_values_len in
       let l = settled.backup_links_len in
@@ -168,7 +168,7 @@ module _ (bounds : List Bounds) (picks : List Pick) (values : List ℕ) (links :
       (demands_of (set bounds v (under old most tag)) picks ≡ with_ceiling demands v most tag) × HasSolution (with_ceiling demands v most tag)
   adds_ceiling v old most tag at tighter high =
       let is = with_ceiling-set v old most tag at tighter in
-      let s = IsSettled-ceiling v old most tag at tighter high in
+      let s = IsReady-ceiling v old most tag at tighter high in
       (is, subst HasSolution is (HasSolution-kept (demands_of (set bounds v (under old most tag)) picks) values links s.kept s.met))
 
   -- a ceiling below the floor is a negative cycle
@@ -186,12 +186,12 @@ module _ (bounds : List Bounds) (picks : List Pick) (values : List ℕ) (links :
       IsKept (demands_of (set bounds v (under old most tag)) picks) (set values (v + 1) most) (set links (v + 1) (ceiling_of v (under old most tag)))
   IsKept-ceiling_low v old most tag at tighter above low =
       let pick : Pick = ceiling_pick v most tag in
-      let edge : Edge = ceiling_of v (under old most tag) in
+      let demand : Demand = ceiling_of v (under old most tag) in
       let more : Demands = demands_of bounds (picks ++ pick ∷ []) in
       let kept : IsKept more values links = IsKept-pick bounds picks pick values links settled.kept in
       let inside : v < length bounds = slice_get_within bounds v old at in
       let zero_stays = settled.kept.zero_stays in
-      let broken : IsBroken more values edge = record {
+      let broken : IsBroken more values demand = record {
         demanded = inr (inr (pick, Contains-push picks pick, refl));
         left = omega arith;
         right = omega arith;
@@ -199,16 +199,16 @@ module _ (bounds : List Bounds) (picks : List Pick) (values : List ℕ) (links :
       } in
       let here : slice_index (set values (v + 1) most) (v + 1) ≡ most =
       get_or-set_same values (v + 1) most 0 (let k = settled.kept.values_len in omega arith) in
-      IsKept-ceiling bounds picks v old at most tag (set values (v + 1) most) (set links (v + 1) edge) tighter (omega arith) (omega arith)
-      (IsKept-lowered more values links kept edge most v old [] [] broken (Walked-none links 0 (v + 1) []) at refl (omega (arith, ints)) above)
+      IsKept-ceiling bounds picks v old at most tag (set values (v + 1) most) (set links (v + 1) demand) tighter (omega arith) (omega arith)
+      (IsKept-lowered more values links kept demand most v old [] [] broken (Walked-none links 0 (v + 1) []) at refl (omega (arith, ints)) above)
 
   -- a system whose parts were put back is settled as before
-  pub IsSettled-restored : (bounds' : List Bounds) (picks' : List Pick) (values' : List ℕ) (links' : List Edge) (backup_values' : List ℕ)
-      (backup_links' : List Edge) (capacity' : ℕ) → bounds' ≡ bounds → picks' ≡ picks → values' ≡ values → links' ≡ links →
+  pub IsReady-restored : (bounds' : List Bounds) (picks' : List Pick) (values' : List ℕ) (links' : List Demand) (backup_values' : List ℕ)
+      (backup_links' : List Demand) (capacity' : ℕ) → bounds' ≡ bounds → picks' ≡ picks → values' ≡ values → links' ≡ links →
       length backup_values' ≡ length bounds + 1 → length backup_links' ≡ length bounds + 1 → capacity ≤ capacity' →
-      IsSettled bounds' picks' values' links' backup_values' backup_links' capacity'
-  IsSettled-restored bounds' picks' values' links' backup_values' backup_links' capacity' same_bounds same_picks same_values same_links bv bl room =
-      let back : IsSettled bounds picks values links backup_values' backup_links' capacity' = record {
+      IsReady bounds' picks' values' links' backup_values' backup_links' capacity'
+  IsReady-restored bounds' picks' values' links' backup_values' backup_links' capacity' same_bounds same_picks same_values same_links bv bl room =
+      let back : IsReady bounds picks values links backup_values' backup_links' capacity' = record {
         sound = settled.sound;
         kept = settled.kept;
         met = settled.met;
@@ -216,10 +216,10 @@ module _ (bounds : List Bounds) (picks : List Pick) (values : List ℕ) (links :
         backup_links_len = bl;
         room = (let r = settled.room in omega arith);
       } in
-      subst (λ (bs : List Bounds). IsSettled bs picks' values' links' backup_values' backup_links' capacity') (sym same_bounds)
-      (subst (λ (ps : List Pick). IsSettled bounds ps values' links' backup_values' backup_links' capacity') (sym same_picks)
-      (subst (λ (vs : List ℕ). IsSettled bounds picks vs links' backup_values' backup_links' capacity') (sym same_values)
-      (subst (λ (es : List Edge). IsSettled bounds picks values es backup_values' backup_links' capacity') (sym same_links) back)))
+      subst (λ (bs : List Bounds). IsReady bs picks' values' links' backup_values' backup_links' capacity') (sym same_bounds)
+      (subst (λ (ps : List Pick). IsReady bounds ps values' links' backup_values' backup_links' capacity') (sym same_picks)
+      (subst (λ (vs : List ℕ). IsReady bounds picks vs links' backup_values' backup_links' capacity') (sym same_values)
+      (subst (λ (es : List Demand). IsReady bounds picks values es backup_values' backup_links' capacity') (sym same_links) back)))
 
   -- the demands with one more pick
   pub with_pick-seen : (pick : Pick) → demands_of bounds (picks ++ pick ∷ []) ≡ with_pick demands pick.constraint pick.tag
@@ -233,12 +233,12 @@ module _ (bounds : List Bounds) (picks : List Pick) (values : List ℕ) (links :
       IsSound-pick bounds picks pick settled.sound (omega arith) (omega arith)
 
   -- a system stays settled with one more pick that the values meet
-  pub IsSettled-pick : (pick : Pick) → pick.constraint.left ≤ length demands.bounds → pick.constraint.right ≤ length demands.bounds →
-      Meets values (edge_of pick) → IsSettled bounds (picks ++ pick ∷ []) values links backup_values backup_links capacity
-  IsSettled-pick pick left right met = record {
+  pub IsReady-pick : (pick : Pick) → pick.constraint.left ≤ length demands.bounds → pick.constraint.right ≤ length demands.bounds →
+      IsMetBy values (picked pick) → IsReady bounds (picks ++ pick ∷ []) values links backup_values backup_links capacity
+  IsReady-pick pick left right met = record {
     sound = IsSound-more pick left right;
     kept = IsKept-pick bounds picks pick values links settled.kept;
-    met = All-push (λ (p : Pick). Meets values (edge_of p)) picks pick settled.met met;
+    met = All-push (λ (p : Pick). IsMetBy values (picked p)) picks pick settled.met met;
     backup_values_len = settled.backup_values_len;
     backup_links_len = settled.backup_links_len;
     room = settled.room;
@@ -246,8 +246,8 @@ module _ (bounds : List Bounds) (picks : List Pick) (values : List ℕ) (links :
 
   -- and has the lengthened demands
   pub adds_pick : (pick : Pick) → pick.constraint.left ≤ length demands.bounds → pick.constraint.right ≤ length demands.bounds →
-      Meets values (edge_of pick) →
+      IsMetBy values (picked pick) →
       (demands_of bounds (picks ++ pick ∷ []) ≡ with_pick demands pick.constraint pick.tag) × HasSolution (with_pick demands pick.constraint pick.tag)
   adds_pick pick left right met =
-      let s = IsSettled-pick pick left right met in
+      let s = IsReady-pick pick left right met in
       (with_pick-seen pick, subst HasSolution (with_pick-seen pick) (HasSolution-kept (demands_of bounds (picks ++ pick ∷ [])) values links s.kept s.met))

@@ -4,16 +4,16 @@ use Rattle.std.specs.Prelude.{slice_index, All, pos, ◌+ℤ◌, ◌<ℤ◌}
 use Rattle.std.proofs.lemmas.Option.{slice_get-get_or}
 use Rattle.std.proofs.lemmas.List.{get_or_default, length-map}
 use Rattle.std.proofs.lemmas.List.Elements.{Contains-get_or}
-use Rattle.tfpg_diff.specs.declared.edge.Edge.{Edge}
+use Rattle.tfpg_diff.specs.declared.demand.Demand.{Demand}
 use Rattle.tfpg_diff.specs.declared.pick.Pick.{Pick}
 use Rattle.tfpg_diff.specs.declared.bounds.Bounds.{Bounds}
 use Rattle.tfpg_diff.specs.declared.why.Why.{Why}
 use Rattle.tfpg_diff.specs.declared.why.Why.TheVariants.{Floor}
-use Rattle.tfpg_diff.specs.Demands.{Demands, Bounded, edge_of}
+use Rattle.tfpg_diff.specs.Demands.{Demands, Bounded, picked}
 use Rattle.std.specs.List.{HoldsAt}
-use Rattle.tfpg_diff.specs.Solution.{Meets}
 use Rattle.tfpg_base.specs.Times.{never}
-use Rattle.tfpg_diff.specs.Kept.{IsSound, IsKept, IsWithin, Walked, IsWalk}
+use Rattle.tfpg_diff.specs.Solution.{IsBetween}
+use Rattle.tfpg_diff.specs.inside.Kept.{IsMetBy, IsSound, IsKept, Walked, IsWalk}
 use Rattle.tfpg_diff.proofs.Lowering.{IsBroken, Labelled-kept}
 use Rattle.tfpg_diff.proofs.Climb.{length-Climbs}
 
@@ -22,7 +22,7 @@ abbrev pub no_bounds : Bounds
 no_bounds = record { floor = 0; floor_why = Floor 0; ceiling = 0; ceiling_why = Floor 0 }
 
 -- no value is past the latest one
-pub small-kept : (demands : Demands) (sound : IsSound demands) (values : List ℕ) (links : List Edge) (kept : IsKept demands values links) →
+pub small-kept : (demands : Demands) (sound : IsSound demands) (values : List ℕ) (links : List Demand) (kept : IsKept demands values links) →
     All (λ value. value ≤ never) values
 small-kept demands sound values links kept zero d inside =
     let z = kept.zero_stays in let e = get_or_default values zero d 0 inside in omega arith
@@ -30,7 +30,7 @@ small-kept demands sound values links kept (suc v) d inside =
     let within_n : v < length demands.bounds = let k = kept.values_len in omega arith in
     let none : Bounds = no_bounds in
     let at = slice_get-get_or demands.bounds v none within_n in
-    let within : IsWithin (get_or demands.bounds v none) (slice_index values (v + 1)) = kept.within v (get_or demands.bounds v none) at in
+    let within : IsBetween (get_or demands.bounds v none) (slice_index values (v + 1)) = kept.within v (get_or demands.bounds v none) at in
     let ceiling = sound.ceilings v (get_or demands.bounds v none) at in
     let below = within.below in
     let e = get_or_default values (suc v) d 0 inside in
@@ -38,28 +38,28 @@ small-kept demands sound values links kept (suc v) d inside =
     omega arith
 
 -- a pick that the values break, as the code reads both
-pub IsBroken-pick : (demands : Demands) (sound : IsSound demands) (values : List ℕ) (place : ℕ) (d : Pick) (edge : Edge) (now : List ℕ) →
-    place < length demands.picks → edge ≡ edge_of (get_or demands.picks place d) → now ≡ values →
-    (pos (slice_index now edge.right) +ℤ edge.most) <ℤ pos (slice_index now edge.left) → IsBroken demands values edge
-IsBroken-pick demands sound values place d edge now inside is same broken =
-    let left : edge.left ≡ (get_or demands.picks place d).constraint.left = ap (λ (e : Edge). e.left) is in
-    let right : edge.right ≡ (get_or demands.picks place d).constraint.right = ap (λ (e : Edge). e.right) is in
+pub IsBroken-pick : (demands : Demands) (sound : IsSound demands) (values : List ℕ) (place : ℕ) (d : Pick) (demand : Demand) (now : List ℕ) →
+    place < length demands.picks → demand ≡ picked (get_or demands.picks place d) → now ≡ values →
+    (pos (slice_index now demand.constraint.right) +ℤ demand.constraint.most) <ℤ pos (slice_index now demand.constraint.left) → IsBroken demands values demand
+IsBroken-pick demands sound values place d demand now inside is same broken =
+    let left : demand.constraint.left ≡ (get_or demands.picks place d).constraint.left = ap (λ (e : Demand). e.constraint.left) is in
+    let right : demand.constraint.right ≡ (get_or demands.picks place d).constraint.right = ap (λ (e : Demand). e.constraint.right) is in
     let low = sound.lefts place d inside in
     let high = sound.rights place d inside in
     record {
       demanded = inr (inr (get_or demands.picks place d, Contains-get_or demands.picks place d inside, is));
       left = omega arith;
       right = omega arith;
-      broken = subst (λ (xs : List ℕ). (pos (slice_index xs edge.right) +ℤ edge.most) <ℤ pos (slice_index xs edge.left)) same broken;
+      broken = subst (λ (xs : List ℕ). (pos (slice_index xs demand.constraint.right) +ℤ demand.constraint.most) <ℤ pos (slice_index xs demand.constraint.left)) same broken;
     }
 
 -- a pick that the values meet, as the code reads both
-pub Meets-pick : (picks : List Pick) (values : List ℕ) (place : ℕ) (d : Pick) (edge : Edge) (now : List ℕ) →
-    place < length picks → edge ≡ edge_of (get_or picks place d) → now ≡ values → Meets now edge →
-    HoldsAt (λ (pick : Pick). Meets values (edge_of pick)) picks place
-Meets-pick picks values place d edge now inside is same met e =
-    let here : Meets values edge = subst (λ (xs : List ℕ). Meets xs edge) same met in
-    subst (λ (pick : Pick). Meets values (edge_of pick)) (get_or_default picks place d e inside) (subst (λ (x : Edge). Meets values x) is here)
+pub IsMetBy-pick : (picks : List Pick) (values : List ℕ) (place : ℕ) (d : Pick) (demand : Demand) (now : List ℕ) →
+    place < length picks → demand ≡ picked (get_or picks place d) → now ≡ values → IsMetBy now demand →
+    HoldsAt (λ (pick : Pick). IsMetBy values (picked pick)) picks place
+IsMetBy-pick picks values place d demand now inside is same met e =
+    let here : IsMetBy values demand = subst (λ (xs : List ℕ). IsMetBy xs demand) same met in
+    subst (λ (pick : Pick). IsMetBy values (picked pick)) (get_or_default picks place d e inside) (subst (λ (x : Demand). IsMetBy values x) is here)
 
 -- the bounds of the left side, as the code reads them
 pub Bounded-read : (demands : Demands) (left : ℕ) → 0 < left → left ≤ length demands.bounds →
@@ -67,23 +67,23 @@ pub Bounded-read : (demands : Demands) (left : ℕ) → 0 < left → left ≤ le
 Bounded-read demands left up inside = (slice_get-get_or demands.bounds (left - 1) no_bounds (omega arith), omega arith)
 
 -- a cycle that has been walked to zero leaves room for one more tag
-pub length-cycle : (demands : Demands) (values : List ℕ) (links : List Edge) (kept : IsKept demands values links) (from sought : ℕ)
+pub length-cycle : (demands : Demands) (values : List ℕ) (links : List Demand) (kept : IsKept demands values links) (from sought : ℕ)
     (first : Why) (tags : List Why) → Walked links from sought 0 (first ∷ []) tags → length tags ≤ length demands.bounds + 2
 length-cycle demands values links kept from sought first tags walked =
     let walk : IsWalk links from sought 0 (first ∷ []) tags walked.0 = walked.1 in
     let few = length-Climbs links (Labelled-kept demands values links kept) from walked.0 walk.climbs in
     let k = kept.links_len in
-    omega (arith, ap length walk.tags, length-map walked.0 (λ (edge : Edge). edge.why), length-append (first ∷ []) (map (λ (edge : Edge). edge.why) walked.0))
+    omega (arith, ap length walk.tags, length-map walked.0 (λ (demand : Demand). demand.why), length-append (first ∷ []) (map (λ (demand : Demand). demand.why) walked.0))
 
 -- what the code reads past the end of the picks
 abbrev pub no_pick : Pick
 no_pick = record { constraint = record { left = 0; right = 0; most = pos 0 }; tag = 0 }
 
 -- no floor is past the latest value
-pub floor-kept : (demands : Demands) (sound : IsSound demands) (values : List ℕ) (links : List Edge) (kept : IsKept demands values links)
+pub floor-kept : (demands : Demands) (sound : IsSound demands) (values : List ℕ) (links : List Demand) (kept : IsKept demands values links)
     (variable : ℕ) (bounds : Bounds) → Bounded demands variable bounds → bounds.floor ≤ never
 floor-kept demands sound values links kept variable bounds at =
-    let within : IsWithin bounds (slice_index values (variable + 1)) = kept.within variable bounds at in
+    let within : IsBetween bounds (slice_index values (variable + 1)) = kept.within variable bounds at in
     let above = within.above in
     let below = within.below in
     let ceiling = sound.ceilings variable bounds at in

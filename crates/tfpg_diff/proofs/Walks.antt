@@ -4,36 +4,36 @@ use Rattle.std.specs.Prelude.{slice_get, pos}
 use Rattle.std.proofs.lemmas.List.{map_push, append-nil, length-map}
 use Rattle.std.proofs.lemmas.Option.{slice_get_within, slice_get-get_or}
 use Rattle.std.proofs.lemmas.List.Elements.{All-nil, All-push}
-use Rattle.tfpg_diff.specs.declared.edge.Edge.{Edge}
+use Rattle.tfpg_diff.specs.declared.demand.Demand.{Demand}
 use Rattle.tfpg_diff.specs.declared.why.Why.{Why}
 use Rattle.tfpg_diff.specs.declared.why.Why.TheVariants.{Floor}
-use Rattle.tfpg_diff.specs.Kept.{Climbs, IsRooted, IsLabelled, IsWalk, Walked}
+use Rattle.tfpg_diff.specs.inside.Kept.{Climbs, IsRooted, IsLabelled, IsWalk, Walked}
 use Rattle.tfpg_diff.proofs.Climb.{Climbs-append, length-Climbs, length-Climbs_up, Climbs_right}
 
 -- a walk that has not begun
-pub Walked-none : (links : List Edge) (from sought : ℕ) (tags : List Why) → Walked links from sought from tags tags
+pub Walked-none : (links : List Demand) (from sought : ℕ) (tags : List Why) → Walked links from sought from tags tags
 Walked-none links from sought tags =
-    ([], record { climbs = refl; avoids = All-nil (λ (edge : Edge). edge.left ≢ sought); tags = sym (append-nil tags) })
+    ([], record { climbs = refl; avoids = All-nil (λ (demand : Demand). demand.constraint.left ≢ sought); tags = sym (append-nil tags) })
 
 -- one more link
-pub Walked-more : (links : List Edge) (labelled : IsLabelled links) (from sought stands : ℕ) (before after : List Why) (link : Edge) →
+pub Walked-more : (links : List Demand) (labelled : IsLabelled links) (from sought stands : ℕ) (before after : List Why) (link : Demand) →
     Walked links from sought stands before after → 0 < stands → stands ≢ sought → slice_get links stands ≡ Some link →
-    Walked links from sought link.right before (after ++ link.why ∷ [])
+    Walked links from sought link.constraint.right before (after ++ link.why ∷ [])
 Walked-more links labelled from sought stands before after link walked up other at =
     let walk : IsWalk links from sought stands before after walked.0 = walked.1 in
-    let label : link.left ≡ stands = labelled stands link up at in (
+    let label : link.constraint.left ≡ stands = labelled stands link up at in (
       walked.0 ++ link ∷ [],
       record {
-        climbs = Climbs-append links from walked.0 stands (link ∷ []) link.right walk.climbs (up, at, refl);
-        avoids = All-push (λ (edge : Edge). edge.left ≢ sought) walked.0 link walk.avoids (λ same. other (sym label ∙ same));
+        climbs = Climbs-append links from walked.0 stands (link ∷ []) link.constraint.right walk.climbs (up, at, refl);
+        avoids = All-push (λ (demand : Demand). demand.constraint.left ≢ sought) walked.0 link walk.avoids (λ same. other (sym label ∙ same));
         tags = ap (λ (tags : List Why). tags ++ link.why ∷ []) walk.tags
-            ∙ append_assoc before (map (λ (edge : Edge). edge.why) walked.0) (link.why ∷ [])
-            ∙ ap (λ (tags : List Why). before ++ tags) (sym (map_push (λ (edge : Edge). edge.why) walked.0 link));
+            ∙ append_assoc before (map (λ (demand : Demand). demand.why) walked.0) (link.why ∷ [])
+            ∙ ap (λ (tags : List Why). before ++ tags) (sym (map_push (λ (demand : Demand). demand.why) walked.0 link));
       },
     )
 
 -- a walk that is not at zero has fewer links than there are numbers
-pub length-walked : (links : List Edge) (labelled : IsLabelled links) (rooted : IsRooted links) (from sought stands : ℕ) (before after : List Why) →
+pub length-walked : (links : List Demand) (labelled : IsLabelled links) (rooted : IsRooted links) (from sought stands : ℕ) (before after : List Why) →
     Walked links from sought stands before after → 0 < stands → stands < length links →
     length after < length before + length links
 length-walked links labelled rooted from sought stands before after walked up inside =
@@ -46,21 +46,21 @@ length-walked links labelled rooted from sought stands before after walked up in
       arith,
       length-append walked.0 rest.0,
       ap length walk.tags,
-      length-append before (map (λ (edge : Edge). edge.why) walked.0),
-      length-map walked.0 (λ (edge : Edge). edge.why),
+      length-append before (map (λ (demand : Demand). demand.why) walked.0),
+      length-map walked.0 (λ (demand : Demand). demand.why),
     )
 
 -- the right side of a link is a number
-pub link_right : (links : List Edge) (rooted : IsRooted links) (stands : ℕ) (link : Edge) →
-    0 < stands → slice_get links stands ≡ Some link → link.right < length links
+pub link_right : (links : List Demand) (rooted : IsRooted links) (stands : ℕ) (link : Demand) →
+    0 < stands → slice_get links stands ≡ Some link → link.constraint.right < length links
 link_right links rooted stands link up at =
     let rest = rooted stands (slice_get_within links stands link at) in
     Climbs_right links stands link rest.0 rest.1 up at
 
 -- what the code reads past the end of the links
-abbrev pub no_edge : Edge
-no_edge = record { left = 0; right = 0; most = pos 0; why = Floor 0 }
+abbrev pub no_link : Demand
+no_link = record { constraint = record { left = 0; right = 0; most = pos 0 }; why = Floor 0 }
 
 -- what the code reads is the link
-pub link_read : (links : List Edge) (stands : ℕ) → stands < length links → slice_get links stands ≡ Some (get_or links stands no_edge)
-link_read links stands inside = slice_get-get_or links stands no_edge inside
+pub link_read : (links : List Demand) (stands : ℕ) → stands < length links → slice_get links stands ≡ Some (get_or links stands no_link)
+link_read links stands inside = slice_get-get_or links stands no_link inside

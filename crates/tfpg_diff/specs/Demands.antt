@@ -1,10 +1,10 @@
--- What a system demands of its variables: their bounds and the picks, each as a difference constraint with the tag that
--- a cycle names it by. Number 0 is the constant zero, and the variable `v` is the number `v + 1`.
+-- What a system demands of its variables: their bounds and the picks, each as a constraint with the tag that a cycle names
+-- it by. Number 0 is the constant zero, and the variable `v` is the number `v + 1`.
 use Rattle.std.specs.Prelude.{◌≡◌, ◌⊎◌, ℕ, ◌+◌, pos, neg_ℤ, List, Contains, Some, slice_get}
 use Rattle.tfpg_diff.specs.declared.why.Why.TheVariants.{Given}
 use Rattle.tfpg_diff.specs.declared.bounds.Bounds.{Bounds}
 use Rattle.tfpg_diff.specs.declared.pick.Pick.{Pick}
-use Rattle.tfpg_diff.specs.declared.edge.Edge.{Edge}
+use Rattle.tfpg_diff.specs.declared.demand.Demand.{Demand}
 
 -- The bounds of each variable, and the stack of picks, the first pick first.
 pub record Demands : Type 0 where
@@ -12,24 +12,26 @@ pub record Demands : Type 0 where
   pub picks : List Pick
 
 -- The upper bound of a variable: it less zero is at most that.
-abbrev pub ceiling_of : ℕ → Bounds → Edge
-ceiling_of variable bounds = record { left = variable + 1; right = 0; most = pos bounds.ceiling; why = bounds.ceiling_why }
+abbrev pub ceiling_of : ℕ → Bounds → Demand
+ceiling_of variable bounds =
+    record { constraint = record { left = variable + 1; right = 0; most = pos bounds.ceiling }; why = bounds.ceiling_why }
 
 -- The lower bound of a variable: zero less it is at most minus that.
-abbrev pub floor_of : ℕ → Bounds → Edge
-floor_of variable bounds = record { left = 0; right = variable + 1; most = neg_ℤ (pos bounds.floor); why = bounds.floor_why }
+abbrev pub floor_of : ℕ → Bounds → Demand
+floor_of variable bounds =
+    record { constraint = record { left = 0; right = variable + 1; most = neg_ℤ (pos bounds.floor) }; why = bounds.floor_why }
 
 -- A pick: its constraint, with its tag.
-abbrev pub edge_of : Pick → Edge
-edge_of pick = record { left = pick.constraint.left; right = pick.constraint.right; most = pick.constraint.most; why = Given pick.tag }
+abbrev pub picked : Pick → Demand
+picked pick = record { constraint = pick.constraint; why = Given pick.tag }
 
 -- These are the bounds of that variable.
 abbrev pub Bounded : Demands → ℕ → Bounds → Type 0
 Bounded demands variable bounds = slice_get demands.bounds variable ≡ Some bounds
 
--- The constraint is the upper bound of a variable, the lower bound of one, or a pick.
-abbrev pub Demanded : Demands → Edge → Type 0
-Demanded demands edge =
-    ((variable : ℕ) × (bounds : Bounds) × Bounded demands variable bounds × (edge ≡ ceiling_of variable bounds))
-    ⊎ (((variable : ℕ) × (bounds : Bounds) × Bounded demands variable bounds × (edge ≡ floor_of variable bounds))
-    ⊎ ((pick : Pick) × Contains demands.picks pick × (edge ≡ edge_of pick)))
+-- It is the upper bound of a variable, the lower bound of one, or a pick.
+abbrev pub Demanded : Demands → Demand → Type 0
+Demanded demands demand =
+    ((variable : ℕ) × (bounds : Bounds) × Bounded demands variable bounds × (demand ≡ ceiling_of variable bounds))
+    ⊎ (((variable : ℕ) × (bounds : Bounds) × Bounded demands variable bounds × (demand ≡ floor_of variable bounds))
+    ⊎ ((pick : Pick) × Contains demands.picks pick × (demand ≡ picked pick)))

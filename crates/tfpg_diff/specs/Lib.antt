@@ -1,5 +1,8 @@
+-- What the contracts say.
 pub mod Demands
 pub mod Solution
 pub mod Cycle
 pub mod State
-pub mod Kept
+
+-- What the code and its proofs need besides. Nothing above reaches it.
+pub mod inside

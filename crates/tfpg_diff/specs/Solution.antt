@@ -1,16 +1,19 @@
--- Solutions of what a system demands: a time for each variable that meets every constraint.
-use Rattle.std.specs.Prelude.{◌≡◌, ℕ, ◌<◌, ◌≤◌, pos, ◌+ℤ◌, ◌≤ℤ◌, List, ◌∷◌, length, slice_index}
-use Rattle.tfpg_diff.specs.declared.edge.Edge.{Edge}
-use Rattle.tfpg_diff.specs.Demands.{Demands, Demanded}
+-- Solutions of what a system demands: a time for each variable, between its bounds, that meet every pick.
+use Rattle.std.specs.Prelude.{◌≡◌, ℕ, ◌<◌, ◌≤◌, List, length, slice_index, All}
+use Rattle.tfpg_base.specs.Constraint.{Meets}
+use Rattle.tfpg_diff.specs.declared.bounds.Bounds.{Bounds}
+use Rattle.tfpg_diff.specs.Demands.{Demands, Bounded}
 
--- The left side less the right side is at most the bound, where these are the times of the numbers from 0 on.
-abbrev pub Meets : List ℕ → Edge → Type 0
-Meets times edge = pos (slice_index times edge.left) ≤ℤ (pos (slice_index times edge.right) +ℤ edge.most)
+-- The time lies between the bounds.
+pub record IsBetween (bounds : Bounds) (time : ℕ) : Type 0 where
+  pub above : bounds.floor ≤ time
+  pub below : time ≤ bounds.ceiling
 
--- There is a time for each variable, and with zero in front of them they meet each constraint.
+-- There is a time for each variable; it lies between its bounds, and the times meet the constraint of each pick.
 pub record IsSolution (demands : Demands) (times : List ℕ) : Type 0 where
   pub complete : length times ≡ length demands.bounds
-  pub meets : (edge : Edge) → Demanded demands edge → Meets (0 ∷ times) edge
+  pub between : (variable : ℕ) (bounds : Bounds) → Bounded demands variable bounds → IsBetween bounds (slice_index times variable)
+  pub met : All (λ pick. Meets times pick.constraint) demands.picks
 
 -- A solution that gives each variable the greatest time that any solution gives it.
 pub record IsLatest (demands : Demands) (times : List ℕ) : Type 0 where
@@ -18,10 +21,10 @@ pub record IsLatest (demands : Demands) (times : List ℕ) : Type 0 where
   pub greatest : (other : List ℕ) → IsSolution demands other →
       (variable : ℕ) → variable < length times → slice_index other variable ≤ slice_index times variable
 
--- No times meet all constraints.
+-- No times meet all demands.
 abbrev pub HasNoSolution : Demands → Type 0
 HasNoSolution demands = (times : List ℕ) → IsSolution demands times → ⊥
 
--- Some times meet all constraints.
+-- Some times meet all demands.
 abbrev pub HasSolution : Demands → Type 0
 HasSolution demands = (times : List ℕ) × IsSolution demands times

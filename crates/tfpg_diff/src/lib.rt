@@ -6,14 +6,23 @@
 //!   [`System::solution`] lends the latest solution.
 //! - [`Conflict`] is the answer where there would be no solution; [`System::cycle`] then lends the tags, [`Why`], of
 //!   constraints that chain into a cycle whose bounds sum up to less than 0.
-//! - [`Bounds`], [`Pick`] and [`Edge`] are what contracts see of a system.
+//! - [`Bounds`], [`Pick`] and [`Demand`] are what contracts see of a system.
 //!
 //! In [`tfpg_base::Constraint`] number 0 is the constant zero and the variable `v` is number `v + 1`; `raise` and `lower`
-//! take the variable itself. Say that variable 0 is at least 5 and variable 1 at most 7. Then a push of
-//! `0 - 1 <= -4`, written with the numbers 1 and 2, is a conflict: variable 1 would have to be at least 9. Its cycle has
-//! the tags of the two bounds and of the push.
+//! take the variable itself. Here variable 1 is to be at least 4 after variable 0. That would put it at 9 at the earliest,
+//! which it may not be:
 //!
-//! The system keeps a value for each variable and the constraint that the value comes from, and lowers values until no
+//! ```
+//! let mut system = System::new(alloc, 2)?;
+//! system.reserve(1)?;
+//! let _ = system.raise(0, 5, 50, &mut work);
+//! let _ = system.lower(1, 7, 70, &mut work);
+//! let after = Constraint { left: 1, right: 2, most: -4 };
+//! assert!(rt; system.push(after, 45, &mut work).is_err());
+//! assert_eq!(rt; system.cycle(), [Why::Given(45), Why::Given(70), Why::Given(50)].as_slice());
+//! ```
+//!
+//! The system keeps a value for each variable and the demand that the value comes from, and lowers values until no
 //! constraint is broken (Bellman and Ford; Dechter, Meiri and Pearl on simple temporal problems; Cotton and Maler on
 //! adding constraints one by one). `docs/difference-systems.md` says why this is right.
 //!
@@ -21,19 +30,17 @@
 #![tactic(auto)]
 
 mod bounds;
-mod edge;
+mod demand;
+mod labels;
 mod pick;
 mod relax;
 mod settle;
 mod system;
-#[cfg(test)]
-mod tests;
-mod trace;
-mod tree;
+mod walk;
 mod why;
 
 pub use bounds::Bounds;
-pub use edge::Edge;
+pub use demand::Demand;
 pub use pick::Pick;
 pub use system::System;
 pub use why::{Conflict, Why};

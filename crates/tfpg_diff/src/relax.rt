@@ -1,56 +1,53 @@
 //! One test of one constraint, and what follows where the values break it.
 
 ghost use Rattle.std.specs.Prelude.{◌≡◌, ◌^◌, ◌+◌, ◌<◌, ◌≤◌, pos, ◌+ℤ◌, ◌≤ℤ◌, ◌<ℤ◌, [], ◌∷◌, ◌++◌, length, vec_len, vec_capacity, IsTrue, IfOk, OnOk, OnErr, IfSome, IsNone, if◌then◌else◌, slice_index, slice_get, All, Some, false, true};
-ghost use Rattle.tfpg_diff.specs.Demands.{edge_of};
-ghost use Rattle.tfpg_diff.specs.Solution.{Meets};
+ghost use Rattle.tfpg_diff.specs.Demands.{picked};
 ghost use Rattle.tfpg_diff.specs.Cycle.{NamesNegativeCycle};
 ghost use Rattle.tfpg_base.specs.Times.{never};
-ghost use Rattle.tfpg_diff.specs.Kept.{IsRooted, IsLabelled, Walked, IsSound, IsKept, Relaxes, demands_of};
+ghost use Rattle.tfpg_diff.specs.inside.Kept.{IsMetBy, IsRooted, IsLabelled, Walked, IsSound, IsKept, Relaxes, demands_of};
 
 use crate::bounds::Bounds;
-use crate::edge::Edge;
+use crate::demand::Demand;
 use crate::pick::Pick;
-use crate::trace::{note, trace};
-use crate::tree::Tree;
+use crate::walk::{note, walk};
+use crate::labels::Labels;
 use crate::why::{Conflict, Why};
 
-/// The pick in the form that bounds share.
-pub(crate) fn edge_of_pick(pick: &Pick) -> Edge
-    ensures { result ≡ edge_of pick.now }
+/// The pick in the form that it shares with bounds.
+pub(crate) fn picked(pick: &Pick) -> Demand
+    ensures { result ≡ picked pick.now }
 {
-    Edge {
-        left: pick.constraint.left,
-        right: pick.constraint.right,
-        most: pick.constraint.most,
+    Demand {
+        constraint: pick.constraint,
         why: Why::Given(pick.tag),
     }
 }
 
 /// Whether the values break the constraint. A difference of two values fits, whatever the bound is.
-pub(crate) fn is_broken(values: &[u64], edge: Edge) -> bool
-    requires left { edge.left < length values.now }
-    requires right { edge.right < length values.now }
+pub(crate) fn is_broken(values: &[u64], demand: Demand) -> bool
+    requires left { demand.constraint.left < length values.now }
+    requires right { demand.constraint.right < length values.now }
     requires small { All (λ value. value ≤ never) values.now }
-    ensures met { result ≡ false → Meets values.now edge }
-    ensures broken { result ≡ true → (pos (slice_index values.now edge.right) +ℤ edge.most) <ℤ pos (slice_index values.now edge.left) }
+    ensures met { result ≡ false → IsMetBy values.now demand }
+    ensures broken { result ≡ true → (pos (slice_index values.now demand.constraint.right) +ℤ demand.constraint.most) <ℤ pos (slice_index values.now demand.constraint.left) }
 {
-    let left = values[edge.left as usize] as i64;
-    let right = values[edge.right as usize] as i64;
-    left - right > edge.most
+    let left = values[demand.constraint.left as usize] as i64;
+    let right = values[demand.constraint.right as usize] as i64;
+    left - right > demand.constraint.most
 }
 
 /// The greatest value that a broken constraint allows its left side, where that is not below a floor.
-pub(crate) fn allowed(values: &[u64], edge: Edge, floor: u64) -> Option<u64>
-    requires left { edge.left < length values.now }
-    requires right { edge.right < length values.now }
+pub(crate) fn allowed(values: &[u64], demand: Demand, floor: u64) -> Option<u64>
+    requires left { demand.constraint.left < length values.now }
+    requires right { demand.constraint.right < length values.now }
     requires small { All (λ value. value ≤ never) values.now }
     requires low { floor ≤ never }
-    requires broken { (pos (slice_index values.now edge.right) +ℤ edge.most) <ℤ pos (slice_index values.now edge.left) }
-    ensures below { IsNone result → (pos (slice_index values.now edge.right) +ℤ edge.most) <ℤ pos floor }
-    ensures value { IfSome result (λ value. pos value ≡ (pos (slice_index values.now edge.right) +ℤ edge.most)) }
+    requires broken { (pos (slice_index values.now demand.constraint.right) +ℤ demand.constraint.most) <ℤ pos (slice_index values.now demand.constraint.left) }
+    ensures below { IsNone result → (pos (slice_index values.now demand.constraint.right) +ℤ demand.constraint.most) <ℤ pos floor }
+    ensures value { IfSome result (λ value. pos value ≡ (pos (slice_index values.now demand.constraint.right) +ℤ demand.constraint.most)) }
     ensures above { IfSome result (λ value. floor ≤ value) }
 {
-    let value = values[edge.right as usize] as i64 + edge.most;
+    let value = values[demand.constraint.right as usize] as i64 + demand.constraint.most;
     if value < floor as i64 {
         return None;
     }
@@ -60,7 +57,7 @@ pub(crate) fn allowed(values: &[u64], edge: Edge, floor: u64) -> Option<u64>
 /// Begins a cycle with the tag of a constraint, and walks from its right side up to its left side or to zero.
 /// Answers whether the walk ended at the left side.
 pub(crate) fn begin_cycle(
-    links: &[Edge],
+    links: &[Demand],
     right: u32,
     left: u32,
     why: Why,
@@ -76,7 +73,7 @@ pub(crate) fn begin_cycle(
 {
     cycle.clear();
     note(cycle, why);
-    trace(links, right, left, cycle)
+    walk(links, right, left, cycle)
 }
 
 /// Tests one pick, and where the values break it lowers the value of its left side. Answers whether it did.
@@ -87,31 +84,31 @@ pub(crate) fn relax(
     bounds: &[Bounds],
     picks: &[Pick],
     place: usize,
-    tree: &mut Tree,
+    labels: &mut Labels,
     cycle: &mut Vec<Why>,
 ) -> Result<bool, Conflict>
     requires place { place < length picks.now }
     requires sound { IsSound (demands_of bounds.now picks.now) }
-    requires kept { IsKept (demands_of bounds.now picks.now) tree.old.values.items tree.old.links.items }
+    requires kept { IsKept (demands_of bounds.now picks.now) labels.old.values.items labels.old.links.items }
     requires room { length bounds.now + 3 ≤ vec_capacity cycle.old }
-    ensures kept { IsKept (demands_of bounds.now picks.now) tree.new.values.items tree.new.links.items }
-    ensures relaxes { IfOk result (λ lowered. Relaxes picks.now place tree.old.values.items lowered tree.new.values.items) }
+    ensures kept { IsKept (demands_of bounds.now picks.now) labels.new.values.items labels.new.links.items }
+    ensures relaxes { IfOk result (λ lowered. Relaxes picks.now place labels.old.values.items lowered labels.new.values.items) }
     ensures cycle { OnErr result (NamesNegativeCycle (demands_of bounds.now picks.now) cycle.new.items) }
     ensures capacity { vec_capacity cycle.old ≤ vec_capacity cycle.new }
 {
-    let edge = edge_of_pick(&picks[place]);
-    if !is_broken(&tree.values, edge) {
+    let demand = picked(&picks[place]);
+    if !is_broken(&labels.values, demand) {
         return Ok(false);
     }
-    if begin_cycle(&tree.links, edge.right, edge.left, edge.why, cycle) {
+    if begin_cycle(&labels.links, demand.constraint.right, demand.constraint.left, demand.why, cycle) {
         return Err(Conflict);
     }
-    let bounds = bounds[edge.left as usize - 1];
-    let Some(value) = allowed(&tree.values, edge, bounds.floor) else {
+    let bounds = bounds[demand.constraint.left as usize - 1];
+    let Some(value) = allowed(&labels.values, demand, bounds.floor) else {
         note(cycle, bounds.floor_why);
         return Err(Conflict);
     };
-    tree.values[edge.left as usize] = value;
-    tree.links[edge.left as usize] = edge;
+    labels.values[demand.constraint.left as usize] = value;
+    labels.links[demand.constraint.left as usize] = demand;
     Ok(true)
 }

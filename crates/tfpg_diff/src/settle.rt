@@ -5,15 +5,16 @@ ghost use Rattle.tfpg_diff.specs.declared.bounds.Bounds.{Bounds as BoundsOf};
 ghost use Rattle.tfpg_diff.specs.Demands.{ceiling_of};
 ghost use Rattle.tfpg_diff.specs.Cycle.{NamesNegativeCycle};
 ghost use Rattle.tfpg_base.specs.Times.{never};
-ghost use Rattle.tfpg_diff.specs.Kept.{IsSound, IsKept, IsStart, MeetsPicks, Passes, demands_of};
+ghost use Rattle.tfpg_diff.specs.inside.Kept.{IsSound, IsKept, IsStart, MeetsPicks, Passes, demands_of};
 
 use crate::bounds::Bounds;
-use crate::edge::Edge;
+use crate::demand::Demand;
 use crate::pick::Pick;
 use crate::relax::relax;
-use crate::tree::Tree;
+use crate::labels::Labels;
 use crate::why::{Conflict, Why};
 use std::mem;
+use tfpg_base::Constraint;
 
 /// Tests each pick once. Answers whether any was broken.
 ///
@@ -21,20 +22,20 @@ use std::mem;
 fn pass(
     bounds: &[Bounds],
     picks: &[Pick],
-    tree: &mut Tree,
+    labels: &mut Labels,
     cycle: &mut Vec<Why>,
 ) -> Result<bool, Conflict>
     requires sound { IsSound (demands_of bounds.now picks.now) }
-    requires kept { IsKept (demands_of bounds.now picks.now) tree.old.values.items tree.old.links.items }
+    requires kept { IsKept (demands_of bounds.now picks.now) labels.old.values.items labels.old.links.items }
     requires room { length bounds.now + 3 ≤ vec_capacity cycle.old }
-    ensures kept { IsKept (demands_of bounds.now picks.now) tree.new.values.items tree.new.links.items }
-    ensures passes { IfOk result (λ lowered. Passes picks.now tree.old.values.items lowered tree.new.values.items) }
+    ensures kept { IsKept (demands_of bounds.now picks.now) labels.new.values.items labels.new.links.items }
+    ensures passes { IfOk result (λ lowered. Passes picks.now labels.old.values.items lowered labels.new.values.items) }
     ensures cycle { OnErr result (NamesNegativeCycle (demands_of bounds.now picks.now) cycle.new.items) }
     ensures capacity { vec_capacity cycle.old ≤ vec_capacity cycle.new }
 {
     let mut lowered = false;
     for place in 0..picks.len() {
-        if relax(bounds, picks, place, tree, cycle)? {
+        if relax(bounds, picks, place, labels, cycle)? {
             lowered = true;
         }
     }
@@ -48,63 +49,65 @@ fn pass(
 pub(crate) fn settle(
     bounds: &[Bounds],
     picks: &[Pick],
-    tree: &mut Tree,
+    labels: &mut Labels,
     cycle: &mut Vec<Why>,
 ) -> Result<(), Conflict>
     requires sound { IsSound (demands_of bounds.now picks.now) }
-    requires kept { IsKept (demands_of bounds.now picks.now) tree.old.values.items tree.old.links.items }
+    requires kept { IsKept (demands_of bounds.now picks.now) labels.old.values.items labels.old.links.items }
     requires room { length bounds.now + 3 ≤ vec_capacity cycle.old }
-    ensures kept { IsKept (demands_of bounds.now picks.now) tree.new.values.items tree.new.links.items }
-    ensures met { OnOk result (MeetsPicks tree.new.values.items picks.now) }
+    ensures kept { IsKept (demands_of bounds.now picks.now) labels.new.values.items labels.new.links.items }
+    ensures met { OnOk result (MeetsPicks labels.new.values.items picks.now) }
     ensures cycle { OnErr result (NamesNegativeCycle (demands_of bounds.now picks.now) cycle.new.items) }
     ensures capacity { vec_capacity cycle.old ≤ vec_capacity cycle.new }
 {
     loop {
-        if !pass(bounds, picks, tree, cycle)? {
+        if !pass(bounds, picks, labels, cycle)? {
             return Ok(());
         }
     }
 }
 
 /// The upper bound of a variable as a constraint. The bound is below 2^63.
-pub(crate) fn ceiling_edge(variable: u32, bounds: Bounds) -> Edge
+pub(crate) fn ceiling_of(variable: u32, bounds: Bounds) -> Demand
     requires variable { variable < 2 ^ 32 - 1 }
     requires small { bounds.ceiling ≤ never }
     ensures { result ≡ ceiling_of variable bounds }
 {
-    Edge {
-        left: variable + 1,
-        right: 0,
-        most: bounds.ceiling as i64,
+    Demand {
+        constraint: Constraint {
+            left: variable + 1,
+            right: 0,
+            most: bounds.ceiling as i64,
+        },
         why: bounds.ceiling_why,
     }
 }
 
 /// Gives each variable the value of its upper bound, and that bound as its link.
-pub(crate) fn start(bounds: &[Bounds], tree: &mut Tree)
+pub(crate) fn start(bounds: &[Bounds], labels: &mut Labels)
     requires few { length bounds.now < 2 ^ 32 }
     requires ceilings { (variable : ℕ) (limits : BoundsOf) → slice_get bounds.now variable ≡ Some limits → limits.ceiling ≤ never }
-    requires values { vec_len tree.old.values ≡ length bounds.now + 1 }
-    requires links { vec_len tree.old.links ≡ length bounds.now + 1 }
-    requires zero { slice_index tree.old.values.items 0 ≡ 0 }
-    ensures { IsStart bounds.now tree.new.values.items tree.new.links.items (length bounds.now) }
+    requires values { vec_len labels.old.values ≡ length bounds.now + 1 }
+    requires links { vec_len labels.old.links ≡ length bounds.now + 1 }
+    requires zero { slice_index labels.old.values.items 0 ≡ 0 }
+    ensures { IsStart bounds.now labels.new.values.items labels.new.links.items (length bounds.now) }
 {
     for variable in 0..bounds.len() {
         let limits = bounds[variable];
-        tree.values[variable + 1] = limits.ceiling;
-        tree.links[variable + 1] = ceiling_edge(variable as u32, limits);
+        labels.values[variable + 1] = limits.ceiling;
+        labels.links[variable + 1] = ceiling_of(variable as u32, limits);
     }
 }
 
 /// Copies values and links. It allocates nothing.
-pub(crate) fn save(tree: &Tree, into: &mut Tree)
-    requires values { vec_len into.old.values ≡ vec_len tree.now.values }
-    requires links { vec_len into.old.links ≡ vec_len tree.now.links }
-    ensures values { into.new.values.items ≡ tree.now.values.items }
-    ensures links { into.new.links.items ≡ tree.now.links.items }
+pub(crate) fn save(labels: &Labels, into: &mut Labels)
+    requires values { vec_len into.old.values ≡ vec_len labels.now.values }
+    requires links { vec_len into.old.links ≡ vec_len labels.now.links }
+    ensures values { into.new.values.items ≡ labels.now.values.items }
+    ensures links { into.new.links.items ≡ labels.now.links.items }
 {
-    into.values.copy_from_slice(&tree.values);
-    into.links.copy_from_slice(&tree.links);
+    into.values.copy_from_slice(&labels.values);
+    into.links.copy_from_slice(&labels.links);
 }
 
 /// Lowers values until they meet every pick, and puts the backup in their place where that can't be.
@@ -113,28 +116,28 @@ pub(crate) fn save(tree: &Tree, into: &mut Tree)
 pub(crate) fn settle_or_restore(
     bounds: &[Bounds],
     picks: &[Pick],
-    tree: &mut Tree,
-    backup: &mut Tree,
+    labels: &mut Labels,
+    backup: &mut Labels,
     cycle: &mut Vec<Why>,
 ) -> Result<(), Conflict>
     requires sound { IsSound (demands_of bounds.now picks.now) }
-    requires kept { IsKept (demands_of bounds.now picks.now) tree.old.values.items tree.old.links.items }
+    requires kept { IsKept (demands_of bounds.now picks.now) labels.old.values.items labels.old.links.items }
     requires room { length bounds.now + 3 ≤ vec_capacity cycle.old }
     requires backup_values { length backup.old.values.items ≡ length bounds.now + 1 }
     requires backup_links { length backup.old.links.items ≡ length bounds.now + 1 }
-    ensures kept { OnOk result (IsKept (demands_of bounds.now picks.now) tree.new.values.items tree.new.links.items) }
-    ensures met { OnOk result (MeetsPicks tree.new.values.items picks.now) }
-    ensures values { OnErr result (tree.new.values.items ≡ backup.old.values.items) }
-    ensures links { OnErr result (tree.new.links.items ≡ backup.old.links.items) }
+    ensures kept { OnOk result (IsKept (demands_of bounds.now picks.now) labels.new.values.items labels.new.links.items) }
+    ensures met { OnOk result (MeetsPicks labels.new.values.items picks.now) }
+    ensures values { OnErr result (labels.new.values.items ≡ backup.old.values.items) }
+    ensures links { OnErr result (labels.new.links.items ≡ backup.old.links.items) }
     ensures cycle { OnErr result (NamesNegativeCycle (demands_of bounds.now picks.now) cycle.new.items) }
     ensures backup_values { length backup.new.values.items ≡ length bounds.now + 1 }
     ensures backup_links { length backup.new.links.items ≡ length bounds.now + 1 }
     ensures capacity { vec_capacity cycle.old ≤ vec_capacity cycle.new }
 {
-    match settle(bounds, picks, tree, cycle) {
+    match settle(bounds, picks, labels, cycle) {
         Ok(()) => Ok(()),
         Err(Conflict) => {
-            mem::swap(tree, backup);
+            mem::swap(labels, backup);
             Err(Conflict)
         }
     }

@@ -6,12 +6,12 @@ ghost use Rattle.tfpg_base.specs.Times.{never};
 ghost use Rattle.tfpg_diff.specs.State.{unbounded_from, with_floor, with_ceiling, with_pick, popped_to, Adds};
 
 use crate::bounds::{Bounds, unbounded};
-use crate::edge::Edge;
+use crate::demand::Demand;
 use crate::pick::Pick;
-use crate::relax::{begin_cycle, edge_of_pick, is_broken};
-use crate::settle::{ceiling_edge, save, settle, settle_or_restore, start};
-use crate::trace::note;
-use crate::tree::Tree;
+use crate::relax::{begin_cycle, picked, is_broken};
+use crate::settle::{ceiling_of, save, settle, settle_or_restore, start};
+use crate::walk::note;
+use crate::labels::Labels;
 use crate::why::{Conflict, Why};
 use std::alloc::Global;
 use std::marker::Model;
@@ -23,8 +23,8 @@ use tfpg_base::{Constraint, NoMemory, Steps};
 pub struct System {
     bounds: Vec<Bounds>,
     picks: Vec<Pick>,
-    tree: Tree,
-    backup: Tree,
+    labels: Labels,
+    backup: Labels,
     cycle: Vec<Why>,
 }
 
@@ -34,11 +34,11 @@ impl Model for System {
 
     ghost Value = { State };
 
-    ghost use Rattle.tfpg_diff.specs.Kept.{IsSettled, demands_of};
+    ghost use Rattle.tfpg_diff.specs.inside.Kept.{IsReady, demands_of};
 
     ghost view = { λ s. record { demands = demands_of s.bounds.items s.picks.items; spare = vec_capacity s.picks - vec_len s.picks; cycle = s.cycle.items } };
 
-    ghost invariant = { λ s. IsSettled s.bounds.items s.picks.items s.tree.values.items s.tree.links.items s.backup.values.items s.backup.links.items (vec_capacity s.cycle) };
+    ghost invariant = { λ s. IsReady s.bounds.items s.picks.items s.labels.values.items s.labels.links.items s.backup.values.items s.backup.links.items (vec_capacity s.cycle) };
 }
 
 impl System {
@@ -52,14 +52,14 @@ impl System {
     {
         let numbers = count as usize + 1;
         let bounds = unbounded(alloc, count)?;
-        let mut tree = Tree::new(alloc, numbers)?;
-        let backup = Tree::new(alloc, numbers)?;
+        let mut labels = Labels::new(alloc, numbers)?;
+        let backup = Labels::new(alloc, numbers)?;
         let cycle = Vec::with_capacity(alloc, numbers + 2)?;
-        start(&bounds, &mut tree);
+        start(&bounds, &mut labels);
         Ok(System {
             bounds,
             picks: Vec::new(alloc),
-            tree,
+            labels,
             backup,
             cycle,
         })
@@ -82,7 +82,7 @@ impl System {
         ensures latest { IsLatest self.now.demands result.now }
         ensures within { All (λ time. time ≤ never) result.now }
     {
-        &self.tree.values[1..]
+        &self.labels.values[1..]
     }
 
     /// Lends the tags of the negative cycle that the last call found, where its answer was Conflict.
@@ -170,8 +170,8 @@ impl System {
             return;
         }
         self.picks.truncate(len);
-        start(&self.bounds, &mut self.tree);
-        match settle(&self.bounds, &self.picks, &mut self.tree, &mut self.cycle) {
+        start(&self.bounds, &mut self.labels);
+        match settle(&self.bounds, &self.picks, &mut self.labels, &mut self.cycle) {
             Ok(()) => {}
             Err(Conflict) => unreachable!(),
         }
@@ -189,9 +189,9 @@ impl System {
         if least <= old.floor {
             return Ok(());
         }
-        if self.tree.values[place + 1] < least {
+        if self.labels.values[place + 1] < least {
             begin_cycle(
-                &self.tree.links,
+                &self.labels.links,
                 variable + 1,
                 0,
                 Why::Given(tag),
@@ -231,16 +231,16 @@ impl System {
             ..old
         };
         self.bounds[place] = tighter;
-        if self.tree.values[place + 1] <= most {
+        if self.labels.values[place + 1] <= most {
             return Ok(());
         }
-        save(&self.tree, &mut self.backup);
-        self.tree.values[place + 1] = most;
-        self.tree.links[place + 1] = ceiling_edge(variable, tighter);
+        save(&self.labels, &mut self.backup);
+        self.labels.values[place + 1] = most;
+        self.labels.links[place + 1] = ceiling_of(variable, tighter);
         match settle_or_restore(
             &self.bounds,
             &self.picks,
-            &mut self.tree,
+            &mut self.labels,
             &mut self.backup,
             &mut self.cycle,
         ) {
@@ -261,14 +261,14 @@ impl System {
         ensures spare { self.old.spare ≤ self.new.spare + 1 }
     {
         let _ = self.picks.push(pick);
-        if !is_broken(&self.tree.values, edge_of_pick(&pick)) {
+        if !is_broken(&self.labels.values, picked(&pick)) {
             return Ok(());
         }
-        save(&self.tree, &mut self.backup);
+        save(&self.labels, &mut self.backup);
         match settle_or_restore(
             &self.bounds,
             &self.picks,
-            &mut self.tree,
+            &mut self.labels,
             &mut self.backup,
             &mut self.cycle,
         ) {

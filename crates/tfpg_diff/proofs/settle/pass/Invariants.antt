@@ -1,11 +1,11 @@
 -- The picks that were tested are met, or the values sum up to less.
 use Rattle.std.proofs.Common.{◌≤◌, take, vec_capacity}
-use Rattle.tfpg_diff.specs.Kept.{IsKept, Passes, demands_of}
+use Rattle.tfpg_diff.specs.inside.Kept.{IsKept, Passes, demands_of}
 use Rattle.tfpg_diff.proofs.settle.pass.Given as goal
 
 abbrev pub invariant-loop-place : goal.invariant-loop-place
 invariant-loop-place l = record {
-  kept : IsKept (demands_of l.bounds l.picks) l.tree.values.items l.tree.links.items;
-  passes : Passes (take l.place l.picks) l.initial.tree.values.items l.lowered l.tree.values.items;
+  kept : IsKept (demands_of l.bounds l.picks) l.labels.values.items l.labels.links.items;
+  passes : Passes (take l.place l.picks) l.initial.labels.values.items l.lowered l.labels.values.items;
   capacity : vec_capacity l.initial.cycle ≤ vec_capacity l.cycle;
 }

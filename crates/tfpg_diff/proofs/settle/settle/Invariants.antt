@@ -1,13 +1,13 @@
 -- Each pass that lowers leaves a smaller sum of the values.
 use Rattle.std.proofs.Common.{◌≤◌, sum, vec_capacity}
-use Rattle.tfpg_diff.specs.Kept.{IsKept, demands_of}
+use Rattle.tfpg_diff.specs.inside.Kept.{IsKept, demands_of}
 use Rattle.tfpg_diff.proofs.settle.settle.Given as goal
 
 abbrev pub invariant-loop : goal.invariant-loop
 invariant-loop l = record {
-  kept : IsKept (demands_of l.bounds l.picks) l.tree.values.items l.tree.links.items;
+  kept : IsKept (demands_of l.bounds l.picks) l.labels.values.items l.labels.links.items;
   capacity : vec_capacity l.initial.cycle ≤ vec_capacity l.cycle;
 }
 
 abbrev pub decreases-loop : goal.decreases-loop
-decreases-loop l = sum l.tree.values.items
+decreases-loop l = sum l.labels.values.items

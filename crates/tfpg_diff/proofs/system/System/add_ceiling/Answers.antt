@@ -3,7 +3,7 @@
 use Rattle.std.proofs.Common.{◌≡◌, ℕ, ◌+◌, ◌<◌, List, ◌∷◌, ◌++◌, [], length, set, Some, refl, sym, ◌∙◌, ap, subst, arith}
 use Rattle.std.specs.Prelude.{slice_get, slice_index, vec_capacity}
 use Rattle.std.proofs.lemmas.List.{get_or_read_under, set-set, length-set}
-use Rattle.tfpg_diff.specs.declared.edge.Edge.{Edge}
+use Rattle.tfpg_diff.specs.declared.demand.Demand.{Demand}
 use Rattle.tfpg_diff.specs.declared.why.Why.{Why}
 use Rattle.tfpg_diff.specs.declared.why.Why.TheVariants.{Given}
 use Rattle.tfpg_diff.specs.declared.bounds.Bounds.{Bounds}
@@ -12,7 +12,7 @@ use Rattle.tfpg_diff.specs.Solution.{HasSolution}
 use Rattle.tfpg_diff.proofs.Totals.{HasNoSolution-cycle}
 use Rattle.tfpg_diff.specs.Cycle.{NamesNegativeCycle}
 use Rattle.tfpg_diff.specs.State.{State, with_ceiling}
-use Rattle.tfpg_diff.specs.Kept.{IsKept, IsSound, demands_of}
+use Rattle.tfpg_diff.specs.inside.Kept.{IsKept, IsSound, demands_of}
 use Rattle.tfpg_diff.proofs.Bounding.{under}
 use Rattle.tfpg_diff.proofs.Updates.{set_same}
 use Rattle.tfpg_diff.proofs.Outcomes as outcome
@@ -25,16 +25,16 @@ seen c = ap (λ (s : State). s.demands) c.self.view_is
 
 -- the bounds that the variable has
 at : (c : After-index-old) → slice_get c.self.inside.bounds.items c.args.variable ≡ Some c.index-old.result.now
-at c = outcome.Bounded-old c.self.inside.bounds.items c.self.inside.picks.items c.self.inside.tree.values.items c.self.inside.tree.links.items
+at c = outcome.Bounded-old c.self.inside.bounds.items c.self.inside.picks.items c.self.inside.labels.values.items c.self.inside.labels.links.items
     c.self.inside.backup.values.items c.self.inside.backup.links.items (vec_capacity c.self.inside.cycle) c.self.invariant c.args.self.now.demands (seen c)
     c.args.variable c.index-old.result.now c.index-old.ensures c.requires
 
 -- the value of the variable, as the code reads it
-value : (c : After-index) → c.index.result.now ≡ slice_index c.self.inside.tree.values.items (c.args.variable + 1)
+value : (c : After-index) → c.index.result.now ≡ slice_index c.self.inside.labels.values.items (c.args.variable + 1)
 value c =
     let len = ap (λ (d : Demands). length d.bounds) (ap (λ (s : State). s.demands) c.self.view_is) in
     let all = c.self.invariant.kept.values_len in
-    get_or_read_under c.self.inside.tree.values.items (c.args.variable + 1) (length c.self.inside.tree.values.items) c.index.result.now 0 c.index.ensures (omega arith) refl
+    get_or_read_under c.self.inside.labels.values.items (c.args.variable + 1) (length c.self.inside.labels.values.items) c.index.result.now 0 c.index.ensures (omega arith) refl
 
 -- the lengthened demands, as the code reads them
 lengthened : (c : After-deref-2) → demands_of c.deref.result.now c.deref-2.result.now
@@ -45,13 +45,13 @@ lengthened c = outcome.demands_read (set c.self.inside.bounds.items c.args.varia
 -- the tighter ceiling is written
 written : (c : After-index-old) → c.args.most < c.index-old.result.now.ceiling → demands_of (set c.self.inside.bounds.items c.args.variable (under c.index-old.result.now c.args.most c.args.tag)) c.self.inside.picks.items
     ≡ with_ceiling c.args.self.now.demands c.args.variable c.args.most c.args.tag
-written c tighter = outcome.with_ceiling-set c.self.inside.bounds.items c.self.inside.picks.items c.self.inside.tree.values.items c.self.inside.tree.links.items
+written c tighter = outcome.with_ceiling-set c.self.inside.bounds.items c.self.inside.picks.items c.self.inside.labels.values.items c.self.inside.labels.links.items
     c.self.inside.backup.values.items c.self.inside.backup.links.items (vec_capacity c.self.inside.cycle) c.self.invariant c.args.self.now.demands (seen c)
     c.args.variable c.index-old.result.now c.args.most c.args.tag (at c) tighter
 
 -- the tighter demands are sound
 sound : (c : After-index-old) → c.args.most < c.index-old.result.now.ceiling → IsSound (demands_of (set c.self.inside.bounds.items c.args.variable (under c.index-old.result.now c.args.most c.args.tag)) c.self.inside.picks.items)
-sound c tighter = outcome.IsSound-ceiling c.self.inside.bounds.items c.self.inside.picks.items c.self.inside.tree.values.items c.self.inside.tree.links.items
+sound c tighter = outcome.IsSound-ceiling c.self.inside.bounds.items c.self.inside.picks.items c.self.inside.labels.values.items c.self.inside.labels.links.items
     c.self.inside.backup.values.items c.self.inside.backup.links.items (vec_capacity c.self.inside.cycle) c.self.invariant c.args.self.now.demands (seen c)
     c.args.variable c.index-old.result.now c.args.most c.args.tag (at c) tighter
 
@@ -64,7 +64,7 @@ restored c = set-set c.self.inside.bounds.items c.args.variable (under c.index-o
 pub returns-then-old-most-clause-adds : goal.returns-then-old-most-clause-adds
 returns-then-old-most-clause-adds c =
     let a = (goal.at.returns-then-old-most-clause-adds c).After-index-old in
-    outcome.adds_ceiling_same c.self.inside.bounds.items c.self.inside.picks.items c.self.inside.tree.values.items c.self.inside.tree.links.items
+    outcome.adds_ceiling_same c.self.inside.bounds.items c.self.inside.picks.items c.self.inside.labels.values.items c.self.inside.labels.links.items
     c.self.inside.backup.values.items c.self.inside.backup.links.items (vec_capacity c.self.inside.cycle) c.self.invariant c.args.self.now.demands (seen a)
     c.args.variable c.index-old.result.now c.args.most c.args.tag (at a) c.if-old-most.true
 
@@ -74,7 +74,7 @@ returns-then-most-old-clause-adds c =
     let tags : c.note-then-most-old.new.cycle.items ≡ Given c.args.tag ∷ c.index-old.result.now.floor_why ∷ [] =
     c.note-then-most-old.ensures.items
     ∙ ap (λ (ws : List Why). ws ++ c.index-old.result.now.floor_why ∷ []) (c.note.ensures.items ∙ ap (λ (ws : List Why). ws ++ Given c.args.tag ∷ []) c.clear.ensures.items) in
-    rw tags (outcome.adds_ceiling_below_floor c.self.inside.bounds.items c.self.inside.picks.items c.self.inside.tree.values.items c.self.inside.tree.links.items
+    rw tags (outcome.adds_ceiling_below_floor c.self.inside.bounds.items c.self.inside.picks.items c.self.inside.labels.values.items c.self.inside.labels.links.items
     c.self.inside.backup.values.items c.self.inside.backup.links.items (vec_capacity c.self.inside.cycle) c.self.invariant c.args.self.now.demands (seen a)
     c.args.variable c.index-old.result.now c.args.most c.args.tag (at a) c.if-old-most.false c.if-most-old.true)
 
@@ -82,7 +82,7 @@ pub invariant_of-self-then-index-most : goal.invariant_of-self-then-index-most
 invariant_of-self-then-index-most c =
     let a = (goal.at.invariant_of-self-then-index-most c).After-index-old in
     let read = value (goal.at.invariant_of-self-then-index-most c).After-index in
-    outcome.IsSettled-ceiling c.self.inside.bounds.items c.self.inside.picks.items c.self.inside.tree.values.items c.self.inside.tree.links.items
+    outcome.IsReady-ceiling c.self.inside.bounds.items c.self.inside.picks.items c.self.inside.labels.values.items c.self.inside.labels.links.items
     c.self.inside.backup.values.items c.self.inside.backup.links.items (vec_capacity c.self.inside.cycle) c.self.invariant c.args.self.now.demands (seen a)
     c.args.variable c.index-old.result.now c.args.most c.args.tag (at a) c.if-old-most.false (omega (arith, read, c.if-index-most.true))
 
@@ -90,13 +90,13 @@ pub returns-then-index-most-clause-adds : goal.returns-then-index-most-clause-ad
 returns-then-index-most-clause-adds c =
     let a = (goal.at.returns-then-index-most-clause-adds c).After-index-old in
     let read = value (goal.at.returns-then-index-most-clause-adds c).After-index in
-    outcome.adds_ceiling c.self.inside.bounds.items c.self.inside.picks.items c.self.inside.tree.values.items c.self.inside.tree.links.items
+    outcome.adds_ceiling c.self.inside.bounds.items c.self.inside.picks.items c.self.inside.labels.values.items c.self.inside.labels.links.items
     c.self.inside.backup.values.items c.self.inside.backup.links.items (vec_capacity c.self.inside.cycle) c.self.invariant c.args.self.now.demands (seen a)
     c.args.variable c.index-old.result.now c.args.most c.args.tag (at a) c.if-old-most.false (omega (arith, read, c.if-index-most.true))
 
-pub ceiling_edge-requires-clause-small : goal.ceiling_edge-requires-clause-small
-ceiling_edge-requires-clause-small c =
-    let low = c.self.invariant.sound.ceilings c.args.variable c.index-old.result.now (at (goal.at.ceiling_edge-requires-clause-small c).After-index-old) in
+pub ceiling_of-requires-clause-small : goal.ceiling_of-requires-clause-small
+ceiling_of-requires-clause-small c =
+    let low = c.self.invariant.sound.ceilings c.args.variable c.index-old.result.now (at (goal.at.ceiling_of-requires-clause-small c).After-index-old) in
     omega (arith, low, c.if-old-most.false)
 
 pub settle_or_restore-requires-clause-sound : goal.settle_or_restore-requires-clause-sound
@@ -108,12 +108,12 @@ pub settle_or_restore-requires-clause-kept : goal.settle_or_restore-requires-cla
 settle_or_restore-requires-clause-kept c =
     let a = (goal.at.settle_or_restore-requires-clause-kept c).After-index-old in
     let read = value (goal.at.settle_or_restore-requires-clause-kept c).After-index in
-    let new : List ℕ = set c.self.inside.tree.values.items (c.args.variable + 1) c.args.most in
-    subst (λ (d : Demands). IsKept d new (set c.self.inside.tree.links.items (c.args.variable + 1) c.ceiling_edge.result))
+    let new : List ℕ = set c.self.inside.labels.values.items (c.args.variable + 1) c.args.most in
+    subst (λ (d : Demands). IsKept d new (set c.self.inside.labels.links.items (c.args.variable + 1) c.ceiling_of.result))
     (sym (lengthened (goal.at.settle_or_restore-requires-clause-kept c).After-deref-2))
-    (subst (λ (e : Edge). IsKept (demands_of (set c.self.inside.bounds.items c.args.variable (under c.index-old.result.now c.args.most c.args.tag)) c.self.inside.picks.items)
-    new (set c.self.inside.tree.links.items (c.args.variable + 1) e)) (sym c.ceiling_edge.ensures)
-    (outcome.IsKept-ceiling_low c.self.inside.bounds.items c.self.inside.picks.items c.self.inside.tree.values.items c.self.inside.tree.links.items
+    (subst (λ (e : Demand). IsKept (demands_of (set c.self.inside.bounds.items c.args.variable (under c.index-old.result.now c.args.most c.args.tag)) c.self.inside.picks.items)
+    new (set c.self.inside.labels.links.items (c.args.variable + 1) e)) (sym c.ceiling_of.ensures)
+    (outcome.IsKept-ceiling_low c.self.inside.bounds.items c.self.inside.picks.items c.self.inside.labels.values.items c.self.inside.labels.links.items
     c.self.inside.backup.values.items c.self.inside.backup.links.items (vec_capacity c.self.inside.cycle) c.self.invariant c.args.self.now.demands (seen a)
     c.args.variable c.index-old.result.now c.args.most c.args.tag (at a) c.if-old-most.false c.if-most-old.false (omega (arith, read, c.if-index-most.false))))
 
@@ -121,9 +121,9 @@ pub invariant_of-self-in-Ok : goal.invariant_of-self-in-Ok
 invariant_of-self-in-Ok c =
     let same = length-set c.self.inside.bounds.items c.args.variable (under c.index-old.result.now c.args.most c.args.tag) in
     let room = c.self.invariant.room in
-    outcome.IsSettled-read (set c.self.inside.bounds.items c.args.variable (under c.index-old.result.now c.args.most c.args.tag)) c.deref.result.now
+    outcome.IsReady-read (set c.self.inside.bounds.items c.args.variable (under c.index-old.result.now c.args.most c.args.tag)) c.deref.result.now
     c.self.inside.picks.items c.deref-2.result.now c.deref.ensures.value c.deref-2.ensures.value
-    c.settle_or_restore.new.tree.values.items c.settle_or_restore.new.tree.links.items c.settle_or_restore.new.backup.values.items c.settle_or_restore.new.backup.links.items
+    c.settle_or_restore.new.labels.values.items c.settle_or_restore.new.labels.links.items c.settle_or_restore.new.backup.values.items c.settle_or_restore.new.backup.links.items
     (vec_capacity c.settle_or_restore.new.cycle) (sound (goal.at.invariant_of-self-in-Ok c).After-index-old c.if-old-most.false) c.in-Ok.ensures.kept c.in-Ok.ensures.met
     c.in-Ok.ensures.backup_values c.in-Ok.ensures.backup_links (omega (arith, same, room, c.in-Ok.ensures.capacity))
 
@@ -132,10 +132,10 @@ invariant_of-self-in-Err c =
     let a = (goal.at.invariant_of-self-in-Err c).After-index-old in
     let same = length-set c.self.inside.bounds.items c.args.variable (under c.index-old.result.now c.args.most c.args.tag) in
     let read = ap length c.deref.ensures.value in
-    outcome.IsSettled-restored c.self.inside.bounds.items c.self.inside.picks.items c.self.inside.tree.values.items c.self.inside.tree.links.items
+    outcome.IsReady-restored c.self.inside.bounds.items c.self.inside.picks.items c.self.inside.labels.values.items c.self.inside.labels.links.items
     c.self.inside.backup.values.items c.self.inside.backup.links.items (vec_capacity c.self.inside.cycle) c.self.invariant c.args.self.now.demands (seen a)
     (set (set c.self.inside.bounds.items c.args.variable (under c.index-old.result.now c.args.most c.args.tag)) c.args.variable c.index-old.result.now)
-    c.self.inside.picks.items c.settle_or_restore.new.tree.values.items c.settle_or_restore.new.tree.links.items
+    c.self.inside.picks.items c.settle_or_restore.new.labels.values.items c.settle_or_restore.new.labels.links.items
     c.settle_or_restore.new.backup.values.items c.settle_or_restore.new.backup.links.items (vec_capacity c.settle_or_restore.new.cycle)
     (restored a) refl (c.in-Err.ensures.values ∙ c.save.ensures.values) (c.in-Err.ensures.links ∙ c.save.ensures.links)
     (omega (arith, same, read, c.in-Err.ensures.backup_values)) (omega (arith, same, read, c.in-Err.ensures.backup_links)) c.in-Err.ensures.capacity
@@ -146,7 +146,7 @@ returns-in-Ok-clause-adds c =
     let same = lengthened (goal.at.returns-in-Ok-clause-adds c).After-deref-2 in (
       is,
       subst HasSolution (same ∙ is)
-          (outcome.HasSolution-kept (demands_of c.deref.result.now c.deref-2.result.now) c.settle_or_restore.new.tree.values.items c.settle_or_restore.new.tree.links.items
+          (outcome.HasSolution-kept (demands_of c.deref.result.now c.deref-2.result.now) c.settle_or_restore.new.labels.values.items c.settle_or_restore.new.labels.links.items
           c.in-Ok.ensures.kept c.in-Ok.ensures.met),
     )
 

@@ -2,11 +2,11 @@
 use Rattle.std.proofs.Common.{◌≡◌, ℕ, ◌+◌, Bool, true, false, List, ◌∷◌, [], length, Some, refl, sym, ap, subst, arith}
 use Rattle.std.specs.Prelude.{slice_get, slice_index, vec_capacity, if◌then◌else◌}
 use Rattle.std.proofs.lemmas.List.{get_or_read_under}
-use Rattle.tfpg_diff.specs.declared.edge.Edge.{Edge}
+use Rattle.tfpg_diff.specs.declared.demand.Demand.{Demand}
 use Rattle.tfpg_diff.specs.declared.why.Why.TheVariants.{Given}
 use Rattle.tfpg_diff.specs.Demands.{Demands}
 use Rattle.tfpg_diff.specs.State.{State}
-use Rattle.tfpg_diff.specs.Kept.{IsRooted, IsLabelled, Walked, demands_of}
+use Rattle.tfpg_diff.specs.inside.Kept.{IsRooted, IsLabelled, Walked, demands_of}
 use Rattle.tfpg_diff.proofs.Lowering.{Labelled-kept}
 use Rattle.tfpg_diff.proofs.Outcomes as outcome
 use Rattle.tfpg_diff.proofs.system.System.add_floor.Goals as goal
@@ -18,31 +18,31 @@ seen c = ap (λ (s : State). s.demands) c.self.view_is
 
 -- the bounds that the variable has
 at : (c : After-index-old) → slice_get c.self.inside.bounds.items c.args.variable ≡ Some c.index-old.result.now
-at c = outcome.Bounded-old c.self.inside.bounds.items c.self.inside.picks.items c.self.inside.tree.values.items c.self.inside.tree.links.items
+at c = outcome.Bounded-old c.self.inside.bounds.items c.self.inside.picks.items c.self.inside.labels.values.items c.self.inside.labels.links.items
     c.self.inside.backup.values.items c.self.inside.backup.links.items (vec_capacity c.self.inside.cycle) c.self.invariant c.args.self.now.demands (seen c)
     c.args.variable c.index-old.result.now c.index-old.ensures c.requires
 
 -- the value of the variable, as the code reads it
-value : (c : After-index) → c.index.result.now ≡ slice_index c.self.inside.tree.values.items (c.args.variable + 1)
+value : (c : After-index) → c.index.result.now ≡ slice_index c.self.inside.labels.values.items (c.args.variable + 1)
 value c =
     let len = ap (λ (d : Demands). length d.bounds) (ap (λ (s : State). s.demands) c.self.view_is) in
     let all = c.self.invariant.kept.values_len in
-    get_or_read_under c.self.inside.tree.values.items (c.args.variable + 1) (length c.self.inside.tree.values.items) c.index.result.now 0 c.index.ensures (omega arith) refl
+    get_or_read_under c.self.inside.labels.values.items (c.args.variable + 1) (length c.self.inside.labels.values.items) c.index.result.now 0 c.index.ensures (omega arith) refl
 
 pub returns-then-least-old-clause-adds : goal.returns-then-least-old-clause-adds
 returns-then-least-old-clause-adds c =
     let a = (goal.at.returns-then-least-old-clause-adds c).After-index-old in
-    outcome.adds_floor_same c.self.inside.bounds.items c.self.inside.picks.items c.self.inside.tree.values.items c.self.inside.tree.links.items
+    outcome.adds_floor_same c.self.inside.bounds.items c.self.inside.picks.items c.self.inside.labels.values.items c.self.inside.labels.links.items
     c.self.inside.backup.values.items c.self.inside.backup.links.items (vec_capacity c.self.inside.cycle) c.self.invariant c.args.self.now.demands (seen a)
     c.args.variable c.index-old.result.now c.args.least c.args.tag (at a) c.if-least-old.true
 
 pub begin_cycle-requires-clause-rooted : goal.begin_cycle-requires-clause-rooted
-begin_cycle-requires-clause-rooted c = subst (λ (links : List Edge). IsRooted links) (sym c.deref.ensures.value) c.self.invariant.kept.rooted
+begin_cycle-requires-clause-rooted c = subst (λ (links : List Demand). IsRooted links) (sym c.deref.ensures.value) c.self.invariant.kept.rooted
 
 pub begin_cycle-requires-clause-labelled : goal.begin_cycle-requires-clause-labelled
 begin_cycle-requires-clause-labelled c =
-    subst (λ (links : List Edge). IsLabelled links) (sym c.deref.ensures.value)
-    (Labelled-kept (demands_of c.self.inside.bounds.items c.self.inside.picks.items) c.self.inside.tree.values.items c.self.inside.tree.links.items c.self.invariant.kept)
+    subst (λ (links : List Demand). IsLabelled links) (sym c.deref.ensures.value)
+    (Labelled-kept (demands_of c.self.inside.bounds.items c.self.inside.picks.items) c.self.inside.labels.values.items c.self.inside.labels.links.items c.self.invariant.kept)
 
 -- a walk that seeks zero ends there either way
 either_zero : (found : Bool) → ◌≡◌ {A = ℕ} (if found then 0 else 0) 0
@@ -53,11 +53,11 @@ pub returns-then-index-least-clause-adds : goal.returns-then-index-least-clause-
 returns-then-index-least-clause-adds c =
     let a = (goal.at.returns-then-index-least-clause-adds c).After-index-old in
     let read = value (goal.at.returns-then-index-least-clause-adds c).After-index in
-    outcome.adds_floor_conflict c.self.inside.bounds.items c.self.inside.picks.items c.self.inside.tree.values.items c.self.inside.tree.links.items
+    outcome.adds_floor_conflict c.self.inside.bounds.items c.self.inside.picks.items c.self.inside.labels.values.items c.self.inside.labels.links.items
     c.self.inside.backup.values.items c.self.inside.backup.links.items (vec_capacity c.self.inside.cycle) c.self.invariant c.args.self.now.demands (seen a)
     c.args.variable c.index-old.result.now c.args.least c.args.tag c.begin_cycle.new.cycle.items (at a) c.if-least-old.false
     (omega (arith, read, c.if-index-least.true))
-    (subst (λ (links : List Edge). Walked links (c.args.variable + 1) 0 0 (Given c.args.tag ∷ []) c.begin_cycle.new.cycle.items) c.deref.ensures.value
+    (subst (λ (links : List Demand). Walked links (c.args.variable + 1) 0 0 (Given c.args.tag ∷ []) c.begin_cycle.new.cycle.items) c.deref.ensures.value
     (subst (λ (stands : ℕ). Walked c.deref.result.now (c.args.variable + 1) 0 stands (Given c.args.tag ∷ []) c.begin_cycle.new.cycle.items)
     (either_zero c.begin_cycle.result) c.begin_cycle.ensures.walked))
 
@@ -65,7 +65,7 @@ pub invariant_of-self-2 : goal.invariant_of-self-2
 invariant_of-self-2 c =
     let a = (goal.at.invariant_of-self-2 c).After-index-old in
     let read = value (goal.at.invariant_of-self-2 c).After-index in
-    outcome.IsSettled-floor c.self.inside.bounds.items c.self.inside.picks.items c.self.inside.tree.values.items c.self.inside.tree.links.items
+    outcome.IsReady-floor c.self.inside.bounds.items c.self.inside.picks.items c.self.inside.labels.values.items c.self.inside.labels.links.items
     c.self.inside.backup.values.items c.self.inside.backup.links.items (vec_capacity c.self.inside.cycle) c.self.invariant c.args.self.now.demands (seen a)
     c.args.variable c.index-old.result.now c.args.least c.args.tag (at a) c.if-least-old.false (omega (arith, read, c.if-index-least.false))
 
@@ -73,6 +73,6 @@ pub returns-clause-adds : goal.returns-clause-adds
 returns-clause-adds c =
     let a = (goal.at.returns-clause-adds c).After-index-old in
     let read = value (goal.at.returns-clause-adds c).After-index in
-    outcome.adds_floor c.self.inside.bounds.items c.self.inside.picks.items c.self.inside.tree.values.items c.self.inside.tree.links.items
+    outcome.adds_floor c.self.inside.bounds.items c.self.inside.picks.items c.self.inside.labels.values.items c.self.inside.labels.links.items
     c.self.inside.backup.values.items c.self.inside.backup.links.items (vec_capacity c.self.inside.cycle) c.self.invariant c.args.self.now.demands (seen a)
     c.args.variable c.index-old.result.now c.args.least c.args.tag (at a) c.if-least-old.false (omega (arith, read, c.if-index-least.false))

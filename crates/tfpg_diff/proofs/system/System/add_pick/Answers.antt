@@ -3,14 +3,14 @@ use Rattle.std.proofs.Common.{◌≡◌, ℕ, ◌-◌, ◌≤◌, true, List, �
 use Rattle.std.specs.Prelude.{vec_capacity, vec_len, is_ok}
 use Rattle.std.proofs.lemmas.List.{take_at}
 use Rattle.std.proofs.lemmas.List.Elements.{All-same}
-use Rattle.tfpg_diff.specs.declared.edge.Edge.{Edge}
+use Rattle.tfpg_diff.specs.declared.demand.Demand.{Demand}
 use Rattle.tfpg_diff.specs.declared.pick.Pick.{Pick}
-use Rattle.tfpg_diff.specs.Demands.{Demands, edge_of}
-use Rattle.tfpg_diff.specs.Solution.{Meets, HasSolution}
+use Rattle.tfpg_diff.specs.Demands.{Demands, picked}
+use Rattle.tfpg_diff.specs.Solution.{HasSolution}
 use Rattle.tfpg_diff.specs.Cycle.{NamesNegativeCycle}
 use Rattle.tfpg_base.specs.Times.{never}
 use Rattle.tfpg_diff.specs.State.{State, with_pick}
-use Rattle.tfpg_diff.specs.Kept.{IsKept, IsSettled, demands_of}
+use Rattle.tfpg_diff.specs.inside.Kept.{IsMetBy, IsKept, IsReady, demands_of}
 use Rattle.tfpg_diff.proofs.Totals.{HasNoSolution-cycle}
 use Rattle.tfpg_diff.proofs.Relaxing.{small-kept}
 use Rattle.tfpg_diff.proofs.Changes.{IsKept-pick}
@@ -32,27 +32,27 @@ pushed c =
 
 pub is_broken-requires-clause-small : goal.is_broken-requires-clause-small
 is_broken-requires-clause-small c =
-    All-same (λ (value : ℕ). value ≤ never) c.deref.result.now c.self.inside.tree.values.items c.deref.ensures.value
-    (small-kept (demands_of c.self.inside.bounds.items c.self.inside.picks.items) c.self.invariant.sound c.self.inside.tree.values.items c.self.inside.tree.links.items c.self.invariant.kept)
+    All-same (λ (value : ℕ). value ≤ never) c.deref.result.now c.self.inside.labels.values.items c.deref.ensures.value
+    (small-kept (demands_of c.self.inside.bounds.items c.self.inside.picks.items) c.self.invariant.sound c.self.inside.labels.values.items c.self.inside.labels.links.items c.self.invariant.kept)
 
 -- the values meet the pick where the test says so
-met : (c : After-is_broken) → Meets c.deref.result.now c.edge_of_pick.result → Meets c.self.inside.tree.values.items (edge_of c.args.pick)
-met c m = subst (λ (values : List ℕ). Meets values (edge_of c.args.pick)) c.deref.ensures.value
-    (subst (λ (e : Edge). Meets c.deref.result.now e) c.edge_of_pick.ensures m)
+met : (c : After-is_broken) → IsMetBy c.deref.result.now c.picked.result → IsMetBy c.self.inside.labels.values.items (picked c.args.pick)
+met c m = subst (λ (values : List ℕ). IsMetBy values (picked c.args.pick)) c.deref.ensures.value
+    (subst (λ (e : Demand). IsMetBy c.deref.result.now e) c.picked.ensures m)
 
 pub invariant_of-self : goal.invariant_of-self
 invariant_of-self c =
     let a = (goal.at.invariant_of-self c).After-push in
-    subst (λ (picks : List Pick). IsSettled c.self.inside.bounds.items picks c.self.inside.tree.values.items c.self.inside.tree.links.items
+    subst (λ (picks : List Pick). IsReady c.self.inside.bounds.items picks c.self.inside.labels.values.items c.self.inside.labels.links.items
     c.self.inside.backup.values.items c.self.inside.backup.links.items (vec_capacity c.self.inside.cycle)) (sym (pushed a))
-    (outcome.IsSettled-pick c.self.inside.bounds.items c.self.inside.picks.items c.self.inside.tree.values.items c.self.inside.tree.links.items
+    (outcome.IsReady-pick c.self.inside.bounds.items c.self.inside.picks.items c.self.inside.labels.values.items c.self.inside.labels.links.items
     c.self.inside.backup.values.items c.self.inside.backup.links.items (vec_capacity c.self.inside.cycle) c.self.invariant c.args.self.now.demands (seen a)
     c.args.pick c.requires.left c.requires.right (met (goal.at.invariant_of-self c).After-is_broken (c.is_broken.ensures.met c.if-not-is_broken.true)))
 
 pub returns-then-not-is_broken-clause-adds : goal.returns-then-not-is_broken-clause-adds
 returns-then-not-is_broken-clause-adds c =
     let a = (goal.at.returns-then-not-is_broken-clause-adds c).After-push in
-    rw (pushed a) (outcome.adds_pick c.self.inside.bounds.items c.self.inside.picks.items c.self.inside.tree.values.items c.self.inside.tree.links.items
+    rw (pushed a) (outcome.adds_pick c.self.inside.bounds.items c.self.inside.picks.items c.self.inside.labels.values.items c.self.inside.labels.links.items
     c.self.inside.backup.values.items c.self.inside.backup.links.items (vec_capacity c.self.inside.cycle) c.self.invariant c.args.self.now.demands (seen a)
     c.args.pick c.requires.left c.requires.right (met (goal.at.returns-then-not-is_broken-clause-adds c).After-is_broken (c.is_broken.ensures.met c.if-not-is_broken.true)))
 
@@ -65,9 +65,9 @@ lengthened c pushed = outcome.demands_read c.self.inside.bounds.items c.deref-2.
 pub settle_or_restore-requires-clause-kept : goal.settle_or_restore-requires-clause-kept
 settle_or_restore-requires-clause-kept c =
     let p = pushed (goal.at.settle_or_restore-requires-clause-kept c).After-push in
-    subst (λ (d : Demands). IsKept d c.self.inside.tree.values.items c.self.inside.tree.links.items)
+    subst (λ (d : Demands). IsKept d c.self.inside.labels.values.items c.self.inside.labels.links.items)
     (sym (lengthened (goal.at.settle_or_restore-requires-clause-kept c).After-deref-3 p))
-    (IsKept-pick c.self.inside.bounds.items c.self.inside.picks.items c.args.pick c.self.inside.tree.values.items c.self.inside.tree.links.items c.self.invariant.kept)
+    (IsKept-pick c.self.inside.bounds.items c.self.inside.picks.items c.args.pick c.self.inside.labels.values.items c.self.inside.labels.links.items c.self.invariant.kept)
 
 -- what is left after the pick is taken off
 popped : (c : After-push) (rest : List Pick) → rest ≡ take (vec_len c.push.new.self - 1) c.push.new.self.items → rest ≡ c.self.inside.picks.items
@@ -83,9 +83,9 @@ pub invariant_of-self-in-Err : goal.invariant_of-self-in-Err
 invariant_of-self-in-Err c =
     let a = (goal.at.invariant_of-self-in-Err c).After-push in
     let read = ap length c.deref-2.ensures.value in
-    outcome.IsSettled-restored c.self.inside.bounds.items c.self.inside.picks.items c.self.inside.tree.values.items c.self.inside.tree.links.items
+    outcome.IsReady-restored c.self.inside.bounds.items c.self.inside.picks.items c.self.inside.labels.values.items c.self.inside.labels.links.items
     c.self.inside.backup.values.items c.self.inside.backup.links.items (vec_capacity c.self.inside.cycle) c.self.invariant c.args.self.now.demands (seen a)
-    c.self.inside.bounds.items c.pop.new.self.items c.settle_or_restore.new.tree.values.items c.settle_or_restore.new.tree.links.items
+    c.self.inside.bounds.items c.pop.new.self.items c.settle_or_restore.new.labels.values.items c.settle_or_restore.new.labels.links.items
     c.settle_or_restore.new.backup.values.items c.settle_or_restore.new.backup.links.items (vec_capacity c.settle_or_restore.new.cycle)
     refl (popped a c.pop.new.self.items c.pop.ensures.rest) (c.in-Err.ensures.values ∙ c.save.ensures.values) (c.in-Err.ensures.links ∙ c.save.ensures.links)
     (omega (arith, read, c.in-Err.ensures.backup_values)) (omega (arith, read, c.in-Err.ensures.backup_links)) c.in-Err.ensures.capacity
@@ -94,19 +94,19 @@ pub returns-in-Ok-clause-adds : goal.returns-in-Ok-clause-adds
 returns-in-Ok-clause-adds c =
     let a = (goal.at.returns-in-Ok-clause-adds c).After-push in
     let p = pushed a in
-    let is = outcome.with_pick-seen c.self.inside.bounds.items c.self.inside.picks.items c.self.inside.tree.values.items c.self.inside.tree.links.items
+    let is = outcome.with_pick-seen c.self.inside.bounds.items c.self.inside.picks.items c.self.inside.labels.values.items c.self.inside.labels.links.items
     c.self.inside.backup.values.items c.self.inside.backup.links.items (vec_capacity c.self.inside.cycle) c.self.invariant c.args.self.now.demands (seen a) c.args.pick in
     let same = lengthened (goal.at.returns-in-Ok-clause-adds c).After-deref-3 p in (
       ap (λ (ps : List Pick). demands_of c.self.inside.bounds.items ps) p ∙ is,
       subst HasSolution (same ∙ is)
-          (outcome.HasSolution-kept (demands_of c.deref-2.result.now c.deref-3.result.now) c.settle_or_restore.new.tree.values.items c.settle_or_restore.new.tree.links.items
+          (outcome.HasSolution-kept (demands_of c.deref-2.result.now c.deref-3.result.now) c.settle_or_restore.new.labels.values.items c.settle_or_restore.new.labels.links.items
           c.in-Ok.ensures.kept c.in-Ok.ensures.met),
     )
 
 pub returns-in-Err-clause-adds : goal.returns-in-Err-clause-adds
 returns-in-Err-clause-adds c =
     let a = (goal.at.returns-in-Err-clause-adds c).After-push in
-    let is = outcome.with_pick-seen c.self.inside.bounds.items c.self.inside.picks.items c.self.inside.tree.values.items c.self.inside.tree.links.items
+    let is = outcome.with_pick-seen c.self.inside.bounds.items c.self.inside.picks.items c.self.inside.labels.values.items c.self.inside.labels.links.items
     c.self.inside.backup.values.items c.self.inside.backup.links.items (vec_capacity c.self.inside.cycle) c.self.invariant c.args.self.now.demands (seen a) c.args.pick in
     let same = lengthened (goal.at.returns-in-Err-clause-adds c).After-deref-3 (pushed a) in
     let cycle = subst (λ (d : Demands). NamesNegativeCycle d c.settle_or_restore.new.cycle.items) (same ∙ is) c.in-Err.ensures.cycle in (

@@ -3,7 +3,7 @@ use Rattle.std.proofs.Common.{◌≡◌, List, length, sym, ◌∙◌, ap, arith
 use Rattle.std.specs.Prelude.{slice_get, vec_capacity}
 use Rattle.tfpg_diff.specs.declared.bounds.Bounds.{Bounds}
 use Rattle.tfpg_diff.specs.State.{unbounded_from}
-use Rattle.tfpg_diff.proofs.Fresh.{length-unbounded_from, widest_from, IsSettled-new}
+use Rattle.tfpg_diff.proofs.Fresh.{length-unbounded_from, widest_from, IsReady-new}
 use Rattle.tfpg_diff.proofs.system.System.new.Goals as goal
 use Rattle.tfpg_diff.proofs.system.System.new.Goals.{After-deref}
 
@@ -23,14 +23,14 @@ start-requires-clause-ceilings c = λ v b at.
     let w = widest_from 0 c.args.count v b (sym (ap (λ (bs : List Bounds). slice_get bs v) (read (goal.at.start-requires-clause-ceilings c).After-deref)) ∙ at) in omega (arith, w.1)
 
 pub start-requires-clause-values : goal.start-requires-clause-values
-start-requires-clause-values c = omega (arith, len (goal.at.start-requires-clause-values c).After-deref, c.in_ok-tree.ensures.values)
+start-requires-clause-values c = omega (arith, len (goal.at.start-requires-clause-values c).After-deref, c.in_ok-labels.ensures.values)
 
 pub start-requires-clause-links : goal.start-requires-clause-links
-start-requires-clause-links c = omega (arith, len (goal.at.start-requires-clause-links c).After-deref, c.in_ok-tree.ensures.links)
+start-requires-clause-links c = omega (arith, len (goal.at.start-requires-clause-links c).After-deref, c.in_ok-labels.ensures.links)
 
 pub invariant_of-result : goal.invariant_of-result
 invariant_of-result c =
-    IsSettled-new c.in_ok-bounds.bounds.items c.deref.result.now c.new-3.result.items c.args.count c.start.new.tree.values.items c.start.new.tree.links.items
+    IsReady-new c.in_ok-bounds.bounds.items c.deref.result.now c.new-3.result.items c.args.count c.start.new.labels.values.items c.start.new.labels.links.items
     c.in_ok-backup.backup.values.items c.in_ok-backup.backup.links.items (vec_capacity c.in_ok-cycle.cycle)
     c.deref.ensures.value c.in_ok-bounds.ensures c.new-3.ensures.items (omega arith) c.start.ensures
     (omega (arith, c.in_ok-backup.ensures.values, c.in_ok-backup.backup.values.ok.0)) (omega (arith, c.in_ok-backup.ensures.links, c.in_ok-backup.backup.links.ok.0))

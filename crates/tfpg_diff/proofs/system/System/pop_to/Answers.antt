@@ -4,23 +4,23 @@ use Rattle.std.specs.Prelude.{vec_capacity}
 use Rattle.tfpg_diff.specs.declared.bounds.Bounds.{Bounds}
 use Rattle.tfpg_diff.specs.Demands.{Demands}
 use Rattle.tfpg_diff.specs.Cycle.{NamesNegativeCycle}
-use Rattle.tfpg_diff.specs.Kept.{IsKept, IsStart}
+use Rattle.tfpg_diff.specs.inside.Kept.{IsKept, IsStart}
 use Rattle.tfpg_diff.proofs.Outcomes.{demands_read}
 use Rattle.tfpg_diff.proofs.Fresh.{IsKept-fresh, no_cycle-fewer}
 use Rattle.tfpg_diff.proofs.system.System.pop_to.Goals as goal
 
 pub settle-requires-clause-kept : goal.settle-requires-clause-kept
 settle-requires-clause-kept c =
-    subst (λ (d : Demands). IsKept d c.start.new.tree.values.items c.start.new.tree.links.items)
+    subst (λ (d : Demands). IsKept d c.start.new.labels.values.items c.start.new.labels.links.items)
     (sym (demands_read c.self.inside.bounds.items c.deref-2.result.now c.truncate.new.self.items c.deref-3.result.now c.deref-2.ensures.value c.deref-3.ensures.value))
-    (IsKept-fresh c.self.inside.bounds.items c.self.inside.picks.items c.self.inside.tree.values.items c.self.inside.tree.links.items
+    (IsKept-fresh c.self.inside.bounds.items c.self.inside.picks.items c.self.inside.labels.values.items c.self.inside.labels.links.items
     c.self.inside.backup.values.items c.self.inside.backup.links.items (vec_capacity c.self.inside.cycle) c.self.invariant
-    c.truncate.new.self.items c.start.new.tree.values.items c.start.new.tree.links.items
-    (subst (λ (bs : List Bounds). IsStart bs c.start.new.tree.values.items c.start.new.tree.links.items (length bs)) c.deref.ensures.value c.start.ensures))
+    c.truncate.new.self.items c.start.new.labels.values.items c.start.new.labels.links.items
+    (subst (λ (bs : List Bounds). IsStart bs c.start.new.labels.values.items c.start.new.labels.links.items (length bs)) c.deref.ensures.value c.start.ensures))
 
 pub unreachable-requires : goal.unreachable-requires
 unreachable-requires c =
-    no_cycle-fewer c.self.inside.bounds.items c.self.inside.picks.items c.self.inside.tree.values.items c.self.inside.tree.links.items
+    no_cycle-fewer c.self.inside.bounds.items c.self.inside.picks.items c.self.inside.labels.values.items c.self.inside.labels.links.items
     c.self.inside.backup.values.items c.self.inside.backup.links.items (vec_capacity c.self.inside.cycle) c.self.invariant
     c.args.len c.settle.new.cycle.items
     (subst (λ (d : Demands). NamesNegativeCycle d c.settle.new.cycle.items)

@@ -5,7 +5,7 @@ use Rattle.tfpg_diff.specs.Demands.{Demands}
 use Rattle.tfpg_diff.specs.Solution.{IsLatest}
 use Rattle.tfpg_base.specs.Times.{never}
 use Rattle.tfpg_diff.specs.State.{State}
-use Rattle.tfpg_diff.specs.Kept.{demands_of}
+use Rattle.tfpg_diff.specs.inside.Kept.{demands_of}
 use Rattle.std.specs.Prelude.{All}
 use Rattle.std.proofs.lemmas.List.Elements.{All-drop}
 use Rattle.tfpg_diff.proofs.Relaxing.{small-kept}
@@ -16,13 +16,13 @@ pub returns-clause-latest : goal.returns-clause-latest
 returns-clause-latest c =
     subst (λ (times : List ℕ). IsLatest c.args.self.now.demands times) (sym (take_rest c.deref.result.now 1))
     (subst (λ (values : List ℕ). IsLatest c.args.self.now.demands (drop 1 values)) (sym c.deref.ensures.value)
-    (subst (λ (demands : Demands). IsLatest demands (drop 1 c.self.inside.tree.values.items)) (ap (λ (s : State). s.demands) c.self.view_is)
-    (IsLatest-kept (demands_of c.self.inside.bounds.items c.self.inside.picks.items) c.self.inside.tree.values.items c.self.inside.tree.links.items
+    (subst (λ (demands : Demands). IsLatest demands (drop 1 c.self.inside.labels.values.items)) (ap (λ (s : State). s.demands) c.self.view_is)
+    (IsLatest-kept (demands_of c.self.inside.bounds.items c.self.inside.picks.items) c.self.inside.labels.values.items c.self.inside.labels.links.items
     c.self.invariant.kept c.self.invariant.met)))
 
 pub returns-clause-within : goal.returns-clause-within
 returns-clause-within c =
-    let small = small-kept (demands_of c.self.inside.bounds.items c.self.inside.picks.items) c.self.invariant.sound c.self.inside.tree.values.items c.self.inside.tree.links.items c.self.invariant.kept in
+    let small = small-kept (demands_of c.self.inside.bounds.items c.self.inside.picks.items) c.self.invariant.sound c.self.inside.labels.values.items c.self.inside.labels.links.items c.self.invariant.kept in
     subst (λ (times : List ℕ). All (λ time. time ≤ never) times) (sym (take_rest c.deref.result.now 1))
     (subst (λ (values : List ℕ). All (λ time. time ≤ never) (drop 1 values)) (sym c.deref.ensures.value)
-    (All-drop (λ (time : ℕ). time ≤ never) 1 c.self.inside.tree.values.items small))
+    (All-drop (λ (time : ℕ). time ≤ never) 1 c.self.inside.labels.values.items small))

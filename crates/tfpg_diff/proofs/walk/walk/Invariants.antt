@@ -1,7 +1,7 @@
 -- The links so far lead from the start to where the walk stands. What is left is bounded by the number of links.
 use Rattle.std.proofs.Common.{◌-◌, ◌+◌, ◌<◌, ◌≤◌, length, vec_len, vec_capacity}
-use Rattle.tfpg_diff.specs.Kept.{Walked}
-use Rattle.tfpg_diff.proofs.trace.trace.Given as goal
+use Rattle.tfpg_diff.specs.inside.Kept.{Walked}
+use Rattle.tfpg_diff.proofs.walk.walk.Given as goal
 
 abbrev pub invariant-loop-stands : goal.invariant-loop-stands
 invariant-loop-stands l = record {

@@ -1,50 +1,50 @@
--- What the body of a system keeps: values and links that lead to zero. No public clause names it.
+-- What the body of a system keeps: values and links that lead to zero.
 use Rattle.std.specs.Prelude.{◌≡◌, ◌≢◌, Bool, true, false, sum, ℕ, ◌+◌, ◌^◌, ◌<◌, ◌≤◌, pos, ◌+ℤ◌, ◌≤ℤ◌, List, [], ◌∷◌, ◌++◌, map, length, slice_index, slice_get, All, Some}
 use Rattle.std.specs.List.{HoldsAt}
 use Rattle.tfpg_diff.specs.declared.why.Why.{Why}
 use Rattle.tfpg_diff.specs.declared.bounds.Bounds.{Bounds}
 use Rattle.tfpg_diff.specs.declared.pick.Pick.{Pick}
-use Rattle.tfpg_diff.specs.declared.edge.Edge.{Edge}
-use Rattle.tfpg_diff.specs.Demands.{Demands, Demanded, Bounded, edge_of, ceiling_of}
-use Rattle.tfpg_diff.specs.Solution.{Meets, IsSolution}
+use Rattle.tfpg_diff.specs.declared.demand.Demand.{Demand}
+use Rattle.tfpg_diff.specs.Demands.{Demands, Demanded, Bounded, picked, ceiling_of}
+use Rattle.tfpg_diff.specs.Solution.{IsBetween, IsSolution}
 use Rattle.tfpg_base.specs.Times.{never}
 
+-- The left side less the right side is at most the bound, where these are the values of the numbers from 0 on.
+abbrev pub IsMetBy : List ℕ → Demand → Type 0
+IsMetBy values demand =
+    pos (slice_index values demand.constraint.left) ≤ℤ (pos (slice_index values demand.constraint.right) +ℤ demand.constraint.most)
+
 -- These are the links on the way from one number to another. The way does not go on from zero.
-abbrev pub Climbs : List Edge → ℕ → List Edge → ℕ → Type 0
+abbrev pub Climbs : List Demand → ℕ → List Demand → ℕ → Type 0
 Climbs links from [] to = from ≡ to
-Climbs links from (edge ∷ edges) to = (0 < from) × (slice_get links from ≡ Some edge) × Climbs links edge.right edges to
+Climbs links from (demand ∷ chain) to = (0 < from) × (slice_get links from ≡ Some demand) × Climbs links demand.constraint.right chain to
 
 -- Each link has its number on its left.
-abbrev pub IsLabelled : List Edge → Type 0
-IsLabelled links = (number : ℕ) (edge : Edge) → 0 < number → slice_get links number ≡ Some edge → edge.left ≡ number
+abbrev pub IsLabelled : List Demand → Type 0
+IsLabelled links = (number : ℕ) (demand : Demand) → 0 < number → slice_get links number ≡ Some demand → demand.constraint.left ≡ number
 
 -- From each number the links lead to zero.
-abbrev pub IsRooted : List Edge → Type 0
-IsRooted links = (number : ℕ) → number < length links → (edges : List Edge) × Climbs links number edges 0
+abbrev pub IsRooted : List Demand → Type 0
+IsRooted links = (number : ℕ) → number < length links → (chain : List Demand) × Climbs links number chain 0
 
 -- The links from one number lead to where the walk stands, and none of them is the link of the number that is looked for;
 -- their tags were appended.
-pub record IsWalk (links : List Edge) (from sought stands : ℕ) (before after : List Why) (edges : List Edge) : Type 0 where
-  pub climbs : Climbs links from edges stands
-  pub avoids : All (λ (edge : Edge). edge.left ≢ sought) edges
-  pub tags : after ≡ before ++ map (λ (edge : Edge). edge.why) edges
+pub record IsWalk (links : List Demand) (from sought stands : ℕ) (before after : List Why) (chain : List Demand) : Type 0 where
+  pub climbs : Climbs links from chain stands
+  pub avoids : All (λ (demand : Demand). demand.constraint.left ≢ sought) chain
+  pub tags : after ≡ before ++ map (λ (demand : Demand). demand.why) chain
 
 -- Some links lead from one number to where the walk stands.
-abbrev pub Walked : List Edge → ℕ → ℕ → ℕ → List Why → List Why → Type 0
-Walked links from sought stands before after = (edges : List Edge) × IsWalk links from sought stands before after edges
+abbrev pub Walked : List Demand → ℕ → ℕ → ℕ → List Why → List Why → Type 0
+Walked links from sought stands before after = (chain : List Demand) × IsWalk links from sought stands before after chain
 
 -- The link of a number is a demanded constraint with that number on its left, whose right side has a link, and the value
 -- of the number is at least what the constraint allows.
-pub record IsLink (demands : Demands) (values : List ℕ) (number : ℕ) (edge : Edge) : Type 0 where
-  pub left : edge.left ≡ number
-  pub right : edge.right ≤ length demands.bounds
-  pub demanded : Demanded demands edge
-  pub tight : (pos (slice_index values edge.right) +ℤ edge.most) ≤ℤ pos (slice_index values number)
-
--- The value lies between the bounds.
-pub record IsWithin (bounds : Bounds) (value : ℕ) : Type 0 where
-  pub above : bounds.floor ≤ value
-  pub below : value ≤ bounds.ceiling
+pub record IsLink (demands : Demands) (values : List ℕ) (number : ℕ) (demand : Demand) : Type 0 where
+  pub left : demand.constraint.left ≡ number
+  pub right : demand.constraint.right ≤ length demands.bounds
+  pub demanded : Demanded demands demand
+  pub tight : (pos (slice_index values demand.constraint.right) +ℤ demand.constraint.most) ≤ℤ pos (slice_index values number)
 
 -- What is demanded can be computed with.
 pub record IsSound (demands : Demands) : Type 0 where
@@ -54,18 +54,18 @@ pub record IsSound (demands : Demands) : Type 0 where
   pub rights : All (λ (pick : Pick). pick.constraint.right ≤ length demands.bounds) demands.picks
 
 -- Values and links between any two lowerings.
-pub record IsKept (demands : Demands) (values : List ℕ) (links : List Edge) : Type 0 where
+pub record IsKept (demands : Demands) (values : List ℕ) (links : List Demand) : Type 0 where
   pub values_len : length values ≡ length demands.bounds + 1
   pub links_len : length links ≡ length demands.bounds + 1
   pub zero_stays : slice_index values 0 ≡ 0
   pub rooted : IsRooted links
-  pub linked : (number : ℕ) (edge : Edge) → 0 < number → slice_get links number ≡ Some edge → IsLink demands values number edge
-  pub within : (variable : ℕ) (bounds : Bounds) → Bounded demands variable bounds → IsWithin bounds (slice_index values (variable + 1))
+  pub linked : (number : ℕ) (demand : Demand) → 0 < number → slice_get links number ≡ Some demand → IsLink demands values number demand
+  pub within : (variable : ℕ) (bounds : Bounds) → Bounded demands variable bounds → IsBetween bounds (slice_index values (variable + 1))
   pub greatest : (times : List ℕ) → IsSolution demands times → (number : ℕ) → slice_index (0 ∷ times) number ≤ slice_index values number
 
 -- Values meet each pick.
 abbrev pub MeetsPicks : List ℕ → List Pick → Type 0
-MeetsPicks values picks = All (λ pick. Meets values (edge_of pick)) picks
+MeetsPicks values picks = All (λ pick. IsMetBy values (picked pick)) picks
 
 -- the demands of these bounds and picks
 abbrev pub demands_of : List Bounds → List Pick → Demands
@@ -74,7 +74,7 @@ demands_of bounds picks = record { bounds = bounds; picks = picks }
 -- What testing one pick does to values: where it was broken they sum up to less, else they stay and meet it.
 abbrev pub Relaxes : List Pick → ℕ → List ℕ → Bool → List ℕ → Type 0
 Relaxes picks place before true after = sum after < sum before
-Relaxes picks place before false after = (after ≡ before) × HoldsAt (λ pick. Meets after (edge_of pick)) picks place
+Relaxes picks place before false after = (after ≡ before) × HoldsAt (λ pick. IsMetBy after (picked pick)) picks place
 
 -- What testing the picks in front does to values: where any was broken they sum up to less, else they stay and meet these.
 abbrev pub Passes : List Pick → List ℕ → Bool → List ℕ → Type 0
@@ -82,7 +82,7 @@ Passes picks before true after = sum after < sum before
 Passes picks before false after = (after ≡ before) × MeetsPicks after picks
 
 -- The variables below a number have their upper bounds as values and as links.
-pub record IsStart (bounds : List Bounds) (values : List ℕ) (links : List Edge) (count : ℕ) : Type 0 where
+pub record IsStart (bounds : List Bounds) (values : List ℕ) (links : List Demand) (count : ℕ) : Type 0 where
   pub values_len : length values ≡ length bounds + 1
   pub links_len : length links ≡ length bounds + 1
   pub zero_stays : slice_index values 0 ≡ 0
@@ -92,8 +92,8 @@ pub record IsStart (bounds : List Bounds) (values : List ℕ) (links : List Edge
       slice_get links (variable + 1) ≡ Some (ceiling_of variable limits)
 
 -- Between calls: what is kept, every pick met, and room for what a call sets aside or lends.
-pub record IsSettled (bounds : List Bounds) (picks : List Pick) (values : List ℕ) (links : List Edge) (backup_values : List ℕ)
-    (backup_links : List Edge) (cycle_capacity : ℕ) : Type 0 where
+pub record IsReady (bounds : List Bounds) (picks : List Pick) (values : List ℕ) (links : List Demand) (backup_values : List ℕ)
+    (backup_links : List Demand) (cycle_capacity : ℕ) : Type 0 where
   pub sound : IsSound (demands_of bounds picks)
   pub kept : IsKept (demands_of bounds picks) values links
   pub met : MeetsPicks values picks

@@ -1,9 +1,9 @@
 //! The walk along the links of a system, from a number towards zero.
 
 ghost use Rattle.std.specs.Prelude.{◌≡◌, ◌+◌, ◌<◌, ◌≤◌, [], ◌∷◌, ◌++◌, length, vec_len, vec_capacity, IsTrue, if◌then◌else◌};
-ghost use Rattle.tfpg_diff.specs.Kept.{IsRooted, IsLabelled, Walked};
+ghost use Rattle.tfpg_diff.specs.inside.Kept.{IsRooted, IsLabelled, Walked};
 
-use crate::edge::Edge;
+use crate::demand::Demand;
 use crate::why::Why;
 
 /// Appends a tag, for which there is room.
@@ -17,7 +17,7 @@ pub(crate) fn note(cycle: &mut Vec<Why>, why: Why)
 
 /// Walks along the links from a number up to the one that is sought or to zero, whichever comes first, and
 /// appends the tags of the links on the way. Answers whether the walk ended at the one that is sought.
-pub(crate) fn trace(links: &[Edge], from: u32, sought: u32, cycle: &mut Vec<Why>) -> bool
+pub(crate) fn walk(links: &[Demand], from: u32, sought: u32, cycle: &mut Vec<Why>) -> bool
     requires rooted { IsRooted links.now }
     requires labelled { IsLabelled links.now }
     requires start { from < length links.now }
@@ -33,7 +33,7 @@ pub(crate) fn trace(links: &[Edge], from: u32, sought: u32, cycle: &mut Vec<Why>
         }
         let link = links[stands as usize];
         note(cycle, link.why);
-        stands = link.right;
+        stands = link.constraint.right;
     }
     true
 }
