@@ -12,3 +12,4 @@ pub mod Bounding
 pub mod Updates
 pub mod Outcomes
 pub mod Fresh
+pub mod Naming

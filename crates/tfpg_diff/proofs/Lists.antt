@@ -62,3 +62,8 @@ length-le_distinct xs n apart below =
     let same : q ≡ some.1 = eqb-true q some.1 some.4 in
     let here : get_or xs some.0 some.1 < n = below some.0 some.1 some.2 in
     subst (λ (m : ℕ). m < n) (some.3 ∙ sym same) here)
+
+-- what a front part contains
+pub Contains-take : {X : Type 0} (xs : List X) (n : ℕ) (x : X) → Contains (take n xs) x → Contains xs x
+Contains-take xs n x found =
+    subst (λ ys. Contains ys x) (take-append-drop n xs) (Contains-append_left (take n xs) (drop n xs) x found)

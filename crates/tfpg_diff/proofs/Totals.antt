@@ -5,7 +5,7 @@ use Rattle.std.specs.Prelude.{â„¤, slice_get, slice_index, All, AllPairs, pos, â
 use Rattle.std.proofs.lemmas.Int.{ints}
 use Rattle.std.proofs.lemmas.List.Elements.{All-head, All-tail, All-weaker}
 use Rattle.tfpg_base.specs.declared.constraint.Constraint.{Constraint}
-use Rattle.tfpg_base.specs.ConstraintCycle.{IsChainTo, sum_of}
+use Rattle.tfpg_base.specs.ConstraintCycle.{IsChainTo}
 use Rattle.tfpg_diff.specs.declared.demand.Demand.{Demand}
 use Rattle.tfpg_diff.specs.declared.why.Why.{Why}
 use Rattle.tfpg_diff.specs.Demands.{Demands, Demanded}

@@ -13,13 +13,17 @@ pub record Demands : Type 0 where
 
 -- The upper bound of a variable: it less zero is at most that.
 abbrev pub ceiling_of : ℕ → Bounds → Demand
-ceiling_of variable bounds =
-    record { constraint = record { left = variable + 1; right = 0; most = pos bounds.ceiling }; why = bounds.ceiling_why }
+ceiling_of variable bounds = record {
+  constraint = record { left = variable + 1; right = 0; most = pos bounds.ceiling };
+  why = bounds.ceiling_why;
+}
 
 -- The lower bound of a variable: zero less it is at most minus that.
 abbrev pub floor_of : ℕ → Bounds → Demand
-floor_of variable bounds =
-    record { constraint = record { left = 0; right = variable + 1; most = neg_ℤ (pos bounds.floor) }; why = bounds.floor_why }
+floor_of variable bounds = record {
+  constraint = record { left = 0; right = variable + 1; most = neg_ℤ (pos bounds.floor) };
+  why = bounds.floor_why;
+}
 
 -- A pick: its constraint, with its tag.
 abbrev pub picked : Pick → Demand

@@ -3,6 +3,6 @@ pub mod Demands
 pub mod Solution
 pub mod Cycle
 pub mod State
-
+pub mod Named
 -- What the code and its proofs need besides. Nothing above reaches it.
 pub mod inside

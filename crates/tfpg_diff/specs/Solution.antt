@@ -12,7 +12,8 @@ pub record IsBetween (bounds : Bounds) (time : ℕ) : Type 0 where
 -- There is a time for each variable; it lies between its bounds, and the times meet the constraint of each pick.
 pub record IsSolution (demands : Demands) (times : List ℕ) : Type 0 where
   pub complete : length times ≡ length demands.bounds
-  pub between : (variable : ℕ) (bounds : Bounds) → Bounded demands variable bounds → IsBetween bounds (slice_index times variable)
+  pub between : (variable : ℕ) (bounds : Bounds) → Bounded demands variable bounds →
+      IsBetween bounds (slice_index times variable)
   pub met : All (λ pick. Meets times pick.constraint) demands.picks
 
 -- A solution that gives each variable the greatest time that any solution gives it.

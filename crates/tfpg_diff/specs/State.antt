@@ -6,6 +6,7 @@ use Rattle.tfpg_diff.specs.declared.why.Why.{Why}
 use Rattle.tfpg_diff.specs.declared.why.Why.TheVariants.{Floor, Ceiling, Given}
 use Rattle.tfpg_diff.specs.declared.why.Conflict.{Conflict}
 use Rattle.tfpg_diff.specs.declared.bounds.Bounds.{Bounds}
+use Rattle.tfpg_diff.specs.declared.pick.Pick.{Pick}
 use Rattle.tfpg_diff.specs.Demands.{Demands}
 use Rattle.tfpg_diff.specs.Solution.{HasSolution, HasNoSolution}
 use Rattle.tfpg_diff.specs.Cycle.{NamesNegativeCycle}
@@ -16,11 +17,12 @@ pub record State : Type 0 where
   pub spare : ℕ
   pub cycle : List Why
 
--- the bounds of a variable that nothing is known of
+-- the bounds of a variable of which nothing is known
 abbrev pub widest : ℕ → Bounds
-widest variable = record { floor = 0; floor_why = Floor variable; ceiling = never; ceiling_why = Ceiling variable }
+widest variable =
+    record { floor = 0; floor_why = Floor variable; ceiling = never; ceiling_why = Ceiling variable }
 
--- so many variables, from this one on, that nothing is known of
+-- so many variables, from this one on, of which nothing is known
 abbrev pub unbounded_from : ℕ → ℕ → List Bounds
 unbounded_from first zero = []
 unbounded_from first (suc count) = widest first ∷ unbounded_from (first + 1) count
@@ -43,23 +45,27 @@ changed_at change (first ∷ others) (suc place) = first ∷ changed_at change o
 
 -- the demands with a lower bound of a variable
 abbrev pub with_floor : Demands → ℕ → ℕ → ℕ → Demands
-with_floor demands variable least tag = record { bounds = changed_at (raised least tag) demands.bounds variable; picks = demands.picks }
+with_floor demands variable least tag =
+    record { bounds = changed_at (raised least tag) demands.bounds variable; picks = demands.picks }
 
 -- the demands with an upper bound of a variable
 abbrev pub with_ceiling : Demands → ℕ → ℕ → ℕ → Demands
-with_ceiling demands variable most tag = record { bounds = changed_at (lowered most tag) demands.bounds variable; picks = demands.picks }
+with_ceiling demands variable most tag =
+    record { bounds = changed_at (lowered most tag) demands.bounds variable; picks = demands.picks }
 
 -- the demands with one more pick
 abbrev pub with_pick : Demands → Constraint → ℕ → Demands
 with_pick demands constraint tag =
-    record { bounds = demands.bounds; picks = demands.picks ++ record { constraint = constraint; tag = tag } ∷ [] }
+    let pick : Pick = record { constraint = constraint; tag = tag } in
+    record { bounds = demands.bounds; picks = demands.picks ++ pick ∷ [] }
 
 -- the demands without the picks after so many
 abbrev pub popped_to : Demands → ℕ → Demands
 popped_to demands len = record { bounds = demands.bounds; picks = take len demands.picks }
 
--- What adding to a system answers. Ok: the system demands all of it, and that has a solution. Conflict: all of it together has
--- no solution; the system demands what it did, and lends the tags of a negative cycle among all of it.
+-- What adding to a system returns. Ok: the system demands all of it, and that has a solution. Conflict: all of it together
+-- has no solution; what the system demands is unchanged, and it lends the tags of a negative cycle among all of it.
 abbrev pub Adds : State → Demands → Result (Unit {0}) Conflict → State → Type 0
 Adds old lengthened (Ok done) new = (new.demands ≡ lengthened) × HasSolution lengthened
-Adds old lengthened (Err conflict) new = (new.demands ≡ old.demands) × HasNoSolution lengthened × NamesNegativeCycle lengthened new.cycle
+Adds old lengthened (Err conflict) new =
+    (new.demands ≡ old.demands) × HasNoSolution lengthened × NamesNegativeCycle lengthened new.cycle

@@ -7,8 +7,8 @@ use crate::why::Why;
 use std::alloc::{AllocError, Global};
 use tfpg_base::NEVER;
 
-/// The greatest lower bound and the least upper bound that a variable was given so far, in milliseconds, each
-/// with the tag of what gave it.
+/// The greatest lower bound and the least upper bound of a variable so far, in milliseconds, each with the tag of the
+/// call that set it.
 #[derive(Clone, Copy, Debug, PartialEq, Eq)]
 pub struct Bounds {
     pub floor: u64,
@@ -17,7 +17,7 @@ pub struct Bounds {
     pub ceiling_why: Why,
 }
 
-/// The bounds of a variable that nothing is known of.
+/// The bounds of a variable of which nothing is known.
 fn widest_bounds(variable: u32) -> Bounds
     ensures { result ≡ widest variable }
 {
@@ -29,7 +29,7 @@ fn widest_bounds(variable: u32) -> Bounds
     }
 }
 
-/// The bounds of so many variables that nothing is known of.
+/// The bounds of so many variables of which nothing is known.
 pub(crate) fn unbounded(alloc: Global, count: u32) -> Result<Vec<Bounds>, AllocError>
     ensures { IfOk result (λ bounds. bounds.items ≡ unbounded_from 0 count) }
 {

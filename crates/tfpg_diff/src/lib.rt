@@ -6,7 +6,7 @@
 //!   [`System::solution`] lends the latest solution.
 //! - [`Conflict`] is the answer where there would be no solution; [`System::cycle`] then lends the tags, [`Why`], of
 //!   constraints that chain into a cycle whose bounds sum up to less than 0.
-//! - [`Bounds`], [`Pick`] and [`Demand`] are what contracts see of a system.
+//! - [`Bounds`], [`Pick`] and [`Demand`] are what contracts see of a system; [`laws`] says what its tags name.
 //!
 //! In [`tfpg_base::Constraint`] number 0 is the constant zero and the variable `v` is number `v + 1`; `raise` and `lower`
 //! take the variable itself. Here variable 1 is to be at least 4 after variable 0. That would put it at 9 at the earliest,
@@ -32,6 +32,7 @@
 mod bounds;
 mod demand;
 mod labels;
+pub mod laws;
 mod pick;
 mod relax;
 mod settle;

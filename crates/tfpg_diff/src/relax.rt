@@ -4,13 +4,13 @@ ghost use Rattle.std.specs.Prelude.{◌≡◌, ◌^◌, ◌+◌, ◌<◌, ◌≤
 ghost use Rattle.tfpg_diff.specs.Demands.{picked};
 ghost use Rattle.tfpg_diff.specs.Cycle.{NamesNegativeCycle};
 ghost use Rattle.tfpg_base.specs.Times.{never};
-ghost use Rattle.tfpg_diff.specs.inside.Kept.{IsMetBy, IsRooted, IsLabelled, Walked, IsSound, IsKept, Relaxes, demands_of};
+ghost use Rattle.tfpg_diff.specs.inside.Kept.{IsMetBy, IsRooted, IsLabelled, Walked, IsSound, IsKept, IsBrokenBy, Relaxes, allowed_by, demands_of};
 
 use crate::bounds::Bounds;
 use crate::demand::Demand;
+use crate::labels::Labels;
 use crate::pick::Pick;
 use crate::walk::{note, walk};
-use crate::labels::Labels;
 use crate::why::{Conflict, Why};
 
 /// The pick in the form that it shares with bounds.
@@ -23,13 +23,13 @@ pub(crate) fn picked(pick: &Pick) -> Demand
     }
 }
 
-/// Whether the values break the constraint. A difference of two values fits, whatever the bound is.
+/// Whether the values break the constraint. No difference of two values overflows, whatever the bound is.
 pub(crate) fn is_broken(values: &[u64], demand: Demand) -> bool
     requires left { demand.constraint.left < length values.now }
     requires right { demand.constraint.right < length values.now }
     requires small { All (λ value. value ≤ never) values.now }
     ensures met { result ≡ false → IsMetBy values.now demand }
-    ensures broken { result ≡ true → (pos (slice_index values.now demand.constraint.right) +ℤ demand.constraint.most) <ℤ pos (slice_index values.now demand.constraint.left) }
+    ensures broken { result ≡ true → IsBrokenBy values.now demand }
 {
     let left = values[demand.constraint.left as usize] as i64;
     let right = values[demand.constraint.right as usize] as i64;
@@ -42,9 +42,9 @@ pub(crate) fn allowed(values: &[u64], demand: Demand, floor: u64) -> Option<u64>
     requires right { demand.constraint.right < length values.now }
     requires small { All (λ value. value ≤ never) values.now }
     requires low { floor ≤ never }
-    requires broken { (pos (slice_index values.now demand.constraint.right) +ℤ demand.constraint.most) <ℤ pos (slice_index values.now demand.constraint.left) }
-    ensures below { IsNone result → (pos (slice_index values.now demand.constraint.right) +ℤ demand.constraint.most) <ℤ pos floor }
-    ensures value { IfSome result (λ value. pos value ≡ (pos (slice_index values.now demand.constraint.right) +ℤ demand.constraint.most)) }
+    requires broken { IsBrokenBy values.now demand }
+    ensures below { IsNone result → allowed_by values.now demand <ℤ pos floor }
+    ensures value { IfSome result (λ value. pos value ≡ allowed_by values.now demand) }
     ensures above { IfSome result (λ value. floor ≤ value) }
 {
     let value = values[demand.constraint.right as usize] as i64 + demand.constraint.most;
@@ -55,7 +55,7 @@ pub(crate) fn allowed(values: &[u64], demand: Demand, floor: u64) -> Option<u64>
 }
 
 /// Begins a cycle with the tag of a constraint, and walks from its right side up to its left side or to zero.
-/// Answers whether the walk ended at the left side.
+/// Returns whether the walk ended at the left side.
 pub(crate) fn begin_cycle(
     links: &[Demand],
     right: u32,
@@ -76,10 +76,10 @@ pub(crate) fn begin_cycle(
     walk(links, right, left, cycle)
 }
 
-/// Tests one pick, and where the values break it lowers the value of its left side. Answers whether it did.
+/// Tests one pick, and where the values break it lowers the value of its left side. Returns whether it did.
 ///
-/// Conflict comes where that closes a negative cycle, whose tags then stand in `cycle`. It costs a walk along
-/// the links where the pick is broken.
+/// Conflict comes where that closes a negative cycle, whose tags `cycle` then has. Where the pick is broken it costs a
+/// walk along the links.
 pub(crate) fn relax(
     bounds: &[Bounds],
     picks: &[Pick],
@@ -92,7 +92,8 @@ pub(crate) fn relax(
     requires kept { IsKept (demands_of bounds.now picks.now) labels.old.values.items labels.old.links.items }
     requires room { length bounds.now + 3 ≤ vec_capacity cycle.old }
     ensures kept { IsKept (demands_of bounds.now picks.now) labels.new.values.items labels.new.links.items }
-    ensures relaxes { IfOk result (λ lowered. Relaxes picks.now place labels.old.values.items lowered labels.new.values.items) }
+    ensures relaxes { IfOk result
+        (λ lowered. Relaxes picks.now place labels.old.values.items lowered labels.new.values.items) }
     ensures cycle { OnErr result (NamesNegativeCycle (demands_of bounds.now picks.now) cycle.new.items) }
     ensures capacity { vec_capacity cycle.old ≤ vec_capacity cycle.new }
 {
@@ -100,7 +101,13 @@ pub(crate) fn relax(
     if !is_broken(&labels.values, demand) {
         return Ok(false);
     }
-    if begin_cycle(&labels.links, demand.constraint.right, demand.constraint.left, demand.why, cycle) {
+    if begin_cycle(
+        &labels.links,
+        demand.constraint.right,
+        demand.constraint.left,
+        demand.why,
+        cycle,
+    ) {
         return Err(Conflict);
     }
     let bounds = bounds[demand.constraint.left as usize - 1];

@@ -9,16 +9,16 @@ ghost use Rattle.tfpg_diff.specs.inside.Kept.{IsSound, IsKept, IsStart, MeetsPic
 
 use crate::bounds::Bounds;
 use crate::demand::Demand;
+use crate::labels::Labels;
 use crate::pick::Pick;
 use crate::relax::relax;
-use crate::labels::Labels;
 use crate::why::{Conflict, Why};
 use std::mem;
 use tfpg_base::Constraint;
 
-/// Tests each pick once. Answers whether any was broken.
+/// Tests each pick once. Returns whether any was broken.
 ///
-/// Conflict comes where that closes a negative cycle, whose tags then stand in `cycle`.
+/// Conflict comes where that closes a negative cycle, whose tags `cycle` then has.
 fn pass(
     bounds: &[Bounds],
     picks: &[Pick],
@@ -29,7 +29,8 @@ fn pass(
     requires kept { IsKept (demands_of bounds.now picks.now) labels.old.values.items labels.old.links.items }
     requires room { length bounds.now + 3 ≤ vec_capacity cycle.old }
     ensures kept { IsKept (demands_of bounds.now picks.now) labels.new.values.items labels.new.links.items }
-    ensures passes { IfOk result (λ lowered. Passes picks.now labels.old.values.items lowered labels.new.values.items) }
+    ensures passes { IfOk result
+        (λ lowered. Passes picks.now labels.old.values.items lowered labels.new.values.items) }
     ensures cycle { OnErr result (NamesNegativeCycle (demands_of bounds.now picks.now) cycle.new.items) }
     ensures capacity { vec_capacity cycle.old ≤ vec_capacity cycle.new }
 {
@@ -44,8 +45,8 @@ fn pass(
 
 /// Lowers values until they meet every pick.
 ///
-/// Conflict comes where there is no solution; the tags of a negative cycle then stand in `cycle`. There are at
-/// most as many passes over the picks as there are numbers, and one more.
+/// Conflict comes where there is no solution; `cycle` then has the tags of a negative cycle. There are at most as many
+/// passes over the picks as there are numbers, and one more.
 pub(crate) fn settle(
     bounds: &[Bounds],
     picks: &[Pick],
@@ -86,7 +87,8 @@ pub(crate) fn ceiling_of(variable: u32, bounds: Bounds) -> Demand
 /// Gives each variable the value of its upper bound, and that bound as its link.
 pub(crate) fn start(bounds: &[Bounds], labels: &mut Labels)
     requires few { length bounds.now < 2 ^ 32 }
-    requires ceilings { (variable : ℕ) (limits : BoundsOf) → slice_get bounds.now variable ≡ Some limits → limits.ceiling ≤ never }
+    requires ceilings { (variable : ℕ) (limits : BoundsOf) →
+        slice_get bounds.now variable ≡ Some limits → limits.ceiling ≤ never }
     requires values { vec_len labels.old.values ≡ length bounds.now + 1 }
     requires links { vec_len labels.old.links ≡ length bounds.now + 1 }
     requires zero { slice_index labels.old.values.items 0 ≡ 0 }
@@ -110,9 +112,9 @@ pub(crate) fn save(labels: &Labels, into: &mut Labels)
     into.links.copy_from_slice(&labels.links);
 }
 
-/// Lowers values until they meet every pick, and puts the backup in their place where that can't be.
+/// Lowers values until they meet every pick, and restores the backup where they cannot.
 ///
-/// Conflict comes where there is no solution; the tags of a negative cycle then stand in `cycle`.
+/// Conflict comes where there is no solution; `cycle` then has the tags of a negative cycle.
 pub(crate) fn settle_or_restore(
     bounds: &[Bounds],
     picks: &[Pick],
@@ -125,7 +127,8 @@ pub(crate) fn settle_or_restore(
     requires room { length bounds.now + 3 ≤ vec_capacity cycle.old }
     requires backup_values { length backup.old.values.items ≡ length bounds.now + 1 }
     requires backup_links { length backup.old.links.items ≡ length bounds.now + 1 }
-    ensures kept { OnOk result (IsKept (demands_of bounds.now picks.now) labels.new.values.items labels.new.links.items) }
+    ensures kept { OnOk result
+        (IsKept (demands_of bounds.now picks.now) labels.new.values.items labels.new.links.items) }
     ensures met { OnOk result (MeetsPicks labels.new.values.items picks.now) }
     ensures values { OnErr result (labels.new.values.items ≡ backup.old.values.items) }
     ensures links { OnErr result (labels.new.links.items ≡ backup.old.links.items) }

@@ -7,18 +7,18 @@ ghost use Rattle.tfpg_diff.specs.State.{unbounded_from, with_floor, with_ceiling
 
 use crate::bounds::{Bounds, unbounded};
 use crate::demand::Demand;
+use crate::labels::Labels;
 use crate::pick::Pick;
-use crate::relax::{begin_cycle, picked, is_broken};
+use crate::relax::{begin_cycle, is_broken, picked};
 use crate::settle::{ceiling_of, save, settle, settle_or_restore, start};
 use crate::walk::note;
-use crate::labels::Labels;
 use crate::why::{Conflict, Why};
 use std::alloc::Global;
 use std::marker::Model;
 use std::sync::ledger::Ledger;
 use tfpg_base::{Constraint, NoMemory, Steps};
 
-/// What the demands on some variables come to.
+/// Some variables, their bounds, a stack of picks, and the latest solution of all that.
 #[derive(Drop)]
 pub struct System {
     bounds: Vec<Bounds>,
@@ -34,20 +34,26 @@ impl Model for System {
 
     ghost Value = { State };
 
-    ghost use Rattle.tfpg_diff.specs.inside.Kept.{IsReady, demands_of};
+    ghost use Rattle.tfpg_diff.specs.inside.Kept.{IsReady};
 
-    ghost view = { λ s. record { demands = demands_of s.bounds.items s.picks.items; spare = vec_capacity s.picks - vec_len s.picks; cycle = s.cycle.items } };
+    ghost view = { λ s. record {
+      demands = record { bounds = s.bounds.items; picks = s.picks.items };
+      spare = vec_capacity s.picks - vec_len s.picks;
+      cycle = s.cycle.items;
+    } };
 
-    ghost invariant = { λ s. IsReady s.bounds.items s.picks.items s.labels.values.items s.labels.links.items s.backup.values.items s.backup.links.items (vec_capacity s.cycle) };
+    ghost invariant = { λ s. IsReady s.bounds.items s.picks.items s.labels.values.items s.labels.links.items
+        s.backup.values.items s.backup.links.items (vec_capacity s.cycle) };
 }
 
 impl System {
     /// A system of so many variables, of which nothing is known: each is at least 0 and at most one past the
     /// last millisecond, `10^12 + 1`.
     ///
-    /// All the memory that later calls want is taken here, but that of picks: about 150 bytes for each variable.
+    /// All the memory of later calls is allocated here, but that of picks: about 150 bytes for each variable.
     pub fn new(alloc: Global, count: u32) -> Result<System, NoMemory>
-        ensures demands { IfOk result (λ system. system.demands ≡ record { bounds = unbounded_from 0 count; picks = [] }) }
+        ensures demands { IfOk result
+            (λ system. system.demands ≡ record { bounds = unbounded_from 0 count; picks = [] }) }
         ensures count { IfOk result (λ system. length system.demands.bounds ≡ count) }
     {
         let numbers = count as usize + 1;
@@ -65,7 +71,7 @@ impl System {
         })
     }
 
-    /// Makes room for so many more picks. After want of memory the system is as before.
+    /// Makes room for so many more picks. The system is unchanged where memory ran out.
     pub fn reserve(&mut self, picks: u32) -> Result<(), NoMemory>
         ensures ok { OnOk result (picks ≤ self.new.spare) }
         ensures same { self.new.demands ≡ self.old.demands }
@@ -95,8 +101,8 @@ impl System {
     /// The variable is at least that. A bound that is not tighter than the present one changes nothing. The call
     /// counts as one step.
     ///
-    /// Conflict comes exactly where there would be no solution. The system is then as before, and
-    /// [`System::cycle`] lends the reason. It costs one comparison, and at a conflict a walk along the links.
+    /// Conflict comes exactly where there would be no solution. The system is then unchanged, and [`System::cycle`]
+    /// lends the tags of a negative cycle. It costs one comparison, and at a conflict a walk along the links.
     pub fn raise<L: Ledger>(
         &mut self,
         variable: u32,
@@ -117,9 +123,9 @@ impl System {
     /// The variable is at most that. A bound that is not tighter than the present one changes nothing. The call
     /// counts as one step.
     ///
-    /// Conflict comes exactly where there would be no solution. The system is then as before, and
-    /// [`System::cycle`] lends the reason. Where the value of the variable is above the bound it costs at most
-    /// one pass over the picks for each number.
+    /// Conflict comes exactly where there would be no solution. The system is then unchanged, and [`System::cycle`]
+    /// lends the tags of a negative cycle. Where the value of the variable is above the bound it costs at most one pass
+    /// over the picks for each number.
     pub fn lower<L: Ledger>(
         &mut self,
         variable: u32,
@@ -137,11 +143,11 @@ impl System {
         self.add_ceiling(variable, most, tag)
     }
 
-    /// Puts a constraint on the stack. Its bound may be any number. The call counts as one step.
+    /// Pushes a constraint on the stack. Its bound may be any number. The call counts as one step.
     ///
-    /// Conflict comes exactly where there would be no solution. The system is then as before, and
-    /// [`System::cycle`] lends the reason. Where the values break the constraint it costs at most one pass over
-    /// the picks for each number.
+    /// Conflict comes exactly where there would be no solution. The system is then unchanged, and [`System::cycle`]
+    /// lends the tags of a negative cycle. Where the values break the constraint it costs at most one pass over the
+    /// picks for each number.
     pub fn push<L: Ledger>(
         &mut self,
         constraint: Constraint,
@@ -159,7 +165,8 @@ impl System {
         self.add_pick(Pick { constraint, tag })
     }
 
-    /// Takes the picks after the first so many off the stack. The bounds stay. It costs a fresh computation.
+    /// Pops the picks after the first so many off the stack. The bounds stay. It computes the solution anew, from the
+    /// upper bounds down.
     pub fn pop_to(&mut self, len: u64)
         requires { len ≤ length self.old.demands.picks }
         ensures demands { self.new.demands ≡ popped_to self.old.demands len }

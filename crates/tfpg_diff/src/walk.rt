@@ -16,13 +16,14 @@ pub(crate) fn note(cycle: &mut Vec<Why>, why: Why)
 }
 
 /// Walks along the links from a number up to the one that is sought or to zero, whichever comes first, and
-/// appends the tags of the links on the way. Answers whether the walk ended at the one that is sought.
+/// appends the tags of the links on the way. Returns whether the walk ended at the one that is sought.
 pub(crate) fn walk(links: &[Demand], from: u32, sought: u32, cycle: &mut Vec<Why>) -> bool
     requires rooted { IsRooted links.now }
     requires labelled { IsLabelled links.now }
     requires start { from < length links.now }
     requires room { vec_len cycle.old + length links.now ≤ vec_capacity cycle.old }
-    ensures walked { Walked links.now from sought (if result then sought else 0) cycle.old.items cycle.new.items }
+    ensures walked { Walked links.now from sought
+        (if result then sought else 0) cycle.old.items cycle.new.items }
     ensures found { sought ≡ 0 → IsTrue result }
     ensures capacity { vec_capacity cycle.old ≤ vec_capacity cycle.new }
 {

@@ -1,5 +1,5 @@
 -- What the body of a system keeps: values and links that lead to zero.
-use Rattle.std.specs.Prelude.{◌≡◌, ◌≢◌, Bool, true, false, sum, ℕ, ◌+◌, ◌^◌, ◌<◌, ◌≤◌, pos, ◌+ℤ◌, ◌≤ℤ◌, List, [], ◌∷◌, ◌++◌, map, length, slice_index, slice_get, All, Some}
+use Rattle.std.specs.Prelude.{◌≡◌, ◌≢◌, Bool, true, false, sum, ℕ, ◌+◌, ◌^◌, ◌<◌, ◌≤◌, ℤ, pos, ◌+ℤ◌, ◌≤ℤ◌, ◌<ℤ◌, List, [], ◌∷◌, ◌++◌, map, length, slice_index, slice_get, All, Some}
 use Rattle.std.specs.List.{HoldsAt}
 use Rattle.tfpg_diff.specs.declared.why.Why.{Why}
 use Rattle.tfpg_diff.specs.declared.bounds.Bounds.{Bounds}
@@ -9,10 +9,17 @@ use Rattle.tfpg_diff.specs.Demands.{Demands, Demanded, Bounded, picked, ceiling_
 use Rattle.tfpg_diff.specs.Solution.{IsBetween, IsSolution}
 use Rattle.tfpg_base.specs.Times.{never}
 
+-- the greatest value that the constraint allows its left side
+abbrev pub allowed_by : List ℕ → Demand → ℤ
+allowed_by values demand = pos (slice_index values demand.constraint.right) +ℤ demand.constraint.most
+
 -- The left side less the right side is at most the bound, where these are the values of the numbers from 0 on.
 abbrev pub IsMetBy : List ℕ → Demand → Type 0
-IsMetBy values demand =
-    pos (slice_index values demand.constraint.left) ≤ℤ (pos (slice_index values demand.constraint.right) +ℤ demand.constraint.most)
+IsMetBy values demand = pos (slice_index values demand.constraint.left) ≤ℤ allowed_by values demand
+
+-- The values break the constraint.
+abbrev pub IsBrokenBy : List ℕ → Demand → Type 0
+IsBrokenBy values demand = allowed_by values demand <ℤ pos (slice_index values demand.constraint.left)
 
 -- These are the links on the way from one number to another. The way does not go on from zero.
 abbrev pub Climbs : List Demand → ℕ → List Demand → ℕ → Type 0
@@ -27,8 +34,8 @@ IsLabelled links = (number : ℕ) (demand : Demand) → 0 < number → slice_get
 abbrev pub IsRooted : List Demand → Type 0
 IsRooted links = (number : ℕ) → number < length links → (chain : List Demand) × Climbs links number chain 0
 
--- The links from one number lead to where the walk stands, and none of them is the link of the number that is looked for;
--- their tags were appended.
+-- The links from one number lead to where the walk stands, and none of them is the link of the number that it seeks; their
+-- tags were appended.
 pub record IsWalk (links : List Demand) (from sought stands : ℕ) (before after : List Why) (chain : List Demand) : Type 0 where
   pub climbs : Climbs links from chain stands
   pub avoids : All (λ (demand : Demand). demand.constraint.left ≢ sought) chain
@@ -44,7 +51,7 @@ pub record IsLink (demands : Demands) (values : List ℕ) (number : ℕ) (demand
   pub left : demand.constraint.left ≡ number
   pub right : demand.constraint.right ≤ length demands.bounds
   pub demanded : Demanded demands demand
-  pub tight : (pos (slice_index values demand.constraint.right) +ℤ demand.constraint.most) ≤ℤ pos (slice_index values number)
+  pub tight : allowed_by values demand ≤ℤ pos (slice_index values number)
 
 -- What is demanded can be computed with.
 pub record IsSound (demands : Demands) : Type 0 where
@@ -76,7 +83,7 @@ abbrev pub Relaxes : List Pick → ℕ → List ℕ → Bool → List ℕ → Ty
 Relaxes picks place before true after = sum after < sum before
 Relaxes picks place before false after = (after ≡ before) × HoldsAt (λ pick. IsMetBy after (picked pick)) picks place
 
--- What testing the picks in front does to values: where any was broken they sum up to less, else they stay and meet these.
+-- What testing some picks does to values: where any was broken they sum up to less, else they stay and meet all.
 abbrev pub Passes : List Pick → List ℕ → Bool → List ℕ → Type 0
 Passes picks before true after = sum after < sum before
 Passes picks before false after = (after ≡ before) × MeetsPicks after picks
@@ -91,7 +98,7 @@ pub record IsStart (bounds : List Bounds) (values : List ℕ) (links : List Dema
   pub links_are : (variable : ℕ) (limits : Bounds) → variable < count → slice_get bounds variable ≡ Some limits →
       slice_get links (variable + 1) ≡ Some (ceiling_of variable limits)
 
--- Between calls: what is kept, every pick met, and room for what a call sets aside or lends.
+-- Between calls: what is kept, every pick met, and room for what a call saves or lends.
 pub record IsReady (bounds : List Bounds) (picks : List Pick) (values : List ℕ) (links : List Demand) (backup_values : List ℕ)
     (backup_links : List Demand) (cycle_capacity : ℕ) : Type 0 where
   pub sound : IsSound (demands_of bounds picks)

@@ -1,0 +1,143 @@
+-- What tags name: after a change of the demands, and of a negative cycle.
+use Rattle.std.proofs.Common.{◌≡◌, ℕ, zero, suc, ◌+◌, Bool, true, false, cond, ltb, List, [], ◌∷◌, map, Option, Some, refl, sym, ◌∙◌, ap, subst, inl, inr, ⊎_elim}
+use Rattle.std.specs.Prelude.{slice_get, pos, neg_ℤ, All, Contains, option_map}
+use Rattle.std.proofs.lemmas.Option.{same_Some, none-some}
+use Rattle.std.proofs.lemmas.List.Elements.{All-head, All-tail, Contains-push_cases}
+use Rattle.tfpg_base.specs.declared.constraint.Constraint.{Constraint}
+use Rattle.tfpg_base.specs.Choice.{each_of}
+use Rattle.tfpg_diff.specs.declared.why.Why.{Why}
+use Rattle.tfpg_diff.specs.declared.why.Why.TheVariants.{Given}
+use Rattle.tfpg_diff.specs.declared.bounds.Bounds.{Bounds}
+use Rattle.tfpg_diff.specs.declared.pick.Pick.{Pick}
+use Rattle.tfpg_diff.specs.declared.demand.Demand.{Demand}
+use Rattle.tfpg_diff.specs.Demands.{Demands, Bounded, ceiling_of, floor_of, picked}
+use Rattle.tfpg_diff.specs.Cycle.{constraints_of, IsNegativeCycle, NamesNegativeCycle}
+use Rattle.tfpg_diff.specs.Named.{AreNamed, IsCycleOf}
+use Rattle.tfpg_diff.proofs.Lists.{Contains-take}
+use Rattle.tfpg_diff.specs.State.{raised, lowered, changed_at, with_floor, with_ceiling, with_pick, popped_to}
+
+-- The tag names the constraint.
+abbrev pub IsNamed : (Why → Option Constraint) → Demand → Type 0
+IsNamed named e = named e.why ≡ Some e.constraint
+
+-- The tags of a variable's bounds name them.
+abbrev pub AreBoundsNamed : (Why → Option Constraint) → ℕ → Bounds → Type 0
+AreBoundsNamed named variable bounds = IsNamed named (ceiling_of variable bounds) × IsNamed named (floor_of variable bounds)
+
+-- where all bounds and all picks are named, all demands are
+pub AreNamed-parts : (demands : Demands) (named : Why → Option Constraint) →
+    ((v : ℕ) (b : Bounds) → Bounded demands v b → AreBoundsNamed named v b) →
+    ((pick : Pick) → Contains demands.picks pick → IsNamed named (picked pick)) → AreNamed demands named
+AreNamed-parts demands named bounds picks e demanded = elim demanded [
+  | inl is ↦ subst (λ (f : Demand). IsNamed named f) (sym is.3) (bounds is.0 is.1 is.2).0
+  | inr others ↦ elim others [
+    | inl is ↦ subst (λ (f : Demand). IsNamed named f) (sym is.3) (bounds is.0 is.1 is.2).1
+    | inr is ↦ subst (λ (f : Demand). IsNamed named f) (sym is.2) (picks is.0 is.1)
+  ]
+]
+
+-- and back
+pub AreBoundsNamed-demands : (demands : Demands) (named : Why → Option Constraint) → AreNamed demands named →
+    (v : ℕ) (b : Bounds) → Bounded demands v b → AreBoundsNamed named v b
+AreBoundsNamed-demands demands named names v b at =
+    (names (ceiling_of v b) (inl (v, b, at, refl)), names (floor_of v b) (inr (inl (v, b, at, refl))))
+
+-- and back
+pub IsNamed-pick : (demands : Demands) (named : Why → Option Constraint) → AreNamed demands named →
+    (pick : Pick) → Contains demands.picks pick → IsNamed named (picked pick)
+IsNamed-pick demands named names pick among = names (picked pick) (inr (inr (pick, among, refl)))
+
+-- what holds of each variable's bounds holds after a change that keeps it
+pub changed_at-all : (P : ℕ → Bounds → Type 0) (change : Bounds → Bounds) (bounds : List Bounds) (v : ℕ) →
+    ((b : Bounds) → P v b → P v (change b)) → ((u : ℕ) (b : Bounds) → slice_get bounds u ≡ Some b → P u b) →
+    (u : ℕ) (b : Bounds) → slice_get (changed_at change bounds v) u ≡ Some b → P u b
+changed_at-all P change [] v keeps all u b at = absurd (none-some b at)
+changed_at-all P change (c ∷ cs) zero keeps all zero b at = subst (P zero) (same_Some (change c) b at) (keeps c (all zero c refl))
+changed_at-all P change (c ∷ cs) zero keeps all (suc u) b at = all (suc u) b at
+changed_at-all P change (c ∷ cs) (suc v) keeps all zero b at = all zero b at
+changed_at-all P change (c ∷ cs) (suc v) keeps all (suc u) b at =
+    changed_at-all (λ n d. P (suc n) d) change cs v keeps (λ n d here. all (suc n) d here) u b at
+
+-- a raised bound is named
+raised-named : (named : Why → Option Constraint) (v least tag : ℕ) →
+    named (Given tag) ≡ Some (record { left = 0; right = v + 1; most = neg_ℤ (pos least) }) →
+    (b : Bounds) → AreBoundsNamed named v b → AreBoundsNamed named v (raised least tag b)
+raised-named named v least tag new b names = by (ltb b.floor least)
+  where
+    by : (c : Bool) → AreBoundsNamed named v (cond c (record b { floor = least; floor_why = Given tag }) b)
+    by true = (names.0, new)
+    by false = names
+
+-- a lowered bound is named
+lowered-named : (named : Why → Option Constraint) (v most tag : ℕ) →
+    named (Given tag) ≡ Some (record { left = v + 1; right = 0; most = pos most }) →
+    (b : Bounds) → AreBoundsNamed named v b → AreBoundsNamed named v (lowered most tag b)
+lowered-named named v most tag new b names = by (ltb most b.ceiling)
+  where
+    by : (c : Bool) → AreBoundsNamed named v (cond c (record b { ceiling = most; ceiling_why = Given tag }) b)
+    by true = (new, names.1)
+    by false = names
+
+-- a lower bound was added
+pub AreNamed-floor : (demands : Demands) (named : Why → Option Constraint) (variable least tag : ℕ) → AreNamed demands named →
+    named (Given tag) ≡ Some (record { left = 0; right = variable + 1; most = neg_ℤ (pos least) }) →
+    AreNamed (with_floor demands variable least tag) named
+AreNamed-floor demands named variable least tag names new =
+    AreNamed-parts (with_floor demands variable least tag) named
+    (changed_at-all (AreBoundsNamed named) (raised least tag) demands.bounds variable (raised-named named variable least tag new)
+    (AreBoundsNamed-demands demands named names))
+    (IsNamed-pick demands named names)
+
+-- an upper bound was added
+pub AreNamed-ceiling : (demands : Demands) (named : Why → Option Constraint) (variable most tag : ℕ) → AreNamed demands named →
+    named (Given tag) ≡ Some (record { left = variable + 1; right = 0; most = pos most }) →
+    AreNamed (with_ceiling demands variable most tag) named
+AreNamed-ceiling demands named variable most tag names new =
+    AreNamed-parts (with_ceiling demands variable most tag) named
+    (changed_at-all (AreBoundsNamed named) (lowered most tag) demands.bounds variable (lowered-named named variable most tag new)
+    (AreBoundsNamed-demands demands named names))
+    (IsNamed-pick demands named names)
+
+-- a pick was added
+pub AreNamed-picked : (demands : Demands) (named : Why → Option Constraint) (constraint : Constraint) (tag : ℕ) →
+    AreNamed demands named → named (Given tag) ≡ Some constraint → AreNamed (with_pick demands constraint tag) named
+AreNamed-picked demands named constraint tag names new =
+    let pick : Pick = record { constraint = constraint; tag = tag } in
+    AreNamed-parts (with_pick demands constraint tag) named
+    (AreBoundsNamed-demands demands named names)
+    (λ p among. ⊎_elim
+    (λ (old : Contains demands.picks p). IsNamed-pick demands named names p old)
+    (λ (last : pick ≡ p). subst (λ (q : Pick). IsNamed named (picked q)) last new)
+    (Contains-push_cases demands.picks pick p among))
+
+-- picks were popped
+pub AreNamed-popped : (demands : Demands) (named : Why → Option Constraint) (len : ℕ) → AreNamed demands named →
+    AreNamed (popped_to demands len) named
+AreNamed-popped demands named len names =
+    AreNamed-parts (popped_to demands len) named
+    (AreBoundsNamed-demands demands named names)
+    (λ p among. IsNamed-pick demands named names p (Contains-take demands.picks len p among))
+
+-- the constraints of a list of demands are those that their tags name
+each_of-named : (named : Why → Option Constraint) (es : List Demand) → All (IsNamed named) es →
+    each_of (map named (map (λ (e : Demand). e.why) es)) ≡ Some (constraints_of es)
+each_of-named named [] all = refl
+each_of-named named (e ∷ es) all =
+    let rest = each_of-named named es (All-tail (IsNamed named) e es all) in
+    ap (λ (o : Option Constraint). each_of (o ∷ map named (map (λ (f : Demand). f.why) es))) (All-head (IsNamed named) e es all)
+    ∙ ap (option_map (λ (cs : List Constraint). e.constraint ∷ cs)) rest
+
+-- a negative cycle is one of constraints that the tags name
+pub IsCycleOf-named : (demands : Demands) (named : Why → Option Constraint) (tags : List Why) → AreNamed demands named →
+    NamesNegativeCycle demands tags → (constraints : List Constraint) × IsCycleOf named tags constraints
+IsCycleOf-named demands named tags names found =
+    let cycle : IsNegativeCycle demands tags found.0 = found.1 in (
+      constraints_of found.0,
+      record {
+        are_named = ap (λ (whys : List Why). each_of (map named whys)) (sym cycle.tags_are)
+            ∙ each_of-named named found.0 (λ i d inside. names _ (cycle.demanded i d inside));
+        chained = cycle.chained;
+        simple = cycle.simple;
+        negative = cycle.negative;
+      },
+    )
