@@ -12,7 +12,7 @@ use Rattle.tfpg_diff.specs.declared.pick.Pick.{Pick}
 use Rattle.tfpg_diff.specs.declared.demand.Demand.{Demand}
 use Rattle.tfpg_diff.specs.Demands.{Demands, Bounded, ceiling_of, floor_of, picked}
 use Rattle.tfpg_diff.specs.Cycle.{constraints_of, IsNegativeCycle, NamesNegativeCycle}
-use Rattle.tfpg_diff.specs.Named.{AreNamed, IsCycleOf}
+use Rattle.tfpg_diff.specs.Named.{AreDemandsNamed, IsCycleOf}
 use Rattle.tfpg_diff.proofs.Lists.{Contains-take}
 use Rattle.tfpg_diff.specs.State.{raised, lowered, changed_at, with_floor, with_ceiling, with_pick, popped_to}
 
@@ -25,10 +25,10 @@ abbrev pub AreBoundsNamed : (Why → Option Constraint) → ℕ → Bounds → T
 AreBoundsNamed named variable bounds = IsNamed named (ceiling_of variable bounds) × IsNamed named (floor_of variable bounds)
 
 -- where all bounds and all picks are named, all demands are
-pub AreNamed-parts : (demands : Demands) (named : Why → Option Constraint) →
+pub AreDemandsNamed-parts : (demands : Demands) (named : Why → Option Constraint) →
     ((v : ℕ) (b : Bounds) → Bounded demands v b → AreBoundsNamed named v b) →
-    ((pick : Pick) → Contains demands.picks pick → IsNamed named (picked pick)) → AreNamed demands named
-AreNamed-parts demands named bounds picks e demanded = elim demanded [
+    ((pick : Pick) → Contains demands.picks pick → IsNamed named (picked pick)) → AreDemandsNamed demands named
+AreDemandsNamed-parts demands named bounds picks e demanded = elim demanded [
   | inl is ↦ subst (λ (f : Demand). IsNamed named f) (sym is.3) (bounds is.0 is.1 is.2).0
   | inr others ↦ elim others [
     | inl is ↦ subst (λ (f : Demand). IsNamed named f) (sym is.3) (bounds is.0 is.1 is.2).1
@@ -37,13 +37,13 @@ AreNamed-parts demands named bounds picks e demanded = elim demanded [
 ]
 
 -- and back
-pub AreBoundsNamed-demands : (demands : Demands) (named : Why → Option Constraint) → AreNamed demands named →
+pub AreBoundsNamed-demands : (demands : Demands) (named : Why → Option Constraint) → AreDemandsNamed demands named →
     (v : ℕ) (b : Bounds) → Bounded demands v b → AreBoundsNamed named v b
 AreBoundsNamed-demands demands named names v b at =
     (names (ceiling_of v b) (inl (v, b, at, refl)), names (floor_of v b) (inr (inl (v, b, at, refl))))
 
 -- and back
-pub IsNamed-pick : (demands : Demands) (named : Why → Option Constraint) → AreNamed demands named →
+pub IsNamed-pick : (demands : Demands) (named : Why → Option Constraint) → AreDemandsNamed demands named →
     (pick : Pick) → Contains demands.picks pick → IsNamed named (picked pick)
 IsNamed-pick demands named names pick among = names (picked pick) (inr (inr (pick, among, refl)))
 
@@ -79,31 +79,31 @@ lowered-named named v most tag new b names = by (ltb most b.ceiling)
     by false = names
 
 -- a lower bound was added
-pub AreNamed-floor : (demands : Demands) (named : Why → Option Constraint) (variable least tag : ℕ) → AreNamed demands named →
+pub AreDemandsNamed-floor : (demands : Demands) (named : Why → Option Constraint) (variable least tag : ℕ) → AreDemandsNamed demands named →
     named (Given tag) ≡ Some (record { left = 0; right = variable + 1; most = neg_ℤ (pos least) }) →
-    AreNamed (with_floor demands variable least tag) named
-AreNamed-floor demands named variable least tag names new =
-    AreNamed-parts (with_floor demands variable least tag) named
+    AreDemandsNamed (with_floor demands variable least tag) named
+AreDemandsNamed-floor demands named variable least tag names new =
+    AreDemandsNamed-parts (with_floor demands variable least tag) named
     (changed_at-all (AreBoundsNamed named) (raised least tag) demands.bounds variable (raised-named named variable least tag new)
     (AreBoundsNamed-demands demands named names))
     (IsNamed-pick demands named names)
 
 -- an upper bound was added
-pub AreNamed-ceiling : (demands : Demands) (named : Why → Option Constraint) (variable most tag : ℕ) → AreNamed demands named →
+pub AreDemandsNamed-ceiling : (demands : Demands) (named : Why → Option Constraint) (variable most tag : ℕ) → AreDemandsNamed demands named →
     named (Given tag) ≡ Some (record { left = variable + 1; right = 0; most = pos most }) →
-    AreNamed (with_ceiling demands variable most tag) named
-AreNamed-ceiling demands named variable most tag names new =
-    AreNamed-parts (with_ceiling demands variable most tag) named
+    AreDemandsNamed (with_ceiling demands variable most tag) named
+AreDemandsNamed-ceiling demands named variable most tag names new =
+    AreDemandsNamed-parts (with_ceiling demands variable most tag) named
     (changed_at-all (AreBoundsNamed named) (lowered most tag) demands.bounds variable (lowered-named named variable most tag new)
     (AreBoundsNamed-demands demands named names))
     (IsNamed-pick demands named names)
 
 -- a pick was added
-pub AreNamed-picked : (demands : Demands) (named : Why → Option Constraint) (constraint : Constraint) (tag : ℕ) →
-    AreNamed demands named → named (Given tag) ≡ Some constraint → AreNamed (with_pick demands constraint tag) named
-AreNamed-picked demands named constraint tag names new =
+pub AreDemandsNamed-picked : (demands : Demands) (named : Why → Option Constraint) (constraint : Constraint) (tag : ℕ) →
+    AreDemandsNamed demands named → named (Given tag) ≡ Some constraint → AreDemandsNamed (with_pick demands constraint tag) named
+AreDemandsNamed-picked demands named constraint tag names new =
     let pick : Pick = record { constraint = constraint; tag = tag } in
-    AreNamed-parts (with_pick demands constraint tag) named
+    AreDemandsNamed-parts (with_pick demands constraint tag) named
     (AreBoundsNamed-demands demands named names)
     (λ p among. ⊎_elim
     (λ (old : Contains demands.picks p). IsNamed-pick demands named names p old)
@@ -111,10 +111,10 @@ AreNamed-picked demands named constraint tag names new =
     (Contains-push_cases demands.picks pick p among))
 
 -- picks were popped
-pub AreNamed-popped : (demands : Demands) (named : Why → Option Constraint) (len : ℕ) → AreNamed demands named →
-    AreNamed (popped_to demands len) named
-AreNamed-popped demands named len names =
-    AreNamed-parts (popped_to demands len) named
+pub AreDemandsNamed-popped : (demands : Demands) (named : Why → Option Constraint) (len : ℕ) → AreDemandsNamed demands named →
+    AreDemandsNamed (popped_to demands len) named
+AreDemandsNamed-popped demands named len names =
+    AreDemandsNamed-parts (popped_to demands len) named
     (AreBoundsNamed-demands demands named names)
     (λ p among. IsNamed-pick demands named names p (Contains-take demands.picks len p among))
 
@@ -128,7 +128,7 @@ each_of-named named (e ∷ es) all =
     ∙ ap (option_map (λ (cs : List Constraint). e.constraint ∷ cs)) rest
 
 -- a negative cycle is one of constraints that the tags name
-pub IsCycleOf-named : (demands : Demands) (named : Why → Option Constraint) (tags : List Why) → AreNamed demands named →
+pub IsCycleOf-named : (demands : Demands) (named : Why → Option Constraint) (tags : List Why) → AreDemandsNamed demands named →
     NamesNegativeCycle demands tags → (constraints : List Constraint) × IsCycleOf named tags constraints
 IsCycleOf-named demands named tags names found =
     let cycle : IsNegativeCycle demands tags found.0 = found.1 in (

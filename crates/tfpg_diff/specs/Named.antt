@@ -8,8 +8,8 @@ use Rattle.tfpg_diff.specs.declared.demand.Demand.{Demand}
 use Rattle.tfpg_diff.specs.Demands.{Demands, Demanded}
 
 -- The tag of each demand names its constraint.
-abbrev pub AreNamed : Demands → (Why → Option Constraint) → Type 0
-AreNamed demands named = (demand : Demand) → Demanded demands demand → named demand.why ≡ Some demand.constraint
+abbrev pub AreDemandsNamed : Demands → (Why → Option Constraint) → Type 0
+AreDemandsNamed demands named = (demand : Demand) → Demanded demands demand → named demand.why ≡ Some demand.constraint
 
 -- The tags name constraints that chain into a cycle in which no left side stands twice, and the sum of their bounds is
 -- below 0.

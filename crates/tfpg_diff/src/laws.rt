@@ -6,27 +6,27 @@ ghost use Rattle.tfpg_diff.specs.declared.why.Why.{Why};
 ghost use Rattle.tfpg_diff.specs.declared.why.Why.TheVariants.{Given};
 ghost use Rattle.tfpg_diff.specs.Demands.{Demands};
 ghost use Rattle.tfpg_diff.specs.Cycle.{NamesNegativeCycle};
-ghost use Rattle.tfpg_diff.specs.Named.{AreNamed, IsCycleOf};
+ghost use Rattle.tfpg_diff.specs.Named.{AreDemandsNamed, IsCycleOf};
 ghost use Rattle.tfpg_diff.specs.State.{with_floor, with_ceiling, with_pick, popped_to};
 
 /// Tags that name the constraints of a system go on doing so: after a bound or a pick that the new tag names, and after
 /// picks were popped.
 pub fn tags_name_what_is_added()
-    ensures floor { (demands : Demands) (named : Why → Option Constraint) (variable least tag : ℕ) → AreNamed demands named →
+    ensures floor { (demands : Demands) (named : Why → Option Constraint) (variable least tag : ℕ) → AreDemandsNamed demands named →
         named (Given tag) ≡ Some (record { left = 0; right = variable + 1; most = neg_ℤ (pos least) }) →
-        AreNamed (with_floor demands variable least tag) named }
-    ensures ceiling { (demands : Demands) (named : Why → Option Constraint) (variable most tag : ℕ) → AreNamed demands named →
+        AreDemandsNamed (with_floor demands variable least tag) named }
+    ensures ceiling { (demands : Demands) (named : Why → Option Constraint) (variable most tag : ℕ) → AreDemandsNamed demands named →
         named (Given tag) ≡ Some (record { left = variable + 1; right = 0; most = pos most }) →
-        AreNamed (with_ceiling demands variable most tag) named }
+        AreDemandsNamed (with_ceiling demands variable most tag) named }
     ensures pick { (demands : Demands) (named : Why → Option Constraint) (constraint : Constraint) (tag : ℕ) →
-        AreNamed demands named → named (Given tag) ≡ Some constraint →
-        AreNamed (with_pick demands constraint tag) named }
-    ensures popped { (demands : Demands) (named : Why → Option Constraint) (len : ℕ) → AreNamed demands named →
-        AreNamed (popped_to demands len) named }
+        AreDemandsNamed demands named → named (Given tag) ≡ Some constraint →
+        AreDemandsNamed (with_pick demands constraint tag) named }
+    ensures popped { (demands : Demands) (named : Why → Option Constraint) (len : ℕ) → AreDemandsNamed demands named →
+        AreDemandsNamed (popped_to demands len) named }
 {}
 
 /// Where tags name the constraints of a system, those of a negative cycle name constraints that chain into one.
 pub fn tags_name_the_cycle()
-    ensures { (demands : Demands) (named : Why → Option Constraint) (tags : List Why) → AreNamed demands named →
+    ensures { (demands : Demands) (named : Why → Option Constraint) (tags : List Why) → AreDemandsNamed demands named →
         NamesNegativeCycle demands tags → (constraints : List Constraint) × IsCycleOf named tags constraints }
 {}

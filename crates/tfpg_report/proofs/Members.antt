@@ -8,7 +8,7 @@ use Rattle.std.proofs.lemmas.List.Elements.{All-head, All-tail, All-contains}
 use Rattle.tfpg_base.proofs.Elements.{AllPairs-head, AllPairs-tail, Contains-tail, Contains-cons_cases, Contains-nil}
 use Rattle.tfpg_graph.specs.Graph.{Tfpg}
 use Rattle.tfpg_base.specs.TextLine.{separated}
-use Rattle.tfpg_report.specs.Pieces.{failure_word}
+use Rattle.tfpg_report.specs.Blocks.{failure_word}
 use Rattle.tfpg_base.proofs.Joined.{join-push}
 
 -- the members below a place
@@ -31,7 +31,7 @@ members_below-none place (m ∷ set) large =
     ap (λ (b : Bool). cond b (m ∷ members_below place set) (members_below place set)) here
     ∙ members_below-none place set (All-tail (λ x. place ≤ x) m set large)
 
--- below the next place stand the same, where the place is no member
+-- below the next place there are the same, where the place is no member
 pub members_below-same : (place : ℕ) (set : List ℕ) → (Contains set place → ⊥) → members_below (place + 1) set ≡ members_below place set
 members_below-same place [] absent = refl
 members_below-same place (m ∷ set) absent =
@@ -55,7 +55,7 @@ more_at_head place m set greater e =
     ap (λ (b : Bool). cond b (m ∷ members_below place set) (members_below place set)) before ∙ none_before in
     left ∙ ap (λ (ms : List ℕ). ms ++ place ∷ []) (sym right)
 
--- a place that stands behind the head
+-- a place after the head
 more_in_rest : (place m : ℕ) (set : List ℕ) → m < place → members_below (place + 1) set ≡ members_below place set ++ place ∷ [] → members_below (place + 1) (m ∷ set) ≡ members_below place (m ∷ set) ++ place ∷ []
 more_in_rest place m set less rest =
     let now : ltb m (place + 1) ≡ true = lt-ltb m (place + 1) (omega arith) in
@@ -64,7 +64,7 @@ more_in_rest place m set less rest =
     ∙ ap (λ (ms : List ℕ). m ∷ ms) rest
     ∙ ap (λ (b : Bool). cond b (m ∷ members_below place set) (members_below place set) ++ place ∷ []) (sym before)
 
--- below the next place stands the place too, where it is a member
+-- below the next place there is the place too, where it is a member
 pub members_below-more : (place : ℕ) (set : List ℕ) → AllPairs (λ earlier later. earlier < later) set → Contains set place
     → members_below (place + 1) set ≡ members_below place set ++ place ∷ []
 members_below-more place [] rising member = absurd (Contains-nil place member)
@@ -76,7 +76,7 @@ members_below-more place (m ∷ set) rising member =
     (members_below-more place set (AllPairs-tail (λ earlier later. earlier < later) m set rising) inside))
     (Contains-cons_cases m set place member)
 
--- The names of the members below a place stand behind the old bytes, and whether there is none.
+-- The names of the members below a place stand after the old bytes, and whether there is none.
 pub record AreNamed (graph : Tfpg) (set old new : List ℕ) (is_first : Bool) (place : ℕ) : Type 0 where
   pub text : new ≡ old ++ join_with_byte 44 (map (failure_word graph) (members_below place set))
   pub first : is_first ≡ eqb (length (members_below place set)) 0

@@ -2,6 +2,7 @@
 use Rattle.std.specs.Prelude.{ℕ, List, [], ◌∷◌, ◌++◌, length, map, filter_map, flat_map, Bool, if◌then◌else◌, ◌==◌, Option, Some, None, option_map, option_and_then, unwrap_or, slice_get, codes, decimal}
 use Rattle.std.specs.List.{join_with_byte}
 use Rattle.tfpg_base.specs.TextLine.{text_line}
+use Rattle.tfpg_base.specs.declared.activation.Activation.{Activation}
 use Rattle.tfpg_graph.specs.Graph.{Tfpg, name_at, failures, failure_at}
 use Rattle.tfpg_log.specs.declared.refusal.Refusal.{Refusal}
 use Rattle.tfpg_log.specs.declared.refusal.Refusal.TheVariants.{BadLine, BadNumber, TimeTooLarge, TimeBack, UnknownName, NotMonitored, NotAMode, SecondAlarm, SilentAfterAlarm, LogFull, ModesFull}
@@ -72,12 +73,17 @@ name_word graph node = unwrap_or (name_at graph node) []
 
 -- the names of an edge's source and target
 abbrev pub edge_words : Tfpg → ℕ → List (List ℕ)
-edge_words graph edge = unwrap_or (option_map (λ e. name_word graph e.source ∷ name_word graph e.target ∷ []) (slice_get graph.edges edge)) []
+edge_words graph edge =
+    unwrap_or (option_map (λ e. name_word graph e.source ∷ name_word graph e.target ∷ []) (slice_get graph.edges edge)) []
+
+-- the name of the failure mode at a position
+abbrev pub failure_word : Tfpg → ℕ → List ℕ
+failure_word graph place = unwrap_or (option_and_then (name_at graph) (failure_at graph place)) []
 
 -- a set: a hyphen for the empty set, else the names of its members with commas between
 abbrev pub set_word : Tfpg → List ℕ → List ℕ
 set_word graph [] = codes "-"
-set_word graph (place ∷ places) = join_with_byte 44 (map (λ p. unwrap_or (option_and_then (name_at graph) (failure_at graph p)) []) (place ∷ places))
+set_word graph (place ∷ places) = join_with_byte 44 (map (failure_word graph) (place ∷ places))
 
 -- the words that name a clause
 abbrev pub clause_words : Tfpg → ClauseName → List (List ℕ)
@@ -96,11 +102,15 @@ reason_words graph (Upto event) = codes "upto" ∷ decimal event ∷ []
 reason_words graph (Quiet event node) = codes "quiet" ∷ decimal event ∷ name_word graph node ∷ []
 reason_words graph (Pick split place) = codes "pick" ∷ decimal split ∷ decimal place ∷ []
 
+-- the line of a reason
+abbrev pub reason_text : Tfpg → Reason → List ℕ
+reason_text graph reason = text_line (codes "why" ∷ reason_words graph reason)
+
 -- the lines of a step
 abbrev pub step_text : Tfpg → Step → List ℕ
 step_text graph (Split name) = text_line (codes "split" ∷ clause_words graph name)
 step_text graph (Cycle reasons) =
-    text_line (codes "cycle" ∷ decimal (length reasons) ∷ []) ++ flat_map (λ reason. text_line (codes "why" ∷ reason_words graph reason)) reasons
+    text_line (codes "cycle" ∷ decimal (length reasons) ∷ []) ++ flat_map (reason_text graph) reasons
 
 -- a hypothesis with its steps, where it has any in this round
 abbrev pub steps_text : Tfpg → Finding → List ℕ
@@ -112,12 +122,25 @@ steps_text graph finding =
 abbrev pub hypothesis_words : Tfpg → Finding → List (List ℕ)
 hypothesis_words graph finding = decimal finding.number ∷ codes "set" ∷ set_word graph finding.set ∷ []
 
+-- the line of an activation
+abbrev pub activation_text : Tfpg → Activation → List ℕ
+activation_text graph activation =
+    text_line (codes "at" ∷ name_word graph activation.node ∷ decimal activation.time ∷ [])
+
+-- how many of the monitored nodes have an alarm
+abbrev pub robustness_word : ℕ → ℕ → List ℕ
+robustness_word alarmed monitored = decimal alarmed ++ codes "/" ++ decimal monitored
+
+-- the first line of a ranked hypothesis
+abbrev pub ranked_line : Tfpg → Finding → ℕ → ℕ → ℕ → List ℕ
+ranked_line graph finding cost alarmed monitored =
+    text_line (codes "ranked" ∷ decimal finding.number ∷ codes "cost" ∷ decimal cost
+    ∷ codes "robust" ∷ robustness_word alarmed monitored ∷ codes "set" ∷ set_word graph finding.set ∷ [])
+
 -- a ranked hypothesis and the times of its trace
 abbrev pub ranked_text : Tfpg → Finding → Status → List ℕ
 ranked_text graph finding (Ranked trace cost alarmed monitored) =
-    text_line (codes "ranked" ∷ decimal finding.number ∷ codes "cost" ∷ decimal cost ∷ codes "robust" ∷ (decimal alarmed ++ codes "/" ++ decimal monitored)
-    ∷ codes "set" ∷ set_word graph finding.set ∷ [])
-    ++ flat_map (λ activation. text_line (codes "at" ∷ name_word graph activation.node ∷ decimal activation.time ∷ [])) trace
+    ranked_line graph finding cost alarmed monitored ++ flat_map (activation_text graph) trace
 ranked_text graph finding (Covered by) = []
 ranked_text graph finding Rejected = []
 ranked_text graph finding Open = []
@@ -133,14 +156,15 @@ open_text graph finding Open = text_line (codes "open" ∷ hypothesis_words grap
 abbrev pub rejected_text : Tfpg → Finding → Status → List ℕ
 rejected_text graph finding (Ranked trace cost alarmed monitored) = []
 rejected_text graph finding (Covered by) = []
-rejected_text graph finding Rejected = if length finding.steps == 0 then [] else text_line (codes "rejected" ∷ hypothesis_words graph finding)
+rejected_text graph finding Rejected =
+    if length finding.steps == 0 then [] else text_line (codes "rejected" ∷ hypothesis_words graph finding)
 rejected_text graph finding Open = []
 
 -- the line that says how many hypotheses have each status
 abbrev pub counts_text : Counts → List ℕ
 counts_text counts =
-    text_line (codes "counts" ∷ codes "ranked" ∷ decimal counts.ranked ∷ codes "covered" ∷ decimal counts.covered ∷ codes "rejected" ∷ decimal counts.rejected
-    ∷ codes "open" ∷ decimal counts.unsettled ∷ [])
+    text_line (codes "counts" ∷ codes "ranked" ∷ decimal counts.ranked ∷ codes "covered" ∷ decimal counts.covered
+    ∷ codes "rejected" ∷ decimal counts.rejected ∷ codes "open" ∷ decimal counts.unsettled ∷ [])
 
 -- how many nodes, edges and failure modes the graph has
 abbrev pub sizes_of : Tfpg → Sizes
@@ -161,14 +185,15 @@ round_text graph round =
     ++ flat_map (λ finding. rejected_text graph finding finding.status) round.findings
     ++ counts_text round.counts
 
--- a panel that was lost, or found no memory, at the round before
+-- a panel that was lost, or for which memory ran out, at the round before
 pub record Loss : Type 0 where
   pub panel : ℕ
   pub no_memory : Bool
 
--- the line of a panel that was lost, or that found no memory
+-- the line of a panel that was lost, or for which memory ran out
 abbrev pub lost_text : Loss → List ℕ
-lost_text loss = text_line (codes "panel" ∷ decimal loss.panel ∷ (if loss.no_memory then codes "memory" else codes "lost") ∷ [])
+lost_text loss =
+    text_line (codes "panel" ∷ decimal loss.panel ∷ (if loss.no_memory then codes "memory" else codes "lost") ∷ [])
 
 -- the block of a line: of a refused line, or of a round with the panels that were lost at it
 pub data Block : Type 0 where

@@ -7,7 +7,7 @@ use itoa::Buffer;
 use tfpg_base::{NoMemory, put_line};
 
 /// Appends the first line of a report on sets of at most `k` failure modes, with this budget.
-/// Where memory is wanting, a part of the line may stand behind the old bytes.
+/// Where memory runs out, a part of the line may stand after the old bytes.
 pub fn head(k: u32, budget: u64, into: &mut Vec<u8>) -> Result<(), NoMemory>
     ensures { Appends result into.old.items into.new.items (head_text k budget) }
 {

@@ -68,18 +68,18 @@ fn put_rejected(graph: &Graph, finding: &Finding, into: &mut Vec<u8>) -> Result<
     }
 }
 
-/// Appends the line of a hypothesis: how it stands with a space behind, its number and its set.
+/// Appends the line of a hypothesis: the word of its status with a space after it, its number and its set.
 fn put_hypothesis(
     graph: &Graph,
-    stands: &[u8],
+    status: &[u8],
     finding: &Finding,
     into: &mut Vec<u8>,
 ) -> Result<(), NoMemory>
     requires { IsFindingOf (sizes_of graph.now) finding.now }
     ensures { Appends result into.old.items into.new.items
-        (stands.now ++ text_line (hypothesis_words graph.now finding.now)) }
+        (status.now ++ text_line (hypothesis_words graph.now finding.now)) }
 {
     let mut digits = Buffer::new();
     let number = digits.format(finding.number).as_bytes();
-    put_set_line(graph, &[stands, number, b" set "], finding.set, into)
+    put_set_line(graph, &[status, number, b" set "], finding.set, into)
 }

@@ -5,6 +5,13 @@
 //! - [`render`] appends the block of a round.
 //! - [`lost`] appends the line of a panel that was lost.
 //! - [`RefusedLine`] is why a line has a block of its own in place of a round.
+//!
+//! ```
+//! let mut text = Vec::new(alloc);
+//! head(1, 1000, &mut text)?;
+//! refused(1, RefusedLine::TooLong, &mut text)?;
+//! assert_eq!(rt; text.as_slice(), b"report 1 k 1 budget 1000\nrefused 1 TooLong\n".as_slice());
+//! ```
 #![tactic(auto)]
 
 mod first_line;
@@ -20,8 +27,6 @@ mod set_line;
 mod split_line;
 mod step_lines;
 mod steps_block;
-#[cfg(test)]
-mod tests;
 
 pub use first_line::head;
 pub use lost_line::lost;

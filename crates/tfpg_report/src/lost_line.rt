@@ -7,8 +7,8 @@ ghost use Rattle.tfpg_report.specs.Blocks.{lost_text};
 use itoa::Buffer;
 use tfpg_base::{NoMemory, put_line};
 
-/// Appends the line of a panel that was lost at the round before, or that found no memory. Panels count from 1.
-/// Where memory is wanting, a part of the line may stand behind the old bytes.
+/// Appends the line of a panel that was lost at the round before, or for which memory ran out. Panels count from 1.
+/// Where memory runs out, a part of the line may stand after the old bytes.
 pub fn lost(panel: u64, memory: bool, into: &mut Vec<u8>) -> Result<(), NoMemory>
     ensures { Appends result into.old.items into.new.items (lost_text (record { panel = panel; no_memory = memory })) }
 {

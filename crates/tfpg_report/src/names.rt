@@ -2,8 +2,7 @@
 
 ghost use Rattle.std.specs.Prelude.{◌≡◌, ◌<◌, ◌∷◌, [], length};
 ghost use Rattle.tfpg_graph.specs.Graph.{failures};
-ghost use Rattle.tfpg_report.specs.Blocks.{edge_words, name_word};
-ghost use Rattle.tfpg_report.specs.Pieces.{failure_word};
+ghost use Rattle.tfpg_report.specs.Blocks.{edge_words, failure_word, name_word};
 
 use tfpg_graph::Graph;
 

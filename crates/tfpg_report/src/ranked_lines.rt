@@ -4,8 +4,8 @@ ghost use Rattle.std.specs.Prelude.{◌≡◌, ◌<◌, All, AllPairs, flat_map,
 ghost use Rattle.std.specs.Option.{option_copied};
 ghost use Rattle.tfpg_base.specs.Append.{Appends};
 ghost use Rattle.tfpg_evidence.specs.RoundOf.{IsFindingOf, finding_numbered};
-ghost use Rattle.tfpg_report.specs.Blocks.{findings_at, ranked_text, sizes_of};
-ghost use Rattle.tfpg_report.specs.Pieces.{activation_text, numbered_text, ranked_line};
+ghost use Rattle.tfpg_report.specs.Blocks.{activation_text, findings_at, ranked_line, ranked_text, sizes_of};
+ghost use Rattle.tfpg_report.specs.inside.Numbered.{numbered_text};
 
 use crate::names::node_name;
 use crate::set_line::put_set_line;

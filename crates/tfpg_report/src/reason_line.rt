@@ -3,8 +3,7 @@
 ghost use Rattle.std.specs.Prelude.{◌≡◌};
 ghost use Rattle.tfpg_base.specs.Append.{Appends};
 ghost use Rattle.tfpg_evidence.specs.RoundOf.{IsReasonOf};
-ghost use Rattle.tfpg_report.specs.Blocks.{sizes_of};
-ghost use Rattle.tfpg_report.specs.Pieces.{reason_text};
+ghost use Rattle.tfpg_report.specs.Blocks.{reason_text, sizes_of};
 
 use crate::names::node_name;
 use itoa::Buffer;

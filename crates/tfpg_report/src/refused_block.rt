@@ -10,8 +10,8 @@ use itoa::Buffer;
 use tfpg_base::{NoMemory, put_line};
 use tfpg_log::Refusal;
 
-/// Appends the block of a line that was refused. Lines count from 1. Where memory is wanting, a part of the block may
-/// stand behind the old bytes.
+/// Appends the block of a line that was refused. Lines count from 1. Where memory runs out, a part of the block may
+/// stand after the old bytes.
 pub fn refused(line: u64, cause: RefusedLine, into: &mut Vec<u8>) -> Result<(), NoMemory>
     ensures { Appends result into.old.items into.new.items (refused_text line cause) }
 {

@@ -1,8 +1,8 @@
-//! Why a line of input gives no round.
+//! Why a line of input brings no round.
 
 use tfpg_log::Refusal;
 
-/// Why a line of input gives no round.
+/// Why a line of input brings no round.
 #[derive(Clone, Copy, Debug, PartialEq, Eq)]
 pub enum RefusedLine {
     /// It has more than 4,096 bytes.

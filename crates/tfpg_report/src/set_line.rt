@@ -4,8 +4,7 @@ ghost use Rattle.std.specs.Prelude.{◌≡◌, ◌<◌, ◌++◌, ◌∷◌, [],
 ghost use Rattle.std.specs.List.{join_with_byte};
 ghost use Rattle.tfpg_base.specs.Append.{Appends};
 ghost use Rattle.tfpg_graph.specs.Graph.{failures};
-ghost use Rattle.tfpg_report.specs.Blocks.{set_word};
-ghost use Rattle.tfpg_report.specs.Pieces.{failure_word};
+ghost use Rattle.tfpg_report.specs.Blocks.{failure_word, set_word};
 
 use crate::names::failure_name;
 use tfpg_base::{NoMemory, Set, put_part};

@@ -4,8 +4,7 @@ ghost use Rattle.std.specs.Prelude.{◌≡◌, ◌++◌, ◌∷◌, [], All, cod
 ghost use Rattle.tfpg_base.specs.Append.{Appends};
 ghost use Rattle.tfpg_evidence.specs.RoundOf.{IsReasonOf, IsStepOf};
 ghost use Rattle.tfpg_base.specs.TextLine.{text_line};
-ghost use Rattle.tfpg_report.specs.Blocks.{sizes_of, step_text};
-ghost use Rattle.tfpg_report.specs.Pieces.{reason_text};
+ghost use Rattle.tfpg_report.specs.Blocks.{reason_text, sizes_of, step_text};
 
 use crate::reason_line::put_reason;
 use crate::split_line::put_split;

@@ -26,7 +26,7 @@ pub(crate) fn put_all_steps(
     Ok(())
 }
 
-/// Appends the steps of a finding behind its number, where it has any.
+/// Appends the number of a finding and its steps, where it has any.
 fn put_finding_steps(graph: &Graph, finding: &Finding, into: &mut Vec<u8>) -> Result<(), NoMemory>
     requires { IsFindingOf (sizes_of graph.now) finding.now }
     ensures { Appends result into.old.items into.new.items (steps_text graph.now finding.now) }

@@ -2,7 +2,7 @@ use Rattle.std.proofs.Common.{List, ℕ, ◌++◌, ◌∙◌, ap, sym}
 use Rattle.tfpg_base.proofs.Appended.{Appends-err_after, appended_all}
 use Rattle.tfpg_evidence.specs.RoundOf.{finding_numbered}
 use Rattle.tfpg_report.specs.Blocks.{ranked_text}
-use Rattle.tfpg_report.specs.Pieces.{numbered_text}
+use Rattle.tfpg_report.specs.inside.Numbered.{numbered_text}
 use Rattle.tfpg_report.proofs.Findings.{flat_map-filter_map}
 use Rattle.tfpg_report.proofs.ranked_lines.put_all_ranked.Goals as goal
 

@@ -19,7 +19,7 @@ loop-place-preserved c =
           (AreNamed-more c.args.graph.now c.args.set _ _ _ _ c.loop-place.place c.has.ensures.set.rising (c.has.ensures.member.0 w.if-has.true) c.loop-place.invariant
           (w.in_ok-put_part.ensures ∙ ap (λ (t : List ℕ). c.loop-place.into.items ++ separated 44 c.loop-place.is_first t) w.failure_name.ensures))
       | else-has w ↦ rw (w.into-is, w.is_first-is) (AreNamed-same c.args.graph.now c.args.set _ _ _ c.loop-place.place
-          (λ member. let told : c.has.result ≡ true = c.has.ensures.member.1 member in absurd (cc (w.if-has.false))) c.loop-place.invariant)
+          (λ member. let known : c.has.result ≡ true = c.has.ensures.member.1 member in absurd (cc (w.if-has.false))) c.loop-place.invariant)
     ]
 
 pub returns : goal.returns
