@@ -10,3 +10,240 @@ use std::sync::ledger::{Blank, Ledger};
 use std::test::Fail;
 use tfpg_base::{Constraint, NoMemory, Steps};
 use tfpg_diff::{Conflict, System, Why};
+
+/// Two variables, of which the second is at least 4 after the first: that fits only if the second may be 9.
+fn second_after_first<L: Ledger>(
+    rt: &impl Abort,
+    alloc: Global,
+    blank: Blank,
+    most: u64,
+) -> Result<bool, Fail>
+    requires name { blank.name ≡ L.name }
+    requires parts { blank.parts ≡ L.parts }
+    requires some { 0 < blank.parts }
+    requires late { 4 ≤ most }
+{
+    let mut work = Steps::<L>::new(blank);
+    let mut system = System::new(alloc, 2)?;
+    system.reserve(1)?;
+    assert!(rt; system.raise(0, 5, 50, &mut work).is_ok());
+    assert!(rt; system.lower(1, most, 70, &mut work).is_ok());
+    assert_eq!(rt; system.solution(), [1_000_000_000_001, most].as_slice());
+    let constraint = Constraint {
+        left: 1,
+        right: 2,
+        most: -4,
+    };
+    let pushed = system.push(constraint, 45, &mut work);
+    if pushed == Err(Conflict) {
+        assert_eq!(rt; system.cycle().len(), 3);
+        assert!(rt; system.cycle().contains(&Why::Given(50)));
+        assert!(rt; system.cycle().contains(&Why::Given(70)));
+        assert!(rt; system.cycle().contains(&Why::Given(45)));
+        assert_eq!(rt; system.solution(), [1_000_000_000_001, most].as_slice());
+    } else {
+        assert_eq!(rt; system.solution(), [most - 4, most].as_slice());
+    }
+    system.pop_to(0);
+    assert_eq!(rt; system.solution(), [1_000_000_000_001, most].as_slice());
+    Ok(pushed.is_ok())
+}
+
+#[test]
+fn a_cycle_of_three_exactly_where_the_second_may_not_be_9(rt: HostRuntime) -> Result<(), Fail> {
+    let at_7 = second_after_first::<Brand>(&rt, rt.alloc(), Blank::new(1), 7)?;
+    let at_8 = second_after_first::<Brand>(&rt, rt.alloc(), Blank::new(1), 8)?;
+    let at_9 = second_after_first::<Brand>(&rt, rt.alloc(), Blank::new(1), 9)?;
+    assert_eq!(rt; [at_7, at_8, at_9], [false, false, true]);
+    Ok(())
+}
+
+/// Two pushes that contradict each other by one millisecond, over values near 10^12.
+fn off_by_one<L: Ledger>(alloc: Global, blank: Blank) -> Result<bool, Fail>
+    requires name { blank.name ≡ L.name }
+    requires parts { blank.parts ≡ L.parts }
+    requires some { 0 < blank.parts }
+{
+    let mut work = Steps::<L>::new(blank);
+    let mut system = System::new(alloc, 2)?;
+    system.reserve(1)?;
+    let before = Constraint {
+        left: 1,
+        right: 2,
+        most: -1,
+    };
+    let _ = system.push(before, 1, &mut work);
+    system.reserve(1)?;
+    let not_before = Constraint {
+        left: 2,
+        right: 1,
+        most: 0,
+    };
+    Ok(system.push(not_before, 2, &mut work).is_ok())
+}
+
+#[test]
+fn a_contradiction_by_one_near_the_greatest_time(rt: HostRuntime) -> Result<(), Fail> {
+    assert!(rt; !off_by_one::<Brand>(rt.alloc(), Blank::new(1))?);
+    Ok(())
+}
+
+/// Variables from 0 to 7, lower bounds of some, and picks. The latest solution, or None where the last pick
+/// leaves none.
+struct Case {
+    name: &'static str,
+    count: u32,
+    floors: &'static [(u32, u64)],
+    picks: &'static [(u32, u32, i64)],
+    latest: Option<&'static [u64]>,
+}
+
+static CASES: [Case; 14] = [
+    Case {
+        name: "a chain of lower bounds",
+        count: 3,
+        floors: &[(1, 0), (2, 4)],
+        picks: &[(2, 3, -4), (1, 0, -3)],
+        latest: None,
+    },
+    Case {
+        name: "a pick around a raised variable",
+        count: 4,
+        floors: &[(1, 4)],
+        picks: &[(1, 0, 2), (0, 1, -4)],
+        latest: None,
+    },
+    Case {
+        name: "a cycle of sum 0 and a bound",
+        count: 2,
+        floors: &[],
+        picks: &[(1, 2, 3), (2, 1, -3), (0, 1, 3), (2, 0, -4)],
+        latest: None,
+    },
+    Case {
+        name: "a chain to zero",
+        count: 3,
+        floors: &[],
+        picks: &[(3, 2, 1), (0, 1, 1), (1, 2, -3), (3, 0, -1)],
+        latest: None,
+    },
+    Case {
+        name: "three in a cycle",
+        count: 3,
+        floors: &[(0, 4)],
+        picks: &[(3, 2, 1), (1, 2, -2), (0, 3, -3)],
+        latest: Some(&[5, 7, 7]),
+    },
+    Case {
+        name: "two before one",
+        count: 3,
+        floors: &[],
+        picks: &[(0, 1, -1), (2, 3, -1), (2, 1, 2)],
+        latest: Some(&[7, 6, 7]),
+    },
+    Case {
+        name: "four in a cycle",
+        count: 4,
+        floors: &[(1, 4)],
+        picks: &[(4, 1, 3), (1, 3, -3), (3, 4, 1), (0, 1, 2)],
+        latest: Some(&[4, 7, 7, 7]),
+    },
+    Case {
+        name: "from a lower bound on",
+        count: 2,
+        floors: &[(0, 2)],
+        picks: &[(2, 1, -2), (1, 0, 3), (0, 2, 2)],
+        latest: Some(&[3, 1]),
+    },
+    Case {
+        name: "one after another",
+        count: 4,
+        floors: &[(0, 1), (1, 3)],
+        picks: &[(1, 2, 1), (0, 2, -4), (2, 3, 3), (0, 3, 1), (4, 2, -3)],
+        latest: Some(&[7, 7, 7, 4]),
+    },
+    Case {
+        name: "bounds of two",
+        count: 4,
+        floors: &[(0, 3), (1, 3)],
+        picks: &[(4, 2, -1), (1, 2, -1), (1, 3, 1), (0, 1, -4), (0, 2, 2)],
+        latest: Some(&[6, 7, 7, 6]),
+    },
+    Case {
+        name: "an upper bound by a pick",
+        count: 3,
+        floors: &[(1, 2)],
+        picks: &[(3, 2, -4), (3, 0, 0), (2, 3, -1)],
+        latest: None,
+    },
+    Case {
+        name: "a tighter pick",
+        count: 2,
+        floors: &[],
+        picks: &[(2, 1, 1), (2, 1, -2), (1, 0, -4)],
+        latest: None,
+    },
+    Case {
+        name: "two lower bounds",
+        count: 3,
+        floors: &[(0, 1), (1, 2)],
+        picks: &[(0, 1, -4), (3, 1, -3), (1, 2, 3)],
+        latest: Some(&[7, 7, 4]),
+    },
+    Case {
+        name: "a chain from a lower bound",
+        count: 4,
+        floors: &[(0, 4), (3, 1)],
+        picks: &[(0, 4, -2), (4, 2, 1), (1, 2, -3)],
+        latest: Some(&[4, 7, 7, 7]),
+    },
+];
+
+/// The latest solution of what the case adds, or None where something conflicts.
+fn solved<L: Ledger>(alloc: Global, blank: Blank, case: &Case) -> Result<Option<Vec<u64>>, NoMemory>
+    requires name { blank.name ≡ L.name }
+    requires parts { blank.parts ≡ L.parts }
+    requires some { 0 < blank.parts }
+{
+    let mut work = Steps::<L>::new(blank);
+    let mut system = System::new(alloc, case.count)?;
+    for variable in 0..case.count {
+        if system.lower(variable, 7, 1, &mut work).is_err() {
+            return Ok(None);
+        }
+    }
+    for (variable, least) in case.floors {
+        if *variable >= case.count || system.raise(*variable, *least, 2, &mut work).is_err() {
+            return Ok(None);
+        }
+    }
+    for (left, right, most) in case.picks {
+        system.reserve(1)?;
+        if *left > case.count || *right > case.count {
+            return Ok(None);
+        }
+        let constraint = Constraint {
+            left: *left,
+            right: *right,
+            most: *most,
+        };
+        if system.push(constraint, 3, &mut work).is_err() {
+            return Ok(None);
+        }
+    }
+    Ok(Some(Vec::from_slice(alloc, system.solution())?))
+}
+
+#[test]
+fn small_systems_have_the_solutions_that_trying_all_times_gives(
+    rt: HostRuntime,
+) -> Result<(), Fail> {
+    for case in &CASES {
+        let found = solved::<Brand>(rt.alloc(), Blank::new(1), case)?;
+        assert_eq!(rt; found.is_some(), case.latest.is_some(), "{}", case.name);
+        if let (Some(found), Some(latest)) = (&found, case.latest) {
+            assert_eq!(rt; found.as_slice(), latest, "{}", case.name);
+        }
+    }
+    Ok(())
+}
