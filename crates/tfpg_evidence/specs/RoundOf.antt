@@ -67,8 +67,8 @@ finding_numbered findings number = find (λ finding. finding.number == number) f
 abbrev pub IsRankedIn : List Finding → ℕ → Type 0
 IsRankedIn findings number = (finding : Finding) × (finding_numbered findings number ≡ Some finding) × IsTrue (is_ranked finding.status)
 
--- A round is of a graph of these sizes: it names only what the graph has, the numbers of its findings rise, and each number
--- of its order is that of a ranked one.
+-- A round is of a graph of these sizes: it names only what the graph has, the numbers of its findings rise, and each
+-- number of its order is that of a ranked one.
 pub record IsRoundOf (sizes : Sizes) (round : Round) : Type 0 where
   pub findings : All (IsFindingOf sizes) round.findings
   pub numbers_rise : AllPairs (λ earlier later. earlier.number < later.number) round.findings

@@ -1,7 +1,7 @@
 //! The names of clauses.
 
-/// A clause that every trace meets which explains the log: one of its alternatives holds. It speaks of the span of
-/// one mode with this number, up to a horizon in milliseconds.
+/// A clause, of whose alternatives each trace that explains the log meets one. It speaks of the span of this number, up to
+/// a horizon in milliseconds.
 #[derive(Clone, Copy, Debug, PartialEq, Eq)]
 pub enum ClauseName {
     /// An OR node becomes active in the span only where the failure arrives by some edge.

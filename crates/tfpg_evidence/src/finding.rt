@@ -1,26 +1,26 @@
-//! How one hypothesis stands in a round.
+//! What a round says of one hypothesis.
 
 use crate::StepList;
 use tfpg_base::{Items, Set, Trace};
 
-/// How a hypothesis stands.
+/// The status of a hypothesis in a round.
 #[derive(Drop)]
 pub enum Status {
-    /// A trace explains the log from the set, and no proper part of the set is ranked. The cost is the sum of the
-    /// rarities of its members; of the monitored nodes in its reach so many have an alarm.
+    /// The trace explains the log from the set, and no proper subset of it is ranked. `cost` is the sum of the rarities of
+    /// its members; of the `monitored` nodes in its reach `alarmed` have an alarm.
     Ranked {
         trace: Trace,
         cost: u64,
         alarmed: u32,
         monitored: u32,
     },
-    /// A proper part of the set is ranked; this is the least number of one.
+    /// A proper subset of the set is ranked; `by` is the least number of one.
     Covered {
         by: u32,
     },
-    /// The steps so far refute the set.
+    /// The steps of all rounds so far refute the set.
     Rejected,
-    /// The budget of this round was spent on splits, and the tree is not closed.
+    /// The budget of this round was spent on splits, and the tree is unsettled.
     Open,
 }
 

@@ -1,9 +1,16 @@
-//! The evidence that every answer carries, as plain values.
+//! The evidence that every round carries, as plain values.
 //!
 //! - [`Step`] is a step of a refutation: it splits on a clause, which a [`ClauseName`] names, or closes a leaf by a
 //!   cycle of [`Reason`]s.
-//! - [`Finding`] says how one hypothesis stands, with its [`Status`] and its steps of this round.
-//! - [`Round`] is what one accepted line of the log gives: a finding for each hypothesis, their order and [`Counts`].
+//! - [`Finding`] is what a round says of one hypothesis: its [`Status`] and its steps of this round.
+//! - [`Round`] is what one accepted line of the log brings: a finding for each hypothesis, their order and [`Counts`].
+//!
+//! A leaf is closed by the reasons that an alarm of node 2 was given at 30, and that the set does not reach the node:
+//!
+//! ```
+//! let reasons = vec![in alloc; Reason::Unreached { node: 2, horizon: 30 }, Reason::Upto { event: 1 }]?;
+//! let step = Step::Cycle(Reasons::from_vec(reasons));
+//! ```
 #![tactic(auto)]
 
 mod clause_name;

@@ -1,4 +1,4 @@
-//! What one accepted line of the log gives.
+//! What one accepted line of the log brings.
 
 use crate::Findings;
 use tfpg_base::NumberList;
@@ -12,16 +12,16 @@ pub struct Counts {
     pub unsettled: u32,
 }
 
-/// A round: the answer to one accepted line.
+/// What one accepted line brings: a finding for each hypothesis.
 #[derive(Drop)]
 pub struct Round {
-    /// Rounds count from 1, with the accepted events.
+    /// The number of the round, which is that of the accepted event, from 1.
     pub number: u32,
     /// The number of the line, from 1.
     pub line: u64,
     /// The time of the event in milliseconds.
     pub now: u64,
-    /// One for each hypothesis of the table, in the order of their numbers.
+    /// A finding for each hypothesis of the table, in the order of their numbers.
     pub findings: Findings,
     /// The numbers of the ranked hypotheses, best first.
     pub order: NumberList,
