@@ -1,2 +1,7 @@
 mod Below
 mod Ranks
+mod Orders
+mod Chosen
+mod Counted
+mod Listed
+mod Tables

@@ -5,8 +5,11 @@
 //! What a round is stands in `specs/` alone so far.
 #![tactic(auto)]
 
+mod listing;
 mod place;
 mod ranking;
+mod table;
 
 pub use place::{Fraction, Place};
 pub use ranking::{before, cost, robust};
+pub use table::{MAX_HYPOTHESES, Table, TableFault};
