@@ -5,3 +5,5 @@ mod Chosen
 mod Counted
 mod Listed
 mod Tables
+mod Parts
+mod Fractions

@@ -58,7 +58,7 @@ in_order-listed count (suc size) =
 -- ---- the table
 
 -- what rises to each next rises to each later
-increasing_from_rises : (xs : List ℕ) → Rises xs → IsStrictlyIncreasing xs
+pub increasing_from_rises : (xs : List ℕ) → Rises xs → IsStrictlyIncreasing xs
 increasing_from_rises xs rises k within = rises k (k + 1) 0 (omega arith) within
 
 pub IsTable-listed : (graph : Tfpg) (k count : ℕ) → count ≡ length (failures graph) → IsTable graph k (chosen_below count (k + 1))

@@ -47,7 +47,7 @@ ComesFirst-asymmetric (x ∷ xs) (y ∷ ys) before after =
     (λ same. ⊎_elim (λ greater. omega (arith, greater, same.0)) (λ also. ComesFirst-asymmetric xs ys same.1 also.1) after)
     before
 
-IsBefore-asymmetric : (a b : List ℕ) → IsBefore a b → IsBefore b a → ⊥
+pub IsBefore-asymmetric : (a b : List ℕ) → IsBefore a b → IsBefore b a → ⊥
 IsBefore-asymmetric a b before after =
     ⊎_elim
     (λ less. ⊎_elim (λ greater. omega (arith, less, greater)) (λ same. omega (arith, less, same.0)) after)
