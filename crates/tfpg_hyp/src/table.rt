@@ -72,7 +72,7 @@ impl Table {
         Ok(table)
     }
 
-    /// How many hypotheses it has: from 1 to 4,096.
+    /// How many hypotheses it has: at most 4,096.
     pub fn len(&self) -> u32
         ensures count { result ≡ length self.now.sets }
         ensures reaches { result ≡ length self.now.reaches }
