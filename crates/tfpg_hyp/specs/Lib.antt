@@ -3,6 +3,10 @@ pub use Rattle.tfpg_log.specs.Log
 pub use Rattle.tfpg_log.specs.Explains
 pub use Rattle.tfpg_graph.specs.Graph
 pub use Rattle.tfpg_graph.specs.Reach
+-- What the public contracts say.
 pub mod Table
+pub mod Hypotheses
 pub mod Ranking
 pub mod Rounds
+-- What the code and its proofs need besides. No public contract reaches it.
+pub mod inside

@@ -1,8 +1,32 @@
 //! The table of hypotheses, their ranking, and what a round is.
 //!
-//! So far the crate has their definitions alone, in `specs/`, and what they name: [`Place`] and [`Fraction`].
+//! A hypothesis is a set of at most `k` failure modes.
+//!
+//! - [`Table`] lists all hypotheses of a graph in order, with what each reaches. Where there are more than
+//!   [`MAX_HYPOTHESES`], [`TableFault`] says how many.
+//! - [`cost`] and [`robust`] find what ranks a hypothesis, its [`Place`], and [`before`] compares two places.
+//! - [`laws`] says what follows of the table and of the ranking order.
+//!
+//! What a round is stands in `specs/` alone so far.
+//!
+//! ```
+//! let table = Table::new(alloc, &graph, 1)?;
+//! for number in 0..table.len() {
+//!     let place = Place {
+//!         cost: cost(&graph, table.set(number)),
+//!         robust: robust(&graph, &log, table.reach(number)),
+//!         number,
+//!     };
+//! }
+//! ```
 #![tactic(auto)]
 
+pub mod laws;
+mod listing;
 mod place;
+mod ranking;
+mod table;
 
 pub use place::{Fraction, Place};
+pub use ranking::{before, cost, robust};
+pub use table::{MAX_HYPOTHESES, Table, TableFault};

@@ -1,0 +1,9 @@
+mod Below
+mod Ranks
+mod Orders
+mod Chosen
+mod Counted
+mod Listed
+mod Tables
+mod Parts
+mod Fractions

@@ -1,0 +1,169 @@
+-- What the loops over failure modes and nodes have counted so far.
+use Rattle.std.proofs.Common.{◌≡◌, ℕ, ◌+◌, ◌<◌, ◌≤◌, Bool, true, false, cond, eqb, ltb, List, [], ◌∷◌, ◌++◌, length, Option, Some, None, refl, arith, sym, ◌∙◌, ap, subst}
+use Rattle.std.specs.List.{All, Contains, sum_by, count_by, filter, slice_get}
+use Rattle.std.specs.List.Sorted.{IsStrictlyIncreasing}
+use Rattle.std.proofs.lemmas.List.Kept.{AllPairs-from_increasing}
+use Rattle.std.specs.Option.{option_map, option_and_then, is_some}
+use Rattle.std.proofs.lemmas.Bool.{cond-true, cond-false, cond_both, ltb-false, ne_eqb, eq-eqb}
+use Rattle.std.proofs.lemmas.List.{length-append, append-nil}
+use Rattle.std.proofs.lemmas.List.Sums.{sum_by-append, sum_by-cons, length-filter}
+use Rattle.std.proofs.lemmas.List.Elements.{All-contains, filter-append}
+use Rattle.std.proofs.lemmas.Option.{slice_get_past, same_Some}
+use Rattle.tfpg_graph.specs.declared.kind.Kind.TheVariants.{Failure}
+use Rattle.tfpg_graph.specs.Graph.{Tfpg, Node, failures, failure_at, is_failure, is_monitored, kind_at, lag_of}
+use Rattle.tfpg_graph.specs.Valid.{IsValid, HasValidNumber}
+use Rattle.tfpg_graph.proofs.Numbered.{All-below-numbers_from}
+use Rattle.tfpg_graph.proofs.AtNumbers.{All-at}
+use Rattle.tfpg_log.specs.Log.{Logbook, alarm_of}
+use Rattle.tfpg_base.specs.Set.{IsSet}
+use Rattle.tfpg_hyp.specs.declared.place.Fraction.{Fraction}
+use Rattle.tfpg_hyp.specs.Ranking.{rarity_at, cost_of, robustness_of, monitored_in, alarmed_in}
+use Rattle.tfpg_hyp.proofs.Below.{below, below-zero, below-member, below-absent, below-all}
+
+-- ---- failure modes
+
+-- the node of a failure mode is a node of the graph
+pub failure_within : (graph : Tfpg) (place node : ℕ) → failure_at graph place ≡ Some node → node < length graph.nodes
+failure_within graph place node at =
+    All-at (λ n. n < length graph.nodes) (failures graph) place node (All-below-numbers_from (λ n. is_failure n.kind) graph.nodes) at
+
+-- the rarity of a node is within the limit
+pub rarity_small : (graph : Tfpg) (node rarity : ℕ) → IsValid graph → kind_at graph node ≡ Some (Failure rarity) → rarity ≤ 1000000
+rarity_small graph node rarity valid is = by (slice_get graph.nodes node) refl is
+  where
+    by : (found : Option Node) → slice_get graph.nodes node ≡ found → option_map (λ n. n.kind) found ≡ Some (Failure rarity) → rarity ≤ 1000000
+    by None at kind = cc
+    by (Some found) at kind =
+        subst HasValidNumber (same_Some found.kind (Failure rarity) kind) (All-at (λ n. HasValidNumber n.kind) graph.nodes node found valid.node_numbers at)
+
+-- one value more in a sum
+pub sum_by-push : (f : ℕ → ℕ) (xs : List ℕ) (x : ℕ) → sum_by f (xs ++ x ∷ []) ≡ sum_by f xs + f x
+sum_by-push f xs x = sum_by-append f xs (x ∷ []) ∙ ap (λ n. sum_by f xs + n) (sum_by-cons f x [] ∙ omega arith)
+
+module _ (graph : Tfpg) (set : List ℕ) where
+  -- nothing is summed at first
+  pub cost-none : 0 ≡ cost_of graph (below 0 set)
+  cost-none = sym (ap (cost_of graph) (below-zero set))
+
+  -- a member adds its rarity
+  pub cost-with : (place cost rarity : ℕ) → IsSet set → Contains set place → cost ≡ cost_of graph (below place set) → rarity ≡ rarity_at graph place
+      → cost + rarity ≡ cost_of graph (below (place + 1) set)
+  cost-with place cost rarity is_set member so_far worth =
+      (λ i. so_far i + worth i) ∙ sym (ap (cost_of graph) (below-member place set is_set.rising member) ∙ sum_by-push (rarity_at graph) (below place set) place)
+
+  -- another position adds nothing
+  pub cost-without : (place cost : ℕ) → (Contains set place → ⊥) → cost ≡ cost_of graph (below place set) → cost ≡ cost_of graph (below (place + 1) set)
+  cost-without place cost absent so_far = so_far ∙ sym (ap (cost_of graph) (below-absent place set absent))
+
+  -- past the last member all are summed
+  pub cost-all : (end cost : ℕ) → All (λ place. place < end) set → cost ≡ cost_of graph (below end set) → cost ≡ cost_of graph set
+  cost-all end cost within so_far = so_far ∙ ap (cost_of graph) (below-all end set (λ place member. All-contains (λ p. p < end) set place within member))
+
+-- ---- nodes
+
+-- one item more that passes
+filter-push_yes : (p : ℕ → Bool) (xs : List ℕ) (x : ℕ) → p x ≡ true → filter p (xs ++ x ∷ []) ≡ filter p xs ++ x ∷ []
+filter-push_yes p xs x passes = filter-append p xs (x ∷ []) ∙ ap (λ ys. filter p xs ++ ys) (cond-true (p x) (x ∷ []) [] passes)
+
+-- one item more that fails
+filter-push_no : (p : ℕ → Bool) (xs : List ℕ) (x : ℕ) → p x ≡ false → filter p (xs ++ x ∷ []) ≡ filter p xs
+filter-push_no p xs x fails = filter-append p xs (x ∷ []) ∙ ap (λ ys. filter p xs ++ ys) (cond-false (p x) (x ∷ []) [] fails) ∙ append-nil (filter p xs)
+
+-- how many pass, with one item more
+count_by-push : (p : ℕ → Bool) (xs : List ℕ) (x : ℕ) → count_by p (xs ++ x ∷ []) ≡ count_by p xs + (cond (p x) 1 0)
+count_by-push p xs x = by (p x) refl
+  where
+    by : (b : Bool) → p x ≡ b → count_by p (xs ++ x ∷ []) ≡ count_by p xs + (cond b 1 0)
+    by true is = sym (length-filter p (xs ++ x ∷ [])) ∙ ap length (filter-push_yes p xs x is) ∙ length-append (filter p xs) (x ∷ []) ∙ ap (λ n. n + 1) (length-filter p xs)
+    by false is = sym (length-filter p (xs ++ x ∷ [])) ∙ ap length (filter-push_no p xs x is) ∙ length-filter p xs ∙ omega arith
+
+-- These were counted among the nodes so far: those that are monitored, and those of them with an alarm.
+pub record AreCounted (graph : Tfpg) (log : Logbook) (nodes : List ℕ) (alarmed monitored : ℕ) : Type 0 where
+  pub monitored_is : monitored ≡ monitored_in graph nodes
+  pub alarmed_is : alarmed ≡ alarmed_in graph log nodes
+
+module _ (graph : Tfpg) (log : Logbook) where
+  -- nothing among no nodes
+  pub AreCounted-none : (nodes : List ℕ) → nodes ≡ [] → AreCounted graph log nodes 0 0
+  AreCounted-none nodes none = record { monitored_is = sym (ap (monitored_in graph) none); alarmed_is = sym (ap (alarmed_in graph log) none) }
+
+  module _ (nodes : List ℕ) (node alarmed monitored : ℕ) (are : AreCounted graph log nodes alarmed monitored) where
+    -- a node that is not monitored adds nothing
+    pub AreCounted-hidden : is_monitored graph node ≡ false → AreCounted graph log (nodes ++ node ∷ []) alarmed monitored
+    AreCounted-hidden hidden = record {
+      monitored_is = are.monitored_is ∙ omega (arith, count_by-push (is_monitored graph) nodes node, ap {B = ℕ} (λ b. cond b 1 0) hidden);
+      alarmed_is = are.alarmed_is ∙ sym (ap (count_by (λ n. is_some (alarm_of log n))) (filter-push_no (is_monitored graph) nodes node hidden));
+    }
+
+    -- a monitored node is counted, and its alarm
+    counted_alarm : is_monitored graph node ≡ true → alarmed_in graph log (nodes ++ node ∷ []) ≡ alarmed + (cond (is_some (alarm_of log node)) 1 0)
+    counted_alarm shown =
+        ap (count_by (λ n. is_some (alarm_of log n))) (filter-push_yes (is_monitored graph) nodes node shown)
+        ∙ count_by-push (λ n. is_some (alarm_of log n)) (filter (is_monitored graph) nodes) node
+        ∙ ap (λ n. n + cond (is_some (alarm_of log node)) 1 0) (sym are.alarmed_is)
+
+    pub AreCounted-alarmed : is_monitored graph node ≡ true → is_some (alarm_of log node) ≡ true → AreCounted graph log (nodes ++ node ∷ []) (alarmed + 1) (monitored + 1)
+    AreCounted-alarmed shown alarm = record {
+      monitored_is = omega (arith, are.monitored_is, count_by-push (is_monitored graph) nodes node, ap {B = ℕ} (λ b. cond b 1 0) shown);
+      alarmed_is = sym (counted_alarm shown ∙ ap {B = ℕ} (λ b. alarmed + cond b 1 0) alarm);
+    }
+
+    pub AreCounted-silent : is_monitored graph node ≡ true → is_some (alarm_of log node) ≡ false → AreCounted graph log (nodes ++ node ∷ []) alarmed (monitored + 1)
+    AreCounted-silent shown silent = record {
+      monitored_is = omega (arith, are.monitored_is, count_by-push (is_monitored graph) nodes node, ap {B = ℕ} (λ b. cond b 1 0) shown);
+      alarmed_is = sym (counted_alarm shown ∙ ap {B = ℕ} (λ b. alarmed + cond b 1 0) silent ∙ omega arith);
+    }
+
+  -- past the last node there is no monitor
+  hidden_past : (node : ℕ) → length graph.nodes ≤ node → is_monitored graph node ≡ false
+  hidden_past node past = ap (λ found. is_some (option_and_then lag_of (option_map (λ n. n.kind) found))) (slice_get_past graph.nodes node past)
+
+  -- so the monitored nodes of a list are those below the number of nodes
+  monitored_below : (nodes : List ℕ) → filter (is_monitored graph) (below (length graph.nodes) nodes) ≡ filter (is_monitored graph) nodes
+  monitored_below [] = refl
+  monitored_below (node ∷ nodes) =
+      cond_both (ltb node (length graph.nodes)) (node ∷ below (length graph.nodes) nodes) (below (length graph.nodes) nodes)
+      (λ kept. filter (is_monitored graph) kept ≡ filter (is_monitored graph) (node ∷ nodes))
+      (λ less. ap (λ ys. cond (is_monitored graph node) (node ∷ ys) ys) (monitored_below nodes))
+      (λ not_less. monitored_below nodes ∙ sym (cond-false (is_monitored graph node) _ _ (hidden_past node (ltb-false node (length graph.nodes) not_less))))
+
+  module _ (end : ℕ) (nodes : List ℕ) (alarmed monitored : ℕ) (last : end ≡ length graph.nodes) (are : AreCounted graph log (below end nodes) alarmed monitored) where
+    all_kept : filter (is_monitored graph) (below end nodes) ≡ filter (is_monitored graph) nodes
+    all_kept = ap (λ count. filter (is_monitored graph) (below count nodes)) last ∙ monitored_below nodes
+
+    all_monitored : monitored ≡ monitored_in graph nodes
+    all_monitored = are.monitored_is ∙ sym (length-filter (is_monitored graph) (below end nodes)) ∙ ap length all_kept ∙ length-filter (is_monitored graph) nodes
+
+    all_alarmed : alarmed ≡ alarmed_in graph log nodes
+    all_alarmed = are.alarmed_is ∙ ap (count_by (λ n. is_some (alarm_of log n))) all_kept
+
+    -- where none is monitored the set is as robust as can be
+    pub robustness-none : monitored ≡ 0 → record { alarmed = 1; monitored = 1 } ≡ robustness_of graph log nodes
+    robustness-none none = sym (cond-true (eqb (monitored_in graph nodes) 0) _ _ (eq-eqb _ 0 (sym all_monitored ∙ none)))
+
+    -- else its robustness is what was counted
+    pub robustness-some : (monitored ≡ 0 → ⊥) → record { alarmed = alarmed; monitored = monitored } ≡ robustness_of graph log nodes
+    robustness-some some =
+        let whole : Fraction = record { alarmed = alarmed_in graph log nodes; monitored = monitored_in graph nodes } in
+        let counted : record { alarmed = alarmed; monitored = monitored } ≡ whole = λ i. record { alarmed = all_alarmed i; monitored = all_monitored i } in
+        counted ∙ sym (cond-false (eqb (monitored_in graph nodes) 0) _ whole (ne_eqb _ 0 (λ none. some (all_monitored ∙ none))))
+
+  -- ---- from node to node
+
+  module _ (reach : List ℕ) (node alarmed monitored : ℕ) (are : AreCounted graph log (below node reach) alarmed monitored) where
+    -- a node that is not reached adds nothing
+    pub counted-absent : (Contains reach node → ⊥) → AreCounted graph log (below (node + 1) reach) alarmed monitored
+    counted-absent absent = subst (λ nodes. AreCounted graph log nodes alarmed monitored) (sym (below-absent node reach absent)) are
+
+    module _ (rising : IsStrictlyIncreasing reach) (member : Contains reach node) where
+      one_more : below node reach ++ node ∷ [] ≡ below (node + 1) reach
+      one_more = sym (below-member node reach (AllPairs-from_increasing reach rising) member)
+
+      pub counted-hidden : is_monitored graph node ≡ false → AreCounted graph log (below (node + 1) reach) alarmed monitored
+      counted-hidden hidden = subst (λ nodes. AreCounted graph log nodes alarmed monitored) one_more (AreCounted-hidden (below node reach) node alarmed monitored are hidden)
+
+      pub counted-alarmed : is_monitored graph node ≡ true → is_some (alarm_of log node) ≡ true → AreCounted graph log (below (node + 1) reach) (alarmed + 1) (monitored + 1)
+      counted-alarmed shown alarm = subst (λ nodes. AreCounted graph log nodes (alarmed + 1) (monitored + 1)) one_more (AreCounted-alarmed (below node reach) node alarmed monitored are shown alarm)
+
+      pub counted-silent : is_monitored graph node ≡ true → is_some (alarm_of log node) ≡ false → AreCounted graph log (below (node + 1) reach) alarmed (monitored + 1)
+      counted-silent shown silent = subst (λ nodes. AreCounted graph log nodes alarmed (monitored + 1)) one_more (AreCounted-silent (below node reach) node alarmed monitored are shown silent)

@@ -1,0 +1,112 @@
+-- What a table keeps, and that it is the only one.
+use Rattle.std.proofs.Common.{◌≡◌, ℕ, ◌+◌, ◌<◌, ◌≤◌, List, [], ◌∷◌, ◌++◌, length, get_or, Some, slice_get, Result, Err, ◌↔◌, ⊎_elim, arith, sym, ◌∙◌, ap, subst}
+use Rattle.std.specs.List.{All}
+use Rattle.std.proofs.lemmas.Bool.{cases_lt}
+use Rattle.std.proofs.lemmas.List.{length-append}
+use Rattle.std.proofs.lemmas.Option.{slice_get_within, get_or_from_slice_get, same_Some}
+use Rattle.tfpg_graph.specs.Graph.{Tfpg, failures}
+use Rattle.tfpg_graph.specs.Reach.{IsReach}
+use Rattle.tfpg_graph.proofs.Positions.{slice_get-push_before, slice_get-push_last}
+use Rattle.tfpg_hyp.specs.Table.{ComesFirst, IsBefore, IsTable}
+use Rattle.tfpg_base.proofs.Elements.{All-from_members}
+use Rattle.tfpg_hyp.specs.declared.table.TableFault.{TableFault}
+use Rattle.tfpg_hyp.specs.declared.table.TableFault.TheVariants.{TooMany}
+use Rattle.tfpg_hyp.specs.Hypotheses.{HasHypotheses}
+use Rattle.tfpg_hyp.specs.inside.Choices.{chosen_below, choices_below}
+use Rattle.tfpg_hyp.proofs.Orders.{same_in_order}
+use Rattle.tfpg_hyp.proofs.Counted.{length-chosen_below}
+use Rattle.tfpg_hyp.proofs.Listed.{IsTable-listed}
+
+-- these are what the first sets reach
+abbrev pub ReachedSoFar : Tfpg → List (List ℕ) → List (List ℕ) → Type 0
+ReachedSoFar graph sets reaches = (number : ℕ) (set reach : List ℕ) → slice_get sets number ≡ Some set → slice_get reaches number ≡ Some reach → IsReach graph set reach
+
+-- one reach more
+pub ReachedSoFar-push : (graph : Tfpg) (sets reaches : List (List ℕ)) (number : ℕ) (set reach : List ℕ) → length reaches ≡ number → number < length sets → set ≡ get_or sets number set → IsReach graph set reach
+    → ReachedSoFar graph sets reaches → ReachedSoFar graph sets (reaches ++ reach ∷ [])
+ReachedSoFar-push graph sets reaches number set reach here within is reached before other own own_reach at at_reach =
+    ⊎_elim
+    (λ earlier. before other own own_reach at (sym (slice_get-push_before reaches reach other earlier) ∙ at_reach))
+    (λ not_earlier.
+    let last : other ≡ length reaches = omega (arith, not_earlier, slice_get_within (reaches ++ reach ∷ []) other own_reach at_reach, length-append reaches (reach ∷ [])) in
+    let same_reach : reach ≡ own_reach = same_Some reach own_reach (sym (slice_get-push_last reaches reach other last) ∙ at_reach) in
+    let same_set : set ≡ own = is ∙ ap (λ n. get_or sets n set) (sym (last ∙ here)) ∙ get_or_from_slice_get sets other own set at in
+    subst (IsReach graph own) same_reach (subst (λ (s : List ℕ). IsReach graph s reach) same_set reached))
+    (cases_lt other (length reaches))
+
+-- ---- one table
+
+-- of two lists only one comes first
+ComesFirst-asymmetric : (a b : List ℕ) → ComesFirst a b → ComesFirst b a → ⊥
+ComesFirst-asymmetric [] [] before after = before
+ComesFirst-asymmetric [] (y ∷ ys) before after = after
+ComesFirst-asymmetric (x ∷ xs) [] before after = before
+ComesFirst-asymmetric (x ∷ xs) (y ∷ ys) before after =
+    ⊎_elim
+    (λ less. ⊎_elim (λ greater. omega (arith, less, greater)) (λ same. omega (arith, less, same.0)) after)
+    (λ same. ⊎_elim (λ greater. omega (arith, greater, same.0)) (λ also. ComesFirst-asymmetric xs ys same.1 also.1) after)
+    before
+
+pub IsBefore-asymmetric : (a b : List ℕ) → IsBefore a b → IsBefore b a → ⊥
+IsBefore-asymmetric a b before after =
+    ⊎_elim
+    (λ less. ⊎_elim (λ greater. omega (arith, less, greater)) (λ same. omega (arith, less, same.0)) after)
+    (λ same. ⊎_elim (λ greater. omega (arith, greater, same.0)) (λ also. ComesFirst-asymmetric a b same.1 also.1) after)
+    before
+
+-- The table of a graph and k is one.
+pub one_table : (graph : Tfpg) (k : ℕ) (sets others : List (List ℕ)) → IsTable graph k sets → IsTable graph k others → sets ≡ others
+one_table graph k sets others first second =
+    same_in_order IsBefore IsBefore-asymmetric sets others first.in_order second.in_order
+    (λ set member. (second.exact set).1 ((first.exact set).0 member))
+    (λ set member. (first.exact set).1 ((second.exact set).0 member))
+
+-- and so is the number of hypotheses
+pub one_count : (graph : Tfpg) (k count other : ℕ) → HasHypotheses graph k count → HasHypotheses graph k other → count ≡ other
+one_count graph k count other first second = sym first.counted ∙ ap length (one_table graph k first.sets second.sets first.table second.table) ∙ second.counted
+
+-- ---- what is listed and counted
+
+-- so many hypotheses were counted
+pub HasHypotheses-counted : (graph : Tfpg) (k count total : ℕ) → count ≡ length (failures graph) → total ≡ choices_below count (k + 1) → HasHypotheses graph k total
+HasHypotheses-counted graph k count total failing counted = record {
+  sets = chosen_below count (k + 1);
+  table = IsTable-listed graph k count failing;
+  counted = length-chosen_below count (k + 1) ∙ sym counted;
+}
+
+module _ (graph : Tfpg) (k count : ℕ) (sets : List (List ℕ)) (failing : count ≡ length (failures graph)) (listed : sets ≡ chosen_below count (k + 1)) where
+  -- what was listed is the table
+  pub IsTable-sets : IsTable graph k sets
+  IsTable-sets = subst (IsTable graph k) (sym listed) (IsTable-listed graph k count failing)
+
+  -- its members are failure modes of the graph
+  pub members_failing : All (λ set. All (λ place. place < length (failures graph)) set) sets
+  members_failing = All-from_members (λ set. All (λ place. place < length (failures graph)) set) sets (λ set member. ((IsTable-sets.exact set).0 member).members)
+
+  -- and it is no longer than was counted
+  pub few_sets : choices_below (length (failures graph)) (k + 1) ≤ 4096 → length sets ≤ 4096
+  few_sets few = omega (arith, few, ap length listed, length-chosen_below count (k + 1), ap (λ n. choices_below n (k + 1)) failing)
+
+-- ---- too many
+
+-- the fault of so many hypotheses
+abbrev pub too_many_of : (X : Type 0) → ℕ → Result X TableFault
+too_many_of X count = Err (TooMany count)
+
+module _ (graph : Tfpg) (k total : ℕ) (has : HasHypotheses graph k total) where
+  -- where there are more than 4,096, the fault has exactly their number
+  pub too_many-exactly : {X : Type 0} → 4096 < total → (count : ℕ) → (too_many_of X total ≡ too_many_of X count) ↔ ((4096 < count) × HasHypotheses graph k count)
+  too_many-exactly {X} many count = (to, from)
+    where
+      to : too_many_of X total ≡ too_many_of X count → (4096 < count) × HasHypotheses graph k count
+      to same = let equal : total ≡ count = cc in subst (λ n. (4096 < n) × HasHypotheses graph k n) equal (many, has)
+
+      from : (4096 < count) × HasHypotheses graph k count → too_many_of X total ≡ too_many_of X count
+      from other = ap (too_many_of X) (one_count graph k total count has other.1)
+
+  -- else there is no number of them above 4,096, and no such fault
+  pub not_too_many : {X : Type 0} (result : Result X TableFault) → total ≤ 4096 → ((count : ℕ) → result ≡ Err (TooMany count) → ⊥) → (count : ℕ)
+      → (result ≡ Err (TooMany count)) ↔ ((4096 < count) × HasHypotheses graph k count)
+  not_too_many result few none count =
+      (λ same. absurd (none count same), λ other. absurd (omega (arith, few, other.0, one_count graph k total count has other.1)))

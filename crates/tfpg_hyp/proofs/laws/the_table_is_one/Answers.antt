@@ -1,0 +1,6 @@
+use Rattle.tfpg_hyp.proofs.Tables.{one_table, one_count}
+use Rattle.tfpg_hyp.proofs.Parts.{once}
+use Rattle.tfpg_hyp.proofs.laws.the_table_is_one.Goals as goal
+
+pub returns : goal.returns
+returns c = record { sets = one_table; count = one_count; once = once }

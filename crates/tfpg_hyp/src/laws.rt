@@ -1,0 +1,38 @@
+//! What the definitions of this crate come to, as functions that do nothing: each says its law in its clauses.
+
+ghost use Rattle.std.specs.Prelude.{◌≡◌, ◌≢◌, ◌<◌, ◌≤◌, ◌⊎◌, ℕ, List, Some, slice_get};
+ghost use Rattle.tfpg_base.specs.Set.{IsPart, IsProperPart, IsSet};
+ghost use Rattle.tfpg_graph.specs.Graph.{Tfpg};
+ghost use Rattle.tfpg_hyp.specs.Hypotheses.{HasHypotheses};
+ghost use Rattle.tfpg_hyp.specs.Ranking.{IsRankedBefore};
+ghost use Rattle.tfpg_hyp.specs.Table.{IsHypothesis, IsTable};
+ghost use Rattle.tfpg_hyp.specs.declared.place.Place.{Place};
+
+/// A graph has one table for each greatest size of its hypotheses, and one number of them.
+pub fn the_table_is_one()
+    ensures sets { (graph : Tfpg) (k : ℕ) (sets others : List (List ℕ)) →
+        IsTable graph k sets → IsTable graph k others → sets ≡ others }
+    ensures count { (graph : Tfpg) (k count other : ℕ) →
+        HasHypotheses graph k count → HasHypotheses graph k other → count ≡ other }
+    ensures once { (graph : Tfpg) (k : ℕ) (sets : List (List ℕ)) → IsTable graph k sets →
+        (number other : ℕ) (set : List ℕ) → slice_get sets number ≡ Some set → slice_get sets other ≡ Some set →
+        number ≡ other }
+{}
+
+/// Each subset of a hypothesis is a hypothesis, and a proper one has the lesser number.
+pub fn subsets_stand_before_their_supersets()
+    ensures hypothesis { (graph : Tfpg) (k : ℕ) (part whole : List ℕ) →
+        IsSet part → IsPart part whole → IsHypothesis graph k whole → IsHypothesis graph k part }
+    ensures before { (graph : Tfpg) (k : ℕ) (sets : List (List ℕ)) → IsTable graph k sets →
+        (number other : ℕ) (part whole : List ℕ) → slice_get sets number ≡ Some part →
+        slice_get sets other ≡ Some whole → IsProperPart part whole → number < other }
+{}
+
+/// The ranking order is a strict total order of places with different numbers whose robustness is a fraction.
+pub fn the_ranking_order_is_total()
+    ensures irreflexive { (a : Place) → IsRankedBefore a a → ⊥ }
+    ensures transitive { (a b c : Place) →
+        1 ≤ a.robust.monitored → 1 ≤ b.robust.monitored → 1 ≤ c.robust.monitored →
+        IsRankedBefore a b → IsRankedBefore b c → IsRankedBefore a c }
+    ensures total { (a b : Place) → a.number ≢ b.number → IsRankedBefore a b ⊎ IsRankedBefore b a }
+{}

@@ -1,0 +1,122 @@
+//! The table of hypotheses.
+
+ghost use Rattle.std.specs.Prelude.{◌≡◌, ◌<◌, ◌≤◌, ◌↔◌, ◌+◌, ℕ, length, slice_get, Some, All, IfOk};
+ghost use Rattle.tfpg_graph.specs.Graph.{failures};
+ghost use Rattle.tfpg_hyp.specs.Hypotheses.{max_hypotheses, HasHypotheses, IsTableOf, AreReaches};
+ghost use Rattle.tfpg_hyp.specs.inside.Choices.{choices_below};
+
+use crate::listing::{count_sets, list_sets};
+use std::alloc::Global;
+use std::marker::Model;
+use tfpg_base::{NoMemory, Set};
+use tfpg_graph::{Graph, NodeSet};
+
+/// How many hypotheses a table has at most.
+pub const MAX_HYPOTHESES: u32 = 4_096;
+
+/// Why there is no table.
+#[derive(Clone, Copy, Debug, PartialEq, Eq)]
+pub enum TableFault {
+    /// There are more than 4,096 hypotheses, and exactly this many.
+    TooMany { count: u128 },
+    NoMemory,
+}
+
+impl From<NoMemory> for TableFault {
+    ghost use Rattle.std.specs.Prelude.{◌≡◌};
+    ghost use Rattle.tfpg_hyp.specs.declared.table.TableFault.TheVariants.{NoMemory};
+
+    ghost from_gives = { λ _ fault. fault ≡ NoMemory };
+
+    fn from(_e: NoMemory) -> TableFault {
+        TableFault::NoMemory
+    }
+}
+
+/// All sets of at most so many failure modes of a graph, with what each reaches. They have numbers from 0: smaller sets
+/// come first, and sets of one size stand by their rising lists of positions.
+///
+/// Contracts see the list of the sets and that of their reaches. No look-up allocates; each takes constant time.
+#[derive(Drop)]
+pub struct Table {
+    sets: Vec<Set>,
+    reaches: Vec<NodeSet>,
+}
+
+impl Model for Table {
+    ghost use Rattle.std.specs.Prelude.{◌≡◌, ◌≤◌, length};
+    ghost use Rattle.tfpg_hyp.specs.Hypotheses.{Hypotheses, max_hypotheses};
+
+    ghost Value = { Hypotheses };
+
+    ghost view = { λ table. record { sets = table.sets.items; reaches = table.reaches.items } };
+
+    ghost invariant = { λ table.
+        (length table.reaches.items ≡ length table.sets.items) × (length table.sets.items ≤ max_hypotheses) };
+}
+
+impl Table {
+    /// The table of all sets of at most `k` failure modes of the graph. Where there are more than 4,096 of them, the
+    /// fault says how many, and none is listed.
+    pub fn new(alloc: Global, graph: &Graph, k: u32) -> Result<Table, TableFault>
+        ensures table { IfOk result (λ table. IsTableOf graph.now k table) }
+        ensures too_many { (count : ℕ) →
+            (result ≡ Err (TableFault.TooMany count)) ↔ ((max_hypotheses < count) × HasHypotheses graph.now k count) }
+    {
+        let _nodes = graph.node_count();
+        let count = count_sets(graph.failure_count(), k);
+        if count > u128::from(MAX_HYPOTHESES) {
+            return Err(TableFault::TooMany { count });
+        }
+        let table = Table::list(alloc, graph, k)?;
+        Ok(table)
+    }
+
+    /// How many hypotheses it has: at most 4,096.
+    pub fn len(&self) -> u32
+        ensures count { result ≡ length self.now.sets }
+        ensures reaches { result ≡ length self.now.reaches }
+        ensures few { result ≤ max_hypotheses }
+    {
+        self.sets.len() as u32
+    }
+
+    /// The set of this number.
+    pub fn set(&self, number: u32) -> Set
+        requires { number < length self.now.sets }
+        ensures { slice_get self.now.sets number ≡ Some result }
+    {
+        self.sets[number as usize]
+    }
+
+    /// What the set of this number reaches.
+    pub fn reach(&self, number: u32) -> &NodeSet
+        requires { number < length self.now.sets }
+        ensures { slice_get self.now.reaches number ≡ Some result.now }
+    {
+        &self.reaches[number as usize]
+    }
+
+    /// The table, where it is known to be small enough.
+    fn list(alloc: Global, graph: &Graph, k: u32) -> Result<Table, NoMemory>
+        requires { choices_below (length (failures graph.now)) (k + 1) ≤ max_hypotheses }
+        ensures { IfOk result (λ table. IsTableOf graph.now k table) }
+    {
+        let _nodes = graph.node_count();
+        let sets = list_sets(alloc, graph.failure_count(), k)?;
+        let reaches = reaches_of(alloc, graph, &sets)?;
+        Ok(Table { sets, reaches })
+    }
+}
+
+/// What each of the sets reaches.
+fn reaches_of(alloc: Global, graph: &Graph, sets: &[Set]) -> Result<Vec<NodeSet>, NoMemory>
+    requires { All (λ set. All (λ place. place < length (failures graph.now)) set) sets.now }
+    ensures { IfOk result (λ reaches. AreReaches graph.now sets.now reaches.items) }
+{
+    let mut reaches = Vec::new(alloc);
+    for set in sets {
+        reaches.push(graph.reach(*set))?;
+    }
+    Ok(reaches)
+}
