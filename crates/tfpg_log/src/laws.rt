@@ -17,6 +17,14 @@ ghost use Rattle.tfpg_log.specs.Spans.{span_number, span_at, is_allowed_at, are_
 ghost use Rattle.tfpg_log.specs.Runs.{IsSpanOf, IsWindowRound};
 ghost use Rattle.tfpg_log.specs.Explains.{Explains};
 
+mod window_laws;
+
+pub use window_laws::{
+    age_is_first_reached_in_each_window, age_is_the_time_in_the_window,
+    ages_at_once_are_the_time_in_the_joint_window, an_active_edge_has_one_window,
+    joint_window_is_what_all_have_in_common,
+};
+
 /// Nothing outside a set's reach becomes active: in a valid graph whose nodes can be ranked so that each edge that may
 /// take no time goes upwards, a trace that explains a log from a set activates only nodes that the set reaches.
 pub fn nothing_outside_reach()

@@ -4,12 +4,7 @@ use Rattle.tfpg_base.specs.declared.activation.Activation.{Activation}
 use Rattle.tfpg_base.specs.Trace.{time_of}
 use Rattle.tfpg_graph.specs.Graph.{Tfpg}
 use Rattle.tfpg_log.specs.Log.{Logbook, now_of}
-use Rattle.tfpg_log.specs.Rules.{KeepsMay, KeepsMust}
-
--- At no instant up to now the node breaks a rule.
-pub record KeepsRulesOf (graph : Tfpg) (log : Logbook) (trace : List Activation) (node : ℕ) : Type 0 where
-  pub may : (instant : ℕ) → instant ≤ now_of log → KeepsMay graph log trace node instant
-  pub must : (instant : ℕ) → instant ≤ now_of log → KeepsMust graph log trace node instant
+use Rattle.tfpg_log.specs.Rules.{KeepsMay, KeepsMust, KeepsRulesOf}
 
 -- No node before this one breaks a rule.
 abbrev pub KeepRulesBefore : Tfpg → Logbook → List Activation → ℕ → Type 0

@@ -9,7 +9,6 @@ ghost use Rattle.tfpg_log.specs.Spans.{span_at};
 ghost use Rattle.tfpg_trace.specs.Due.{Begins, IsDueBy, SomeDue, AllDue, MustBeActive, earlier};
 ghost use Rattle.tfpg_trace.specs.Gaps.{IsGapOf, AreGaps, behind_gap};
 
-use crate::gaps::has_mode;
 use tfpg_base::Trace;
 use tfpg_graph::{Graph, Kind};
 use tfpg_log::Span;
@@ -91,7 +90,7 @@ fn due_by_edge(graph: &Graph, trace: &Trace, edge: u32, span: Span, gap: Option<
         Begins (IsDueBy graph.now log trace.now edge) span.lo span.hi result }
 {
     let propagation = graph.edge(edge);
-    if !has_mode(propagation.modes, span.mode) {
+    if !propagation.is_allowed(span.mode) {
         return None;
     }
     let delay = propagation.tmax?;

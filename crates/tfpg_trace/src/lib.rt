@@ -17,8 +17,6 @@ mod rules;
 mod shows;
 mod silences;
 mod strays;
-#[cfg(test)]
-mod tests;
 mod verdict;
 
 pub use judge::explains;
