@@ -1,5 +1,5 @@
 -- Where a trace breaks the rules first.
-use Rattle.std.specs.Prelude.{◌≡◌, ℕ, ◌<◌, ◌≤◌, List, Option, Some, None}
+use Rattle.std.specs.Prelude.{◌≡◌, ℕ, ◌<◌, ◌≤◌, List, Some}
 use Rattle.tfpg_base.specs.declared.activation.Activation.{Activation}
 use Rattle.tfpg_base.specs.Trace.{time_of}
 use Rattle.tfpg_graph.specs.Graph.{Tfpg}
@@ -21,8 +21,3 @@ pub record FirstBreaksMust (graph : Tfpg) (log : Logbook) (trace : List Activati
   pub by_now : instant ≤ now_of log
   pub broken : KeepsMust graph log trace node instant → ⊥
   pub first : (earlier : ℕ) → earlier < instant → KeepsMust graph log trace node earlier
-
--- the first instant at which the node breaks the must rule, where there is one up to now
-abbrev pub IsFirstMustFault : Tfpg → Logbook → List Activation → ℕ → Option ℕ → Type 0
-IsFirstMustFault graph log trace node None = (instant : ℕ) → instant ≤ now_of log → KeepsMust graph log trace node instant
-IsFirstMustFault graph log trace node (Some instant) = FirstBreaksMust graph log trace node instant

@@ -3,7 +3,7 @@
 
 ghost use Rattle.std.specs.Prelude.{◌≡◌, ◌<◌, ◌≤◌, ℕ, length, slice_index_or, None};
 ghost use Rattle.tfpg_graph.specs.Graph.{incoming};
-ghost use Rattle.tfpg_trace.specs.Gaps.{gap_after};
+ghost use Rattle.tfpg_trace.specs.inside.Gaps.{gap_after};
 
 use tfpg_graph::Graph;
 use tfpg_log::Span;

@@ -5,9 +5,9 @@ ghost use Rattle.tfpg_graph.specs.Graph.{incoming};
 ghost use Rattle.tfpg_log.specs.Log.{Logbook, now_of};
 ghost use Rattle.tfpg_log.specs.Rules.{IsActive};
 ghost use Rattle.tfpg_log.specs.Spans.{span_at};
-ghost use Rattle.tfpg_trace.specs.Broken.{IsFirstMustFault};
-ghost use Rattle.tfpg_trace.specs.Gaps.{AreGaps};
-ghost use Rattle.tfpg_trace.specs.FirstFaultIn.{IsFirstFaultIn};
+ghost use Rattle.tfpg_trace.specs.inside.FirstFaultIn.{IsFirstMustFault};
+ghost use Rattle.tfpg_trace.specs.inside.Gaps.{AreGaps};
+ghost use Rattle.tfpg_trace.specs.inside.FirstFaultIn.{IsFirstFaultIn};
 
 use crate::due::due_in_span;
 use crate::gaps::pass_span;

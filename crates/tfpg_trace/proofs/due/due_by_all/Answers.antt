@@ -1,5 +1,5 @@
 use Rattle.std.proofs.Common.{◌+◌, Some, None, length, sym, subst, arith}
-use Rattle.tfpg_trace.specs.Due.{Begins, AllDue}
+use Rattle.tfpg_trace.specs.inside.Due.{Begins, AllDue}
 use Rattle.tfpg_trace.proofs.Beginnings.{EachOf, each_of_none, begins_each_more, never_each}
 use Rattle.tfpg_trace.proofs.SpanOrder.{in_order}
 use Rattle.tfpg_trace.proofs.DueInto.{DueAt, in_graph, all_by_places}

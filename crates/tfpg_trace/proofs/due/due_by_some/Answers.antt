@@ -1,5 +1,5 @@
 use Rattle.std.proofs.Common.{◌+◌, sym, subst, arith}
-use Rattle.tfpg_trace.specs.Due.{Begins}
+use Rattle.tfpg_trace.specs.inside.Due.{Begins}
 use Rattle.tfpg_trace.proofs.Beginnings.{OneOf, begins_one_more}
 use Rattle.tfpg_trace.proofs.DueInto.{DueAt, in_graph, some_by_places}
 use Rattle.tfpg_trace.proofs.GapsOver.{gap_at}

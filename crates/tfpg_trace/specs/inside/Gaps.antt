@@ -31,9 +31,9 @@ AreGaps graph log node number gaps =
     → IsGapOf graph log (slice_index_or (incoming graph node) place 0) number (slice_index_or gaps place None)
 
 -- the later of an instant and the one behind a gap
-abbrev pub behind_gap : Option ℕ → ℕ → ℕ
-behind_gap None instant = instant
-behind_gap (Some gap) instant = max instant (gap + 1)
+abbrev pub after_gap : Option ℕ → ℕ → ℕ
+after_gap None instant = instant
+after_gap (Some gap) instant = max instant (gap + 1)
 
 -- the gap of the edge of this number in the graph, once the span is over
 abbrev pub gap_after : Tfpg → Span → ℕ → Option ℕ → Option ℕ
