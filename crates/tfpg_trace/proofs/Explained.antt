@@ -30,7 +30,7 @@ both_passed true (Some alarm) pass = absurd (false≢true pass)
 both_passed false alarm pass = absurd (false≢true pass)
 
 -- an event that is shown is shown of each node of which it is a silence
-shows_quiet : (graph : Tfpg) (trace : List Activation) (before : List Event) (event : Event) (node time : ℕ) → Shows graph trace before event
+pub shows_quiet : (graph : Tfpg) (trace : List Activation) (before : List Event) (event : Event) (node time : ℕ) → Shows graph trace before event
     → quiet_time graph before event node ≡ Some time → ShowsSilence trace node time
 shows_quiet graph trace before (Alarm own alarmed) node time shows is = cc
 shows_quiet graph trace before (Silent own silent) node time shows is =

@@ -11,6 +11,7 @@ mod alarms;
 mod due;
 mod gaps;
 mod judge;
+pub mod laws;
 mod may;
 mod must;
 mod rules;
