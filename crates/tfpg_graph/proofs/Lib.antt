@@ -56,3 +56,4 @@ pub mod NodeSets
 pub mod Sources
 pub mod Reaches
 pub mod Copied
+pub mod OneFault

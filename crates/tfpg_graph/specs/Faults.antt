@@ -86,12 +86,18 @@ IsWholeFault lines fault = IsIncomingFault lines fault ⊎ (IsCycleFault lines f
 abbrev pub IsFirstFault : List ℕ → GraphFault → Type 0
 IsFirstFault text fault = IsLineFault (lines_of text) fault ⊎ (IsClean (lines_of text) × IsWholeFault (lines_of text) fault)
 
--- Why a text may be refused: memory was wanting, or this is its first fault.
+-- Why a text may be refused: memory ran out, or this is its first fault.
 abbrev pub IsRefusalOf : List ℕ → GraphRefusal → Type 0
 IsRefusalOf text (Fault fault) = IsFirstFault text fault
 IsRefusalOf text NoMemory = Unit {0}
 
--- The answer to a text that spells this graph: the graph, unless memory was wanting.
+-- The answer to a text that has this first fault: the fault, unless memory ran out.
+abbrev pub IsFaultAnswer : GraphFault → Result Tfpg GraphRefusal → Type 0
+IsFaultAnswer fault (Ok answer) = ⊥
+IsFaultAnswer fault (Err (Fault reported)) = reported ≡ fault
+IsFaultAnswer fault (Err NoMemory) = Unit {0}
+
+-- The answer to a text that spells this graph: the graph, unless memory ran out.
 abbrev pub IsAnswerOf : Tfpg → Result Tfpg GraphRefusal → Type 0
 IsAnswerOf graph (Ok answer) = answer ≡ graph
 IsAnswerOf graph (Err (Fault fault)) = ⊥

@@ -5,7 +5,8 @@ ghost use Rattle.tfpg_base.specs.Lines.{parts_of, lines_of};
 ghost use Rattle.tfpg_graph.specs.Graph.{Tfpg};
 ghost use Rattle.tfpg_graph.specs.Text.{Spells};
 ghost use Rattle.tfpg_graph.specs.Valid.{IsValid};
-ghost use Rattle.tfpg_graph.specs.Faults.{IsRefusalOf, IsAnswerOf};
+ghost use Rattle.tfpg_graph.specs.Faults.{IsFirstFault, IsRefusalOf, IsAnswerOf, IsFaultAnswer};
+ghost use Rattle.tfpg_graph.specs.declared.cause.GraphFault.{GraphFault};
 
 use crate::cause::GraphRefusal;
 use crate::graph::Graph;
@@ -23,6 +24,7 @@ pub fn read(alloc: Global, text: &[u8]) -> Result<Graph, GraphRefusal>
     ensures valid { IfOk result IsValid }
     ensures refused { IfErr result (IsRefusalOf text.now) }
     ensures exact { (graph : Tfpg) → Spells text.now graph → IsValid graph → IsAnswerOf graph result }
+    ensures faulty { (fault : GraphFault) → IsFirstFault text.now fault → IsFaultAnswer fault result }
 {
     let body = without_last_line_end(text);
     let mut reader = Reader::new(alloc);

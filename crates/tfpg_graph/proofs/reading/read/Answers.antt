@@ -1,4 +1,4 @@
-use Rattle.std.proofs.Common.{rules, tests, ◌≡◌, ◌+◌, ◌==◌, ◌∷◌, ◌++◌, ◌∙◌, sym, ap, subst, map, length, drop, List, ℕ}
+use Rattle.std.proofs.Common.{rules, tests, Err, ◌≡◌, ◌+◌, ◌==◌, ◌∷◌, ◌++◌, ◌∙◌, sym, ap, subst, map, length, drop, List, ℕ}
 use Rattle.std.proofs.lemmas.List.{length-map, length_push, map_push}
 use Rattle.std.proofs.lemmas.Iterator.Consumers.{YieldsList-so_far, YieldsList-turn, YieldsList-end}
 use Rattle.std.proofs.lemmas.Iterator.Splits.{YieldsList-from_slice_split}
@@ -9,6 +9,7 @@ use Rattle.tfpg_graph.specs.Answered.{refusal_at}
 use Rattle.tfpg_graph.proofs.Standing.{StandsFor-ok}
 use Rattle.tfpg_graph.proofs.Ending.{some_part}
 use Rattle.tfpg_graph.proofs.WholeText.{IsBody, lines_at, IsRefusalOf-line, IsAnswerOf-refused, IfOk-spelled, IfErr-refused, IsAnswerOf-end}
+use Rattle.tfpg_graph.proofs.OneFault.{IsFaultAnswer-from}
 use Rattle.tfpg_graph.proofs.reading.read.Goals as goal
 use Rattle.tfpg_graph.proofs.reading.read.Goals.{After-next, In-Some, In-None}
 
@@ -63,6 +64,10 @@ returns-in-Err-clause-exact c = λ graph spells valid.
     IsAnswerOf-refused c.args.text.now c.without_last_line_end-body.result.now (is_body at.After-next) graph
     c.at.result (returns-in-Err-clause-refused c) spells valid
 
+pub returns-in-Err-clause-faulty : goal.returns-in-Err-clause-faulty
+returns-in-Err-clause-faulty c =
+    IsFaultAnswer-from c.args.text.now (Err c.at.result) tt tt (returns-in-Err-clause-refused c)
+
 pub loop-line-preserved : goal.loop-line-preserved
 loop-line-preserved c =
     let before : List (List ℕ) = map (λ line. line.now) c.loop-line.yielded in
@@ -99,3 +104,8 @@ returns-clause-exact c =
     let at = goal.at.returns-clause-exact c in
     IsAnswerOf-end c.args.text.now body (is_body at.After-next) c.loop-line.reader (stands at.In-None) (some_part body)
     c.end.result c.end.ensures.graph c.end.ensures.fault
+
+pub returns-clause-faulty : goal.returns-clause-faulty
+returns-clause-faulty c =
+    IsFaultAnswer-from c.args.text.now c.end.result (returns-clause-spelled c) c.end.ensures.valid
+    (returns-clause-refused c)
