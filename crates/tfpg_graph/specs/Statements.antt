@@ -75,14 +75,14 @@ statement_in (keyword ∷ others) =
     else (if bytes_eq keyword (codes "end") then end_in others else None)))))
 
 -- What a line says: it is not too long, has no empty word, and has one of the shapes.
-abbrev pub said_by : List ℕ → Option Statement
-said_by line =
+abbrev pub statement_of : List ℕ → Option Statement
+statement_of line =
     if nat_lt longest_line (length line) then None
     else (if list_any (λ word. length word == 0) (words_of line) then None else statement_in (words_of line))
 
 -- what lines say, in order; the header, a line that is skipped, and one that has no shape say nothing
-abbrev pub said_by_all : List (List ℕ) → List Statement
-said_by_all lines = filter_map said_by lines
+abbrev pub statements_of : List (List ℕ) → List Statement
+statements_of lines = filter_map statement_of lines
 
 -- A line behind the header that is empty or begins with `#` is passed over, unless it is too long.
 abbrev pub is_passed_over : List ℕ → Bool

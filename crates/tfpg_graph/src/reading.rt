@@ -8,9 +8,18 @@ ghost use Rattle.tfpg_graph.specs.Valid.{IsValid};
 ghost use Rattle.tfpg_graph.specs.Faults.{IsFirstFault, IsRefusalOf, IsAnswerOf, IsFaultAnswer};
 ghost use Rattle.tfpg_graph.specs.declared.cause.GraphFault.{GraphFault};
 
+mod check_edge;
+mod check_mode;
+mod check_node;
+mod find_line;
+mod list_modes;
+mod read_numbers;
+mod reader;
+mod statement;
+
 use crate::cause::GraphRefusal;
 use crate::graph::Graph;
-use crate::reader::Reader;
+use crate::reading::reader::Reader;
 use std::alloc::Global;
 
 /// Reads the text of a graph.

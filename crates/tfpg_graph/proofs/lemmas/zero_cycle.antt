@@ -1,0 +1,6 @@
+pub mod ZeroWalks
+pub mod ZeroVisits
+pub mod StepRows
+pub mod ZeroEdgeSteps
+pub mod ZeroGroups
+pub mod ZeroCycles
