@@ -13,6 +13,7 @@ pub mod Judged
 pub mod NamedModes
 pub mod LineJudged
 pub mod LinesSay
+pub mod SaidLines
 pub mod SpelledValues
 pub mod SpelledEdges
 pub mod NoCause

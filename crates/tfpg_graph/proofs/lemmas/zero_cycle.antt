@@ -4,3 +4,4 @@ pub mod StepRows
 pub mod ZeroEdgeSteps
 pub mod ZeroGroups
 pub mod ZeroCycles
+pub mod ZeroRanks

@@ -43,9 +43,9 @@ no_space [] are = tt
 no_space (word ∷ words) are = (are.0.lacks, no_space words are.1)
 
 -- A line of words that is short says what the words say.
-statement_of-words : (words : List (List ℕ)) → 0 < length words → AllByRecursion IsWord words
+pub short_line_says : (words : List (List ℕ)) → 0 < length words → AllByRecursion IsWord words
     → length (line_of words) ≤ longest_line → statement_of (line_of words) ≡ statement_in words
-statement_of-words words some are short =
+short_line_says words some are short =
     (λ i. cond (le-ltb longest_line (length (line_of words)) short i) None
     (said (slice_split-join 32 words some (no_space words are) i)))
     ∙ ap (λ b. cond b None (statement_in words)) (no_empty_word words are)
@@ -87,22 +87,22 @@ words_of_kind (And lag) = AndWords (option_map decimal lag)
 -- The line of a mode says that it declares the mode.
 pub statement_of-mode : (name : List ℕ) → IsTrue (is_name name) → statement_of (mode_line name) ≡ Some (DeclaresMode name)
 statement_of-mode name named =
-    statement_of-words (codes "mode" ∷ name ∷ []) (omega arith)
+    short_line_says (codes "mode" ∷ name ∷ []) (omega arith)
     (keyword (codes "mode") refl refl, (IsWord-name name named, tt)) (short_mode name named)
 
 -- The line of a node says that it declares the node.
 pub statement_of-node : (name : List ℕ) (kind : Kind) → IsTrue (is_name name) → HasValidNumber kind
     → statement_of (line_of (node_words name kind)) ≡ Some (DeclaresNode name (words_of_kind kind))
 statement_of-node name (Failure rarity) named small =
-    statement_of-words (node_words name (Failure rarity)) (omega arith)
+    short_line_says (node_words name (Failure rarity)) (omega arith)
     (keyword (codes "failure") refl refl, (IsWord-name name named, (IsWord-decimal rarity (omega arith), tt)))
     (short_node name (Failure rarity) named small)
 statement_of-node name (Or None) named small =
-    statement_of-words (node_words name (Or None)) (omega arith)
+    short_line_says (node_words name (Or None)) (omega arith)
     (keyword (codes "or") refl refl, (IsWord-name name named, (keyword (codes "hidden") refl refl, tt)))
     (short_node name (Or None) named small)
 statement_of-node name (Or (Some lag)) named small =
-    statement_of-words (node_words name (Or (Some lag))) (omega arith) (
+    short_line_says (node_words name (Or (Some lag))) (omega arith) (
       keyword (codes "or") refl refl,
       (
         IsWord-name name named,
@@ -111,11 +111,11 @@ statement_of-node name (Or (Some lag)) named small =
     ) (short_node name (Or
     (Some lag)) named small)
 statement_of-node name (And None) named small =
-    statement_of-words (node_words name (And None)) (omega arith)
+    short_line_says (node_words name (And None)) (omega arith)
     (keyword (codes "and") refl refl, (IsWord-name name named, (keyword (codes "hidden") refl refl, tt)))
     (short_node name (And None) named small)
 statement_of-node name (And (Some lag)) named small =
-    statement_of-words (node_words name (And (Some lag))) (omega arith) (
+    short_line_says (node_words name (And (Some lag))) (omega arith) (
       keyword (codes "and") refl refl,
       (
         IsWord-name name named,
@@ -136,7 +136,7 @@ pub statement_of-edge : (source target : List ℕ) (tmin : ℕ) (tmax : Option �
     → statement_of (line_of (codes "edge" ∷ source ∷ target ∷ decimal tmin ∷ tmax_word tmax ∷ modes ∷ []))
     ≡ Some (DeclaresEdge source target (decimal tmin) (tmax_word tmax) modes)
 statement_of-edge source target tmin tmax modes from to least most word short =
-    statement_of-words (codes "edge" ∷ source ∷ target ∷ decimal tmin ∷ tmax_word tmax ∷ modes ∷ []) (omega arith) (
+    short_line_says (codes "edge" ∷ source ∷ target ∷ decimal tmin ∷ tmax_word tmax ∷ modes ∷ []) (omega arith) (
       keyword (codes "edge") refl refl,
       (
         IsWord-name source from,

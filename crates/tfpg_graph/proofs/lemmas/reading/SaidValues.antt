@@ -21,7 +21,7 @@ use Rattle.tfpg_graph.specs.Declares.{lag_of_word, kind_of_words, tmax_of_word, 
 use Rattle.tfpg_graph.specs.Causes.{has_bad_number, has_large_number, lag_number, node_number}
 use Rattle.tfpg_graph.proofs.lemmas.declared.Named.{named_found}
 use Rattle.tfpg_graph.proofs.lemmas.reading.WithoutCause.{IsWithoutCause}
-use Rattle.tfpg_graph.proofs.lemmas.reading.SaidWords.{lag_words, kind_words, words_said}
+use Rattle.tfpg_graph.proofs.lemmas.reading.SaidWords.{words_of_watch, words_of_node, words_of_statement}
 use Rattle.tfpg_graph.proofs.lemmas.reading.SaidModes.{found, SpellsModes-said}
 
 -- ---- numbers
@@ -45,14 +45,14 @@ number_said word most small number within =
 -- ---- nodes
 
 lag_said : (lag : Option (List ℕ)) → are_numbers (lag_number lag) ≡ true → has_large (lag_number lag) ≡ false
-    → (value : Option ℕ) × (lag_of_word lag ≡ Some value) × (lag_words lag ≡ watch_words value)
+    → (value : Option ℕ) × (lag_of_word lag ≡ Some value) × (words_of_watch lag ≡ watch_words value)
 lag_said None numbers small = (None, refl, refl)
 lag_said (Some word) numbers small =
     let is = number_said word max_time (omega arith) (and_parts (is_number word) true numbers).0 (or_parts _ false small).0 in
     (Some (digits_value 10 word), ap (option_map Some) is.0, ap (λ lag. codes "watch" ∷ lag ∷ []) is.1)
 
 kind_said : (name : List ℕ) (words : NodeWords) → are_numbers (node_number words) ≡ true → has_large (node_number words) ≡ false
-    → (kind : Kind) × (kind_of_words words ≡ Some kind) × (kind_words name words ≡ node_words name kind)
+    → (kind : Kind) × (kind_of_words words ≡ Some kind) × (words_of_node name words ≡ node_words name kind)
 kind_said name (FailureWords rarity) numbers small =
     let is = number_said rarity MAX_RARITY (omega arith) (and_parts (is_number rarity) true numbers).0 (or_parts _ false small).0 in
     (Failure (digits_value 10 rarity), ap (option_map Failure) is.0, ap (λ word. codes "failure" ∷ name ∷ word ∷ []) is.1)
@@ -66,7 +66,7 @@ kind_said name (AndWords lag) numbers small =
 -- A node whose number has no cause is of a kind, and its words are those of this kind.
 pub node_said : (name : List ℕ) (words : NodeWords) → has_bad_number (DeclaresNode name words) ≡ false
     → has_large_number (DeclaresNode name words) ≡ false
-    → (kind : Kind) × (kind_of_words words ≡ Some kind) × (words_said (DeclaresNode name words) ≡ node_words name kind)
+    → (kind : Kind) × (kind_of_words words ≡ Some kind) × (words_of_statement (DeclaresNode name words) ≡ node_words name kind)
 node_said name words numbers small = kind_said name words (not-false (are_numbers (node_number words)) numbers) small
 
 -- ---- edges
@@ -103,7 +103,7 @@ delays_said source target tmin tmax modes numbers small =
 pub edge_said : (graph : Tfpg) (out_of_order : Bool) (source target tmin tmax modes : List ℕ)
     → IsWithoutCause out_of_order graph (DeclaresEdge source target tmin tmax modes)
     → (edge : Edge) × (edge_declared graph (DeclaresEdge source target tmin tmax modes) ≡ Some edge)
-    × SpellsEdge graph edge (line_of (words_said (DeclaresEdge source target tmin tmax modes)))
+    × SpellsEdge graph edge (line_of (words_of_statement (DeclaresEdge source target tmin tmax modes)))
 edge_said graph out_of_order source target tmin tmax modes is =
     let unknown = or_parts _ _ is.known in
     let unknown_target = or_parts _ _ unknown.1 in

@@ -10,25 +10,7 @@ use Rattle.tfpg_base.specs.Words.{line_of, words_of}
 use Rattle.tfpg_base.specs.Lines.{longest_line}
 use Rattle.tfpg_base.proofs.Separators.{join_with_byte-words_of}
 use Rattle.tfpg_graph.specs.Text.{is_empty_or_comment}
-use Rattle.tfpg_graph.specs.Statements.{NodeWords, FailureWords, OrWords, AndWords, Statement, DeclaresMode, DeclaresNode, DeclaresEdge, Ends, lag_in, mode_in, failure_in, or_in, and_in, edge_in, end_in, statement_in, statement_of}
-
--- a discrepancy's last words
-abbrev pub lag_words : Option (List ℕ) → List (List ℕ)
-lag_words None = codes "hidden" ∷ []
-lag_words (Some lag) = codes "watch" ∷ lag ∷ []
-
--- the words that say what a node is, round its name
-abbrev pub kind_words : List ℕ → NodeWords → List (List ℕ)
-kind_words name (FailureWords rarity) = codes "failure" ∷ name ∷ rarity ∷ []
-kind_words name (OrWords lag) = codes "or" ∷ name ∷ lag_words lag
-kind_words name (AndWords lag) = codes "and" ∷ name ∷ lag_words lag
-
--- the words that say it
-abbrev pub words_said : Statement → List (List ℕ)
-words_said (DeclaresMode name) = codes "mode" ∷ name ∷ []
-words_said (DeclaresNode name words) = kind_words name words
-words_said (DeclaresEdge source target tmin tmax modes) = codes "edge" ∷ source ∷ target ∷ tmin ∷ tmax ∷ modes ∷ []
-words_said Ends = codes "end" ∷ []
+use Rattle.tfpg_graph.specs.Statements.{NodeWords, FailureWords, OrWords, AndWords, Statement, DeclaresMode, DeclaresNode, DeclaresEdge, Ends, words_of_watch, words_of_node, words_of_statement, lag_in, mode_in, failure_in, or_in, and_in, edge_in, end_in, statement_in, statement_of}
 
 -- ---- laws of choices
 
@@ -45,66 +27,66 @@ cond_second false o x some = (refl, some)
 
 -- a choice by the first word: where the word is the key, its way gives the value, and else the other way
 keyword_chosen : (word key : List ℕ) (others : List (List ℕ)) (here other : Option Statement) (said : Statement)
-    → cond (bytes_eq word key) here other ≡ Some said → (here ≡ Some said → key ∷ others ≡ words_said said)
-    → (other ≡ Some said → word ∷ others ≡ words_said said) → word ∷ others ≡ words_said said
+    → cond (bytes_eq word key) here other ≡ Some said → (here ≡ Some said → key ∷ others ≡ words_of_statement said)
+    → (other ≡ Some said → word ∷ others ≡ words_of_statement said) → word ∷ others ≡ words_of_statement said
 keyword_chosen word key others here other said some keyed elsewhere = by (bytes_eq word key) refl some
   where
-    by : (b : Bool) → bytes_eq word key ≡ b → cond b here other ≡ Some said → word ∷ others ≡ words_said said
+    by : (b : Bool) → bytes_eq word key ≡ b → cond b here other ≡ Some said → word ∷ others ≡ words_of_statement said
     by true same some = ap (λ first. first ∷ others) ((bytes_eq-Decides word key).0 same) ∙ keyed some
     by false differ some = elsewhere some
 
 -- ---- the words of each shape
 
-lag_in_words : (words : List (List ℕ)) (lag : Option (List ℕ)) → lag_in words ≡ Some lag → words ≡ lag_words lag
+lag_in_words : (words : List (List ℕ)) (lag : Option (List ℕ)) → lag_in words ≡ Some lag → words ≡ words_of_watch lag
 lag_in_words [] lag some = absurd cc
 lag_in_words (state ∷ []) lag some =
     let is = cond_some (bytes_eq state (codes "hidden")) None lag some in
-    ap (λ word. word ∷ []) ((bytes_eq-Decides state (codes "hidden")).0 is.0) ∙ ap lag_words is.1
+    ap (λ word. word ∷ []) ((bytes_eq-Decides state (codes "hidden")).0 is.0) ∙ ap words_of_watch is.1
 lag_in_words (state ∷ word ∷ []) lag some =
     let is = cond_some (bytes_eq state (codes "watch")) (Some word) lag some in
-    ap (λ first. first ∷ word ∷ []) ((bytes_eq-Decides state (codes "watch")).0 is.0) ∙ ap lag_words is.1
+    ap (λ first. first ∷ word ∷ []) ((bytes_eq-Decides state (codes "watch")).0 is.0) ∙ ap words_of_watch is.1
 lag_in_words (state ∷ word ∷ more ∷ others) lag some = absurd cc
 
-mode_in_words : (words : List (List ℕ)) (said : Statement) → mode_in words ≡ Some said → codes "mode" ∷ words ≡ words_said said
+mode_in_words : (words : List (List ℕ)) (said : Statement) → mode_in words ≡ Some said → codes "mode" ∷ words ≡ words_of_statement said
 mode_in_words [] said some = absurd cc
-mode_in_words (name ∷ []) said some = let is : DeclaresMode name ≡ said = cc in ap words_said is
+mode_in_words (name ∷ []) said some = let is : DeclaresMode name ≡ said = cc in ap words_of_statement is
 mode_in_words (name ∷ more ∷ others) said some = absurd cc
 
 failure_in_words : (words : List (List ℕ)) (said : Statement) → failure_in words ≡ Some said
-    → codes "failure" ∷ words ≡ words_said said
+    → codes "failure" ∷ words ≡ words_of_statement said
 failure_in_words [] said some = absurd cc
 failure_in_words (name ∷ []) said some = absurd cc
-failure_in_words (name ∷ rarity ∷ []) said some = let is : DeclaresNode name (FailureWords rarity) ≡ said = cc in ap words_said is
+failure_in_words (name ∷ rarity ∷ []) said some = let is : DeclaresNode name (FailureWords rarity) ≡ said = cc in ap words_of_statement is
 failure_in_words (name ∷ rarity ∷ more ∷ others) said some = absurd cc
 
-or_in_words : (words : List (List ℕ)) (said : Statement) → or_in words ≡ Some said → codes "or" ∷ words ≡ words_said said
+or_in_words : (words : List (List ℕ)) (said : Statement) → or_in words ≡ Some said → codes "or" ∷ words ≡ words_of_statement said
 or_in_words [] said some = absurd cc
 or_in_words (name ∷ others) said some =
     let is = option_map_some (λ lag. DeclaresNode name (OrWords lag)) (lag_in others) said some in
-    ap (λ words. codes "or" ∷ name ∷ words) (lag_in_words others is.0 is.1) ∙ ap words_said is.2
+    ap (λ words. codes "or" ∷ name ∷ words) (lag_in_words others is.0 is.1) ∙ ap words_of_statement is.2
 
-and_in_words : (words : List (List ℕ)) (said : Statement) → and_in words ≡ Some said → codes "and" ∷ words ≡ words_said said
+and_in_words : (words : List (List ℕ)) (said : Statement) → and_in words ≡ Some said → codes "and" ∷ words ≡ words_of_statement said
 and_in_words [] said some = absurd cc
 and_in_words (name ∷ others) said some =
     let is = option_map_some (λ lag. DeclaresNode name (AndWords lag)) (lag_in others) said some in
-    ap (λ words. codes "and" ∷ name ∷ words) (lag_in_words others is.0 is.1) ∙ ap words_said is.2
+    ap (λ words. codes "and" ∷ name ∷ words) (lag_in_words others is.0 is.1) ∙ ap words_of_statement is.2
 
-edge_in_words : (words : List (List ℕ)) (said : Statement) → edge_in words ≡ Some said → codes "edge" ∷ words ≡ words_said said
+edge_in_words : (words : List (List ℕ)) (said : Statement) → edge_in words ≡ Some said → codes "edge" ∷ words ≡ words_of_statement said
 edge_in_words [] said some = absurd cc
 edge_in_words (source ∷ []) said some = absurd cc
 edge_in_words (source ∷ target ∷ []) said some = absurd cc
 edge_in_words (source ∷ target ∷ tmin ∷ []) said some = absurd cc
 edge_in_words (source ∷ target ∷ tmin ∷ tmax ∷ []) said some = absurd cc
 edge_in_words (source ∷ target ∷ tmin ∷ tmax ∷ modes ∷ []) said some =
-    let is : DeclaresEdge source target tmin tmax modes ≡ said = cc in ap words_said is
+    let is : DeclaresEdge source target tmin tmax modes ≡ said = cc in ap words_of_statement is
 edge_in_words (source ∷ target ∷ tmin ∷ tmax ∷ modes ∷ more ∷ others) said some = absurd cc
 
-end_in_words : (words : List (List ℕ)) (said : Statement) → end_in words ≡ Some said → codes "end" ∷ words ≡ words_said said
-end_in_words [] said some = let is : Ends ≡ said = cc in ap words_said is
+end_in_words : (words : List (List ℕ)) (said : Statement) → end_in words ≡ Some said → codes "end" ∷ words ≡ words_of_statement said
+end_in_words [] said some = let is : Ends ≡ said = cc in ap words_of_statement is
 end_in_words (more ∷ others) said some = absurd cc
 
 -- words of a shape are the words of what they say
-pub statement_in_words : (words : List (List ℕ)) (said : Statement) → statement_in words ≡ Some said → words ≡ words_said said
+pub statement_in_words : (words : List (List ℕ)) (said : Statement) → statement_in words ≡ Some said → words ≡ words_of_statement said
 statement_in_words [] said some = absurd cc
 statement_in_words (keyword ∷ others) said some =
     keyword_chosen keyword (codes "mode") others (mode_in others) _ said some (mode_in_words others said)
@@ -117,7 +99,7 @@ statement_in_words (keyword ∷ others) said some =
 
 -- A line that says something is not too long, and is the words of what it says.
 pub said_by_words : (line : List ℕ) (said : Statement) → statement_of line ≡ Some said
-    → (length line ≤ longest_line) × (line ≡ line_of (words_said said))
+    → (length line ≤ longest_line) × (line ≡ line_of (words_of_statement said))
 said_by_words line said some =
     let short = cond_second _ _ said some in
     let shaped = cond_second _ _ said short.1 in

@@ -20,7 +20,7 @@ use Rattle.tfpg_graph.specs.Causes.{is_out_of_order, cause_of_said, cause_behind
 use Rattle.tfpg_graph.specs.declared.reading.reader.Part.TheVariants.{Declarations, Ended}
 use Rattle.tfpg_graph.specs.inside.reading.Turns.{ReaderState, ReaderRepresents}
 use Rattle.tfpg_graph.proofs.lemmas.reading.WithoutCause.{IsWithoutCause, without_cause}
-use Rattle.tfpg_graph.proofs.lemmas.reading.SaidWords.{words_said, said_by_words, skipped_says_nothing}
+use Rattle.tfpg_graph.proofs.lemmas.reading.SaidWords.{words_of_statement, said_by_words, skipped_says_nothing}
 use Rattle.tfpg_graph.proofs.lemmas.reading.SpelledSoFar.{SpellsSoFar, AreSpelled, statement_spelled}
 
 -- ---- one line more
@@ -101,14 +101,14 @@ line_spelled before lines line clean so_far = ⊎_elim passed spoken (line_cases
         let said = is.said in
         let words = said_by_words line said is.says in
         let more_said : before ++ said ∷ [] ≡ before ++ statements_of (line ∷ []) = ap (λ o. before ++ cons_option o []) (sym is.says) in
-        let more_lines : lines ++ line_of (words_said said) ∷ [] ≡ lines ++ kept (line ∷ []) =
+        let more_lines : lines ++ line_of (words_of_statement said) ∷ [] ≡ lines ++ kept (line ∷ []) =
         ap (λ l. lines ++ l ∷ []) (sym words.1) ∙ ap (λ b. lines ++ cond (not b) (line ∷ []) []) (sym (saying_kept line said is.says)) in
         let ended : ends_text said ≡ list_any ends_text (before ++ said ∷ []) = sym (ended_push before said is.unended) in
-        let spelled : SpellsSoFar (graph_said (before ++ said ∷ [])) (ends_text said) (lines ++ line_of (words_said said) ∷ []) =
+        let spelled : SpellsSoFar (graph_said (before ++ said ∷ [])) (ends_text said) (lines ++ line_of (words_of_statement said) ∷ []) =
         statement_spelled before lines said (subst (λ b. SpellsSoFar (graph_said before) b lines) is.unended so_far) is.without in
         subst (λ what. AreSpelled what (lines ++ kept (line ∷ []))) more_said
         (subst (AreSpelled (before ++ said ∷ [])) more_lines
-        (subst (λ b. SpellsSoFar (graph_said (before ++ said ∷ [])) b (lines ++ line_of (words_said said) ∷ [])) ended spelled))
+        (subst (λ b. SpellsSoFar (graph_said (before ++ said ∷ [])) b (lines ++ line_of (words_of_statement said) ∷ [])) ended spelled))
 
 -- ---- all lines
 

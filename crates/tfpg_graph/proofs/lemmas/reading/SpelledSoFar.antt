@@ -13,7 +13,7 @@ use Rattle.tfpg_graph.specs.Statements.{Statement, DeclaresMode, DeclaresNode, D
 use Rattle.tfpg_graph.specs.Declares.{graph_said}
 use Rattle.tfpg_graph.specs.Causes.{is_out_of_order}
 use Rattle.tfpg_graph.proofs.lemmas.reading.WithoutCause.{IsWithoutCause}
-use Rattle.tfpg_graph.proofs.lemmas.reading.SaidWords.{words_said}
+use Rattle.tfpg_graph.proofs.lemmas.reading.SaidWords.{words_of_statement}
 use Rattle.tfpg_graph.proofs.lemmas.reading.SaidValues.{node_said, edge_said}
 use Rattle.tfpg_graph.proofs.lemmas.reading.GraphsSaid.{some_mode_declared, nothing_before_mode, no_edge_before_node, graph_said-mode, graph_said-node, graph_said-edge, graph_said-end}
 
@@ -119,7 +119,7 @@ AreSpelled said lines = SpellsSoFar (graph_said said) (list_any ends_text said) 
 pub statement_spelled : (before : List Statement) (lines : List (List ℕ)) (said : Statement)
     → SpellsSoFar (graph_said before) false lines
     → IsWithoutCause (is_out_of_order before said) (graph_said before) said
-    → SpellsSoFar (graph_said (before ++ said ∷ [])) (ends_text said) (lines ++ line_of (words_said said) ∷ [])
+    → SpellsSoFar (graph_said (before ++ said ∷ [])) (ends_text said) (lines ++ line_of (words_of_statement said) ∷ [])
 statement_spelled before lines (DeclaresMode name) so_far is =
     let nothing = nothing_before_mode before name is.in_order in
     subst (λ graph. SpellsSoFar graph false (lines ++ mode_line name ∷ [])) (sym (graph_said-mode before name is.in_order))
@@ -132,7 +132,7 @@ statement_spelled before lines (DeclaresNode name words) so_far is =
     (spells-with_node (graph_said before) lines so_far name node.0 (no_edge_before_node before name words is.in_order)))
 statement_spelled before lines (DeclaresEdge source target tmin tmax modes) so_far is =
     let edge = edge_said (graph_said before) _ source target tmin tmax modes is in
-    let line : List ℕ = line_of (words_said (DeclaresEdge source target tmin tmax modes)) in
+    let line : List ℕ = line_of (words_of_statement (DeclaresEdge source target tmin tmax modes)) in
     subst (λ graph. SpellsSoFar graph false (lines ++ line ∷ [])) (sym (graph_said-edge before source target tmin tmax modes edge.0 edge.1))
     (spells-with_edge (graph_said before) lines so_far edge.0 line edge.2)
 statement_spelled before lines Ends so_far is =

@@ -30,12 +30,14 @@ passing test (suc number) = cond (test number) 1 0 + passing test number
 passes_some : (test : Edge → Bool) (edges : List Edge) → list_any test edges ≡ true
     → (edge : Edge) × Contains edges edge × (test edge ≡ true)
 passes_some test [] is = absurd (false≢true is)
-passes_some test (edge ∷ edges) is = by (or_cases (test edge) (list_any test edges) is)
+passes_some test (edge ∷ edges) is = by (or_cases (test edge) (list_any test edges) is) (λ later. passes_some test edges later)
   where
-    by : (test edge ≡ true) ⊎ (list_any test edges ≡ true) → (e : Edge) × Contains (edge ∷ edges) e × (test e ≡ true)
-    by (inl here) = (edge, Contains-head edge edges, here)
-    by (inr later) =
-        let found = passes_some test edges later in
+    by : (test edge ≡ true) ⊎ (list_any test edges ≡ true)
+        → (list_any test edges ≡ true → (e : Edge) × Contains edges e × (test e ≡ true))
+        → (e : Edge) × Contains (edge ∷ edges) e × (test e ≡ true)
+    by (inl here) rest = (edge, Contains-head edge edges, here)
+    by (inr later) rest =
+        let found = rest later in
         (found.0, (suc found.1.0, omega (arith, found.1.1), found.1.2), found.2)
 
 -- the parts of a test of two, and what two that hold make
@@ -50,19 +52,25 @@ second_holds true y other = refl
 second_holds false y other = other
 
 module _ (graph : Tfpg) where
+  -- a walk of as many steps
+  same_steps : (count other from to : ℕ) → count ≡ other → WalksInNoTime graph from to count → WalksInNoTime graph from to other
+  same_steps count other from to same walk = subst (λ (n : ℕ). WalksInNoTime graph from to n) same walk
+
   -- a walk, and another one from where it ends
   append_walks : (steps more from between to : ℕ) → WalksInNoTime graph from between steps → WalksInNoTime graph between to more
       → WalksInNoTime graph from to (steps + more)
   append_walks zero more from between to walk next =
-      subst (λ (count : ℕ). WalksInNoTime graph from to count) (omega arith)
-      (subst (λ (node : ℕ). WalksInNoTime graph node to more) (sym walk) next)
+      same_steps more (0 + more) from to (omega arith) (subst (λ (node : ℕ). WalksInNoTime graph node to more) (sym walk) next)
   append_walks (suc steps) more from between to walk next =
-      let rest = append_walks steps more walk.0.target between to walk.4 next in
-      let whole : WalksInNoTime graph from to (suc (steps + more)) = (walk.0, walk.1, walk.2, walk.3, rest) in
-      subst (λ (count : ℕ). WalksInNoTime graph from to count) (omega arith) whole
+      same_steps (suc (steps + more)) (suc steps + more) from to (omega arith)
+      (walk.0, walk.1, walk.2, walk.3, append_walks steps more walk.0.target between to walk.4 next)
+
+  -- some steps lead from the one node to the other in no time
+  abbrev WalksSome : ℕ → ℕ → Type 0
+  WalksSome from to = (steps : ℕ) × WalksInNoTime graph from to (suc steps)
 
   -- what the test says is so
-  walks-true : (below from to : ℕ) → walks graph below from to ≡ true → (steps : ℕ) × WalksInNoTime graph from to (suc steps)
+  walks-true : (below from to : ℕ) → walks graph below from to ≡ true → WalksSome from to
   walks-true zero from to is =
       let found = passes_some (is_zero_edge from to) graph.edges is in
       let source = and_parts (nat_eq found.0.source from) (nat_eq found.0.target to && nat_eq found.0.tmin 0) found.2 in
@@ -70,17 +78,19 @@ module _ (graph : Tfpg) where
       (0, (found.0, found.1, eqb-true found.0.source from source.0, eqb-true found.0.tmin 0 target.1, eqb-true found.0.target to target.0))
   walks-true (suc below) from to is =
       by (or_cases (walks graph below from to) (walks graph below from below && walks graph below below to) is)
+      (walks-true below from to) (walks-true below from below) (walks-true below below to)
     where
       by : (walks graph below from to ≡ true) ⊎ ((walks graph below from below && walks graph below below to) ≡ true)
-          → (steps : ℕ) × WalksInNoTime graph from to (suc steps)
-      by (inl there) = walks-true below from to there
-      by (inr round) =
+          → (walks graph below from to ≡ true → WalksSome from to) → (walks graph below from below ≡ true → WalksSome from below)
+          → (walks graph below below to ≡ true → WalksSome below to) → WalksSome from to
+      by (inl there) whole up down = whole there
+      by (inr round) whole up down =
           let parts = and_parts (walks graph below from below) (walks graph below below to) round in
-          let one = walks-true below from below parts.0 in
-          let other = walks-true below below to parts.1 in (
+          let one = up parts.0 in
+          let other = down parts.1 in (
             one.0 + suc other.0,
-            subst (λ (count : ℕ). WalksInNoTime graph from to count) (omega arith)
-                (append_walks (suc one.0) (suc other.0) from below to one.1 other.1),
+            same_steps (suc one.0 + suc other.0) (suc (one.0 + suc other.0)) from to (omega arith)
+            (append_walks (suc one.0) (suc other.0) from below to one.1 other.1),
           )
 
   -- more nodes may stand between
@@ -113,11 +123,9 @@ module _ (graph : Tfpg) where
   pub walks-joined : (below from between to : ℕ) → between < below → walks graph below from between ≡ true
       → walks graph below between to ≡ true → walks graph below from to ≡ true
   walks-joined zero from between to within one other = absurd (omega arith)
-  walks-joined (suc below) from between to within one other = at (cases_lt between below)
+  walks-joined (suc below) from between to within one other =
+      at (cases_lt between below) (λ node other_node less up down. walks-joined below node between other_node less up down)
     where
-      R : ℕ → ℕ → Bool
-      R = walks graph below
-
       through : walks graph below from below ≡ true → walks graph below below to ≡ true
           → walks graph (suc below) from to ≡ true
       through up down = second_holds _ _ (both_hold _ _ up down)
@@ -129,26 +137,31 @@ module _ (graph : Tfpg) where
           (walks-from_last below to (ap (λ n. walks graph (suc below) n to) (sym is) ∙ down))
 
       by : between < below
+          → ((node other_node : ℕ) → between < below → walks graph below node between ≡ true
+          → walks graph below between other_node ≡ true → walks graph below node other_node ≡ true)
           → (walks graph below from between ≡ true) ⊎ ((walks graph below from below && walks graph below below between) ≡ true)
           → (walks graph below between to ≡ true) ⊎ ((walks graph below between below && walks graph below below to) ≡ true)
           → walks graph (suc below) from to ≡ true
-      by less (inl up) (inl down) = walks-suc below from to (walks-joined below from between to less up down)
-      by less (inl up) (inr down) =
+      by less join (inl up) (inl down) = walks-suc below from to (join from to less up down)
+      by less join (inl up) (inr down) =
           let parts = and_parts (walks graph below between below) (walks graph below below to) down in
-          through (walks-joined below from between below less up parts.0) parts.1
-      by less (inr up) (inl down) =
+          through (join from below less up parts.0) parts.1
+      by less join (inr up) (inl down) =
           let parts = and_parts (walks graph below from below) (walks graph below below between) up in
-          through parts.0 (walks-joined below below between to less parts.1 down)
-      by less (inr up) (inr down) =
+          through parts.0 (join below to less parts.1 down)
+      by less join (inr up) (inr down) =
           let parts = and_parts (walks graph below from below) (walks graph below below between) up in
           let more = and_parts (walks graph below between below) (walks graph below below to) down in
           through parts.0 more.1
 
-      at : (between < below) ⊎ (below ≤ between) → walks graph (suc below) from to ≡ true
-      at (inl less) =
-          by less (or_cases (walks graph below from between) (walks graph below from below && walks graph below below between) one)
+      at : (between < below) ⊎ (below ≤ between)
+          → ((node other_node : ℕ) → between < below → walks graph below node between ≡ true
+          → walks graph below between other_node ≡ true → walks graph below node other_node ≡ true)
+          → walks graph (suc below) from to ≡ true
+      at (inl less) join =
+          by less join (or_cases (walks graph below from between) (walks graph below from below && walks graph below below between) one)
           (or_cases (walks graph below between to) (walks graph below between below && walks graph below below to) other)
-      at (inr least) = last between (omega arith) one other
+      at (inr least) join = last between (omega arith) one other
 
 -- one that passes adds to the count
 step_le : (x y : Bool) → (x ≡ true → y ≡ true) → cond {A = ℕ} x 1 0 ≤ cond {A = ℕ} y 1 0
@@ -168,12 +181,13 @@ passing-le test other (suc end) more =
 passing-lt : (test other : ℕ → Bool) (end one : ℕ) → ((number : ℕ) → test number ≡ true → other number ≡ true)
     → one < end → test one ≡ false → other one ≡ true → passing test end < passing other end
 passing-lt test other zero one more within old new = absurd (omega arith)
-passing-lt test other (suc end) one more within old new = by (cases_lt one end)
+passing-lt test other (suc end) one more within old new =
+    by (cases_lt one end) (λ less. passing-lt test other end one more less old new)
   where
-    by : (one < end) ⊎ (end ≤ one) → cond {A = ℕ} (test end) 1 0 + passing test end < cond {A = ℕ} (other end) 1 0 + passing other end
-    by (inl less) =
-        omega (arith, step_le (test end) (other end) (more end), passing-lt test other end one more less old new)
-    by (inr last) =
+    by : (one < end) ⊎ (end ≤ one) → (one < end → passing test end < passing other end)
+        → cond {A = ℕ} (test end) 1 0 + passing test end < cond {A = ℕ} (other end) 1 0 + passing other end
+    by (inl less) before = omega (arith, step_le (test end) (other end) (more end), before less)
+    by (inr last) before =
         let is : end ≡ one = omega arith in
         let none : cond {A = ℕ} (test end) 1 0 ≡ 0 = ap (λ b. cond {A = ℕ} b 1 0) (ap test is ∙ old) in
         let some : cond {A = ℕ} (other end) 1 0 ≡ 1 = ap (λ b. cond {A = ℕ} b 1 0) (ap other is ∙ new) in
