@@ -32,7 +32,7 @@ impl Model for Declared {
 
     ghost Value = { Tfpg };
 
-    ghost use Rattle.tfpg_graph.specs.Indexes.{graph_of, IsDeclared};
+    ghost use Rattle.tfpg_graph.specs.inside.Indexes.{graph_of, IsDeclared};
 
     ghost view = { graph_of };
 
@@ -40,7 +40,7 @@ impl Model for Declared {
 }
 
 impl Declared {
-    ghost use Rattle.tfpg_graph.specs.Indexes.{nothing_declared, with_node, with_edge, with_mode, IsValidSoFar};
+    ghost use Rattle.tfpg_graph.specs.inside.Indexes.{nothing_declared, with_node, with_edge, with_mode, IsValidSoFar};
     ghost use Rattle.tfpg_graph.specs.Faults.{HasIncomingBefore, LacksIncoming};
 
     /// Nothing is declared. Takes no memory.
