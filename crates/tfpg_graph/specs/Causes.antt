@@ -1,16 +1,18 @@
 -- What is wrong with one line of a text, by the lines before it. Each cause has its condition, in the order in which they are tested.
 use Rattle.std.specs.Prelude.{ℕ, zero, suc, List, [], ◌∷◌, length, take, Bool, true, false, ◌&&◌, ◌||◌, not, nat_lt, nat_le, if◌then◌else◌, Option, Some, None, is_some, is_none, option_and_then, slice_index_or, codes, bytes_eq}
 use Rattle.std.specs.Option.{option_map_or}
+use Rattle.std.specs.Bool.{then_some}
 use Rattle.std.specs.List.{list_all, list_any}
 use Rattle.std.specs.Str.Parse.{digits_value}
+use Rattle.tfpg_base.specs.Choice.{first_of}
 use Rattle.tfpg_base.specs.Words.{is_name, is_number}
 use Rattle.tfpg_graph.specs.declared.cause.GraphCause.{GraphCause}
 use Rattle.tfpg_graph.specs.declared.cause.GraphCause.TheVariants.{BadHeader, BadLine, BadName, DuplicateName, UnknownName, BadNumber, NumberTooLarge, MinOverMax, EdgeIntoFailure, SelfEdge, DuplicateEdge, NoModes, TooManyNodes, TooManyFailures, TooManyEdges, TooManyModes, TooManyIncoming, AfterEnd}
 use Rattle.tfpg_graph.specs.Graph.{Tfpg, is_kind_at, is_failure, failures, incoming, node_named, mode_named, edge_from_to}
 use Rattle.tfpg_graph.specs.Text.{header}
 use Rattle.tfpg_base.specs.Times.{max_time}
-use Rattle.tfpg_graph.specs.Valid.{max_rarity, max_nodes, max_failures, max_edges, max_modes, max_incoming}
-use Rattle.tfpg_graph.specs.Statements.{NodeWords, FailureWords, OrWords, AndWords, Statement, DeclaresMode, DeclaresNode, DeclaresEdge, Ends, said_by, said_by_all, is_passed_over, declares_mode, declares_edge, ends_text}
+use Rattle.tfpg_graph.specs.declared.limits.TheConstants.{MAX_NODES, MAX_FAILURES, MAX_EDGES, MAX_INCOMING, MAX_MODES, MAX_RARITY}
+use Rattle.tfpg_graph.specs.Statements.{NodeWords, FailureWords, OrWords, AndWords, Statement, DeclaresMode, DeclaresNode, DeclaresEdge, Ends, statement_of, statements_of, is_passed_over, declares_mode, declares_edge, ends_text}
 use Rattle.tfpg_graph.specs.Declares.{modes_listed, ends_named, graph_said}
 
 -- the words in the place of a name
@@ -27,7 +29,7 @@ lag_number (Some lag) = (lag, max_time) ∷ []
 
 -- the word for a node's number, with the greatest that it may be
 abbrev pub node_number : NodeWords → List (List ℕ × ℕ)
-node_number (FailureWords rarity) = (rarity, max_rarity) ∷ []
+node_number (FailureWords rarity) = (rarity, MAX_RARITY) ∷ []
 node_number (OrWords lag) = lag_number lag
 node_number (AndWords lag) = lag_number lag
 
@@ -121,7 +123,7 @@ names_no_mode Ends = false
 -- there is no room for one more node
 abbrev pub lacks_node_room : Tfpg → Statement → Bool
 lacks_node_room graph (DeclaresMode name) = false
-lacks_node_room graph (DeclaresNode name words) = nat_le max_nodes (length graph.nodes)
+lacks_node_room graph (DeclaresNode name words) = nat_le MAX_NODES (length graph.nodes)
 lacks_node_room graph (DeclaresEdge source target tmin tmax modes) = false
 lacks_node_room graph Ends = false
 
@@ -134,7 +136,7 @@ are_failure_words (AndWords lag) = false
 -- there is no room for one more failure mode
 abbrev pub lacks_failure_room : Tfpg → Statement → Bool
 lacks_failure_room graph (DeclaresMode name) = false
-lacks_failure_room graph (DeclaresNode name words) = are_failure_words words && nat_le max_failures (length (failures graph))
+lacks_failure_room graph (DeclaresNode name words) = are_failure_words words && nat_le MAX_FAILURES (length (failures graph))
 lacks_failure_room graph (DeclaresEdge source target tmin tmax modes) = false
 lacks_failure_room graph Ends = false
 
@@ -142,12 +144,12 @@ lacks_failure_room graph Ends = false
 abbrev pub lacks_edge_room : Tfpg → Statement → Bool
 lacks_edge_room graph (DeclaresMode name) = false
 lacks_edge_room graph (DeclaresNode name words) = false
-lacks_edge_room graph (DeclaresEdge source target tmin tmax modes) = nat_le max_edges (length graph.edges)
+lacks_edge_room graph (DeclaresEdge source target tmin tmax modes) = nat_le MAX_EDGES (length graph.edges)
 lacks_edge_room graph Ends = false
 
 -- there is no room for one more mode
 abbrev pub lacks_mode_room : Tfpg → Statement → Bool
-lacks_mode_room graph (DeclaresMode name) = nat_le max_modes (length graph.modes)
+lacks_mode_room graph (DeclaresMode name) = nat_le MAX_MODES (length graph.modes)
 lacks_mode_room graph (DeclaresNode name words) = false
 lacks_mode_room graph (DeclaresEdge source target tmin tmax modes) = false
 lacks_mode_room graph Ends = false
@@ -156,44 +158,34 @@ lacks_mode_room graph Ends = false
 abbrev pub lacks_incoming_room : Tfpg → Statement → Bool
 lacks_incoming_room graph (DeclaresMode name) = false
 lacks_incoming_room graph (DeclaresNode name words) = false
-lacks_incoming_room graph (DeclaresEdge source target tmin tmax modes) = option_map_or (λ node. nat_le max_incoming (length (incoming graph node))) (node_named graph target) false
+lacks_incoming_room graph (DeclaresEdge source target tmin tmax modes) = option_map_or (λ node. nat_le MAX_INCOMING (length (incoming graph node))) (node_named graph target) false
 lacks_incoming_room graph Ends = false
-
--- the cause, where its condition holds
-abbrev pub caused_where : Bool → GraphCause → Option GraphCause
-caused_where holds cause = if holds then Some cause else None
-
--- the first of these that holds
-abbrev pub first_cause : List (Option GraphCause) → Option GraphCause
-first_cause [] = None
-first_cause (Some cause ∷ others) = Some cause
-first_cause (None ∷ others) = first_cause others
 
 -- the causes that a statement can have, in the order in which they are tested
 abbrev pub causes : Bool → Tfpg → Statement → List (Option GraphCause)
 causes bad_line graph said =
-    caused_where bad_line BadLine
-    ∷ caused_where (has_bad_name said) BadName
-    ∷ caused_where (has_duplicate_name graph said) DuplicateName
-    ∷ caused_where (has_unknown_name graph said) UnknownName
-    ∷ caused_where (has_bad_number said) BadNumber
-    ∷ caused_where (has_large_number said) NumberTooLarge
-    ∷ caused_where (has_min_over_max said) MinOverMax
-    ∷ caused_where (enters_failure graph said) EdgeIntoFailure
-    ∷ caused_where (is_self_edge said) SelfEdge
-    ∷ caused_where (is_second_edge graph said) DuplicateEdge
-    ∷ caused_where (names_no_mode said) NoModes
-    ∷ caused_where (lacks_node_room graph said) TooManyNodes
-    ∷ caused_where (lacks_failure_room graph said) TooManyFailures
-    ∷ caused_where (lacks_edge_room graph said) TooManyEdges
-    ∷ caused_where (lacks_mode_room graph said) TooManyModes
-    ∷ caused_where (lacks_incoming_room graph said) TooManyIncoming
+    then_some bad_line BadLine
+    ∷ then_some (has_bad_name said) BadName
+    ∷ then_some (has_duplicate_name graph said) DuplicateName
+    ∷ then_some (has_unknown_name graph said) UnknownName
+    ∷ then_some (has_bad_number said) BadNumber
+    ∷ then_some (has_large_number said) NumberTooLarge
+    ∷ then_some (has_min_over_max said) MinOverMax
+    ∷ then_some (enters_failure graph said) EdgeIntoFailure
+    ∷ then_some (is_self_edge said) SelfEdge
+    ∷ then_some (is_second_edge graph said) DuplicateEdge
+    ∷ then_some (names_no_mode said) NoModes
+    ∷ then_some (lacks_node_room graph said) TooManyNodes
+    ∷ then_some (lacks_failure_room graph said) TooManyFailures
+    ∷ then_some (lacks_edge_room graph said) TooManyEdges
+    ∷ then_some (lacks_mode_room graph said) TooManyModes
+    ∷ then_some (lacks_incoming_room graph said) TooManyIncoming
     ∷ []
 
 -- the cause of a line that says this, or that has no shape
 abbrev pub cause_of_said : List Statement → Option Statement → Option GraphCause
-cause_of_said before None = caused_where (is_bad_line before None) BadLine
-cause_of_said before (Some said) = first_cause (causes (is_bad_line before (Some said)) (graph_said before) said)
+cause_of_said before None = then_some (is_bad_line before None) BadLine
+cause_of_said before (Some said) = first_of (causes (is_bad_line before (Some said)) (graph_said before) said)
 
 -- the line stands behind one that ends the text
 abbrev pub is_behind_end : List Statement → Bool
@@ -202,7 +194,7 @@ is_behind_end before = list_any ends_text before
 -- The cause of a line behind the header, by what the lines before it say. Behind the end every line but one that is passed over is too much.
 abbrev pub cause_behind : List Statement → List ℕ → Option GraphCause
 cause_behind before line =
-    if is_passed_over line then None else (if is_behind_end before then Some AfterEnd else cause_of_said before (said_by line))
+    if is_passed_over line then None else (if is_behind_end before then Some AfterEnd else cause_of_said before (statement_of line))
 
 -- the line is the header
 abbrev pub is_header : List ℕ → Bool
@@ -211,4 +203,4 @@ is_header line = bytes_eq line header
 -- The cause of the line at this place, counted from 0. The first line is tested for the header alone.
 abbrev pub cause_at : List (List ℕ) → ℕ → Option GraphCause
 cause_at lines zero = if is_header (slice_index_or lines 0 []) then None else Some BadHeader
-cause_at lines (suc place) = cause_behind (said_by_all (take (suc place) lines)) (slice_index_or lines (suc place) [])
+cause_at lines (suc place) = cause_behind (statements_of (take (suc place) lines)) (slice_index_or lines (suc place) [])

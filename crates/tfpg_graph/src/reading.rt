@@ -5,11 +5,21 @@ ghost use Rattle.tfpg_base.specs.Lines.{parts_of, lines_of};
 ghost use Rattle.tfpg_graph.specs.Graph.{Tfpg};
 ghost use Rattle.tfpg_graph.specs.Text.{Spells};
 ghost use Rattle.tfpg_graph.specs.Valid.{IsValid};
-ghost use Rattle.tfpg_graph.specs.Faults.{IsRefusalOf, IsAnswerOf};
+ghost use Rattle.tfpg_graph.specs.Faults.{IsFirstFault, IsRefusalOf, IsAnswerOf, IsFaultAnswer};
+ghost use Rattle.tfpg_graph.specs.declared.cause.GraphFault.{GraphFault};
+
+mod check_edge;
+mod check_mode;
+mod check_node;
+mod find_line;
+mod list_modes;
+mod read_numbers;
+mod reader;
+mod statement;
 
 use crate::cause::GraphRefusal;
 use crate::graph::Graph;
-use crate::reader::Reader;
+use crate::reading::reader::Reader;
 use std::alloc::Global;
 
 /// Reads the text of a graph.
@@ -23,6 +33,7 @@ pub fn read(alloc: Global, text: &[u8]) -> Result<Graph, GraphRefusal>
     ensures valid { IfOk result IsValid }
     ensures refused { IfErr result (IsRefusalOf text.now) }
     ensures exact { (graph : Tfpg) → Spells text.now graph → IsValid graph → IsAnswerOf graph result }
+    ensures faulty { (fault : GraphFault) → IsFirstFault text.now fault → IsFaultAnswer fault result }
 {
     let body = without_last_line_end(text);
     let mut reader = Reader::new(alloc);

@@ -2,14 +2,17 @@
 
 ghost use Rattle.std.specs.Prelude.{◌≡◌, ℕ, ◌<◌, ◌↔◌, length, All, IsTrue, IfOk, IfNone, IfSome};
 ghost use Rattle.tfpg_graph.specs.Valid.{IsValidEdge};
-ghost use Rattle.tfpg_graph.specs.Indexes.{IsValidSoFar};
+ghost use Rattle.tfpg_graph.specs.inside.Indexes.{IsValidSoFar};
 ghost use Rattle.tfpg_graph.specs.ZeroCycle.{LiesOnZeroCycle, HasZeroOrder};
-ghost use Rattle.tfpg_graph.specs.ZeroEdges.{AreZeroGroups, StaysInGroup};
+ghost use Rattle.tfpg_graph.specs.inside.zero_cycle.ZeroEdges.{AreZeroGroups, StaysInGroup};
+
+mod find_groups;
+mod steps;
 
 use crate::declared::Declared;
 use crate::edge::Edge;
-use crate::zero_search::groups;
-use crate::zero_steps::ZeroSteps;
+use crate::zero_cycle::find_groups::groups;
+use crate::zero_cycle::steps::ZeroSteps;
 use std::alloc::Global;
 use tfpg_base::NoMemory;
 

@@ -6,7 +6,7 @@ use Rattle.std.proofs.lemmas.Bool.Decides.{leb_tells, eqb_tells}
 use Rattle.tfpg_log.specs.declared.event.Event.{Event}
 use Rattle.tfpg_log.specs.declared.event.Event.TheVariants.{Alarm, Silent, Sweep, Tick, Mode}
 use Rattle.tfpg_log.specs.Log.{alarm_among, time_of_event}
-use Rattle.tfpg_log.specs.LogInside.{alarm_place}
+use Rattle.tfpg_log.specs.inside.LogIndex.{alarm_place}
 
 -- ---- one more event
 

@@ -116,7 +116,7 @@ module _ (graph : Tfpg) (log : Logbook) (node : ℕ) where
     ends early =
         let is = is_joint number horizon joint e in
         let behind : ℕ = joint.hi + 1 in
-        let fails : are_allowed_at graph log node behind ≡ false = false_from_ne_true (are_allowed_at graph log node behind) (is.run.not_behind behind refl (omega arith)) in
+        let fails : are_allowed_at graph log node behind ≡ false = false_from_ne_true (are_allowed_at graph log node behind) (is.run.not_after behind refl (omega arith)) in
         let some = some_fails (λ edge. is_allowed_at log edge behind) (edges_into graph node) fails in
         let window = of_each some.0 some.1 in
         let run = (is_window log some.0 number horizon window.0 window.1).run in

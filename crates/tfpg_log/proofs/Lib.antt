@@ -1,6 +1,7 @@
 pub mod Events
 pub mod AlarmPlaces
 pub mod ModeChanges
+pub mod Order
 pub mod Indexes
 pub mod LogLines
 pub mod Judgements
@@ -26,3 +27,4 @@ pub mod SpanChanges
 pub mod SpanStarts
 pub mod WindowStarts
 pub mod ModesInto
+pub mod WrittenLines

@@ -1,32 +1,26 @@
 //! The log of accepted lines, with its look-ups.
 
 ghost use Rattle.std.specs.Prelude.{◌≡◌, ◌≤◌, ◌<◌, ◌-◌, ℕ, length, take, true, false, ◌&&◌, if◌then◌else◌, nat_lt, nat_le, Some, None, is_none, IfOk, OnOk, OnErr, count_by, vec_len, option_and_then, slice_get};
-ghost use Rattle.tfpg_log.specs.declared.refusal.Refusal.{Refusal};
-ghost use Rattle.tfpg_log.specs.Log.{IsOf, now_of, event_at, alarm_of, alarm_among, mode_at, quiet_at, with_event, time_of_event, is_mode_change};
+ghost use Rattle.tfpg_log.specs.Log.{IsOf, IsOrdered, now_of, event_at, alarm_of, alarm_among, mode_at, quiet_at, with_event, time_of_event, is_mode_change};
 ghost use Rattle.tfpg_log.specs.Spans.{span_number, span_at, window_round, window_of, joint_of};
-ghost use Rattle.tfpg_log.specs.ActiveModes.{has_mode};
-ghost use Rattle.tfpg_log.specs.Accepted.{max_events, max_mode_changes, reply_to};
-ghost use Rattle.tfpg_log.specs.LogOfLines.{new_log, log_after_reply};
-ghost use Rattle.tfpg_log.specs.LogInside.{alarm_place, AreSameAlarms, IsNoSecondAlarm};
+ghost use Rattle.tfpg_log.specs.inside.ActiveModes.{has_mode};
+ghost use Rattle.tfpg_log.specs.declared.limits.TheConstants.{MAX_EVENTS, MAX_MODE_CHANGES};
+ghost use Rattle.tfpg_log.specs.LogOfLines.{new_log};
+ghost use Rattle.tfpg_log.specs.inside.LogIndex.{alarm_place, AreSameAlarms, IsNoSecondAlarm};
+ghost use Rattle.tfpg_base.specs.Times.{max_time};
 ghost use Rattle.tfpg_graph.specs.Graph.{Tfpg, is_monitored};
 
 use crate::active_modes::{ActiveModes, modes_into};
-use crate::event::{Event, Offered};
+use crate::event::Event;
+use crate::limits::{MAX_EVENTS, MAX_MODE_CHANGES};
 use crate::mode_change::ModeChange;
-use crate::reply::{is_monitored, reply};
 use crate::span::{Span, Window};
-use crate::spans::{mode_of, number_of, span_in, take_change};
+use crate::spans::{mode_of_span, number_of, span_in, take_change};
 use crate::windows::window_round;
 use std::alloc::Global;
 use std::marker::Model;
 use tfpg_base::NoMemory;
 use tfpg_graph::Graph;
-
-/// How many events a log takes.
-const MAX_EVENTS: usize = 16_384;
-
-/// How many of them may be changes of mode.
-const MAX_MODE_CHANGES: u32 = 1_024;
 
 /// The events that were accepted so far, numbered from 1, and with them the time. A new log is of every graph.
 ///
@@ -49,11 +43,11 @@ impl Model for Log {
 
     ghost Value = { Logbook };
 
-    ghost use Rattle.tfpg_log.specs.LogInside.{IsIndexed};
+    ghost use Rattle.tfpg_log.specs.inside.LogIndex.{IsLogIndex};
 
     ghost view = { λ log. record { events = log.events.items } };
 
-    ghost invariant = { λ log. IsIndexed log.events.items log.alarms.items log.changes.items log.change_count };
+    ghost invariant = { λ log. IsLogIndex log.events.items log.alarms.items log.changes.items log.change_count };
 }
 
 impl Log {
@@ -80,9 +74,10 @@ impl Log {
         }
     }
 
-    /// How many events it has: at most 16,384.
+    /// How many events it has: at most 16,384. Their times never fall, and none is above 10^12.
     pub fn len(&self) -> u32
-        ensures { result ≡ length self.now.events }
+        ensures len { result ≡ length self.now.events }
+        ensures ordered { IsOrdered self.now }
     {
         self.events.len() as u32
     }
@@ -111,7 +106,7 @@ impl Log {
     pub fn mode_at(&self, instant: u64) -> u32
         ensures { result ≡ mode_at self.now instant }
     {
-        mode_of(&self.changes, number_of(&self.changes, instant))
+        mode_of_span(&self.changes, number_of(&self.changes, instant))
     }
 
     /// The number of the span of an instant, in milliseconds: how many times the mode changed from one instant to the
@@ -143,7 +138,7 @@ impl Log {
         requires { edge < length graph.now.edges }
         ensures { result ≡ option_and_then (λ e. window_of self.now e number horizon) (slice_get graph.now.edges edge) }
     {
-        let modes = ActiveModes::Bits(graph.edge(edge).modes);
+        let modes = ActiveModes::OfEdge(graph.edge(edge));
         self.window_round(&modes, number, horizon)
     }
 
@@ -159,56 +154,32 @@ impl Log {
     }
 
     /// The time of the event of this number, in milliseconds, where it is a silence of the node: its own silence, or a
-    /// sweep, where the node is monitored and no event before is an alarm of it. Numbers begin with 1.
+    /// sweep, where the node is monitored and no event before is an alarm of it. Numbers begin with 1. Number and node may
+    /// be any: there is no event of another number, and another node is not monitored.
     pub fn quiet_at(&self, graph: &Graph, number: u32, node: u32) -> Option<u64>
-        requires low { 1 ≤ number }
-        requires high { number ≤ length self.now.events }
-        requires node { node < length graph.now.nodes }
         ensures { result ≡ quiet_at graph.now self.now number node }
     {
-        match self.event(number) {
+        match self.find_event(number)? {
             Event::Silent { time, node: silent } => time_where(silent == node, time),
             Event::Sweep { time } => time_where(self.is_swept(graph, number, node), time),
             Event::Alarm { .. } | Event::Tick { .. } | Event::Mode { .. } => None,
         }
     }
 
-    /// A copy of the log. Takes time and memory linear in it, and in the greatest number of a node that has an alarm.
-    pub fn copy(&self, alloc: Global) -> Result<Log, NoMemory>
+    /// A copy of the log, with the allocator that the log keeps. Takes time and memory linear in the log, and in the
+    /// greatest number of a node that has an alarm.
+    pub fn copy(&self) -> Result<Log, NoMemory>
         ensures { IfOk result (λ log. log ≡ self.now) }
     {
-        let events = Vec::from_slice(alloc, self.events.as_slice())?;
-        let alarms = Vec::from_slice(alloc, self.alarms.as_slice())?;
-        let changes = Vec::from_slice(alloc, self.changes.as_slice())?;
+        let events = self.events.clone()?;
+        let alarms = self.alarms.clone()?;
+        let changes = self.changes.clone()?;
         Ok(Log {
             events,
             alarms,
             changes,
             change_count: self.change_count,
         })
-    }
-
-    /// What becomes of the line: it is accepted, and then its event is the last, or it is refused, and then the log stays
-    /// as it was, as it does where there is no memory for the event. A refused line takes no memory. Takes time in the
-    /// length of the line, which may have any length, and at most one look-up by name, however long the log is: now and
-    /// then a list grows and is moved, which evens out over the calls, and an alarm may lengthen the index up to its node.
-    pub fn offer(&mut self, graph: &Graph, line: &[u8]) -> Result<Offered, NoMemory>
-        requires { IsOf graph.now self.old }
-        ensures reply { IfOk result (λ reply. reply ≡ reply_to graph.now self.old line.now) }
-        ensures log { IfOk result (λ reply. self.new ≡ log_after_reply self.old reply) }
-        ensures refused { (refusal : Refusal) →
-            reply_to graph.now self.old line.now ≡ Offered.Refused refusal → result ≡ Ok (Offered.Refused refusal) }
-        ensures err { OnErr result (self.new ≡ self.old) }
-        ensures of { IsOf graph.now self.new }
-    {
-        let offered = reply(graph, self, line);
-        match offered {
-            Offered::Accepted(event) => {
-                self.accept(event)?;
-                Ok(offered)
-            }
-            Offered::Refused(_) => Ok(offered),
-        }
     }
 
     /// The window, of spans with these modes, round the span of this number up to a horizon.
@@ -225,14 +196,14 @@ impl Log {
 
     /// Whether it takes no further event.
     pub(crate) fn is_full(&self) -> bool
-        ensures { result ≡ nat_le max_events (length self.now.events) }
+        ensures { result ≡ nat_le MAX_EVENTS (length self.now.events) }
     {
-        self.events.len() >= MAX_EVENTS
+        self.len() >= MAX_EVENTS
     }
 
     /// Whether it takes no further change of mode.
     pub(crate) fn has_all_mode_changes(&self) -> bool
-        ensures { result ≡ nat_le max_mode_changes (count_by is_mode_change self.now.events) }
+        ensures { result ≡ nat_le MAX_MODE_CHANGES (count_by is_mode_change self.now.events) }
     {
         self.change_count >= MAX_MODE_CHANGES
     }
@@ -247,13 +218,19 @@ impl Log {
         }
     }
 
+    /// The event of this number, where there is one.
+    fn find_event(&self, number: u32) -> Option<Event>
+        ensures { result ≡ event_at self.now number }
+    {
+        let place = number.checked_sub(1)?;
+        self.events.get(place as usize).copied()
+    }
+
     /// Whether a sweep of this number is a silence of the node.
     fn is_swept(&self, graph: &Graph, number: u32, node: u32) -> bool
-        requires low { 1 ≤ number }
-        requires node { node < length graph.now.nodes }
         ensures { result ≡ (is_monitored graph.now node && is_none (alarm_among (take (number - 1) self.now.events) node)) }
     {
-        is_monitored(graph, node) && self.is_without_alarm(number - 1, node)
+        has_monitor(graph, node) && self.is_without_alarm(number.saturating_sub(1), node)
     }
 
     /// Whether none of so many first events is an alarm of the node.
@@ -267,9 +244,10 @@ impl Log {
     }
 
     /// Takes the event as its last. Where there is no memory for it, the log stays as it was.
-    fn accept(&mut self, event: Event) -> Result<(), NoMemory>
-        requires room { length self.old.events < max_events }
+    pub(crate) fn accept(&mut self, event: Event) -> Result<(), NoMemory>
+        requires room { length self.old.events < MAX_EVENTS }
         requires not_back { now_of self.old ≤ time_of_event event }
+        requires in_range { time_of_event event ≤ max_time }
         requires first { IsNoSecondAlarm self.old event }
         ensures ok { OnOk result (self.new ≡ with_event self.old event) }
         ensures err { OnErr result (self.new ≡ self.old) }
@@ -286,8 +264,9 @@ impl Log {
 
     /// Takes a node's first alarm.
     fn accept_alarm(&mut self, time: u64, node: u32) -> Result<(), NoMemory>
-        requires room { length self.old.events < max_events }
+        requires room { length self.old.events < MAX_EVENTS }
         requires not_back { now_of self.old ≤ time }
+        requires in_range { time ≤ max_time }
         requires first { alarm_of self.old node ≡ None }
         ensures ok { OnOk result (self.new ≡ with_event self.old (Event.Alarm time node)) }
         ensures err { OnErr result (self.new ≡ self.old) }
@@ -301,8 +280,9 @@ impl Log {
 
     /// Takes a change of mode.
     fn accept_mode_change(&mut self, time: u64, mode: u32) -> Result<(), NoMemory>
-        requires room { length self.old.events < max_events }
+        requires room { length self.old.events < MAX_EVENTS }
         requires not_back { now_of self.old ≤ time }
+        requires in_range { time ≤ max_time }
         ensures ok { OnOk result (self.new ≡ with_event self.old (Event.Mode time mode)) }
         ensures err { OnErr result (self.new ≡ self.old) }
     {
@@ -323,6 +303,13 @@ fn lengthen(alarms: &mut Vec<Option<u32>>, len: usize) -> Result<(), NoMemory>
         alarms.resize(len, None)?;
     }
     Ok(())
+}
+
+/// Whether this is a node that has a monitor. The number may be any.
+fn has_monitor(graph: &Graph, node: u32) -> bool
+    ensures { result ≡ is_monitored graph.now node }
+{
+    node < graph.node_count() && graph.kind(node).is_monitored()
 }
 
 /// The time, where the test holds.

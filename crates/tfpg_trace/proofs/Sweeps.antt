@@ -11,8 +11,8 @@ use Rattle.tfpg_log.specs.declared.event.Event.TheVariants.{Sweep}
 use Rattle.tfpg_log.specs.Log.{Logbook, event_at, alarm_among, quiet_time, quiet_at}
 use Rattle.tfpg_log.specs.Explains.{Shows}
 use Rattle.tfpg_trace.specs.FirstFault.{NoneBefore}
-use Rattle.tfpg_trace.specs.Strays.{IsFirstNode}
-use Rattle.tfpg_trace.specs.Shown.{IsNotQuiet, IsSilenceNotShown}
+use Rattle.tfpg_trace.specs.inside.Strays.{IsFirstNode}
+use Rattle.tfpg_trace.specs.inside.Shown.{IsNotQuiet, IsSilenceNotShown}
 
 -- a monitored node is one of the graph
 pub monitored_within : (graph : Tfpg) (node : ℕ) → IsTrue (is_monitored graph node) → node < length graph.nodes

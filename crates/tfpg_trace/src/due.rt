@@ -6,10 +6,9 @@ ghost use Rattle.std.specs.Prelude.{◌≡◌, ◌<◌, ◌≤◌, ◌+◌, ℕ,
 ghost use Rattle.tfpg_graph.specs.Graph.{incoming};
 ghost use Rattle.tfpg_log.specs.Log.{Logbook, now_of};
 ghost use Rattle.tfpg_log.specs.Spans.{span_at};
-ghost use Rattle.tfpg_trace.specs.Due.{Begins, IsDueBy, SomeDue, AllDue, MustBeActive, earlier};
-ghost use Rattle.tfpg_trace.specs.Gaps.{IsGapOf, AreGaps, behind_gap};
+ghost use Rattle.tfpg_trace.specs.inside.Due.{Begins, IsDueBy, SomeDue, AllDue, MustBeActive, earlier};
+ghost use Rattle.tfpg_trace.specs.inside.Gaps.{IsGapOf, AreGaps, after_gap};
 
-use crate::gaps::has_mode;
 use tfpg_base::Trace;
 use tfpg_graph::{Graph, Kind};
 use tfpg_log::Span;
@@ -91,7 +90,7 @@ fn due_by_edge(graph: &Graph, trace: &Trace, edge: u32, span: Span, gap: Option<
         Begins (IsDueBy graph.now log trace.now edge) span.lo span.hi result }
 {
     let propagation = graph.edge(edge);
-    if !has_mode(propagation.modes, span.mode) {
+    if !propagation.is_allowed(span.mode) {
         return None;
     }
     let delay = propagation.tmax?;
@@ -101,7 +100,7 @@ fn due_by_edge(graph: &Graph, trace: &Trace, edge: u32, span: Span, gap: Option<
 
 /// The first instant of the span that is so long after the later of two, the instant behind the gap and the start.
 fn first_behind(gap: Option<u64>, start: u64, delay: u64, span: Span) -> Option<u64>
-    ensures { Begins (λ instant. behind_gap gap start + delay ≤ instant) span.lo span.hi result }
+    ensures { Begins (λ instant. after_gap gap start + delay ≤ instant) span.lo span.hi result }
 {
     match gap {
         Some(gap) => first_after(start.max(gap.checked_add(1)?), delay, span),

@@ -1,6 +1,6 @@
 use Rattle.std.proofs.Common.{◌≡◌, ◌++◌, take}
 use Rattle.std.specs.List.{flat_map}
-use Rattle.tfpg_graph.specs.Written.{mode_text}
+use Rattle.tfpg_graph.specs.inside.writing.Written.{mode_text}
 use Rattle.tfpg_graph.proofs.writing.put_modes.Given as goal
 
 -- the lines of the modes so far stand behind the old bytes

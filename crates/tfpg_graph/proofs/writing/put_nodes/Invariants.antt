@@ -1,6 +1,6 @@
 use Rattle.std.proofs.Common.{◌≡◌, ◌++◌, take}
 use Rattle.std.specs.List.{flat_map}
-use Rattle.tfpg_graph.specs.Written.{node_text}
+use Rattle.tfpg_graph.specs.inside.writing.Written.{node_text}
 use Rattle.tfpg_graph.proofs.writing.put_nodes.Given as goal
 
 -- the lines of the nodes so far stand behind the old bytes

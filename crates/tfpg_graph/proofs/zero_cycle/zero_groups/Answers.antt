@@ -1,8 +1,8 @@
 use Rattle.std.proofs.Common.{length}
 use Rattle.std.proofs.lemmas.Result.{IfOk-weaker}
-use Rattle.tfpg_graph.specs.ZeroSearch.{AreGroups}
-use Rattle.tfpg_graph.specs.ZeroEdges.{AreZeroGroups}
-use Rattle.tfpg_graph.proofs.ZeroEdgeSteps.{AreTurned-edges, AreZeroGroups-steps}
+use Rattle.tfpg_graph.specs.inside.zero_cycle.ZeroSearch.{AreGroups}
+use Rattle.tfpg_graph.specs.inside.zero_cycle.ZeroEdges.{AreZeroGroups}
+use Rattle.tfpg_graph.proofs.lemmas.zero_cycle.ZeroEdgeSteps.{AreTurned-edges, AreZeroGroups-steps}
 use Rattle.tfpg_graph.proofs.zero_cycle.zero_groups.Goals as goal
 
 pub groups-requires-clause-turned : goal.groups-requires-clause-turned
