@@ -9,9 +9,7 @@ pub struct Discard;
 impl Sink for Discard {
     ghost use Rattle.std.specs.Prelude.{None};
 
-    ghost faults = { λ _. 0 };
-
-    ghost holds = { λ _. None };
+    ghost state = { λ _. record { holds = None; faults = 0 } };
 
     fn put(&mut self, piece: &[u8]) -> Result<usize, Failed> {
         Ok(piece.len())

@@ -3,7 +3,7 @@
 ghost use Rattle.std.specs.Prelude.{◌≡◌, ◌<◌, ◌≤◌, ◌^◌, [], ◌∷◌, ◌++◌, map, OnOk, OnErr, Some};
 ghost use Rattle.std.specs.String.{string_bytes};
 ghost use Rattle.std.specs.Option.{option_copied};
-ghost use Rattle.tfpg_base.specs.Outside.{file_of, Rose};
+ghost use Rattle.tfpg_base.specs.Outside.{file_of};
 ghost use Rattle.tfpg_base.specs.Memory.{Fetches};
 
 use super::failing_calls::FailingCalls;
@@ -76,52 +76,45 @@ impl<'a> MemoryShelf<'a> {
 impl<'a> Shelf for MemoryShelf<'a> {
     ghost use Rattle.std.specs.Prelude.{Some};
 
-    ghost faults = { λ shelf. shelf.faults };
-
-    ghost files = { λ shelf. Some shelf.files };
-
-    ghost asked = { λ shelf. Some shelf.asked };
+    ghost state = { λ shelf. record { files = Some shelf.files; asked = Some shelf.asked; faults = shelf.faults } };
 
     fn fetch(&mut self, alloc: Global, name: &str, into: &mut Vec<u8>) -> Result<(), ShelfFault> {
         into.clear();
-        let answer = self.give(name, into);
-        if answer != Err(ShelfFault::NoMemory) {
-            self.note(alloc, name).map_err(|_| ShelfFault::NoMemory)?;
+        let fails = self.calls.next_fails();
+        note(&mut self.asked, alloc, name).map_err(|_| ShelfFault::NoMemory)?;
+        if fails {
+            self.calls.raise();
+            return Err(ShelfFault::Failed);
+        }
+        let answer = copy_named(self.files, name, into);
+        match answer {
+            Err(ShelfFault::Failed) => self.calls.raise(),
+            Err(ShelfFault::NoMemory) => {
+                let _ = self.asked.pop();
+            }
+            Err(ShelfFault::TooLong) | Ok(()) => {}
         }
         answer
     }
 }
 
-impl<'a> MemoryShelf<'a> {
-    /// Gives the file of that name, and counts a fault where the call is to fail or there is no such file.
-    fn give(&mut self, name: &str, into: &mut Vec<u8>) -> Result<(), ShelfFault>
-        requires { into.old.items ≡ [] }
-        ensures fetched { Fetches (file_of self.old.files name.now) (Rose self.old.faults self.new.faults) into.new.items result }
-        ensures never_falls { self.old.faults ≤ self.new.faults }
-        ensures same_files { self.new.files ≡ self.old.files }
-        ensures same_asked { self.new.asked ≡ self.old.asked }
-    {
-        if self.calls.next_fails() {
-            return Err(ShelfFault::Failed);
-        }
-        match find(self.files, name) {
-            Some(content) => copy_file(content, into),
-            None => {
-                self.calls.raise();
-                Err(ShelfFault::Failed)
-            }
-        }
-    }
+/// Notes that this name was asked for.
+fn note(asked: &mut Vec<String>, alloc: Global, name: &str) -> Result<(), NoMemory>
+    ensures ok { OnOk result (map string_bytes asked.new.items ≡ map string_bytes asked.old.items ++ name.now ∷ []) }
+    ensures err { OnErr result (asked.new.items ≡ asked.old.items) }
+{
+    asked.push(String::from_str(alloc, name)?)?;
+    Ok(())
+}
 
-    /// Notes that this name was asked for.
-    fn note(&mut self, alloc: Global, name: &str) -> Result<(), NoMemory>
-        ensures ok { OnOk result (self.new.asked ≡ self.old.asked ++ name.now ∷ []) }
-        ensures err { OnErr result (self.new.asked ≡ self.old.asked) }
-        ensures same_files { self.new.files ≡ self.old.files }
-        ensures same_faults { self.new.faults ≡ self.old.faults }
-    {
-        self.asked.push(String::from_str(alloc, name)?)?;
-        Ok(())
+/// Copies the file of that name into the empty room, as far as a file may go.
+fn copy_named(files: &[(&str, &[u8])], name: &str, into: &mut Vec<u8>) -> Result<(), ShelfFault>
+    requires { into.old.items ≡ [] }
+    ensures { Fetches (file_of (map (λ file. (file.0.now, file.1.now)) files.now) name.now) into.new.items result }
+{
+    match find(files, name) {
+        Some(content) => copy_file(content, into),
+        None => Err(ShelfFault::Failed),
     }
 }
 
@@ -140,7 +133,7 @@ fn find<'a>(files: &[(&str, &'a [u8])], name: &str) -> Option<&'a [u8]>
 /// Copies the content of a file into the empty room, as far as a file may go.
 fn copy_file(content: &[u8], into: &mut Vec<u8>) -> Result<(), ShelfFault>
     requires { into.old.items ≡ [] }
-    ensures { Fetches (Some content.now) ⊥ into.new.items result }
+    ensures { Fetches (Some content.now) into.new.items result }
 {
     let (kept, more) = content.split_at(content.len().min(LONGEST_FILE));
     if into.extend_from_slice(kept).is_err() {

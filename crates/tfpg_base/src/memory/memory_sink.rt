@@ -65,12 +65,11 @@ impl<'a> MemorySink<'a> {
 impl<'a> Sink for MemorySink<'a> {
     ghost use Rattle.std.specs.Prelude.{Some};
 
-    ghost faults = { λ sink. sink.faults };
-
-    ghost holds = { λ sink. Some sink.holds };
+    ghost state = { λ sink. record { holds = Some sink.holds; faults = sink.faults } };
 
     fn put(&mut self, piece: &[u8]) -> Result<usize, Failed> {
         if self.calls.next_fails() {
+            self.calls.raise();
             return Err(Failed);
         }
         let count = piece.len().min(self.most);

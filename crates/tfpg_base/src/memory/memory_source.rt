@@ -1,6 +1,6 @@
 //! A source that fails at chosen calls.
 
-ghost use Rattle.std.specs.Prelude.{◌≡◌, ◌<◌};
+ghost use Rattle.std.specs.Prelude.{◌≡◌, ◌<◌, false};
 
 use super::failing_calls::FailingCalls;
 use crate::{Failed, Source};
@@ -12,6 +12,7 @@ pub struct MemorySource<'a> {
     left: &'a [u8],
     most: usize,
     calls: FailingCalls<'a>,
+    ended: bool,
 }
 
 impl<'a> Model for MemorySource<'a> {
@@ -26,6 +27,7 @@ impl<'a> Model for MemorySource<'a> {
       failing = source.calls.failing.now;
       calls = source.calls.calls;
       faults = source.calls.faults;
+      ended = source.ended;
     } };
 
     ghost invariant = { λ source. 0 < source.most };
@@ -36,12 +38,13 @@ impl<'a> MemorySource<'a> {
     /// numbers. Takes no memory.
     pub fn new(bytes: &'a [u8], most: usize, failing: &'a [u64]) -> MemorySource<'a>
         requires { 0 < most }
-        ensures { result ≡ record { left = bytes.now; most = most; failing = failing.now; calls = 0; faults = 0 } }
+        ensures { result ≡ record { left = bytes.now; most = most; failing = failing.now; calls = 0; faults = 0; ended = false } }
     {
         MemorySource {
             left: bytes,
             most,
             calls: FailingCalls::new(failing),
+            ended: false,
         }
     }
 
@@ -63,18 +66,20 @@ impl<'a> MemorySource<'a> {
 impl<'a> Source for MemorySource<'a> {
     ghost use Rattle.std.specs.Prelude.{Some};
 
-    ghost faults = { λ source. source.faults };
-
-    ghost left = { λ source. Some source.left };
+    ghost state = { λ source. record { left = Some source.left; ended = source.ended; faults = source.faults } };
 
     fn take(&mut self, room: &mut [u8]) -> Result<usize, Failed> {
         if self.calls.next_fails() {
+            self.calls.raise();
             return Err(Failed);
         }
         let count = self.left.len().min(room.len()).min(self.most);
         let (given, left) = self.left.split_at(count);
         room[..count].copy_from_slice(given);
         self.left = left;
+        if count == 0 && !room.is_empty() {
+            self.ended = true;
+        }
         Ok(count)
     }
 }

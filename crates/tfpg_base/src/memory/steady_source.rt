@@ -1,6 +1,6 @@
 //! A source that never fails.
 
-ghost use Rattle.std.specs.Prelude.{◌≡◌};
+ghost use Rattle.std.specs.Prelude.{◌≡◌, false};
 
 use crate::{Failed, Source};
 use std::marker::Model;
@@ -10,27 +10,31 @@ use std::marker::Model;
 #[derive(Debug, Drop)]
 pub struct SteadySource<'a> {
     left: &'a [u8],
+    ended: bool,
 }
 
 impl<'a> Model for SteadySource<'a> {
-    ghost use Rattle.std.specs.Prelude.{ℕ, List};
+    ghost use Rattle.tfpg_base.specs.Memory.{SteadyBytes};
 
-    ghost Value = { List ℕ };
+    ghost Value = { SteadyBytes };
 
-    ghost view = { λ source. source.left.now };
+    ghost view = { λ source. record { left = source.left.now; ended = source.ended } };
 }
 
 impl<'a> SteadySource<'a> {
     /// A source of these bytes. Takes no memory.
     pub fn new(bytes: &'a [u8]) -> SteadySource<'a>
-        ensures { result ≡ bytes.now }
+        ensures { result ≡ record { left = bytes.now; ended = false } }
     {
-        SteadySource { left: bytes }
+        SteadySource {
+            left: bytes,
+            ended: false,
+        }
     }
 
     /// The bytes that are left.
     pub fn left(&self) -> &[u8]
-        ensures { result.now ≡ self.now }
+        ensures { result.now ≡ self.now.left }
     {
         self.left
     }
@@ -39,15 +43,16 @@ impl<'a> SteadySource<'a> {
 impl<'a> Source for SteadySource<'a> {
     ghost use Rattle.std.specs.Prelude.{Some};
 
-    ghost faults = { λ _. 0 };
-
-    ghost left = { λ source. Some source };
+    ghost state = { λ source. record { left = Some source.left; ended = source.ended; faults = 0 } };
 
     fn take(&mut self, room: &mut [u8]) -> Result<usize, Failed> {
         let count = self.left.len().min(room.len());
         let (given, left) = self.left.split_at(count);
         room[..count].copy_from_slice(given);
         self.left = left;
+        if count == 0 && !room.is_empty() {
+            self.ended = true;
+        }
         Ok(count)
     }
 }
