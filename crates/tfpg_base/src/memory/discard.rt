@@ -1,5 +1,7 @@
 //! A sink that never fails.
 
+ghost use Rattle.std.specs.Prelude.{◌≡◌, length, Ok};
+
 use crate::{Failed, Sink};
 
 /// A sink that keeps nothing and never fails: its count of faults is the constant 0. It tells nothing.
@@ -11,7 +13,9 @@ impl Sink for Discard {
 
     ghost state = { λ _. record { holds = None; faults = 0 } };
 
-    fn put(&mut self, piece: &[u8]) -> Result<usize, Failed> {
+    fn put(&mut self, piece: &[u8]) -> Result<usize, Failed>
+        ensures { result ≡ Ok (length piece.now) }
+    {
         Ok(piece.len())
     }
 }

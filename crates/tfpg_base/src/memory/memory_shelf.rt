@@ -1,10 +1,10 @@
 //! A shelf of files in memory, which fails at chosen calls.
 
-ghost use Rattle.std.specs.Prelude.{◌≡◌, ◌<◌, ◌≤◌, ◌^◌, [], ◌∷◌, ◌++◌, map, OnOk, OnErr, Some};
+ghost use Rattle.std.specs.Prelude.{◌≡◌, ◌<◌, ◌≤◌, ◌^◌, [], ◌∷◌, ◌++◌, length, map, OnOk, OnErr, IsErrOf, Some};
 ghost use Rattle.std.specs.String.{string_bytes};
 ghost use Rattle.std.specs.Option.{option_copied};
-ghost use Rattle.tfpg_base.specs.Outside.{file_of};
-ghost use Rattle.tfpg_base.specs.Memory.{Fetches};
+ghost use Rattle.tfpg_base.specs.Outside.{file_of, Gives, PassesLimit, CountsFailure, Asks};
+ghost use Rattle.tfpg_base.specs.Memory.{shelf_state, Copies, Fetches, FailsNext, after_fetch};
 
 use super::failing_calls::FailingCalls;
 use crate::{LONGEST_FILE, NoMemory, Shelf, ShelfFault};
@@ -74,11 +74,22 @@ impl<'a> MemoryShelf<'a> {
 }
 
 impl<'a> Shelf for MemoryShelf<'a> {
-    ghost use Rattle.std.specs.Prelude.{Some};
+    ghost use Rattle.tfpg_base.specs.Memory.{shelf_state};
 
-    ghost state = { λ shelf. record { files = Some shelf.files; asked = Some shelf.asked; faults = shelf.faults } };
+    ghost state = { shelf_state };
 
-    fn fetch(&mut self, alloc: Global, name: &str, into: &mut Vec<u8>) -> Result<(), ShelfFault> {
+    fn fetch(&mut self, alloc: Global, name: &str, into: &mut Vec<u8>) -> Result<(), ShelfFault>
+        ensures given { OnOk result (Gives (shelf_state self.old) name.now into.new.items) }
+        ensures small { OnOk result (length into.new.items ≤ 2 ^ 24) }
+        ensures too_long { IsErrOf result ShelfFault.TooLong → PassesLimit (shelf_state self.old) name.now into.new.items }
+        ensures failed { IsErrOf result ShelfFault.Failed → into.new.items ≡ [] }
+        ensures no_memory { IsErrOf result ShelfFault.NoMemory → into.new.items ≡ [] }
+        ensures counted { CountsFailure result (shelf_state self.old) (shelf_state self.new) }
+        ensures asks { Asks (shelf_state self.old) (shelf_state self.new) name.now result }
+        ensures same_files { (shelf_state self.new).files ≡ (shelf_state self.old).files }
+        ensures fetched { Fetches (FailsNext self.old.failing self.old.calls) (file_of self.old.files name.now) into.new.items result }
+        ensures now { self.new ≡ after_fetch self.old name.now result }
+    {
         into.clear();
         let fails = self.calls.next_fails();
         note(&mut self.asked, alloc, name).map_err(|_| ShelfFault::NoMemory)?;
@@ -110,7 +121,7 @@ fn note(asked: &mut Vec<String>, alloc: Global, name: &str) -> Result<(), NoMemo
 /// Copies the file of that name into the empty room, as far as a file may go.
 fn copy_named(files: &[(&str, &[u8])], name: &str, into: &mut Vec<u8>) -> Result<(), ShelfFault>
     requires { into.old.items ≡ [] }
-    ensures { Fetches (file_of (map (λ file. (file.0.now, file.1.now)) files.now) name.now) into.new.items result }
+    ensures { Copies (file_of (map (λ file. (file.0.now, file.1.now)) files.now) name.now) into.new.items result }
 {
     match find(files, name) {
         Some(content) => copy_file(content, into),
@@ -133,7 +144,7 @@ fn find<'a>(files: &[(&str, &'a [u8])], name: &str) -> Option<&'a [u8]>
 /// Copies the content of a file into the empty room, as far as a file may go.
 fn copy_file(content: &[u8], into: &mut Vec<u8>) -> Result<(), ShelfFault>
     requires { into.old.items ≡ [] }
-    ensures { Fetches (Some content.now) into.new.items result }
+    ensures { Copies (Some content.now) into.new.items result }
 {
     let (kept, more) = content.split_at(content.len().min(LONGEST_FILE));
     if into.extend_from_slice(kept).is_err() {

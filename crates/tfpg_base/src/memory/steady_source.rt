@@ -1,6 +1,8 @@
 //! A source that never fails.
 
-ghost use Rattle.std.specs.Prelude.{◌≡◌, false};
+ghost use Rattle.std.specs.Prelude.{◌≡◌, ◌⊎◌, ◌<◌, ◌≤◌, ◌↔◌, false, length, take, drop, min, IsTrue, IfOk, OnErr, Ok};
+ghost use Rattle.tfpg_base.specs.Outside.{Takes, IsAtEnd, Rose};
+ghost use Rattle.tfpg_base.specs.Memory.{steady_state, ended_after, filled};
 
 use crate::{Failed, Source};
 use std::marker::Model;
@@ -41,11 +43,23 @@ impl<'a> SteadySource<'a> {
 }
 
 impl<'a> Source for SteadySource<'a> {
-    ghost use Rattle.std.specs.Prelude.{Some};
+    ghost use Rattle.tfpg_base.specs.Memory.{steady_state};
 
-    ghost state = { λ source. record { left = Some source.left; ended = source.ended; faults = 0 } };
+    ghost state = { steady_state };
 
-    fn take(&mut self, room: &mut [u8]) -> Result<usize, Failed> {
+    fn take(&mut self, room: &mut [u8]) -> Result<usize, Failed>
+        ensures within { IfOk result (λ count. count ≤ length room.old) }
+        ensures taken { IfOk result (λ count. Takes (steady_state self.old) (steady_state self.new) (take count room.new)) }
+        ensures no_fault { IfOk result (λ count. (steady_state self.new).faults ≡ (steady_state self.old).faults) }
+        ensures end { result ≡ Ok 0 → 0 < length room.old → IsAtEnd (steady_state self.new) }
+        ensures ended { IsTrue (steady_state self.new).ended ↔ (IsTrue (steady_state self.old).ended ⊎ ((result ≡ Ok 0) × (0 < length room.old))) }
+        ensures failed { OnErr result (Rose (steady_state self.old).faults (steady_state self.new).faults) }
+        ensures nothing_taken { OnErr result ((steady_state self.new).left ≡ (steady_state self.old).left) }
+        ensures given { result ≡ Ok (min (length self.old.left) (length room.old)) }
+        ensures left { self.new.left ≡ drop (length room.old) self.old.left }
+        ensures has_ended { self.new.ended ≡ ended_after self.old.ended (length self.old.left) (length room.old) }
+        ensures room { room.new ≡ filled self.old.left room.old result }
+    {
         let count = self.left.len().min(room.len());
         let (given, left) = self.left.split_at(count);
         room[..count].copy_from_slice(given);
