@@ -11,3 +11,4 @@ pub mod Append
 pub mod SetBits
 pub mod TextLine
 pub mod Choice
+pub mod Constraint
