@@ -1,4 +1,4 @@
--- From what a call finds in the bytes behind the lines given to what it answers for each history.
+-- From what a call finds in the bytes after the lines given to what it returns for each history.
 use Rattle.std.proofs.Common.{◌≡◌, inl, inr, ℕ, ◌+◌, ◌<◌, ◌≤◌, List, [], ◌∷◌, ◌++◌, length, take, Option, Some, None, Result, Ok, Err, IsSome, refl, ap, ◌∙◌, sym, subst, arith, append_assoc, append-nil, length-append}
 use Rattle.std.specs.List.{All, flat_map, slice_get}
 use Rattle.std.proofs.lemmas.List.{take_all, take_at, length_push, flat_map_more}
@@ -8,9 +8,9 @@ use Rattle.tfpg_base.specs.declared.line.Line.{Line}
 use Rattle.tfpg_base.specs.declared.line.Line.TheVariants as line
 use Rattle.tfpg_base.specs.declared.line.LineFault.{LineFault}
 use Rattle.tfpg_base.specs.declared.line.LineFault.TheVariants as fault
-use Rattle.tfpg_base.specs.Outside.{IsAtEnd}
-use Rattle.tfpg_base.specs.Lines.{Reading, Buffered, HasNoLineEnd, StandsFor, IsGoingOn, IsNext, Answers, Continues, with_bytes, with_line, ended_by, ended_behind, next_whole, whole_lines, lines_of, with_line_end, max_bytes}
-use Rattle.tfpg_base.specs.LineSearch.{BeginsWith, IsLast, IsGiven, IsEnded, Found, Took, Searched}
+use Rattle.tfpg_base.specs.Outside.{SourceState, IsAtEnd}
+use Rattle.tfpg_base.specs.Lines.{Reading, Buffered, HasNoLineEnd, LinesRepresent, IsGoingOn, IsNext, ReturnsNext, ComesInPieces, TakesAsNeeded, CountsReadFault, Continues, with_bytes, with_line, ended_by, ended_behind, next_whole, whole_lines, lines_of, with_line_end, max_bytes}
+use Rattle.tfpg_base.specs.LineSearch.{BeginsWith, IsLastLine, IsGiven, IsEnded, Found, Took, Pieces, Searched}
 use Rattle.tfpg_base.proofs.LinesOf.{whole_lines-behind, lines_of-behind, whole_lines-line, lines_of-line, whole_lines-none, lines_of-none}
 
 -- the element behind a front
@@ -119,8 +119,8 @@ module _ (reading : Reading) (bytes : List ℕ) (lines : ℕ) (now : Buffered) (
   number-given first is = omega (arith, is.number, stands.lines_given, length_push reading.given first)
 
   -- a reader that gave a line with its line end goes on
-  StandsFor-begins : (first : List ℕ) → IsGiven bytes first lines source_ended now → BeginsWith bytes first now → StandsFor now (with_line reading first)
-  StandsFor-begins first is ends =
+  LinesRepresent-begins : (first : List ℕ) → IsGiven bytes first lines source_ended now → BeginsWith bytes first now → LinesRepresent now (with_line reading first)
+  LinesRepresent-begins first is ends =
       let next : next_whole reading ≡ Some first = next_whole-first reading bytes split clean (omega (arith, is.few, stands.counted)) first now.waiting is.line ends.whole in
       record {
         number = number-given first is;
@@ -135,8 +135,8 @@ module _ (reading : Reading) (bytes : List ℕ) (lines : ℕ) (now : Buffered) (
       }
 
   -- a reader that gave the last line is ended
-  StandsFor-last : (first : List ℕ) → IsGiven bytes first lines source_ended now → IsLast bytes first source_ended now → StandsFor now (with_line reading first)
-  StandsFor-last first is ends =
+  LinesRepresent-last : (first : List ℕ) → IsGiven bytes first lines source_ended now → IsLastLine bytes first source_ended now → LinesRepresent now (with_line reading first)
+  LinesRepresent-last first is ends =
       let next : next_whole reading ≡ None = next_whole-none reading bytes split clean (omega (arith, is.few, stands.counted)) (subst HasNoLineEnd (sym ends.whole) is.line) in
       record {
         number = number-given first is;
@@ -147,12 +147,12 @@ module _ (reading : Reading) (bytes : List ℕ) (lines : ℕ) (now : Buffered) (
       }
 
   -- the reader stands for the history with the line that it gave
-  StandsFor-given : (first : List ℕ) → IsGiven bytes first lines source_ended now → StandsFor now (with_line reading first)
-  StandsFor-given first is = elim is.ends [ inl ends ↦ StandsFor-begins first is ends | inr ends ↦ StandsFor-last first is ends ]
+  LinesRepresent-given : (first : List ℕ) → IsGiven bytes first lines source_ended now → LinesRepresent now (with_line reading first)
+  LinesRepresent-given first is = elim is.ends [ inl ends ↦ LinesRepresent-begins first is ends | inr ends ↦ LinesRepresent-last first is ends ]
 
   -- the reader stands for the history that the answer ends
-  StandsFor-ended : (answer : Result Line LineFault) → IsEnded lines answer now → (Some answer ≡ Some (Ok line.End) → lines_of reading.taken ≡ reading.given) → StandsFor now (ended_by reading answer)
-  StandsFor-ended answer is all = record {
+  LinesRepresent-ended : (answer : Result Line LineFault) → IsEnded lines answer now → (Some answer ≡ Some (Ok line.End) → lines_of reading.taken ≡ reading.given) → LinesRepresent now (ended_by reading answer)
+  LinesRepresent-ended answer is all = record {
     number = is.number ∙ stands.lines_given;
     taken = stands.counted;
     ended = is.ended;
@@ -161,16 +161,16 @@ module _ (reading : Reading) (bytes : List ℕ) (lines : ℕ) (now : Buffered) (
   }
 
   -- what was found is the answer for the history
-  Answers-found : (rose : Type 0) (result : Result Line LineFault) → Found bytes lines source_ended rose result now → Answers reading source_ended rose result now
-  Answers-found rose (Ok line.Text) found = (found.0, IsNext-given found.0 found.1, found.2, found.3, StandsFor-given found.0 found.1)
-  Answers-found rose (Ok line.TooLong) found = (found.0, IsNext-given found.0 found.1, found.2, found.3, StandsFor-given found.0 found.1)
-  Answers-found rose (Ok line.End) found =
+  ReturnsNext-found : (result : Result Line LineFault) → Found bytes lines source_ended result now → ReturnsNext reading source_ended result now
+  ReturnsNext-found (Ok line.Text) found = (found.0, IsNext-given found.0 found.1, found.2, found.3, LinesRepresent-given found.0 found.1)
+  ReturnsNext-found (Ok line.TooLong) found = (found.0, IsNext-given found.0 found.1, found.2, found.3, LinesRepresent-given found.0 found.1)
+  ReturnsNext-found (Ok line.End) found =
       let all : lines_of reading.taken ≡ reading.given = lines_of-taken reading bytes split clean ∙ ap (λ b. reading.given ++ lines_of b) found.0 ∙ append-nil reading.given in
-      (all, found.1, omega (arith, found.2, stands.counted), found.3.text, StandsFor-ended (Ok line.End) found.3 (λ _. all))
-  Answers-found rose (Err fault.ReadFault) found =
+      (all, found.1, omega (arith, found.2, stands.counted), found.3.text, LinesRepresent-ended (Ok line.End) found.3 (λ _. all))
+  ReturnsNext-found (Err fault.ReadFault) found =
       let all : whole_lines reading.taken ≡ reading.given = whole_lines-taken reading bytes split clean ∙ ap (λ lines. reading.given ++ lines) (whole_lines-none bytes found.0) ∙ append-nil reading.given in
-      (all, found.1, omega (arith, found.2, stands.counted), found.3.text, StandsFor-ended (Err fault.ReadFault) found.3 (λ e. absurd (cc)))
-  Answers-found rose (Err fault.TooMuchInput) found =
+      (all, omega (arith, found.1, stands.counted), found.2.text, LinesRepresent-ended (Err fault.ReadFault) found.2 (λ e. absurd (cc)))
+  ReturnsNext-found (Err fault.TooMuchInput) found =
       let first : List ℕ = found.0 in
       let front : List ℕ = flat_map with_line_end reading.given ++ first in
       let is : reading.taken ≡ front ++ found.1 ∷ [] = split ∙ ap (λ b. flat_map with_line_end reading.given ++ b) found.3 ∙ sym (append_assoc (flat_map with_line_end reading.given) first (found.1 ∷ [])) in
@@ -180,11 +180,11 @@ module _ (reading : Reading) (bytes : List ℕ) (lines : ℕ) (now : Buffered) (
       ∙ whole_lines-behind reading.given first clean
       ∙ ap (λ lines. reading.given ++ lines) (whole_lines-none first found.2)
       ∙ append-nil reading.given in
-      (all, count, found.5.text, StandsFor-ended (Err fault.TooMuchInput) found.5 (λ e. absurd (cc)))
+      (all, count, found.5.text, LinesRepresent-ended (Err fault.TooMuchInput) found.5 (λ e. absurd (cc)))
 
--- the reader stands for the history also when it lends nothing any more
-StandsFor-lends_none : (old now : Buffered) (reading : Reading) (answer : Result Line LineFault) → reading.ended ≡ Some answer → now.number ≡ old.number → now.taken ≡ old.taken → now.ended ≡ old.ended → StandsFor old reading → StandsFor now reading
-StandsFor-lends_none old now reading answer is number taken ended stands = record {
+-- the reader represents the history also when it lends nothing any more
+LinesRepresent-lends_none : (old now : Buffered) (reading : Reading) (answer : Result Line LineFault) → reading.ended ≡ Some answer → now.number ≡ old.number → now.taken ≡ old.taken → now.ended ≡ old.ended → LinesRepresent old reading → LinesRepresent now reading
+LinesRepresent-lends_none old now reading answer is number taken ended stands = record {
   number = number ∙ stands.number;
   taken = taken ∙ stands.taken;
   ended = ended ∙ stands.ended;
@@ -192,26 +192,46 @@ StandsFor-lends_none old now reading answer is number taken ended stands = recor
   all_given = stands.all_given;
 }
 
--- what ended a reader is answered again
-pub Continues-ended : (old now : Buffered) (answer : Result Line LineFault) (left : Option (List ℕ)) (rose : Type 0) → old.ended ≡ Some answer → now.text ≡ [] → now.number ≡ old.number → now.taken ≡ old.taken → now.ended ≡ old.ended → (reading : Reading) → StandsFor old reading → Continues reading reading.ended left left rose answer now
-Continues-ended old now answer left rose is text number taken ended reading stands =
+-- what ended a reader is returned again
+pub Continues-ended : (old now : Buffered) (answer : Result Line LineFault) (source : SourceState) → old.ended ≡ Some answer → now.text ≡ [] → now.number ≡ old.number → now.taken ≡ old.taken → now.ended ≡ old.ended → (reading : Reading) → LinesRepresent old reading → Continues reading reading.ended source source answer now
+Continues-ended old now answer source is text number taken ended reading stands =
     let was : reading.ended ≡ Some answer = sym stands.ended ∙ is in
-    subst (λ e. Continues reading e left left rose answer now) (sym was) (refl, refl, text, StandsFor-lends_none old now reading answer was number taken ended stands)
+    subst (λ e. Continues reading e source source answer now) (sym was) (refl, refl, text, LinesRepresent-lends_none old now reading answer was number taken ended stands)
 
-module _ (old now : Buffered) (before after : Option (List ℕ)) (rose : Type 0) (result : Result Line LineFault) where
-  -- what a call found is the answer for each history
-  pub Continues-found : (more : List ℕ) → Took old now before after more → Found (old.waiting ++ more) old.number (IsAtEnd after) rose result now → old.ended ≡ None → (reading : Reading) → StandsFor old reading → (IsSome (next_whole reading) → more ≡ []) → Continues reading reading.ended before after rose result now
-  Continues-found more took found unended reading stands only =
+-- the bytes of a search came in pieces, with a whole line at last or none
+ComesInPieces-searched : (old : Buffered) (reading : Reading) (more : List ℕ) → IsGoingOn old reading → LinesRepresent old reading → Pieces old more → ComesInPieces reading more
+ComesInPieces-searched old reading more going stands pieces = record {
+  front = pieces.front;
+  piece = pieces.piece;
+  whole = pieces.whole;
+  part = next_whole-none (with_bytes reading pieces.front) (old.waiting ++ pieces.front)
+      (ap (λ b. b ++ pieces.front) going.bytes ∙ append_assoc (flat_map with_line_end reading.given) old.waiting pieces.front) going.lines
+      (omega (arith, pieces.few, stands.taken, length-append reading.taken pieces.front)) pieces.part;
+  small = pieces.small;
+}
+
+module _ (old now : Buffered) (before after : SourceState) (result : Result Line LineFault) (faults : CountsReadFault result before after) where
+  -- what a call found is what it returns for each history
+  pub Continues-found : (more : List ℕ) → Took old now before after more → Found (old.waiting ++ more) old.number (IsAtEnd after) result now → old.ended ≡ None → (reading : Reading) → LinesRepresent old reading → TakesAsNeeded reading more → Continues reading reading.ended before after result now
+  Continues-found more took found unended reading stands needed =
       let unended_too : reading.ended ≡ None = sym stands.ended ∙ unended in
       let going : IsGoingOn old reading = stands.going_on unended_too in
       let split : reading.taken ++ more ≡ flat_map with_line_end reading.given ++ (old.waiting ++ more) = ap (λ b. b ++ more) going.bytes ∙ append_assoc (flat_map with_line_end reading.given) old.waiting more in
       let known : Stands (with_bytes reading more) old.number now = record { lines_given = stands.number; counted = took.count ∙ ap (λ n. n + length more) stands.taken ∙ sym (length-append reading.taken more) } in
-      subst (λ ended. Continues reading ended before after rose result now) (sym unended_too)
-      (more, took.takes, only, Answers-found (with_bytes reading more) (old.waiting ++ more) old.number now split going.lines known (IsAtEnd after) rose result found)
+      subst (λ ended. Continues reading ended before after result now) (sym unended_too)
+      (record {
+        more = more;
+        takes = took.takes;
+        needed = needed;
+        faults = faults;
+        returns = ReturnsNext-found (with_bytes reading more) (old.waiting ++ more) old.number now split going.lines known (IsAtEnd after) result found;
+      })
 
   -- a call that found no line end in the buffer takes bytes
-  pub Continues-searched : old.ended ≡ None → HasNoLineEnd old.waiting → Searched old before after rose result now → (reading : Reading) → StandsFor old reading → Continues reading reading.ended before after rose result now
+  pub Continues-searched : old.ended ≡ None → HasNoLineEnd old.waiting → Searched old before after result now → (reading : Reading) → LinesRepresent old reading → Continues reading reading.ended before after result now
   Continues-searched unended clean searched reading stands =
       let going : IsGoingOn old reading = stands.going_on (sym stands.ended ∙ unended) in
-      Continues-found searched.0 searched.1 searched.2 unended reading stands
-      (λ some. absurd (is_none (next_whole reading) (next_whole-none reading old.waiting going.bytes going.lines (omega (arith, going.few, stands.taken)) clean) some))
+      Continues-found searched.0 searched.1 searched.3 unended reading stands (
+        λ some. absurd (is_none (next_whole reading) (next_whole-none reading old.waiting going.bytes going.lines (omega (arith, going.few, stands.taken)) clean) some),
+        inr (ComesInPieces-searched old reading searched.0 going stands searched.2),
+      )

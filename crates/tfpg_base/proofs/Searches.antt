@@ -8,31 +8,32 @@ use Rattle.tfpg_base.specs.declared.line.Line.{Line}
 use Rattle.tfpg_base.specs.declared.line.Line.TheVariants as line
 use Rattle.tfpg_base.specs.declared.line.LineFault.{LineFault}
 use Rattle.tfpg_base.specs.declared.line.LineFault.TheVariants as fault
-use Rattle.tfpg_base.specs.Outside.{Takes, IsAtEnd}
-use Rattle.tfpg_base.specs.Lines.{Buffered, Reading, StandsFor, Continues, HasNoLineEnd, ends_line, longest_line, max_bytes}
-use Rattle.tfpg_base.specs.LineSearch.{IsAtLineEnd, kind_of, lent_of, IsGiven, IsEnded, GivesLast, Found, Took, Refilled, IsRefilled, Searched}
+use Rattle.tfpg_base.specs.Outside.{SourceState, Takes, IsAtEnd}
+use Rattle.tfpg_base.specs.Lines.{Buffered, Reading, LinesRepresent, Continues, HasNoLineEnd, ends_line, longest_line, max_bytes, buffer_size, CountsReadFault}
+use Rattle.tfpg_base.specs.LineSearch.{IsAtLineEnd, kind_of, lent_of, IsGiven, IsEnded, GivesLast, Found, Took, Pieces, Refilled, IsRefilled, Searched}
 use Rattle.tfpg_base.proofs.Taking.{Takes-nothing, Takes-append}
 use Rattle.tfpg_base.proofs.Histories.{Continues-found}
 
 -- Bytes that were taken so far, none of which ends a line, nor does one that waited before.
-pub record SoFar (old : Buffered) (before mid : Option (List ℕ)) (taken : ℕ) : Type 0 where
+pub record SoFar (old : Buffered) (before mid : SourceState) (taken : ℕ) : Type 0 where
   pub more : List ℕ
   pub takes : Takes before mid more
+  pub faults : mid.faults ≡ before.faults
   pub count : taken ≡ old.taken + length more
+  pub few : taken ≤ max_bytes
   pub part : HasNoLineEnd (old.waiting ++ more)
 
 -- A reader whose line is still in the buffer, whole as far as it was taken.
-pub record IsReading (old now : Buffered) (before mid : Option (List ℕ)) : Type 0 where
+pub record IsReading (old now : Buffered) (before mid : SourceState) : Type 0 where
   pub so_far : SoFar old before mid now.taken
   pub waiting : now.waiting ≡ old.waiting ++ so_far.more
-  pub few : now.taken ≤ max_bytes
   pub number : now.number ≡ old.number
   pub ended : now.ended ≡ None
 
 -- a line that was found is answered by its kind
-Found-line : (bytes first : List ℕ) (lines : ℕ) (source_ended rose : Type 0) (now : Buffered) → IsGiven bytes first lines source_ended now → now.text ≡ lent_of first → Found bytes lines source_ended rose (Ok (kind_of first)) now
-Found-line bytes first lines source_ended rose now is text = go (leb (length first) longest_line) refl text where
-  go : (short : Bool) → leb (length first) longest_line ≡ short → now.text ≡ cond short first [] → Found bytes lines source_ended rose (Ok (cond short line.Text line.TooLong)) now
+Found-line : (bytes first : List ℕ) (lines : ℕ) (source_ended : Type 0) (now : Buffered) → IsGiven bytes first lines source_ended now → now.text ≡ lent_of first → Found bytes lines source_ended (Ok (kind_of first)) now
+Found-line bytes first lines source_ended now is text = go (leb (length first) longest_line) refl text where
+  go : (short : Bool) → leb (length first) longest_line ≡ short → now.text ≡ cond short first [] → Found bytes lines source_ended (Ok (cond short line.Text line.TooLong)) now
   go true e lent = (first, is, leb-true (length first) longest_line e, lent)
   go false e lent = (first, is, leb-false (length first) longest_line e, lent)
 
@@ -52,26 +53,39 @@ kind_of-long bytes long = ap (λ short. cond short line.Text line.TooLong) (lt-l
 lent_of-long : (bytes : List ℕ) → longest_line < length bytes → lent_of bytes ≡ []
 lent_of-long bytes long = ap (λ short. cond short bytes []) (lt-leb (length bytes) longest_line long)
 
-module _ (old : Buffered) (before mid : Option (List ℕ)) (taken : ℕ) where
+module _ (old : Buffered) (before mid : SourceState) (taken : ℕ) where
   -- nothing is taken at first
-  pub SoFar-start : HasNoLineEnd old.waiting → SoFar old before before old.taken
-  SoFar-start part = record { more = []; takes = Takes-nothing before; count = omega arith; part = subst HasNoLineEnd (sym (append-nil old.waiting)) part }
+  pub SoFar-start : HasNoLineEnd old.waiting → old.taken ≤ max_bytes → SoFar old before before old.taken
+  SoFar-start part few = record { more = []; takes = Takes-nothing before; faults = refl; count = omega arith; few = few; part = subst HasNoLineEnd (sym (append-nil old.waiting)) part }
 
-  module _ (so_far : SoFar old before mid taken) (after : Option (List ℕ)) (more : List ℕ) (takes : Takes mid after more) where
+  module _ (so_far : SoFar old before mid taken) (after : SourceState) (more : List ℕ) (takes : Takes mid after more) where
     -- bytes of which none ends a line are added
-    pub SoFar-more : (now : ℕ) → now ≡ taken + length more → HasNoLineEnd more → SoFar old before after now
-    SoFar-more now count part = record {
+    pub SoFar-more : after.faults ≡ mid.faults → (now : ℕ) → now ≡ taken + length more → now ≤ max_bytes → HasNoLineEnd more → SoFar old before after now
+    SoFar-more same now count few part = record {
       more = so_far.more ++ more;
       takes = Takes-append before mid after so_far.more more so_far.takes takes;
+      faults = same ∙ so_far.faults;
       count = omega (arith, so_far.count, count, length-append so_far.more more);
+      few = few;
       part = subst HasNoLineEnd (append_assoc old.waiting so_far.more more) (All-append (λ byte. ends_line byte ≡ false) (old.waiting ++ so_far.more) more so_far.part part);
+    }
+
+    -- they are the last piece
+    Pieces-more : length more ≤ buffer_size → Pieces old (so_far.more ++ more)
+    Pieces-more small = record {
+      front = so_far.more;
+      piece = more;
+      whole = refl;
+      part = so_far.part;
+      few = omega (arith, so_far.count, so_far.few);
+      small = small;
     }
 
     -- the bytes of all turns
     bytes-more : (front : List ℕ) → more ≡ front → old.waiting ++ (so_far.more ++ more) ≡ old.waiting ++ so_far.more ++ front
     bytes-more front is = ap (λ b. old.waiting ++ (so_far.more ++ b)) is ∙ sym (append_assoc old.waiting so_far.more front)
 
-    module _ (now : Buffered) (counted : now.taken ≡ taken + length more) (rose : Type 0) where
+    module _ (small : length more ≤ buffer_size) (now : Buffered) (counted : now.taken ≡ taken + length more) where
       -- all bytes of the call
       Took-more : Took old now before after (so_far.more ++ more)
       Took-more = record {
@@ -80,12 +94,13 @@ module _ (old : Buffered) (before mid : Option (List ℕ)) (taken : ℕ) where
       }
 
       -- a line ended among the bytes of the last turn
-      pub Searched-whole : (front : List ℕ) → more ≡ front ++ 10 ∷ now.waiting → HasNoLineEnd front → now.taken ≤ max_bytes → now.ended ≡ None → now.number ≡ old.number + 1 → now.text ≡ lent_of (old.waiting ++ so_far.more ++ front) → Searched old before after rose (Ok (kind_of (old.waiting ++ so_far.more ++ front))) now
+      pub Searched-whole : (front : List ℕ) → more ≡ front ++ 10 ∷ now.waiting → HasNoLineEnd front → now.taken ≤ max_bytes → now.ended ≡ None → now.number ≡ old.number + 1 → now.text ≡ lent_of (old.waiting ++ so_far.more ++ front) → Searched old before after (Ok (kind_of (old.waiting ++ so_far.more ++ front))) now
       Searched-whole front is clean few going number text =
           let first : List ℕ = old.waiting ++ so_far.more ++ front in (
             so_far.more ++ more,
             Took-more,
-            Found-line (old.waiting ++ (so_far.more ++ more)) first old.number (IsAtEnd after) rose now
+            Pieces-more small,
+            Found-line (old.waiting ++ (so_far.more ++ more)) first old.number (IsAtEnd after) now
                 record {
                   line = All-append (λ byte. ends_line byte ≡ false) (old.waiting ++ so_far.more) front so_far.part clean;
                   ends = inl (record {
@@ -99,12 +114,13 @@ module _ (old : Buffered) (before mid : Option (List ℕ)) (taken : ℕ) where
           )
 
       -- the source ended behind a line without a line end
-      pub Searched-last : length more ≡ 0 → 0 < length (old.waiting ++ so_far.more) → IsAtEnd after → now.taken ≤ max_bytes → now.ended ≡ Some (Ok line.End) → now.number ≡ old.number + 1 → now.text ≡ lent_of (old.waiting ++ so_far.more) → Searched old before after rose (Ok (kind_of (old.waiting ++ so_far.more))) now
+      pub Searched-last : length more ≡ 0 → 0 < length (old.waiting ++ so_far.more) → IsAtEnd after → now.taken ≤ max_bytes → now.ended ≡ Some (Ok line.End) → now.number ≡ old.number + 1 → now.text ≡ lent_of (old.waiting ++ so_far.more) → Searched old before after (Ok (kind_of (old.waiting ++ so_far.more))) now
       Searched-last none some source_ended few ended number text =
           let first : List ℕ = old.waiting ++ so_far.more in (
             so_far.more ++ more,
             Took-more,
-            Found-line (old.waiting ++ (so_far.more ++ more)) first old.number (IsAtEnd after) rose now
+            Pieces-more small,
+            Found-line (old.waiting ++ (so_far.more ++ more)) first old.number (IsAtEnd after) now
                 record {
                   line = so_far.part;
                   ends = inr (record {
@@ -120,24 +136,24 @@ module _ (old : Buffered) (before mid : Option (List ℕ)) (taken : ℕ) where
           )
 
       -- the source ended, and no byte waits
-      pub Searched-end : length more ≡ 0 → old.waiting ++ so_far.more ≡ [] → IsAtEnd after → now.taken ≤ max_bytes → IsEnded old.number (Ok line.End) now → Searched old before after rose (Ok line.End) now
+      pub Searched-end : length more ≡ 0 → old.waiting ++ so_far.more ≡ [] → IsAtEnd after → now.taken ≤ max_bytes → IsEnded old.number (Ok line.End) now → Searched old before after (Ok line.End) now
       Searched-end none empty source_ended few is =
-          (so_far.more ++ more, Took-more, (bytes-more [] (nil_from_length more none) ∙ append-nil (old.waiting ++ so_far.more) ∙ empty, source_ended, few, is))
+          (so_far.more ++ more, Took-more, Pieces-more small, (bytes-more [] (nil_from_length more none) ∙ append-nil (old.waiting ++ so_far.more) ∙ empty, source_ended, few, is))
 
       -- a line that is too long ended among the bytes of the last turn
-      pub Searched-long : longest_line < length old.waiting → (front : List ℕ) → more ≡ front ++ 10 ∷ now.waiting → HasNoLineEnd front → now.taken ≤ max_bytes → now.ended ≡ None → now.number ≡ old.number + 1 → now.text ≡ [] → Searched old before after rose (Ok line.TooLong) now
+      pub Searched-long : longest_line < length old.waiting → (front : List ℕ) → more ≡ front ++ 10 ∷ now.waiting → HasNoLineEnd front → now.taken ≤ max_bytes → now.ended ≡ None → now.number ≡ old.number + 1 → now.text ≡ [] → Searched old before after (Ok line.TooLong) now
       Searched-long long front is clean few going number text =
           let first : List ℕ = old.waiting ++ so_far.more ++ front in
           let longer : longest_line < length first = omega (arith, length-append (old.waiting ++ so_far.more) front, length-append old.waiting so_far.more) in
-          subst (λ kind. Searched old before after rose (Ok kind) now) (kind_of-long first longer)
+          subst (λ kind. Searched old before after (Ok kind) now) (kind_of-long first longer)
           (Searched-whole front is clean few going number (text ∙ sym (lent_of-long first longer)))
 
       -- the source ended behind a line that is too long
-      pub Searched-long_last : longest_line < length old.waiting → length more ≡ 0 → IsAtEnd after → now.taken ≤ max_bytes → now.ended ≡ Some (Ok line.End) → now.number ≡ old.number + 1 → now.text ≡ [] → Searched old before after rose (Ok line.TooLong) now
+      pub Searched-long_last : longest_line < length old.waiting → length more ≡ 0 → IsAtEnd after → now.taken ≤ max_bytes → now.ended ≡ Some (Ok line.End) → now.number ≡ old.number + 1 → now.text ≡ [] → Searched old before after (Ok line.TooLong) now
       Searched-long_last long none source_ended few ended number text =
           let first : List ℕ = old.waiting ++ so_far.more in
           let longer : longest_line < length first = omega (arith, length-append old.waiting so_far.more) in
-          subst (λ kind. Searched old before after rose (Ok kind) now) (kind_of-long first longer)
+          subst (λ kind. Searched old before after (Ok kind) now) (kind_of-long first longer)
           (Searched-last none (omega (arith, longer)) source_ended few ended number (text ∙ sym (lent_of-long first longer)))
 
 -- what ended the reader behind so many lines ended it behind as many
@@ -145,59 +161,65 @@ IsEnded-same : (lines number : ℕ) (answer : Result Line LineFault) (now : Buff
 IsEnded-same lines number answer now same is = record { number = is.number ∙ same; text = is.text; ended = is.ended }
 
 -- a fault in a turn is the fault of the call
-pub Searched-fault : (old now end : Buffered) (before mid after : Option (List ℕ)) (taken : ℕ) (so_far : SoFar old before mid taken) (risen rose : Type 0) → (risen → rose) → now.taken ≡ taken → now.number ≡ old.number → (why : LineFault) → Refilled now mid after risen (Err why) end → Searched old before after rose (Err why) end
-Searched-fault old now end before mid after taken so_far risen rose later count same fault.ReadFault refilled =
+pub Searched-fault : (old now end : Buffered) (before mid after : SourceState) (taken : ℕ) (so_far : SoFar old before mid taken) → now.taken ≡ taken → now.number ≡ old.number → (why : LineFault) → Refilled now mid after (Err why) end → Searched old before after (Err why) end
+Searched-fault old now end before mid after taken so_far count same fault.ReadFault refilled =
     let took : Took now end mid after [] = refilled.0 in (
       so_far.more ++ [],
-      Took-more old before mid taken so_far after [] took.takes end (omega (arith, took.count, count)) rose,
+      Took-more old before mid taken so_far after [] took.takes (omega arith) end (omega (arith, took.count, count)),
+      Pieces-more old before mid taken so_far after [] took.takes (omega arith),
       (
         subst HasNoLineEnd (append_assoc old.waiting so_far.more []) (subst HasNoLineEnd (sym (append-nil (old.waiting ++ so_far.more))) so_far.part),
-        later refilled.1,
-        refilled.2,
-        IsEnded-same now.number old.number (Err fault.ReadFault) end same refilled.3,
+        refilled.1,
+        IsEnded-same now.number old.number (Err fault.ReadFault) end same refilled.2,
       ),
     )
-Searched-fault old now end before mid after taken so_far risen rose later count same fault.TooMuchInput refilled =
+Searched-fault old now end before mid after taken so_far count same fault.TooMuchInput refilled =
     let last : ℕ = refilled.0 in
     let took : Took now end mid after (last ∷ []) = refilled.1 in (
       so_far.more ++ last ∷ [],
-      Took-more old before mid taken so_far after (last ∷ []) took.takes end (took.count ∙ ap (λ n. n + 1) count) rose,
+      Took-more old before mid taken so_far after (last ∷ []) took.takes (omega arith) end (took.count ∙ ap (λ n. n + 1) count),
+      Pieces-more old before mid taken so_far after (last ∷ []) took.takes (omega arith),
       (old.waiting ++ so_far.more, last, so_far.part, sym (append_assoc old.waiting so_far.more (last ∷ [])), refilled.2, IsEnded-same now.number old.number (Err fault.TooMuchInput) end same refilled.3),
     )
 
 -- what was found by a later part of the call
-Found-same : (bytes all : List ℕ) (lines number : ℕ) (source_ended risen rose : Type 0) (now : Buffered) → (risen → rose) → bytes ≡ all → lines ≡ number → (result : Result Line LineFault) → Found bytes lines source_ended risen result now → Found all number source_ended rose result now
-Found-same bytes all lines number source_ended risen rose now later same count result found = weaker result (subst (λ n. Found all n source_ended risen result now) count (subst (λ b. Found b lines source_ended risen result now) same found)) where
-  weaker : (answer : Result Line LineFault) → Found all number source_ended risen answer now → Found all number source_ended rose answer now
-  weaker (Ok line.Text) is = is
-  weaker (Ok line.TooLong) is = is
-  weaker (Ok line.End) is = is
-  weaker (Err fault.ReadFault) is = (is.0, later is.1, is.2, is.3)
-  weaker (Err fault.TooMuchInput) is = is
+Found-same : (bytes all : List ℕ) (lines number : ℕ) (source_ended : Type 0) (now : Buffered) → bytes ≡ all → lines ≡ number → (result : Result Line LineFault) → Found bytes lines source_ended result now → Found all number source_ended result now
+Found-same bytes all lines number source_ended now same count result found = subst (λ n. Found all n source_ended result now) count (subst (λ b. Found b lines source_ended result now) same found)
 
 -- what a later part of the call found is what the call found
-pub Searched-further : (old now end : Buffered) (before mid after : Option (List ℕ)) (risen rose : Type 0) (so_far : SoFar old before mid now.taken) → (risen → rose) → now.waiting ≡ old.waiting ++ so_far.more → now.number ≡ old.number → (result : Result Line LineFault) → Searched now mid after risen result end → Searched old before after rose result end
-Searched-further old now end before mid after risen rose so_far later waits same result searched =
+pub Searched-further : (old now end : Buffered) (before mid after : SourceState) (so_far : SoFar old before mid now.taken) → now.waiting ≡ old.waiting ++ so_far.more → now.number ≡ old.number → (result : Result Line LineFault) → Searched now mid after result end → Searched old before after result end
+Searched-further old now end before mid after so_far waits same result searched =
     let more : List ℕ = searched.0 in
-    let took : Took now end mid after more = searched.1 in (
+    let took : Took now end mid after more = searched.1 in
+    let pieces : Pieces now more = searched.2 in (
       so_far.more ++ more,
-      Took-more old before mid now.taken so_far after more took.takes end took.count rose,
-      Found-same (now.waiting ++ more) (old.waiting ++ (so_far.more ++ more)) now.number old.number (IsAtEnd after) risen rose end later
-          (ap (λ b. b ++ more) waits ∙ append_assoc old.waiting so_far.more more) same result searched.2,
+      record {
+        takes = Takes-append before mid after so_far.more more so_far.takes took.takes;
+        count = omega (arith, so_far.count, took.count, length-append so_far.more more);
+      },
+      record {
+        front = so_far.more ++ pieces.front;
+        piece = pieces.piece;
+        whole = ap (λ b. so_far.more ++ b) pieces.whole ∙ sym (append_assoc so_far.more pieces.front pieces.piece);
+        part = subst HasNoLineEnd (ap (λ b. b ++ pieces.front) waits ∙ append_assoc old.waiting so_far.more pieces.front) pieces.part;
+        few = omega (arith, so_far.count, pieces.few, length-append so_far.more pieces.front);
+        small = pieces.small;
+      },
+      Found-same (now.waiting ++ more) (old.waiting ++ (so_far.more ++ more)) now.number old.number (IsAtEnd after) end
+          (ap (λ b. b ++ more) waits ∙ append_assoc old.waiting so_far.more more) same result searched.3,
     )
 
 -- a reader reads on from where it is
-pub IsReading-start : (old : Buffered) (before : Option (List ℕ)) → HasNoLineEnd old.waiting → old.taken ≤ max_bytes → old.ended ≡ None → IsReading old old before before
+pub IsReading-start : (old : Buffered) (before : SourceState) → HasNoLineEnd old.waiting → old.taken ≤ max_bytes → old.ended ≡ None → IsReading old old before before
 unfolding SoFar-start
 IsReading-start old before part few going = record {
-  so_far = SoFar-start old before before old.taken part;
+  so_far = SoFar-start old before before old.taken part few;
   waiting = sym (append-nil old.waiting);
-  few = few;
   number = refl;
   ended = going;
 }
 
-module _ (old now : Buffered) (before mid : Option (List ℕ)) (reading : IsReading old now before mid) (end : Buffered) (after : Option (List ℕ)) (count : ℕ) (filled : IsRefilled now end mid after count) where
+module _ (old now : Buffered) (before mid : SourceState) (reading : IsReading old now before mid) (end : Buffered) (after : SourceState) (count : ℕ) (filled : IsRefilled now end mid after count) (same : after.faults ≡ mid.faults) where
   -- the bytes of the turn stand behind those that were seen
   pub behind_seen : (waiting seen : List ℕ) → waiting ≡ end.waiting → seen ≡ now.waiting → take (length waiting - length seen) (drop (length seen) waiting) ≡ filled.more
   behind_seen waiting seen is was =
@@ -210,16 +232,15 @@ module _ (old now : Buffered) (before mid : Option (List ℕ)) (reading : IsRead
   pub IsReading-more : HasNoLineEnd filled.more → IsReading old end before after
   unfolding SoFar-more
   IsReading-more part = record {
-    so_far = SoFar-more old before mid now.taken reading.so_far after filled.more filled.took.takes end.taken filled.took.count part;
+    so_far = SoFar-more old before mid now.taken reading.so_far after filled.more filled.took.takes same end.taken filled.took.count filled.few part;
     waiting = filled.waiting ∙ ap (λ b. b ++ filled.more) reading.waiting ∙ append_assoc old.waiting reading.so_far.more filled.more;
-    few = filled.few;
     number = filled.number ∙ reading.number;
     ended = filled.ended ∙ reading.ended;
   }
 
-  module _ (done : Buffered) (rose : Type 0) where
+  module _ (done : Buffered) where
     -- one of them ends the line
-    pub Searched-read : (kind : Line) (seen place : ℕ) → seen ≡ length now.waiting → IsAtLineEnd filled.more place → kind ≡ kind_of (take (seen + place) end.waiting) → done.waiting ≡ drop (seen + place + 1) end.waiting → done.text ≡ lent_of (take (seen + place) end.waiting) → done.number ≡ end.number + 1 → done.taken ≡ end.taken → done.ended ≡ end.ended → Searched old before after rose (Ok kind) done
+    pub Searched-read : (kind : Line) (seen place : ℕ) → seen ≡ length now.waiting → IsAtLineEnd filled.more place → kind ≡ kind_of (take (seen + place) end.waiting) → done.waiting ≡ drop (seen + place + 1) end.waiting → done.text ≡ lent_of (take (seen + place) end.waiting) → done.number ≡ end.number + 1 → done.taken ≡ end.taken → done.ended ≡ end.ended → Searched old before after (Ok kind) done
     Searched-read kind seen place at is kinds waits lends number taken ended =
         let front : List ℕ = take place filled.more in
         let first : List ℕ = old.waiting ++ reading.so_far.more ++ front in
@@ -233,37 +254,37 @@ module _ (old now : Buffered) (before mid : Option (List ℕ)) (reading : IsRead
         ap (λ n. drop n end.waiting) behind
         ∙ ap (drop (length now.waiting + (place + 1))) filled.waiting
         ∙ drop-append-add now.waiting filled.more (place + 1) in
-        subst (λ answer. Searched old before after rose (Ok answer) done) (sym (kinds ∙ ap kind_of first_is))
-        (Searched-whole old before mid now.taken reading.so_far after filled.more filled.took.takes done (taken ∙ filled.took.count) rose front
+        subst (λ answer. Searched old before after (Ok answer) done) (sym (kinds ∙ ap kind_of first_is))
+        (Searched-whole old before mid now.taken reading.so_far after filled.more filled.took.takes (omega (arith, filled.length, filled.small)) done (taken ∙ filled.took.count) front
         (is.whole ∙ ap (λ b. front ++ 10 ∷ b) (sym rest_is ∙ sym waits)) is.line (omega (arith, taken, filled.few))
         (ended ∙ filled.ended ∙ reading.ended) (omega (arith, number, filled.number, reading.number)) (lends ∙ ap lent_of first_is))
 
     -- the source has ended
-    pub Searched-given_last : (kind : Line) → count ≡ 0 → length now.waiting ≤ longest_line → GivesLast end kind done → done.taken ≡ end.taken → done.ended ≡ Some (Ok line.End) → Searched old before after rose (Ok kind) done
+    pub Searched-given_last : (kind : Line) → count ≡ 0 → length now.waiting ≤ longest_line → GivesLast end kind done → done.taken ≡ end.taken → done.ended ≡ Some (Ok line.End) → Searched old before after (Ok kind) done
     Searched-given_last line.Text none short gives taken ended =
         let more_none : length filled.more ≡ 0 = filled.length ∙ none in
         let first : List ℕ = old.waiting ++ reading.so_far.more in
         let waits : end.waiting ≡ first = filled.waiting ∙ ap (λ b. now.waiting ++ b) (nil_from_length filled.more more_none) ∙ append-nil now.waiting ∙ reading.waiting in
         let fits : length first ≤ longest_line = omega (arith, short, ap length reading.waiting) in
-        subst (λ answer. Searched old before after rose (Ok answer) done) (kind_of-short first fits)
-        (Searched-last old before mid now.taken reading.so_far after filled.more filled.took.takes done (taken ∙ filled.took.count) rose
+        subst (λ answer. Searched old before after (Ok answer) done) (kind_of-short first fits)
+        (Searched-last old before mid now.taken reading.so_far after filled.more filled.took.takes (omega (arith, filled.length, filled.small)) done (taken ∙ filled.took.count)
         more_none (omega (arith, gives.0, ap length waits)) (filled.end none) (omega (arith, taken, filled.few)) ended
         (omega (arith, gives.2, filled.number, reading.number)) (gives.1 ∙ waits ∙ sym (lent_of-short first fits)))
     Searched-given_last line.TooLong none short gives taken ended = absurd gives
     Searched-given_last line.End none short gives taken ended =
         let more_none : length filled.more ≡ 0 = filled.length ∙ none in
         let waits : end.waiting ≡ old.waiting ++ reading.so_far.more = filled.waiting ∙ ap (λ b. now.waiting ++ b) (nil_from_length filled.more more_none) ∙ append-nil now.waiting ∙ reading.waiting in
-        Searched-end old before mid now.taken reading.so_far after filled.more filled.took.takes done (taken ∙ filled.took.count) rose
+        Searched-end old before mid now.taken reading.so_far after filled.more filled.took.takes (omega (arith, filled.length, filled.small)) done (taken ∙ filled.took.count)
         more_none (sym waits ∙ gives.0) (filled.end none) (omega (arith, taken, filled.few))
         (record { number = gives.2 ∙ filled.number ∙ reading.number; text = gives.1; ended = ended })
 
 -- a line that waits whole is given at once, and nothing is taken
-pub Continues-at_once : (old now : Buffered) (left : Option (List ℕ)) (rose : Type 0) (kind : Line) (bytes : List ℕ) (place : ℕ) → bytes ≡ old.waiting → IsAtLineEnd bytes place → old.ended ≡ None → old.taken ≤ max_bytes → kind ≡ kind_of (take place old.waiting) → now.waiting ≡ drop (place + 1) old.waiting → now.text ≡ lent_of (take place old.waiting) → now.number ≡ old.number + 1 → now.taken ≡ old.taken → now.ended ≡ old.ended → (reading : Reading) → StandsFor old reading → Continues reading reading.ended left left rose (Ok kind) now
-Continues-at_once old now left rose kind bytes place is_waiting is unended few kinds waits lends number taken ended reading stands =
+pub Continues-at_once : (old now : Buffered) (source : SourceState) (kind : Line) (bytes : List ℕ) (place : ℕ) → bytes ≡ old.waiting → IsAtLineEnd bytes place → old.ended ≡ None → old.taken ≤ max_bytes → kind ≡ kind_of (take place old.waiting) → now.waiting ≡ drop (place + 1) old.waiting → now.text ≡ lent_of (take place old.waiting) → now.number ≡ old.number + 1 → now.taken ≡ old.taken → now.ended ≡ old.ended → (reading : Reading) → LinesRepresent old reading → Continues reading reading.ended source source (Ok kind) now
+Continues-at_once old now source kind bytes place is_waiting is unended few kinds waits lends number taken ended reading stands =
     let first : List ℕ = take place old.waiting in
     let whole : old.waiting ++ [] ≡ first ++ 10 ∷ now.waiting =
     append-nil old.waiting ∙ subst (λ b. b ≡ take place b ++ 10 ∷ drop (place + 1) b) is_waiting is.whole ∙ ap (λ rest. first ++ 10 ∷ rest) (sym waits) in
-    let found : Found (old.waiting ++ []) old.number (IsAtEnd left) rose (Ok (kind_of first)) now = Found-line (old.waiting ++ []) first old.number (IsAtEnd left) rose now
+    let found : Found (old.waiting ++ []) old.number (IsAtEnd source) (Ok (kind_of first)) now = Found-line (old.waiting ++ []) first old.number (IsAtEnd source) now
     record {
       line = subst (λ b. HasNoLineEnd (take place b)) is_waiting is.line;
       ends = inl (record { whole = whole; ended = ended ∙ unended });
@@ -271,5 +292,5 @@ Continues-at_once old now left rose kind bytes place is_waiting is unended few k
       few = omega (arith, taken, few);
     }
     lends in
-    Continues-found old now left left rose (Ok kind) [] (record { takes = Takes-nothing left; count = omega (arith, taken) })
-    (subst (λ answer. Found (old.waiting ++ []) old.number (IsAtEnd left) rose (Ok answer) now) (sym kinds) found) unended reading stands (λ _. refl)
+    Continues-found old now source source (Ok kind) refl [] (record { takes = Takes-nothing source; count = omega (arith, taken) })
+    (subst (λ answer. Found (old.waiting ++ []) old.number (IsAtEnd source) (Ok answer) now) (sym kinds) found) unended reading stands (λ _. refl, inl refl)

@@ -80,6 +80,13 @@ with_member-only place (first ∷ others) other member =
     (Contains-cons_cases first (with_member place others) other member))
     member
 
+-- The members then are the new one and the old ones.
+pub members-with_member : (place : ℕ) (members : List ℕ) (other : ℕ) → Contains (with_member place members) other ↔ ((place ≡ other) ⊎ Contains members other)
+members-with_member place members other = (
+  with_member-only place members other,
+  λ either. ⊎_elim (λ same. rw (← same) (Contains-with_member place members)) (λ old. with_member-keeps place members other old) either,
+)
+
 -- With one member more the list still rises.
 pub Rises-with_member : (place : ℕ) (members : List ℕ) → Rises members → Rises (with_member place members)
 Rises-with_member place [] rising = AllPairs-cons ◌<◌ place [] (All-nil (λ later. place < later)) rising

@@ -9,7 +9,7 @@ use Rattle.std.proofs.lemmas.Bool.Decides.{nat_tests}
 use Rattle.std.proofs.lemmas.List.Elements.{All-cons, All-weaker, All-contains}
 use Rattle.tfpg_base.proofs.Elements.{AllPairs-head, AllPairs-tail, AllPairs-cons, All-from_members, Contains-head, Contains-tail, Contains-cons_cases, Contains-nil}
 use Rattle.tfpg_base.specs.declared.activation.Activation.{Activation}
-use Rattle.tfpg_base.specs.Trace.{IsRisingByNode, StandsAt, IsPlaceFor, time_of, with_time}
+use Rattle.tfpg_base.specs.Trace.{TimesAfter, IsRisingByNode, StandsAt, IsPlaceFor, time_of, with_time}
 
 -- ---- a search by node
 
@@ -181,3 +181,10 @@ IsRisingByNode-with_time (first ∷ others) node time rising =
     (All-from_members (λ later. first.node < later.node) (with_time node time others)
     (λ later member. ⊎_elim (λ new. omega (arith, above, new)) (λ old. All-contains (λ later. first.node < later.node) others later behind old) (with_time-only others node time later member)))
     (IsRisingByNode-with_time others node time rest))
+
+-- What is known node by node of a trace that one time was set in.
+pub TimesAfter-with_time : (trace more : List Activation) (node time : ℕ) → more ≡ with_time node time trace → TimesAfter trace more node time
+TimesAfter-with_time trace more node time is = record {
+  here = ap (λ trace. time_of trace node) is ∙ time_of-with_time trace node time;
+  elsewhere = λ other unlike. ap (λ trace. time_of trace other) is ∙ time_of-with_time_other trace node time other unlike;
+}

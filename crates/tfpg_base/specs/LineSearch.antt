@@ -1,11 +1,11 @@
--- What one call of a reader of lines finds, apart from its history: how the bytes behind the lines given go on.
+-- What one call of a reader of lines finds, apart from its history: how the bytes after the lines given go on.
 use Rattle.std.specs.Prelude.{◌≡◌, ◌⊎◌, ℕ, ◌+◌, ◌<◌, ◌≤◌, List, [], ◌∷◌, ◌++◌, length, take, drop, nat_le, if◌then◌else◌, Option, Some, None, Result, Ok, Err}
 use Rattle.tfpg_base.specs.declared.line.Line.{Line}
 use Rattle.tfpg_base.specs.declared.line.Line.TheVariants as line
 use Rattle.tfpg_base.specs.declared.line.LineFault.{LineFault}
 use Rattle.tfpg_base.specs.declared.line.LineFault.TheVariants as fault
-use Rattle.tfpg_base.specs.Outside.{Takes, IsAtEnd}
-use Rattle.tfpg_base.specs.Lines.{Buffered, HasNoLineEnd, longest_line, max_bytes}
+use Rattle.tfpg_base.specs.Outside.{SourceState, Takes, IsAtEnd}
+use Rattle.tfpg_base.specs.Lines.{Buffered, HasNoLineEnd, longest_line, max_bytes, buffer_size}
 
 -- The line ends at the first byte that ends one.
 pub record IsAtLineEnd (bytes : List ℕ) (count : ℕ) : Type 0 where
@@ -27,7 +27,7 @@ pub record BeginsWith (bytes first : List ℕ) (now : Buffered) : Type 0 where
   pub ended : now.ended ≡ None
 
 -- The bytes are a last line, without a line end.
-pub record IsLast (bytes first : List ℕ) (source_ended : Type 0) (now : Buffered) : Type 0 where
+pub record IsLastLine (bytes first : List ℕ) (source_ended : Type 0) (now : Buffered) : Type 0 where
   pub whole : bytes ≡ first
   pub some : 0 < length first
   pub source : source_ended
@@ -36,7 +36,7 @@ pub record IsLast (bytes first : List ℕ) (source_ended : Type 0) (now : Buffer
 -- The line at the front of the bytes was given.
 pub record IsGiven (bytes first : List ℕ) (lines : ℕ) (source_ended : Type 0) (now : Buffered) : Type 0 where
   pub line : HasNoLineEnd first
-  pub ends : BeginsWith bytes first now ⊎ IsLast bytes first source_ended now
+  pub ends : BeginsWith bytes first now ⊎ IsLastLine bytes first source_ended now
   pub number : now.number ≡ lines + 1
   pub few : now.taken ≤ max_bytes
 
@@ -53,28 +53,38 @@ pub record IsEnded (lines : ℕ) (answer : Result Line LineFault) (now : Buffere
   pub ended : now.ended ≡ Some answer
 
 -- what a call found in these bytes
-abbrev pub Found : List ℕ → ℕ → Type 0 → Type 0 → Result Line LineFault → Buffered → Type 0
-Found bytes lines source_ended rose (Ok line.Text) now =
+abbrev pub Found : List ℕ → ℕ → Type 0 → Result Line LineFault → Buffered → Type 0
+Found bytes lines source_ended (Ok line.Text) now =
     (first : List ℕ) × IsGiven bytes first lines source_ended now × (length first ≤ longest_line) × (now.text ≡ first)
-Found bytes lines source_ended rose (Ok line.TooLong) now =
+Found bytes lines source_ended (Ok line.TooLong) now =
     (first : List ℕ) × IsGiven bytes first lines source_ended now × (longest_line < length first) × (now.text ≡ [])
-Found bytes lines source_ended rose (Ok line.End) now =
+Found bytes lines source_ended (Ok line.End) now =
     (bytes ≡ []) × source_ended × (now.taken ≤ max_bytes) × IsEnded lines (Ok line.End) now
-Found bytes lines source_ended rose (Err fault.ReadFault) now =
-    HasNoLineEnd bytes × rose × (now.taken ≤ max_bytes) × IsEnded lines (Err fault.ReadFault) now
-Found bytes lines source_ended rose (Err fault.TooMuchInput) now =
+Found bytes lines source_ended (Err fault.ReadFault) now =
+    HasNoLineEnd bytes × (now.taken ≤ max_bytes) × IsEnded lines (Err fault.ReadFault) now
+Found bytes lines source_ended (Err fault.TooMuchInput) now =
     (first : List ℕ) × (last : ℕ) × HasNoLineEnd first × (bytes ≡ first ++ last ∷ []) × (now.taken ≡ max_bytes + 1) × IsEnded lines (Err fault.TooMuchInput) now
 
 -- these bytes were taken
-pub record Took (old now : Buffered) (before after : Option (List ℕ)) (more : List ℕ) : Type 0 where
+pub record Took (old now : Buffered) (before after : SourceState) (more : List ℕ) : Type 0 where
   pub takes : Takes before after more
   pub count : now.taken ≡ old.taken + length more
 
+-- The bytes of a call: those with which no line ended, and then one piece.
+pub record Pieces (old : Buffered) (more : List ℕ) : Type 0 where
+  pub front : List ℕ
+  pub piece : List ℕ
+  pub whole : more ≡ front ++ piece
+  pub part : HasNoLineEnd (old.waiting ++ front)
+  pub few : old.taken + length front ≤ max_bytes
+  pub small : length piece ≤ buffer_size
+
 -- Bytes were taken, and wait.
-pub record IsRefilled (old now : Buffered) (before after : Option (List ℕ)) (count : ℕ) : Type 0 where
+pub record IsRefilled (old now : Buffered) (before after : SourceState) (count : ℕ) : Type 0 where
   pub more : List ℕ
   pub took : Took old now before after more
   pub length : length more ≡ count
+  pub small : count ≤ buffer_size
   pub end : count ≡ 0 → IsAtEnd after
   pub few : now.taken ≤ max_bytes
   pub waiting : now.waiting ≡ old.waiting ++ more
@@ -82,14 +92,14 @@ pub record IsRefilled (old now : Buffered) (before after : Option (List ℕ)) (c
   pub ended : now.ended ≡ old.ended
 
 -- bytes were taken, or a fault ended the reader
-abbrev pub Refilled : Buffered → Option (List ℕ) → Option (List ℕ) → Type 0 → Result ℕ LineFault → Buffered → Type 0
-Refilled old before after rose (Ok count) now = IsRefilled old now before after count
-Refilled old before after rose (Err fault.ReadFault) now =
-    Took old now before after [] × rose × (now.taken ≤ max_bytes) × IsEnded old.number (Err fault.ReadFault) now
-Refilled old before after rose (Err fault.TooMuchInput) now =
+abbrev pub Refilled : Buffered → SourceState → SourceState → Result ℕ LineFault → Buffered → Type 0
+Refilled old before after (Ok count) now = IsRefilled old now before after count
+Refilled old before after (Err fault.ReadFault) now =
+    Took old now before after [] × (now.taken ≤ max_bytes) × IsEnded old.number (Err fault.ReadFault) now
+Refilled old before after (Err fault.TooMuchInput) now =
     (last : ℕ) × Took old now before after (last ∷ []) × (now.taken ≡ max_bytes + 1) × IsEnded old.number (Err fault.TooMuchInput) now
 
 -- bytes were taken until one of the answers came
-abbrev pub Searched : Buffered → Option (List ℕ) → Option (List ℕ) → Type 0 → Result Line LineFault → Buffered → Type 0
-Searched old before after rose result now =
-    (more : List ℕ) × Took old now before after more × Found (old.waiting ++ more) old.number (IsAtEnd after) rose result now
+abbrev pub Searched : Buffered → SourceState → SourceState → Result Line LineFault → Buffered → Type 0
+Searched old before after result now =
+    (more : List ℕ) × Took old now before after more × Pieces old more × Found (old.waiting ++ more) old.number (IsAtEnd after) result now

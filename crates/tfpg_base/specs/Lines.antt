@@ -5,7 +5,7 @@ use Rattle.tfpg_base.specs.declared.line.Line.{Line}
 use Rattle.tfpg_base.specs.declared.line.Line.TheVariants as line
 use Rattle.tfpg_base.specs.declared.line.LineFault.{LineFault}
 use Rattle.tfpg_base.specs.declared.line.LineFault.TheVariants as fault
-use Rattle.tfpg_base.specs.Outside.{Takes, IsAtEnd}
+use Rattle.tfpg_base.specs.Outside.{SourceState, Takes, IsAtEnd, Rose}
 
 -- whether a byte ends a line
 abbrev pub ends_line : ℕ → Bool
@@ -19,7 +19,7 @@ parts_of bytes = slice_split ends_line bytes
 abbrev pub whole_lines : List ℕ → List (List ℕ)
 whole_lines bytes = take (length (parts_of bytes) - 1) (parts_of bytes)
 
--- what stands after the last line end
+-- the bytes after the last line end
 abbrev pub last_part : List ℕ → List ℕ
 last_part bytes = slice_index_or (parts_of bytes) (length (parts_of bytes) - 1) []
 
@@ -40,6 +40,10 @@ longest_line = 4096
 abbrev pub max_bytes : ℕ
 max_bytes = 2 ^ 32
 
+-- how many bytes the buffer of a reader has
+abbrev pub buffer_size : ℕ
+buffer_size = 65536
+
 -- The history of a reader of lines: all the bytes that it took, all the lines that it gave, and the answer
 -- that ended it, if one has.
 pub record Reading : Type 0 where
@@ -59,7 +63,7 @@ next_whole reading = slice_get (whole_lines (take max_bytes reading.taken)) (len
 abbrev pub with_bytes : Reading → List ℕ → Reading
 with_bytes reading bytes = record { taken = reading.taken ++ bytes; given = reading.given; ended = reading.ended }
 
--- what is answered behind a line: a line that has come without a line end is the last, and behind it is the end
+-- what is returned after a line: a line that has come without a line end is the last, and after it comes the end
 abbrev pub ended_behind : Option (List ℕ) → Option (Result Line LineFault)
 ended_behind (Some whole) = None
 ended_behind None = Some (Ok line.End)
@@ -88,43 +92,67 @@ with_line_end line = line ++ 10 ∷ []
 abbrev pub HasNoLineEnd : List ℕ → Type 0
 HasNoLineEnd bytes = All (λ byte. ends_line byte ≡ false) bytes
 
--- while nothing has ended it, the buffer holds what was taken behind the lines that were given
+-- while nothing has ended it, the buffer holds the bytes taken that come after the lines given
 pub record IsGoingOn (reader : Buffered) (reading : Reading) : Type 0 where
   pub bytes : reading.taken ≡ flat_map with_line_end reading.given ++ reader.waiting
   pub lines : All HasNoLineEnd reading.given
   pub few : reader.taken ≤ max_bytes
 
--- The reader has this history.
-pub record StandsFor (reader : Buffered) (reading : Reading) : Type 0 where
+-- The reader represents this history.
+pub record LinesRepresent (reader : Buffered) (reading : Reading) : Type 0 where
   pub number : reader.number ≡ length reading.given
   pub taken : reader.taken ≡ length reading.taken
   pub ended : reader.ended ≡ reading.ended
   pub going_on : reading.ended ≡ None → IsGoingOn reader reading
   pub all_given : reading.ended ≡ Some (Ok line.End) → lines_of reading.taken ≡ reading.given
 
--- The line is the next one, behind those given, of all the bytes taken, which are not too many. It has come whole, or the source has ended.
+-- The line is the next one, after those given, of all the bytes taken, which are not too many. It has come whole, or the source has ended.
 pub record IsNext (reading : Reading) (line : List ℕ) (source_ended : Type 0) : Type 0 where
   pub few : length reading.taken ≤ max_bytes
   pub front : take (length reading.given + 1) (lines_of reading.taken) ≡ reading.given ++ line ∷ []
   pub whole : (next_whole reading ≡ Some line) ⊎ source_ended
 
--- What a reader that nothing has ended answers, with the bytes of this call among those taken.
-abbrev pub Answers : Reading → Type 0 → Type 0 → Result Line LineFault → Buffered → Type 0
-Answers reading source_ended rose (Ok line.Text) reader =
-    (next : List ℕ) × IsNext reading next source_ended × (length next ≤ longest_line) × (reader.text ≡ next) × StandsFor reader (with_line reading next)
-Answers reading source_ended rose (Ok line.TooLong) reader =
-    (next : List ℕ) × IsNext reading next source_ended × (longest_line < length next) × (reader.text ≡ []) × StandsFor reader (with_line reading next)
-Answers reading source_ended rose (Ok line.End) reader =
-    (lines_of reading.taken ≡ reading.given) × source_ended × (length reading.taken ≤ max_bytes) × (reader.text ≡ []) × StandsFor reader (ended_by reading (Ok line.End))
-Answers reading source_ended rose (Err fault.ReadFault) reader =
-    (whole_lines reading.taken ≡ reading.given) × rose × (length reading.taken ≤ max_bytes) × (reader.text ≡ []) × StandsFor reader (ended_by reading (Err fault.ReadFault))
-Answers reading source_ended rose (Err fault.TooMuchInput) reader =
+-- What a reader that nothing has ended returns, with the bytes of this call among those taken.
+abbrev pub ReturnsNext : Reading → Type 0 → Result Line LineFault → Buffered → Type 0
+ReturnsNext reading source_ended (Ok line.Text) reader =
+    (next : List ℕ) × IsNext reading next source_ended × (length next ≤ longest_line) × (reader.text ≡ next) × LinesRepresent reader (with_line reading next)
+ReturnsNext reading source_ended (Ok line.TooLong) reader =
+    (next : List ℕ) × IsNext reading next source_ended × (longest_line < length next) × (reader.text ≡ []) × LinesRepresent reader (with_line reading next)
+ReturnsNext reading source_ended (Ok line.End) reader =
+    (lines_of reading.taken ≡ reading.given) × source_ended × (length reading.taken ≤ max_bytes) × (reader.text ≡ []) × LinesRepresent reader (ended_by reading (Ok line.End))
+ReturnsNext reading source_ended (Err fault.ReadFault) reader =
+    (whole_lines reading.taken ≡ reading.given) × (length reading.taken ≤ max_bytes) × (reader.text ≡ []) × LinesRepresent reader (ended_by reading (Err fault.ReadFault))
+ReturnsNext reading source_ended (Err fault.TooMuchInput) reader =
     (whole_lines (take max_bytes reading.taken) ≡ reading.given) × (length reading.taken ≡ max_bytes + 1) × (reader.text ≡ [])
-    × StandsFor reader (ended_by reading (Err fault.TooMuchInput))
+    × LinesRepresent reader (ended_by reading (Err fault.TooMuchInput))
 
--- One call: what ended a reader is answered again, and nothing is taken. Else bytes are taken, but only where no whole line is left to give.
-abbrev pub Continues : Reading → Option (Result Line LineFault) → Option (List ℕ) → Option (List ℕ) → Type 0 → Result Line LineFault → Buffered → Type 0
-Continues reading (Some answer) before after rose result reader = (result ≡ answer) × (after ≡ before) × (reader.text ≡ []) × StandsFor reader reading
-Continues reading None before after rose result reader =
-    (more : List ℕ) × Takes before after more × (IsSome (next_whole reading) → more ≡ [])
-    × Answers (with_bytes reading more) (IsAtEnd after) rose result reader
+-- These bytes with which no whole line has come, and then one more piece, which a buffer can hold.
+pub record ComesInPieces (reading : Reading) (more : List ℕ) : Type 0 where
+  pub front : List ℕ
+  pub piece : List ℕ
+  pub whole : more ≡ front ++ piece
+  pub part : next_whole (with_bytes reading front) ≡ None
+  pub small : length piece ≤ buffer_size
+
+-- These bytes are no more than a call needs: none where the next line has come whole, else pieces until it has.
+abbrev pub TakesAsNeeded : Reading → List ℕ → Type 0
+TakesAsNeeded reading more = (IsSome (next_whole reading) → more ≡ []) × ((more ≡ []) ⊎ ComesInPieces reading more)
+
+-- The source's count of faults rose exactly where the answer is that reading failed.
+abbrev pub CountsReadFault : {X : Type 0} → Result X LineFault → SourceState → SourceState → Type 0
+CountsReadFault (Err fault.ReadFault) before after = Rose before.faults after.faults
+CountsReadFault (Err fault.TooMuchInput) before after = after.faults ≡ before.faults
+CountsReadFault (Ok found) before after = after.faults ≡ before.faults
+
+-- One call of a reader that nothing has ended.
+pub record GoesFurther (reading : Reading) (before after : SourceState) (result : Result Line LineFault) (reader : Buffered) : Type 0 where
+  pub more : List ℕ
+  pub takes : Takes before after more
+  pub needed : TakesAsNeeded reading more
+  pub faults : CountsReadFault result before after
+  pub returns : ReturnsNext (with_bytes reading more) (IsAtEnd after) result reader
+
+-- One call: what ended a reader is returned again, and the source is left as it was. Else the reader goes further.
+abbrev pub Continues : Reading → Option (Result Line LineFault) → SourceState → SourceState → Result Line LineFault → Buffered → Type 0
+Continues reading (Some answer) before after result reader = (result ≡ answer) × (after ≡ before) × (reader.text ≡ []) × LinesRepresent reader reading
+Continues reading None before after result reader = GoesFurther reading before after result reader

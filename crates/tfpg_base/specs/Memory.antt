@@ -1,23 +1,74 @@
 -- What contracts see of the sources, sinks and shelves in memory.
-use Rattle.std.specs.Prelude.{◌≡◌, ◌<◌, ◌≤◌, ◌^◌, ◌+◌, ◌-◌, ℕ, min, List, ◌++◌, length, Option, Some, Result, Ok, Err}
+use Rattle.std.specs.Prelude.{◌≡◌, ◌⊎◌, ◌<◌, ◌≤◌, ◌^◌, ◌+◌, ◌-◌, ℕ, min, List, [], ◌∷◌, ◌++◌, Bool, ◌||◌, ◌&&◌, ◌==◌, nat_lt, take, drop, Contains, length, Option, Some, None, Result, Ok, Err}
+use Rattle.tfpg_base.specs.declared.outside.Failed.{Failed}
 use Rattle.tfpg_base.specs.declared.outside.ShelfFault.{ShelfFault}
 use Rattle.tfpg_base.specs.declared.outside.ShelfFault.TheVariants as faults
-use Rattle.tfpg_base.specs.Outside.{longest_file}
+use Rattle.tfpg_base.specs.Outside.{SourceState, SinkState, ShelfState, longest_file}
 
 -- the count after one more, which stands still at the last value of its type
 abbrev pub count_after : ℕ → ℕ
 count_after count = min (count + 1) (2 ^ 64 - 1)
 
 -- Bytes to give: those that are left, the most that one call gives, the numbers of the calls that are to fail,
--- how many calls came, and how many failed.
+-- how many calls came, how many failed, and whether the end was returned.
 pub record GivesBytes : Type 0 where
   pub left : List ℕ
   pub most : ℕ
   pub failing : List ℕ
   pub calls : ℕ
   pub faults : ℕ
+  pub ended : Bool
 
--- Bytes that were taken: all of them so far, the most that one call takes, the numbers of the calls that are to
+-- what every source shows, of such a one
+abbrev pub source_state : GivesBytes → SourceState
+source_state source = record { left = Some source.left; ended = source.ended; faults = source.faults }
+
+-- Bytes that a source gives which never fails: those that are left, and whether the end was returned.
+pub record SteadyBytes : Type 0 where
+  pub left : List ℕ
+  pub ended : Bool
+
+-- what every source shows, of such a one: its count of faults is the constant 0
+abbrev pub steady_state : SteadyBytes → SourceState
+steady_state source = record { left = Some source.left; ended = source.ended; faults = 0 }
+
+-- The next call is one of those that are to fail.
+abbrev pub FailsNext : List ℕ → ℕ → Type 0
+FailsNext failing calls = Contains failing (count_after calls)
+
+-- how many bytes a call gives: the least of the room, what is left, and the most of one call
+abbrev pub count_given : GivesBytes → ℕ → ℕ
+count_given source room = min (min (length source.left) room) source.most
+
+-- whether the end was returned after a call that gave so many bytes for a room of this length
+abbrev pub ended_after : Bool → ℕ → ℕ → Bool
+ended_after ended count room = ended || (count == 0 && nat_lt 0 room)
+
+-- a source after a call for a room of this length
+abbrev pub after_take : GivesBytes → ℕ → Result ℕ Failed → GivesBytes
+after_take old room (Ok count) = record {
+  left = drop count old.left;
+  most = old.most;
+  failing = old.failing;
+  calls = count_after old.calls;
+  faults = old.faults;
+  ended = ended_after old.ended count room;
+}
+after_take old room (Err failed) = record {
+  left = old.left;
+  most = old.most;
+  failing = old.failing;
+  calls = count_after old.calls;
+  faults = count_after old.faults;
+  ended = old.ended;
+}
+
+-- a room after a call of a source that had these bytes left
+abbrev pub filled : List ℕ → List ℕ → Result ℕ Failed → List ℕ
+filled left room (Ok count) = take count left ++ drop count room
+filled left room (Err failed) = room
+
+-- Bytes that were put: all of them so far, the most that one call takes, the numbers of the calls that are to
 -- fail, how many calls came, and how many failed.
 pub record HoldsBytes : Type 0 where
   pub holds : List ℕ
@@ -25,6 +76,15 @@ pub record HoldsBytes : Type 0 where
   pub failing : List ℕ
   pub calls : ℕ
   pub faults : ℕ
+
+-- what every sink shows, of such a one
+abbrev pub sink_state : HoldsBytes → SinkState
+sink_state sink = record { holds = Some sink.holds; faults = sink.faults }
+
+-- a sink after a call for this piece
+abbrev pub after_put : HoldsBytes → List ℕ → Result ℕ Failed → HoldsBytes
+after_put old piece (Ok count) = record { holds = old.holds ++ take count piece; most = old.most; failing = old.failing; calls = count_after old.calls; faults = old.faults }
+after_put old piece (Err failed) = record { holds = old.holds; most = old.most; failing = old.failing; calls = count_after old.calls; faults = count_after old.faults }
 
 -- Files by name: the names with the contents, the names asked for so far, the numbers of the calls that are to
 -- fail, how many calls came, and how many failed.
@@ -35,11 +95,29 @@ pub record HasFiles : Type 0 where
   pub calls : ℕ
   pub faults : ℕ
 
--- What fetching a file answers, where there may be one of this content: the whole content where it is not
--- longer than a file may be, else as much of its front as a file may have and that it is too long. A failure is a fault.
-abbrev pub Fetches : Option (List ℕ) → Type 0 → List ℕ → Result (Unit {0}) ShelfFault → Type 0
-Fetches content rose copy (Ok done) = (content ≡ Some copy) × (length copy ≤ longest_file)
-Fetches content rose copy (Err faults.TooLong) =
+-- what every shelf shows, of such a one
+abbrev pub shelf_state : HasFiles → ShelfState
+shelf_state shelf = record { files = Some shelf.files; asked = Some shelf.asked; faults = shelf.faults }
+
+-- What copying a file comes to, where there may be one of this content: the whole content where it is not
+-- longer than a file may be, else as much of its front as a file may have. It fails where there is no file.
+abbrev pub Copies : Option (List ℕ) → List ℕ → Result (Unit {0}) ShelfFault → Type 0
+Copies content copy (Ok done) = (content ≡ Some copy) × (length copy ≤ longest_file)
+Copies content copy (Err faults.TooLong) =
     (length copy ≡ longest_file) × ((more : List ℕ) × (0 < length more) × (content ≡ Some (copy ++ more)))
-Fetches content rose copy (Err faults.NoMemory) = Unit {0}
-Fetches content rose copy (Err faults.Failed) = rose
+Copies content copy (Err faults.NoMemory) = copy ≡ []
+Copies content copy (Err faults.Failed) = (copy ≡ []) × (content ≡ None)
+
+-- What fetching a file comes to: a call that is to fail does, and each other call copies the file. Any call may run out of memory.
+abbrev pub Fetches : Type 0 → Option (List ℕ) → List ℕ → Result (Unit {0}) ShelfFault → Type 0
+Fetches fails content copy (Ok done) = (fails → ⊥) × Copies content copy (Ok done)
+Fetches fails content copy (Err faults.TooLong) = (fails → ⊥) × Copies content copy (Err faults.TooLong)
+Fetches fails content copy (Err faults.NoMemory) = copy ≡ []
+Fetches fails content copy (Err faults.Failed) = (copy ≡ []) × (fails ⊎ (content ≡ None))
+
+-- a shelf after a call for this name
+abbrev pub after_fetch : HasFiles → List ℕ → Result (Unit {0}) ShelfFault → HasFiles
+after_fetch old name (Ok done) = record { files = old.files; asked = old.asked ++ name ∷ []; failing = old.failing; calls = count_after old.calls; faults = old.faults }
+after_fetch old name (Err faults.TooLong) = record { files = old.files; asked = old.asked ++ name ∷ []; failing = old.failing; calls = count_after old.calls; faults = old.faults }
+after_fetch old name (Err faults.NoMemory) = record { files = old.files; asked = old.asked; failing = old.failing; calls = count_after old.calls; faults = old.faults }
+after_fetch old name (Err faults.Failed) = record { files = old.files; asked = old.asked ++ name ∷ []; failing = old.failing; calls = count_after old.calls; faults = count_after old.faults }

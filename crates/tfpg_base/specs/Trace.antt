@@ -1,5 +1,5 @@
 -- Traces: which node became active when, as a list of activations by rising nodes.
-use Rattle.std.specs.Prelude.{◌≡◌, ℕ, ◌<◌, ◌≤◌, List, [], ◌∷◌, length, AllPairs, Option, Some, None, nat_lt, ◌==◌, if◌then◌else◌}
+use Rattle.std.specs.Prelude.{◌≡◌, ◌≢◌, ℕ, ◌<◌, ◌≤◌, List, [], ◌∷◌, length, AllPairs, Option, Some, None, nat_lt, ◌==◌, if◌then◌else◌}
 use Rattle.std.specs.List.{AllWithin, HoldsAt}
 use Rattle.tfpg_base.specs.declared.activation.Activation.{Activation}
 
@@ -18,6 +18,11 @@ with_time node time [] = record { node = node; time = time } ∷ []
 with_time node time (first ∷ others) =
     if nat_lt node first.node then record { node = node; time = time } ∷ first ∷ others
     else (if node == first.node then record { node = node; time = time } ∷ others else first ∷ with_time node time others)
+
+-- Node by node: this one has that time, and each other has the time that it had.
+pub record TimesAfter (old new : List Activation) (node time : ℕ) : Type 0 where
+  pub here : time_of new node ≡ Some time
+  pub elsewhere : (other : ℕ) → node ≢ other → time_of new other ≡ time_of old other
 
 -- the nodes before this place are lesser
 abbrev pub AreLesserBefore : List Activation → ℕ → ℕ → Type 0

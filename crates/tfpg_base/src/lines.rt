@@ -3,9 +3,8 @@
 //! [`Lines`] keeps the bytes that it took in one buffer. What waits there is what stands behind the lines that it
 //! gave; a line is lent from where it stands. A line that is too long for the buffer is passed in pieces.
 
-ghost use Rattle.std.specs.Prelude.{◌≡◌, ◌<◌, ◌≤◌, ◌+◌, ℕ, List, take, drop, length, slice_range, IfOk, IfNone, IfSome};
-ghost use Rattle.tfpg_base.specs.Outside.{Rose};
-ghost use Rattle.tfpg_base.specs.Lines.{Reading, new_reading, StandsFor, Continues, HasNoLineEnd};
+ghost use Rattle.std.specs.Prelude.{◌≡◌, ◌<◌, ◌≤◌, ◌+◌, [], ℕ, List, take, drop, length, slice_range, IfOk, IfNone, IfSome};
+ghost use Rattle.tfpg_base.specs.Lines.{Reading, new_reading, LinesRepresent, Continues, HasNoLineEnd};
 ghost use Rattle.tfpg_base.specs.LineSearch.{IsAtLineEnd, kind_of, lent_of};
 
 mod refill;
@@ -20,16 +19,16 @@ use std::marker::Model;
 /// How many bytes the buffer has: more than a line may have.
 const ROOM: usize = 65_536;
 
-/// Places of the buffer, from the one to before the other.
+/// Places of the buffer, from the one up to before the other.
 #[derive(Clone, Copy)]
-struct Span {
+struct Places {
     start: usize,
     end: usize,
 }
 
-impl Span {
+impl Places {
     /// No place.
-    const NONE: Span = Span { start: 0, end: 0 };
+    const NONE: Places = Places { start: 0, end: 0 };
 }
 
 /// Cuts the bytes of one source into lines.
@@ -38,8 +37,8 @@ impl Span {
 #[derive(Drop)]
 pub struct Lines {
     buffer: Vec<u8>,
-    waiting: Span,
-    text: Span,
+    waiting: Places,
+    text: Places,
     number: u64,
     taken: u64,
     ended: Option<Result<Line, LineFault>>,
@@ -60,12 +59,13 @@ impl Model for Lines {
 impl Lines {
     /// A reader that has taken nothing. It takes its whole buffer now, and no memory later.
     pub fn new(alloc: Global) -> Result<Lines, NoMemory>
-        ensures { IfOk result (λ lines. StandsFor lines new_reading) }
+        ensures unread { IfOk result (λ lines. LinesRepresent lines new_reading) }
+        ensures empty { IfOk result (λ lines. lines.text ≡ []) }
     {
         Ok(Lines {
             buffer: vec![in alloc; 0; ROOM]?,
-            waiting: Span::NONE,
-            text: Span::NONE,
+            waiting: Places::NONE,
+            text: Places::NONE,
             number: 0,
             taken: 0,
             ended: None,
@@ -83,12 +83,11 @@ impl Lines {
     /// `ReadFault` where the source failed, `TooMuchInput` where 2^32 bytes were taken, no line is left that ends
     /// in them, and the source gives one more byte.
     pub fn next<S: Source>(&mut self, source: &mut S) -> Result<Line, LineFault>
-        ensures answer { (reading : Reading) → StandsFor self.old reading
-            → Continues reading reading.ended (S.left source.old) (S.left source.new) (Rose (S.faults source.old) (S.faults source.new)) result self.new }
-        ensures never_falls { S.faults source.old ≤ S.faults source.new }
+        ensures { (reading : Reading) → LinesRepresent self.old reading
+            → Continues reading reading.ended (S.state source.old) (S.state source.new) result self.new }
     {
         if let Some(answer) = self.ended {
-            self.text = Span::NONE;
+            self.text = Places::NONE;
             return answer;
         }
         match line_end(self.waiting()) {
@@ -155,7 +154,7 @@ fn kind(count: usize) -> Line
 }
 
 /// Where the text of a line of so many bytes stands: nowhere for one that is too long.
-fn lent(start: usize, count: usize) -> Span
+fn lent(start: usize, count: usize) -> Places
     requires { start + count ≤ ROOM }
     ensures place { result.start ≤ result.end }
     ensures within { result.end ≤ start + count }
@@ -167,5 +166,5 @@ fn lent(start: usize, count: usize) -> Span
     } else {
         start
     };
-    Span { start, end }
+    Places { start, end }
 }

@@ -1,10 +1,11 @@
 //! The outside: where bytes come from, where they go, and the shelf of files.
 //!
-//! Each has a count of faults that never falls, and content that it may tell to the contracts. A fault is
-//! answered only where the count rose, so a body that claims a fault which was none is refused.
+//! Contracts see each as one state: its contents, as far as they are known, and how often a call failed. The count
+//! of faults rises in a call that fails and in no other, so a body that claims a fault that was none is refused, and so is
+//! one that hides a fault.
 
-ghost use Rattle.std.specs.Prelude.{◌≡◌, ◌<◌, ◌≤◌, ◌^◌, ◌++◌, ◌∷◌, [], ℕ, List, length, take, Option, None, Some, IfSome, IfOk, OnOk, OnErr, IsErrOf, Ok};
-ghost use Rattle.tfpg_base.specs.Outside.{Rose, Takes, Puts, IsAtEnd, Asks, Gives, PassesLimit};
+ghost use Rattle.std.specs.Prelude.{◌≡◌, ◌⊎◌, ◌<◌, ◌≤◌, ◌^◌, ◌↔◌, ◌++◌, ◌∷◌, [], ℕ, List, length, take, Option, None, Some, IsTrue, IfSome, IfOk, OnOk, OnErr, IsErrOf, Ok};
+ghost use Rattle.tfpg_base.specs.Outside.{SourceState, SinkState, ShelfState, Rose, Takes, Puts, IsAtEnd, Asks, Gives, PassesLimit, CountsFailure};
 
 use std::alloc::Global;
 
@@ -22,66 +23,56 @@ pub enum ShelfFault {
     Failed,
     /// The file has more than [`LONGEST_FILE`] bytes, which are 2^24.
     TooLong,
-    /// There is no room for the file.
+    /// The call ran out of memory.
     NoMemory,
 }
 
 /// Where input bytes come from.
 pub trait Source {
-    /// How often taking has failed.
-    ghost faults: { Self → ℕ };
+    /// The bytes that are left, whether the source has returned its end, and how often taking failed.
+    ghost state: { Self → SourceState };
 
-    /// The bytes that are left, where the source tells them.
-    ghost left: { Self → Option (List ℕ) };
-
-    /// Fills the first places of the room with the next bytes, and answers how many. An answer of 0 for a room
-    /// that has a place means that the source has given its end.
+    /// Fills the first places of the room with the next bytes, and returns how many. A result of 0 for a room that has
+    /// a place means that the source has ended.
     fn take(&mut self, room: &mut [u8]) -> Result<usize, Failed>
         ensures within { IfOk result (λ count. count ≤ length room.old) }
-        ensures taken { IfOk result (λ count. Takes (left self.old) (left self.new) (take count room.new)) }
-        ensures end { result ≡ Ok 0 → 0 < length room.old → IsAtEnd (left self.new) }
-        ensures failed { OnErr result (Rose (faults self.old) (faults self.new)) }
-        ensures nothing_taken { OnErr result (left self.new ≡ left self.old) }
-        ensures never_falls { faults self.old ≤ faults self.new };
+        ensures taken { IfOk result (λ count. Takes (state self.old) (state self.new) (take count room.new)) }
+        ensures no_fault { IfOk result (λ count. (state self.new).faults ≡ (state self.old).faults) }
+        ensures end { result ≡ Ok 0 → 0 < length room.old → IsAtEnd (state self.new) }
+        ensures ended { IsTrue (state self.new).ended ↔ (IsTrue (state self.old).ended ⊎ ((result ≡ Ok 0) × (0 < length room.old))) }
+        ensures failed { OnErr result (Rose (state self.old).faults (state self.new).faults) }
+        ensures nothing_taken { OnErr result ((state self.new).left ≡ (state self.old).left) };
 }
 
 /// Where output bytes go.
 pub trait Sink {
-    /// How often putting has failed.
-    ghost faults: { Self → ℕ };
+    /// All the bytes so far, and how often putting failed.
+    ghost state: { Self → SinkState };
 
-    /// All the bytes so far, where the sink tells them.
-    ghost holds: { Self → Option (List ℕ) };
-
-    /// Appends the first bytes of the piece, and answers how many: none only of an empty piece.
+    /// Appends the first bytes of the piece, and returns how many: 0 only for an empty piece.
     fn put(&mut self, piece: &[u8]) -> Result<usize, Failed>
         ensures within { IfOk result (λ count. count ≤ length piece.now) }
-        ensures put { IfOk result (λ count. Puts (holds self.old) (holds self.new) (take count piece.now)) }
+        ensures put { IfOk result (λ count. Puts (state self.old) (state self.new) (take count piece.now)) }
+        ensures no_fault { IfOk result (λ count. (state self.new).faults ≡ (state self.old).faults) }
         ensures progress { 0 < length piece.now → IfOk result (λ count. 0 < count) }
-        ensures failed { OnErr result (Rose (faults self.old) (faults self.new)) }
-        ensures nothing_put { OnErr result (holds self.new ≡ holds self.old) }
-        ensures never_falls { faults self.old ≤ faults self.new };
+        ensures failed { OnErr result (Rose (state self.old).faults (state self.new).faults) }
+        ensures nothing_put { OnErr result ((state self.new).holds ≡ (state self.old).holds) };
 }
 
 /// Files by name.
 pub trait Shelf {
-    /// How often fetching has failed.
-    ghost faults: { Self → ℕ };
+    /// The files, the names asked for so far, and how often fetching failed.
+    ghost state: { Self → ShelfState };
 
-    /// The files as names with contents, where the shelf tells them. Of two with one name the first counts.
-    ghost files: { Self → Option (List (List ℕ × List ℕ)) };
-
-    /// The names asked for so far, where the shelf tells them.
-    ghost asked: { Self → Option (List (List ℕ)) };
-
-    /// Clears `into` and fills it with the file. Each call but one that finds no memory counts as asking for
-    /// the name.
+    /// Clears `into` and fills it with the file. Each call but one that runs out of memory counts as asking for
+    /// the name. After `TooLong` `into` holds the first 2^24 bytes of the file; after the other faults it is empty.
     fn fetch(&mut self, alloc: Global, name: &str, into: &mut Vec<u8>) -> Result<(), ShelfFault>
-        ensures given { OnOk result (Gives (files self.old) name.now into.new.items) }
+        ensures given { OnOk result (Gives (state self.old) name.now into.new.items) }
         ensures small { OnOk result (length into.new.items ≤ 2 ^ 24) }
-        ensures failed { IsErrOf result ShelfFault.Failed → Rose (faults self.old) (faults self.new) }
-        ensures too_long { IsErrOf result ShelfFault.TooLong → PassesLimit (files self.old) name.now into.new.items }
-        ensures asks { Asks (asked self.old) (asked self.new) name.now result }
-        ensures same_files { files self.new ≡ files self.old }
-        ensures never_falls { faults self.old ≤ faults self.new };
+        ensures too_long { IsErrOf result ShelfFault.TooLong → PassesLimit (state self.old) name.now into.new.items }
+        ensures failed { IsErrOf result ShelfFault.Failed → into.new.items ≡ [] }
+        ensures no_memory { IsErrOf result ShelfFault.NoMemory → into.new.items ≡ [] }
+        ensures counted { CountsFailure result (state self.old) (state self.new) }
+        ensures asks { Asks (state self.old) (state self.new) name.now result }
+        ensures same_files { (state self.new).files ≡ (state self.old).files };
 }

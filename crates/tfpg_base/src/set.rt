@@ -1,6 +1,6 @@
 //! Sets of failure modes.
 
-ghost use Rattle.std.specs.Prelude.{◌≡◌, ◌<◌, ◌^◌, ◌↔◌, [], IsTrue, Contains, length, bytes_eq, sum_by};
+ghost use Rattle.std.specs.Prelude.{◌≡◌, ◌⊎◌, ◌<◌, ◌^◌, ◌↔◌, [], ℕ, IsTrue, Contains, length, bytes_eq, sum_by};
 ghost use Rattle.std.specs.Cmp.{partial_equiv_from_equiv};
 ghost use Rattle.std.specs.Cmp.Lexicographic.{nat_list_eq_equiv};
 ghost use Rattle.tfpg_base.specs.Set.{with_member, IsPart, IsProperPart, IsSet};
@@ -63,7 +63,8 @@ impl Set {
     /// The set with this member.
     pub fn with(self, place: u32) -> Set
         requires { place < 64 }
-        ensures members { result ≡ with_member place self }
+        ensures list { result ≡ with_member place self }
+        ensures members { (other : ℕ) → Contains result other ↔ ((place ≡ other) ⊎ Contains self other) }
         ensures set { IsSet result }
     {
         Set {

@@ -1,7 +1,7 @@
 //! Traces: which node became active when.
 
 ghost use Rattle.std.specs.Prelude.{◌≡◌, [], IfOk, IfErr, OnOk, OnErr};
-ghost use Rattle.tfpg_base.specs.Trace.{IsRisingByNode, IsPlaceFor, StandsAt, time_of, with_time};
+ghost use Rattle.tfpg_base.specs.Trace.{IsRisingByNode, IsPlaceFor, StandsAt, TimesAfter, time_of, with_time};
 
 use crate::{Activation, NoMemory};
 use std::alloc::Global;
@@ -39,7 +39,8 @@ impl Trace {
     /// Gives the node that time, in place of the time that it may have. A node above all others costs the
     /// logarithm of the length, any other new one the length.
     pub fn set(&mut self, node: u32, time: u64) -> Result<(), NoMemory>
-        ensures ok { OnOk result (self.new ≡ with_time node time self.old) }
+        ensures list { OnOk result (self.new ≡ with_time node time self.old) }
+        ensures times { OnOk result (TimesAfter self.old self.new node time) }
         ensures err { OnErr result (self.new ≡ self.old) }
     {
         let activation = Activation { node, time };

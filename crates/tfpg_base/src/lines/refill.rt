@@ -2,10 +2,10 @@
 
 ghost use Rattle.std.specs.Prelude.{◌≡◌, ◌<◌, ◌≤◌, ◌+◌, ◌-◌, take, length, slice_range, vec_len, IfOk, OnErr, Ok};
 ghost use Rattle.tfpg_base.specs.Outside.{Rose, Takes, IsAtEnd};
-ghost use Rattle.tfpg_base.specs.Lines.{longest_line, max_bytes};
+ghost use Rattle.tfpg_base.specs.Lines.{longest_line, max_bytes, CountsReadFault};
 ghost use Rattle.tfpg_base.specs.LineSearch.{Refilled};
 
-use super::{Lines, ROOM, Span};
+use super::{Lines, Places, ROOM};
 use crate::{Failed, LineFault, Source};
 
 /// How many bytes a reader takes, but for one to see that there are more.
@@ -16,10 +16,10 @@ impl Lines {
     pub(super) fn refill<S: Source>(&mut self, source: &mut S) -> Result<usize, LineFault>
         requires short { length self.old.waiting ≤ longest_line }
         requires few { self.old.taken ≤ max_bytes }
-        ensures refilled { Refilled self.old (S.left source.old) (S.left source.new) (Rose (S.faults source.old) (S.faults source.new)) result self.new }
-        ensures never_falls { S.faults source.old ≤ S.faults source.new }
+        ensures refilled { Refilled self.old (S.state source.old) (S.state source.new) result self.new }
+        ensures counted { CountsReadFault result (S.state source.old) (S.state source.new) }
     {
-        self.text = Span::NONE;
+        self.text = Places::NONE;
         self.waiting = with_room(&mut self.buffer, self.waiting);
         let from = self.waiting.end;
         let to = from + wanted(self.taken, ROOM - from);
@@ -43,7 +43,7 @@ impl Lines {
 
 /// Where the bytes that wait stand once there is a place behind them. They are moved to the front of the buffer
 /// where there was none, and where none waits.
-fn with_room(buffer: &mut Vec<u8>, waiting: Span) -> Span
+fn with_room(buffer: &mut Vec<u8>, waiting: Places) -> Places
     requires room { vec_len buffer.old ≡ ROOM }
     requires order { waiting.start ≤ waiting.end }
     requires within { waiting.end ≤ ROOM }
@@ -57,7 +57,7 @@ fn with_room(buffer: &mut Vec<u8>, waiting: Span) -> Span
         return waiting;
     }
     buffer.copy_within(waiting.start..waiting.end, 0);
-    Span {
+    Places {
         start: 0,
         end: waiting.end - waiting.start,
     }
@@ -93,11 +93,11 @@ fn take_into<S: Source>(
     ensures room { vec_len buffer.new ≡ vec_len buffer.old }
     ensures front { take from buffer.new.items ≡ take from buffer.old.items }
     ensures within { IfOk result (λ count. count ≤ to - from) }
-    ensures taken { IfOk result (λ count. Takes (S.left source.old) (S.left source.new) (slice_range buffer.new.items from (from + count))) }
-    ensures end { result ≡ Ok 0 → IsAtEnd (S.left source.new) }
-    ensures failed { OnErr result (Rose (S.faults source.old) (S.faults source.new)) }
-    ensures nothing_taken { OnErr result (S.left source.new ≡ S.left source.old) }
-    ensures never_falls { S.faults source.old ≤ S.faults source.new }
+    ensures taken { IfOk result (λ count. Takes (S.state source.old) (S.state source.new) (slice_range buffer.new.items from (from + count))) }
+    ensures no_fault { IfOk result (λ count. (S.state source.new).faults ≡ (S.state source.old).faults) }
+    ensures end { result ≡ Ok 0 → IsAtEnd (S.state source.new) }
+    ensures failed { OnErr result (Rose (S.state source.old).faults (S.state source.new).faults) }
+    ensures nothing_taken { OnErr result ((S.state source.new).left ≡ (S.state source.old).left) }
 {
     source.take(&mut buffer[from..to])
 }

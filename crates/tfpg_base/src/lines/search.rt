@@ -1,11 +1,10 @@
 //! The search for the end of a line that has not come whole.
 
 ghost use Rattle.std.specs.Prelude.{◌≡◌, ◌<◌, ◌≤◌, ◌+◌, [], drop, length, None, Some, Ok};
-ghost use Rattle.tfpg_base.specs.Outside.{Rose};
-ghost use Rattle.tfpg_base.specs.Lines.{HasNoLineEnd, longest_line, max_bytes};
+ghost use Rattle.tfpg_base.specs.Lines.{HasNoLineEnd, longest_line, max_bytes, CountsReadFault};
 ghost use Rattle.tfpg_base.specs.LineSearch.{GivesLast, Searched};
 
-use super::{Lines, Span, line_end};
+use super::{Lines, Places, line_end};
 use crate::{LONGEST_LINE, Line, LineFault, Source};
 
 impl Lines {
@@ -14,8 +13,8 @@ impl Lines {
         requires goes_on { self.old.ended ≡ None }
         requires part { HasNoLineEnd self.old.waiting }
         requires few { self.old.taken ≤ max_bytes }
-        ensures searched { Searched self.old (S.left source.old) (S.left source.new) (Rose (S.faults source.old) (S.faults source.new)) result self.new }
-        ensures never_falls { S.faults source.old ≤ S.faults source.new }
+        ensures searched { Searched self.old (S.state source.old) (S.state source.new) result self.new }
+        ensures counted { CountsReadFault result (S.state source.old) (S.state source.new) }
     {
         loop {
             let seen = self.waiting().len();
@@ -37,8 +36,8 @@ impl Lines {
         requires part { HasNoLineEnd self.old.waiting }
         requires long { longest_line < length self.old.waiting }
         requires few { self.old.taken ≤ max_bytes }
-        ensures searched { Searched self.old (S.left source.old) (S.left source.new) (Rose (S.faults source.old) (S.faults source.new)) result self.new }
-        ensures never_falls { S.faults source.old ≤ S.faults source.new }
+        ensures searched { Searched self.old (S.state source.old) (S.state source.new) result self.new }
+        ensures counted { CountsReadFault result (S.state source.old) (S.state source.new) }
     {
         loop {
             self.drop_waiting();
@@ -78,7 +77,7 @@ impl Lines {
         ensures ended { self.new.ended ≡ self.old.ended }
         ensures lines { self.old.number + length self.old.waiting ≤ self.old.taken }
     {
-        self.waiting = Span::NONE;
+        self.waiting = Places::NONE;
     }
 
     /// Passes so many of the bytes that wait and the line end behind them, as the rest of a line that is too long.
@@ -90,7 +89,7 @@ impl Lines {
         ensures taken { self.new.taken ≡ self.old.taken }
         ensures ended { self.new.ended ≡ self.old.ended }
     {
-        self.text = Span::NONE;
+        self.text = Places::NONE;
         self.waiting.start += count + 1;
         self.number += 1;
     }
@@ -104,8 +103,8 @@ impl Lines {
         ensures ended { self.new.ended ≡ Some (Ok Line.End) }
     {
         self.ended = Some(Ok(Line::End));
-        self.text = Span::NONE;
-        self.waiting = Span::NONE;
+        self.text = Places::NONE;
+        self.waiting = Places::NONE;
         self.number += 1;
     }
 }

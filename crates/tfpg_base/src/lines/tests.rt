@@ -12,13 +12,12 @@ struct Pieces<'a> {
     left: &'a [u8],
     piece: usize,
     fails: bool,
+    ended: bool,
     faults: u64,
 }
 
 impl Source for Pieces<'_> {
-    ghost faults = { λ s. s.faults };
-
-    ghost left = { λ s. Some s.left.now };
+    ghost state = { λ s. record { left = Some s.left.now; ended = s.ended; faults = s.faults } };
 
     fn take(&mut self, room: &mut [u8]) -> Result<usize, Failed> {
         if self.fails && self.left.is_empty() {
@@ -28,6 +27,9 @@ impl Source for Pieces<'_> {
         let count = room.len().min(self.left.len()).min(self.piece.max(1));
         room[..count].copy_from_slice(&self.left[..count]);
         self.left = &self.left[count..];
+        if count == 0 && !room.is_empty() {
+            self.ended = true;
+        }
         Ok(count)
     }
 }
@@ -38,6 +40,7 @@ fn answers(alloc: Global, text: &[u8], piece: usize, fails: bool) -> Result<Vec<
         left: text,
         piece,
         fails,
+        ended: false,
         faults: 0,
     };
     let mut lines = Lines::new(alloc)?;
@@ -102,6 +105,7 @@ fn numbers_count_every_line(rt: HostRuntime) -> Result<(), Fail> {
         left: b"a\n\nb",
         piece: 3,
         fails: false,
+        ended: false,
         faults: 0,
     };
     let mut lines = Lines::new(rt.alloc())?;

@@ -1,5 +1,7 @@
 //! A sink that never fails.
 
+ghost use Rattle.std.specs.Prelude.{◌≡◌, length, Ok};
+
 use crate::{Failed, Sink};
 
 /// A sink that keeps nothing and never fails: its count of faults is the constant 0. It tells nothing.
@@ -9,11 +11,11 @@ pub struct Discard;
 impl Sink for Discard {
     ghost use Rattle.std.specs.Prelude.{None};
 
-    ghost faults = { λ _. 0 };
+    ghost state = { λ _. record { holds = None; faults = 0 } };
 
-    ghost holds = { λ _. None };
-
-    fn put(&mut self, piece: &[u8]) -> Result<usize, Failed> {
+    fn put(&mut self, piece: &[u8]) -> Result<usize, Failed>
+        ensures { result ≡ Ok (length piece.now) }
+    {
         Ok(piece.len())
     }
 }

@@ -2,7 +2,6 @@
 
 ghost use Rattle.std.specs.Prelude.{◌≡◌, ◌≤◌, ◌↔◌, IsTrue, Contains};
 ghost use Rattle.tfpg_base.specs.Memory.{count_after};
-ghost use Rattle.std.specs.Bool.{OnFalse, OnTrue};
 ghost use Rattle.tfpg_base.specs.Outside.{Rose};
 
 /// Counts calls and faults. The calls with these numbers, from 1, are to fail.
@@ -27,29 +26,21 @@ impl<'a> FailingCalls<'a> {
         }
     }
 
-    /// Counts a call, and says whether it is to fail. That counts as a fault.
+    /// Counts a call, and says whether it is to fail.
     pub(crate) fn next_fails(&mut self) -> bool
         ensures counted { self.new.calls ≡ count_after self.old.calls }
-        ensures fails { IsTrue result ↔ Contains self.old.failing.now self.new.calls }
-        ensures failed { OnTrue result (self.new.faults ≡ count_after self.old.faults) }
-        ensures went_on { OnFalse result (self.new.faults ≡ self.old.faults) }
-        ensures rose { OnTrue result (Rose self.old.faults self.new.faults) }
-        ensures never_falls { self.old.faults ≤ self.new.faults }
+        ensures fails { IsTrue result ↔ Contains self.old.failing.now (count_after self.old.calls) }
+        ensures same_faults { self.new.faults ≡ self.old.faults }
         ensures same_failing { self.new.failing.now ≡ self.old.failing.now }
     {
         self.calls = self.calls.saturating_add(1);
-        let fails = self.failing.contains(&self.calls);
-        if fails {
-            self.raise();
-        }
-        fails
+        self.failing.contains(&self.calls)
     }
 
     /// Counts a fault.
     pub(crate) fn raise(&mut self)
         ensures counted { self.new.faults ≡ count_after self.old.faults }
         ensures rose { Rose self.old.faults self.new.faults }
-        ensures never_falls { self.old.faults ≤ self.new.faults }
         ensures same_calls { self.new.calls ≡ self.old.calls }
         ensures same_failing { self.new.failing.now ≡ self.old.failing.now }
     {

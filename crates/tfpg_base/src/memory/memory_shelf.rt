@@ -1,10 +1,10 @@
 //! A shelf of files in memory, which fails at chosen calls.
 
-ghost use Rattle.std.specs.Prelude.{◌≡◌, ◌<◌, ◌≤◌, ◌^◌, [], ◌∷◌, ◌++◌, map, OnOk, OnErr, Some};
+ghost use Rattle.std.specs.Prelude.{◌≡◌, ◌<◌, ◌≤◌, ◌^◌, [], ◌∷◌, ◌++◌, length, map, OnOk, OnErr, IsErrOf, Some};
 ghost use Rattle.std.specs.String.{string_bytes};
 ghost use Rattle.std.specs.Option.{option_copied};
-ghost use Rattle.tfpg_base.specs.Outside.{file_of, Rose};
-ghost use Rattle.tfpg_base.specs.Memory.{Fetches};
+ghost use Rattle.tfpg_base.specs.Outside.{file_of, Gives, PassesLimit, CountsFailure, Asks};
+ghost use Rattle.tfpg_base.specs.Memory.{shelf_state, Copies, Fetches, FailsNext, after_fetch};
 
 use super::failing_calls::FailingCalls;
 use crate::{LONGEST_FILE, NoMemory, Shelf, ShelfFault};
@@ -74,54 +74,58 @@ impl<'a> MemoryShelf<'a> {
 }
 
 impl<'a> Shelf for MemoryShelf<'a> {
-    ghost use Rattle.std.specs.Prelude.{Some};
+    ghost use Rattle.tfpg_base.specs.Memory.{shelf_state};
 
-    ghost faults = { λ shelf. shelf.faults };
+    ghost state = { shelf_state };
 
-    ghost files = { λ shelf. Some shelf.files };
-
-    ghost asked = { λ shelf. Some shelf.asked };
-
-    fn fetch(&mut self, alloc: Global, name: &str, into: &mut Vec<u8>) -> Result<(), ShelfFault> {
+    fn fetch(&mut self, alloc: Global, name: &str, into: &mut Vec<u8>) -> Result<(), ShelfFault>
+        ensures given { OnOk result (Gives (shelf_state self.old) name.now into.new.items) }
+        ensures small { OnOk result (length into.new.items ≤ 2 ^ 24) }
+        ensures too_long { IsErrOf result ShelfFault.TooLong → PassesLimit (shelf_state self.old) name.now into.new.items }
+        ensures failed { IsErrOf result ShelfFault.Failed → into.new.items ≡ [] }
+        ensures no_memory { IsErrOf result ShelfFault.NoMemory → into.new.items ≡ [] }
+        ensures counted { CountsFailure result (shelf_state self.old) (shelf_state self.new) }
+        ensures asks { Asks (shelf_state self.old) (shelf_state self.new) name.now result }
+        ensures same_files { (shelf_state self.new).files ≡ (shelf_state self.old).files }
+        ensures fetched { Fetches (FailsNext self.old.failing self.old.calls) (file_of self.old.files name.now) into.new.items result }
+        ensures now { self.new ≡ after_fetch self.old name.now result }
+    {
         into.clear();
-        let answer = self.give(name, into);
-        if answer != Err(ShelfFault::NoMemory) {
-            self.note(alloc, name).map_err(|_| ShelfFault::NoMemory)?;
+        let fails = self.calls.next_fails();
+        note(&mut self.asked, alloc, name).map_err(|_| ShelfFault::NoMemory)?;
+        if fails {
+            self.calls.raise();
+            return Err(ShelfFault::Failed);
+        }
+        let answer = copy_named(self.files, name, into);
+        match answer {
+            Err(ShelfFault::Failed) => self.calls.raise(),
+            Err(ShelfFault::NoMemory) => {
+                let _ = self.asked.pop();
+            }
+            Err(ShelfFault::TooLong) | Ok(()) => {}
         }
         answer
     }
 }
 
-impl<'a> MemoryShelf<'a> {
-    /// Gives the file of that name, and counts a fault where the call is to fail or there is no such file.
-    fn give(&mut self, name: &str, into: &mut Vec<u8>) -> Result<(), ShelfFault>
-        requires { into.old.items ≡ [] }
-        ensures fetched { Fetches (file_of self.old.files name.now) (Rose self.old.faults self.new.faults) into.new.items result }
-        ensures never_falls { self.old.faults ≤ self.new.faults }
-        ensures same_files { self.new.files ≡ self.old.files }
-        ensures same_asked { self.new.asked ≡ self.old.asked }
-    {
-        if self.calls.next_fails() {
-            return Err(ShelfFault::Failed);
-        }
-        match find(self.files, name) {
-            Some(content) => copy_file(content, into),
-            None => {
-                self.calls.raise();
-                Err(ShelfFault::Failed)
-            }
-        }
-    }
+/// Notes that this name was asked for.
+fn note(asked: &mut Vec<String>, alloc: Global, name: &str) -> Result<(), NoMemory>
+    ensures ok { OnOk result (map string_bytes asked.new.items ≡ map string_bytes asked.old.items ++ name.now ∷ []) }
+    ensures err { OnErr result (asked.new.items ≡ asked.old.items) }
+{
+    asked.push(String::from_str(alloc, name)?)?;
+    Ok(())
+}
 
-    /// Notes that this name was asked for.
-    fn note(&mut self, alloc: Global, name: &str) -> Result<(), NoMemory>
-        ensures ok { OnOk result (self.new.asked ≡ self.old.asked ++ name.now ∷ []) }
-        ensures err { OnErr result (self.new.asked ≡ self.old.asked) }
-        ensures same_files { self.new.files ≡ self.old.files }
-        ensures same_faults { self.new.faults ≡ self.old.faults }
-    {
-        self.asked.push(String::from_str(alloc, name)?)?;
-        Ok(())
+/// Copies the file of that name into the empty room, as far as a file may go.
+fn copy_named(files: &[(&str, &[u8])], name: &str, into: &mut Vec<u8>) -> Result<(), ShelfFault>
+    requires { into.old.items ≡ [] }
+    ensures { Copies (file_of (map (λ file. (file.0.now, file.1.now)) files.now) name.now) into.new.items result }
+{
+    match find(files, name) {
+        Some(content) => copy_file(content, into),
+        None => Err(ShelfFault::Failed),
     }
 }
 
@@ -140,7 +144,7 @@ fn find<'a>(files: &[(&str, &'a [u8])], name: &str) -> Option<&'a [u8]>
 /// Copies the content of a file into the empty room, as far as a file may go.
 fn copy_file(content: &[u8], into: &mut Vec<u8>) -> Result<(), ShelfFault>
     requires { into.old.items ≡ [] }
-    ensures { Fetches (Some content.now) ⊥ into.new.items result }
+    ensures { Copies (Some content.now) into.new.items result }
 {
     let (kept, more) = content.split_at(content.len().min(LONGEST_FILE));
     if into.extend_from_slice(kept).is_err() {

@@ -1,6 +1,8 @@
 //! A sink that keeps its bytes, and fails at chosen calls.
 
-ghost use Rattle.std.specs.Prelude.{◌≡◌, ◌<◌, []};
+ghost use Rattle.std.specs.Prelude.{◌≡◌, ◌<◌, ◌≤◌, [], min, take, length, IsErr, IfOk, OnErr};
+ghost use Rattle.tfpg_base.specs.Outside.{Puts, Rose};
+ghost use Rattle.tfpg_base.specs.Memory.{sink_state, FailsNext, after_put};
 
 use super::failing_calls::FailingCalls;
 use crate::{Failed, Sink};
@@ -63,14 +65,23 @@ impl<'a> MemorySink<'a> {
 }
 
 impl<'a> Sink for MemorySink<'a> {
-    ghost use Rattle.std.specs.Prelude.{Some};
+    ghost use Rattle.tfpg_base.specs.Memory.{sink_state};
 
-    ghost faults = { λ sink. sink.faults };
+    ghost state = { sink_state };
 
-    ghost holds = { λ sink. Some sink.holds };
-
-    fn put(&mut self, piece: &[u8]) -> Result<usize, Failed> {
+    fn put(&mut self, piece: &[u8]) -> Result<usize, Failed>
+        ensures within { IfOk result (λ count. count ≤ length piece.now) }
+        ensures put { IfOk result (λ count. Puts (sink_state self.old) (sink_state self.new) (take count piece.now)) }
+        ensures no_fault { IfOk result (λ count. (sink_state self.new).faults ≡ (sink_state self.old).faults) }
+        ensures progress { 0 < length piece.now → IfOk result (λ count. 0 < count) }
+        ensures failed { OnErr result (Rose (sink_state self.old).faults (sink_state self.new).faults) }
+        ensures nothing_put { OnErr result ((sink_state self.new).holds ≡ (sink_state self.old).holds) }
+        ensures fails { FailsNext self.old.failing self.old.calls → IsErr result }
+        ensures count { IfOk result (λ count. count ≡ min (length piece.now) self.old.most) }
+        ensures now { self.new ≡ after_put self.old piece.now result }
+    {
         if self.calls.next_fails() {
+            self.calls.raise();
             return Err(Failed);
         }
         let count = piece.len().min(self.most);

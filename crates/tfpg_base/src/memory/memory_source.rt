@@ -1,6 +1,8 @@
 //! A source that fails at chosen calls.
 
-ghost use Rattle.std.specs.Prelude.{◌≡◌, ◌<◌};
+ghost use Rattle.std.specs.Prelude.{◌≡◌, ◌⊎◌, ◌<◌, ◌≤◌, ◌↔◌, false, length, take, IsErr, IsTrue, IfOk, OnErr, Ok};
+ghost use Rattle.tfpg_base.specs.Outside.{Takes, IsAtEnd, Rose};
+ghost use Rattle.tfpg_base.specs.Memory.{source_state, FailsNext, count_given, after_take, filled};
 
 use super::failing_calls::FailingCalls;
 use crate::{Failed, Source};
@@ -12,6 +14,7 @@ pub struct MemorySource<'a> {
     left: &'a [u8],
     most: usize,
     calls: FailingCalls<'a>,
+    ended: bool,
 }
 
 impl<'a> Model for MemorySource<'a> {
@@ -26,6 +29,7 @@ impl<'a> Model for MemorySource<'a> {
       failing = source.calls.failing.now;
       calls = source.calls.calls;
       faults = source.calls.faults;
+      ended = source.ended;
     } };
 
     ghost invariant = { λ source. 0 < source.most };
@@ -36,12 +40,13 @@ impl<'a> MemorySource<'a> {
     /// numbers. Takes no memory.
     pub fn new(bytes: &'a [u8], most: usize, failing: &'a [u64]) -> MemorySource<'a>
         requires { 0 < most }
-        ensures { result ≡ record { left = bytes.now; most = most; failing = failing.now; calls = 0; faults = 0 } }
+        ensures { result ≡ record { left = bytes.now; most = most; failing = failing.now; calls = 0; faults = 0; ended = false } }
     {
         MemorySource {
             left: bytes,
             most,
             calls: FailingCalls::new(failing),
+            ended: false,
         }
     }
 
@@ -61,20 +66,34 @@ impl<'a> MemorySource<'a> {
 }
 
 impl<'a> Source for MemorySource<'a> {
-    ghost use Rattle.std.specs.Prelude.{Some};
+    ghost use Rattle.tfpg_base.specs.Memory.{source_state};
 
-    ghost faults = { λ source. source.faults };
+    ghost state = { source_state };
 
-    ghost left = { λ source. Some source.left };
-
-    fn take(&mut self, room: &mut [u8]) -> Result<usize, Failed> {
+    fn take(&mut self, room: &mut [u8]) -> Result<usize, Failed>
+        ensures within { IfOk result (λ count. count ≤ length room.old) }
+        ensures taken { IfOk result (λ count. Takes (source_state self.old) (source_state self.new) (take count room.new)) }
+        ensures no_fault { IfOk result (λ count. (source_state self.new).faults ≡ (source_state self.old).faults) }
+        ensures end { result ≡ Ok 0 → 0 < length room.old → IsAtEnd (source_state self.new) }
+        ensures ended { IsTrue (source_state self.new).ended ↔ (IsTrue (source_state self.old).ended ⊎ ((result ≡ Ok 0) × (0 < length room.old))) }
+        ensures failed { OnErr result (Rose (source_state self.old).faults (source_state self.new).faults) }
+        ensures nothing_taken { OnErr result ((source_state self.new).left ≡ (source_state self.old).left) }
+        ensures fails { IsErr result ↔ FailsNext self.old.failing self.old.calls }
+        ensures given { IfOk result (λ count. count ≡ count_given self.old (length room.old)) }
+        ensures now { self.new ≡ after_take self.old (length room.old) result }
+        ensures room { room.new ≡ filled self.old.left room.old result }
+    {
         if self.calls.next_fails() {
+            self.calls.raise();
             return Err(Failed);
         }
         let count = self.left.len().min(room.len()).min(self.most);
         let (given, left) = self.left.split_at(count);
         room[..count].copy_from_slice(given);
         self.left = left;
+        if count == 0 && !room.is_empty() {
+            self.ended = true;
+        }
         Ok(count)
     }
 }

@@ -1,6 +1,8 @@
 //! A source that never fails.
 
-ghost use Rattle.std.specs.Prelude.{◌≡◌};
+ghost use Rattle.std.specs.Prelude.{◌≡◌, ◌⊎◌, ◌<◌, ◌≤◌, ◌↔◌, false, length, take, drop, min, IsTrue, IfOk, OnErr, Ok};
+ghost use Rattle.tfpg_base.specs.Outside.{Takes, IsAtEnd, Rose};
+ghost use Rattle.tfpg_base.specs.Memory.{steady_state, ended_after, filled};
 
 use crate::{Failed, Source};
 use std::marker::Model;
@@ -10,44 +12,61 @@ use std::marker::Model;
 #[derive(Debug, Drop)]
 pub struct SteadySource<'a> {
     left: &'a [u8],
+    ended: bool,
 }
 
 impl<'a> Model for SteadySource<'a> {
-    ghost use Rattle.std.specs.Prelude.{ℕ, List};
+    ghost use Rattle.tfpg_base.specs.Memory.{SteadyBytes};
 
-    ghost Value = { List ℕ };
+    ghost Value = { SteadyBytes };
 
-    ghost view = { λ source. source.left.now };
+    ghost view = { λ source. record { left = source.left.now; ended = source.ended } };
 }
 
 impl<'a> SteadySource<'a> {
     /// A source of these bytes. Takes no memory.
     pub fn new(bytes: &'a [u8]) -> SteadySource<'a>
-        ensures { result ≡ bytes.now }
+        ensures { result ≡ record { left = bytes.now; ended = false } }
     {
-        SteadySource { left: bytes }
+        SteadySource {
+            left: bytes,
+            ended: false,
+        }
     }
 
     /// The bytes that are left.
     pub fn left(&self) -> &[u8]
-        ensures { result.now ≡ self.now }
+        ensures { result.now ≡ self.now.left }
     {
         self.left
     }
 }
 
 impl<'a> Source for SteadySource<'a> {
-    ghost use Rattle.std.specs.Prelude.{Some};
+    ghost use Rattle.tfpg_base.specs.Memory.{steady_state};
 
-    ghost faults = { λ _. 0 };
+    ghost state = { steady_state };
 
-    ghost left = { λ source. Some source };
-
-    fn take(&mut self, room: &mut [u8]) -> Result<usize, Failed> {
+    fn take(&mut self, room: &mut [u8]) -> Result<usize, Failed>
+        ensures within { IfOk result (λ count. count ≤ length room.old) }
+        ensures taken { IfOk result (λ count. Takes (steady_state self.old) (steady_state self.new) (take count room.new)) }
+        ensures no_fault { IfOk result (λ count. (steady_state self.new).faults ≡ (steady_state self.old).faults) }
+        ensures end { result ≡ Ok 0 → 0 < length room.old → IsAtEnd (steady_state self.new) }
+        ensures ended { IsTrue (steady_state self.new).ended ↔ (IsTrue (steady_state self.old).ended ⊎ ((result ≡ Ok 0) × (0 < length room.old))) }
+        ensures failed { OnErr result (Rose (steady_state self.old).faults (steady_state self.new).faults) }
+        ensures nothing_taken { OnErr result ((steady_state self.new).left ≡ (steady_state self.old).left) }
+        ensures given { result ≡ Ok (min (length self.old.left) (length room.old)) }
+        ensures left { self.new.left ≡ drop (length room.old) self.old.left }
+        ensures has_ended { self.new.ended ≡ ended_after self.old.ended (length self.old.left) (length room.old) }
+        ensures room { room.new ≡ filled self.old.left room.old result }
+    {
         let count = self.left.len().min(room.len());
         let (given, left) = self.left.split_at(count);
         room[..count].copy_from_slice(given);
         self.left = left;
+        if count == 0 && !room.is_empty() {
+            self.ended = true;
+        }
         Ok(count)
     }
 }

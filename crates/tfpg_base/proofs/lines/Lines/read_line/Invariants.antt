@@ -1,13 +1,10 @@
-use Rattle.std.proofs.Common.{◌≤◌, ◌+◌, ◌-◌}
+use Rattle.std.proofs.Common.{◌+◌, ◌-◌}
 use Rattle.tfpg_base.specs.Lines.{max_bytes}
 use Rattle.tfpg_base.proofs.Searches.{IsReading}
 use Rattle.tfpg_base.proofs.lines.Lines.read_line.Given as goal
 
 abbrev pub invariant-loop-self : goal.invariant-loop-self
-invariant-loop-self g l = record {
-  reading : IsReading l.fn.self l.self (g.S.Source.left l.fn.source) (g.S.Source.left l.source);
-  faults : g.S.Source.faults l.fn.source ≤ g.S.Source.faults l.source;
-}
+invariant-loop-self g l = IsReading l.fn.self l.self (g.S.Source.state l.fn.source) (g.S.Source.state l.source)
 
 abbrev pub decreases-loop-self : goal.decreases-loop-self
 decreases-loop-self g l = max_bytes + 1 - l.self.taken

@@ -18,7 +18,7 @@ returns-then-self-gt-MOST-clause-refilled g c =
     let all : c.self.inside.taken + count ≡ max_bytes + 1 = omega (arith, one, taken, c.requires.few, c.if-self-gt-MOST.true) in (
       only.0,
       record {
-        takes = Takes-same (g.S.Source.left c.args.source.now) (g.S.Source.left c.take_into.new.source) (slice_range items r.end (r.end + count)) (only.0 ∷ []) only.1 c.in-Ok.ensures.taken;
+        takes = Takes-same (g.S.Source.state c.args.source.now) (g.S.Source.state c.take_into.new.source) (slice_range items r.end (r.end + count)) (only.0 ∷ []) only.1 c.in-Ok.ensures.taken;
         count = omega (arith, one, taken);
       },
       all,
@@ -37,6 +37,7 @@ returns-else-self-gt-MOST-clause-refilled g c =
       more = more;
       took = record { takes = c.in-Ok.ensures.taken; count = omega (arith, written, ap (λ (b : Buffered). b.taken) c.self.view_is) };
       length = written;
+      small = omega (arith, c.in-Ok.ensures.within, c.wanted.ensures.within);
       end = λ e. c.in-Ok.ensures.end (ap (λ n. let taken : Result ℕ Failed = Ok n in taken) e);
       few = c.if-self-gt-MOST.false;
       waiting =

@@ -1,16 +1,14 @@
-use Rattle.std.proofs.Common.{◌≡◌, ◌<◌, ◌≤◌, ◌+◌, ◌-◌, length, None}
+use Rattle.std.proofs.Common.{◌≡◌, ◌<◌, ◌+◌, ◌-◌, length, None}
 use Rattle.tfpg_base.specs.Lines.{max_bytes}
 use Rattle.tfpg_base.proofs.Searches.{SoFar}
 use Rattle.tfpg_base.proofs.lines.Lines.skip_line.Given as goal
 
 abbrev pub invariant-loop-self : goal.invariant-loop-self
 invariant-loop-self g l = record {
-  so_far : SoFar l.fn.self (g.S.Source.left l.fn.source) (g.S.Source.left l.source) l.self.taken;
+  so_far : SoFar l.fn.self (g.S.Source.state l.fn.source) (g.S.Source.state l.source) l.self.taken;
   some : 0 < length l.self.waiting;
-  few : l.self.taken ≤ max_bytes;
   number : l.self.number ≡ l.fn.self.number;
   ended : l.self.ended ≡ None;
-  faults : g.S.Source.faults l.fn.source ≤ g.S.Source.faults l.source;
 }
 
 abbrev pub decreases-loop-self : goal.decreases-loop-self
