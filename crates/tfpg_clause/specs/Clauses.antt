@@ -12,6 +12,7 @@ use Rattle.tfpg_log.specs.declared.span.Window.{Window}
 use Rattle.tfpg_log.specs.Spans.{span_at, window_of, joint_of}
 use Rattle.tfpg_evidence.specs.declared.clause_name.ClauseName.{ClauseName}
 use Rattle.tfpg_evidence.specs.declared.clause_name.ClauseName.TheVariants.{OrMay, AndMay, OrMust, AndMust}
+use Rattle.tfpg_clause.specs.declared.due.Due.{Due}
 use Rattle.tfpg_clause.specs.Bounds.{at_most, at_least, at_most_after, at_least_after, Meets}
 
 -- The node becomes active before the span; or after it.
@@ -25,14 +26,6 @@ arrival log number horizon span edge =
     option_and_then (λ window. then_some (nat_le (window.lo + edge.tmin) span.hi)
     (at_least_after edge.target edge.source edge.tmin ∷ at_least edge.target (max span.lo (window.lo + edge.tmin)) ∷ at_most edge.target (pos span.hi) ∷ []))
     (window_of log edge number horizon)
-
--- a failure on its way over an edge with a finite greatest delay: by when it arrives, if it has been on its way since the
--- beginning of the edge's window
-pub record Due : Type 0 where
-  pub source : ℕ
-  pub target : ℕ
-  pub tmax : ℕ
-  pub by : ℕ
 
 -- what is due over an edge, where its greatest delay is finite and it is active in the span
 abbrev pub due_over : Logbook → ℕ → ℕ → Edge → Option Due
@@ -57,39 +50,39 @@ abbrev pub must_alternatives : ℕ → ℕ → List Due → List (List Constrain
 must_alternatives target hi dues =
     map (starts_late hi) dues ++ map follows_in_time dues ++ (at_most target (pos (latest_of dues)) ∷ []) ∷ []
 
--- There is a must where the window begins with this span and has room for each greatest delay.
+-- The clause that a node becomes active in a span only where the failure arrives by one of these edges, where the test holds.
+abbrev pub may_by : Logbook → Bool → ℕ → List Edge → ℕ → ℕ → Option (List (List Constraint))
+may_by log holds target edges number horizon =
+    option_and_then (λ span. then_some holds (outside_span target span ++ filter_map (arrival log number horizon span) edges)) (span_at log number horizon)
+
+-- The clause that a node is active once the failure is due by all these edges, in a window that begins with the span and has
+-- room for each greatest delay.
 abbrev pub must_in : ℕ → ℕ → Window → List Due → Option (List (List Constraint))
 must_in target number window dues =
     then_some ((window.first == number) && list_all (λ due. nat_le due.by window.hi) dues) (must_alternatives target window.hi dues)
 
+-- The same, where the test holds, there is the window, and each greatest delay is finite.
+abbrev pub must_by : Logbook → Bool → ℕ → List Edge → Option Window → ℕ → ℕ → Option (List (List Constraint))
+must_by log holds target edges window number horizon =
+    if holds then option_and_then (λ dues. option_and_then (λ w. must_in target number w dues) window) (each_of (map (due_over log number horizon) edges)) else None
+
 -- the clause that an OR node becomes active in a span only where the failure arrives by some edge
 abbrev pub or_may : Tfpg → Logbook → ℕ → ℕ → ℕ → Option (List (List Constraint))
-or_may graph log node number horizon =
-    option_and_then (λ span. then_some (is_kind_at is_or graph node)
-    (outside_span node span ++ filter_map (arrival log number horizon span) (edges_into graph node)))
-    (span_at log number horizon)
+or_may graph log node number horizon = may_by log (is_kind_at is_or graph node) node (edges_into graph node) number horizon
 
 -- the clause that an AND node becomes active in a span only where the failure arrives by this edge
 abbrev pub and_may : Tfpg → Logbook → Edge → ℕ → ℕ → Option (List (List Constraint))
-and_may graph log edge number horizon =
-    option_and_then (λ span. then_some (is_kind_at is_and graph edge.target)
-    (outside_span edge.target span ++ filter_map (arrival log number horizon span) (edge ∷ [])))
-    (span_at log number horizon)
+and_may graph log edge number horizon = may_by log (is_kind_at is_and graph edge.target) edge.target (edge ∷ []) number horizon
 
 -- the clause that an OR node is active once the failure is due by this edge
 abbrev pub or_must : Tfpg → Logbook → Edge → ℕ → ℕ → Option (List (List Constraint))
 or_must graph log edge number horizon =
-    if is_kind_at is_or graph edge.target
-    then option_and_then (λ due. option_and_then (λ window. must_in edge.target number window (due ∷ [])) (window_of log edge number horizon)) (due_over log number horizon edge)
-    else None
+    must_by log (is_kind_at is_or graph edge.target) edge.target (edge ∷ []) (window_of log edge number horizon) number horizon
 
 -- the clause that an AND node is active once the failure is due by all edges
 abbrev pub and_must : Tfpg → Logbook → ℕ → ℕ → ℕ → Option (List (List Constraint))
 and_must graph log node number horizon =
-    if is_kind_at is_and graph node
-    then option_and_then (λ dues. option_and_then (λ window. must_in node number window dues) (joint_of graph log node number horizon))
-    (each_of (map (due_over log number horizon) (edges_into graph node)))
-    else None
+    must_by log (is_kind_at is_and graph node) node (edges_into graph node) (joint_of graph log node number horizon) number horizon
 
 -- The alternatives of a clause in order, each a list of constraints, where the name is allowed at the log.
 abbrev pub alternatives : Tfpg → Logbook → ClauseName → Option (List (List Constraint))

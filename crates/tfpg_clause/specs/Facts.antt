@@ -1,5 +1,5 @@
 -- Facts: constraints that every trace meets which explains the log from a set with this reach.
-use Rattle.std.specs.Prelude.{◌≡◌, ℕ, ◌≤◌, ◌+◌, ◌-◌, pos, List, length, Bool, not, ◌&&◌, nat_lt, nat_le, if◌then◌else◌, Option, Some, None, unwrap_or, option_map, option_and_then}
+use Rattle.std.specs.Prelude.{◌≡◌, ℕ, ◌≤◌, ◌+◌, ◌-◌, pos, List, length, not, ◌&&◌, nat_lt, nat_le, Option, Some, None, unwrap_or, option_map, option_and_then}
 use Rattle.std.specs.Bool.{then_some}
 use Rattle.tfpg_base.specs.Times.{never}
 use Rattle.tfpg_base.specs.declared.constraint.Constraint.{Constraint}

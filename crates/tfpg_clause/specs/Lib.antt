@@ -8,3 +8,5 @@ pub mod Clauses
 pub mod Order
 pub mod Cut
 pub mod Trees
+-- what proofs alone need
+pub mod inside
