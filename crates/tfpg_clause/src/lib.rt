@@ -1,5 +1,21 @@
 //! Facts, clauses and refutations: the language of the evidence.
 //!
-//! So far the crate has their definitions alone, in `specs/`: which constraints are facts of a log and a reach, which
-//! clauses every trace meets, and which lists of steps refute a set of failure modes.
+//! - [`fact`] is the constraint that a reason states, where it is a fact of the log and of a set with this reach.
+//! - [`NotAFact`] says that it is none.
+//! - [`laws`] ties facts, clauses and refutations to the traces that explain a log.
+//!
+//! Its definitions, in `specs/`, say which constraints are facts of a log and a reach, which clauses every trace meets,
+//! and which lists of steps refute a set of failure modes.
 #![tactic(auto)]
+
+mod alternative;
+mod bounds;
+mod clauses;
+mod due;
+mod facts;
+pub mod laws;
+mod may;
+mod must;
+
+pub use clauses::{NotAClause, constraint, count};
+pub use facts::{NotAFact, fact};

@@ -1,0 +1,57 @@
+-- The clauses of a name, by what was found of it.
+use Rattle.std.proofs.Common.{◌≡◌, ℕ, Bool, true, cond, nat_eq, List, [], ◌∷◌, ◌++◌, Option, Some, None, sym, ap, ◌∙◌}
+use Rattle.std.specs.Prelude.{map, filter_map, option_map, option_and_then}
+use Rattle.std.specs.Bool.{then_some}
+use Rattle.tfpg_base.specs.Choice.{each_of}
+use Rattle.tfpg_base.specs.declared.constraint.Constraint.{Constraint}
+use Rattle.tfpg_graph.specs.declared.edge.Edge.{Edge}
+use Rattle.tfpg_graph.specs.Graph.{Tfpg, is_kind_at, is_or, is_and, incoming, edges_into}
+use Rattle.tfpg_log.specs.declared.span.Span.{Span}
+use Rattle.tfpg_log.specs.declared.span.Window.{Window}
+use Rattle.tfpg_log.specs.Log.{Logbook}
+use Rattle.tfpg_log.specs.Spans.{span_at, window_of, joint_of}
+use Rattle.tfpg_clause.specs.declared.due.Due.{Due}
+use Rattle.tfpg_clause.specs.Clauses.{outside_span, arrival, due_over, must_in, may_by, must_by, or_may, or_must, and_must}
+use Rattle.tfpg_clause.specs.inside.Alternatives.{arrivals_over, dues_over}
+use Rattle.tfpg_clause.proofs.ByNumber.{filtered_by_number, mapped_by_number}
+
+module _ (log : Logbook) (holds : Bool) (target : ℕ) (edges : List Edge) (number horizon : ℕ) (passes : holds ≡ true) where
+  -- a may clause, where there is the span
+  pub may_found : (span : Span) (arrivals : List (List Constraint)) → span_at log number horizon ≡ Some span → filter_map (arrival log number horizon span) edges ≡ arrivals
+      → may_by log holds target edges number horizon ≡ Some (outside_span target span ++ arrivals)
+  may_found span arrivals at are =
+      ap (option_and_then (λ (s : Span). then_some holds (outside_span target s ++ filter_map (arrival log number horizon s) edges))) at
+      ∙ (λ i. then_some (passes i) (outside_span target span ++ are i))
+
+  -- a must clause, where there is the window
+  pub must_found : (window : Option Window) (w : Window) → window ≡ Some w
+      → must_by log holds target edges window number horizon ≡ option_and_then (λ dues. must_in target number w dues) (each_of (map (due_over log number horizon) edges))
+  must_found window w at = λ i.
+      cond (passes i) (option_and_then (λ (dues : List Due). option_and_then (λ (x : Window). must_in target number x dues) (at i)) (each_of (map (due_over log number horizon) edges))) None
+
+module _ (graph : Tfpg) (log : Logbook) (node number horizon : ℕ) where
+  -- the alternatives of an OR node by the numbers of its edges
+  pub or_may_found : (span : Span) → is_kind_at is_or graph node ≡ true → span_at log number horizon ≡ Some span
+      → or_may graph log node number horizon ≡ Some (outside_span node span ++ arrivals_over graph log number horizon span (incoming graph node))
+  or_may_found span or at =
+      may_found log (is_kind_at is_or graph node) node (edges_into graph node) number horizon or span _ at
+      (filtered_by_number (λ edge. nat_eq edge.target node) (arrival log number horizon span) graph.edges)
+
+  -- what is due at an AND node by the numbers of its edges
+  pub and_must_found : (window : Window) → is_kind_at is_and graph node ≡ true → joint_of graph log node number horizon ≡ Some window
+      → and_must graph log node number horizon ≡ option_and_then (λ dues. must_in node number window dues) (dues_over graph log number horizon (incoming graph node))
+  and_must_found window and at =
+      must_found log (is_kind_at is_and graph node) node (edges_into graph node) number horizon and (joint_of graph log node number horizon) window at
+      ∙ ap (λ (dues : List (Option Due)). option_and_then (λ ds. must_in node number window ds) (each_of dues))
+      (mapped_by_number (λ edge. nat_eq edge.target node) (due_over log number horizon) graph.edges)
+
+-- The must of one edge, by what was found of it.
+pub or_must_found : (graph : Tfpg) (log : Logbook) (number horizon target : ℕ) (window : Window) (edge : Option Edge) → Some target ≡ option_map (λ (e : Edge). e.target) edge
+    → is_kind_at is_or graph target ≡ true → Some window ≡ option_and_then (λ e. window_of log e number horizon) edge
+    → option_and_then (λ e. or_must graph log e number horizon) edge
+    ≡ option_and_then (λ dues. must_in target number window dues) (each_of (option_and_then (due_over log number horizon) edge ∷ []))
+or_must_found graph log number horizon target window None own or there = absurd cc
+or_must_found graph log number horizon target window (Some e) own or there =
+    let same : target ≡ e.target = cc in
+    let found = must_found log (is_kind_at is_or graph e.target) e.target (e ∷ []) number horizon (sym (ap (is_kind_at is_or graph) same) ∙ or) (window_of log e number horizon) window (sym there) in
+    found ∙ ap (λ t. option_and_then (λ dues. must_in t number window dues) (each_of (due_over log number horizon e ∷ []))) (sym same)

@@ -1,0 +1,22 @@
+use Rattle.std.proofs.Common.{List, sym, ap, ◌∙◌}
+use Rattle.std.specs.Prelude.{option_map, option_and_then}
+use Rattle.tfpg_base.specs.declared.constraint.Constraint.{Constraint}
+use Rattle.tfpg_clause.specs.Clauses.{must_in, item_at}
+use Rattle.tfpg_clause.specs.inside.Alternatives.{dues_over}
+use Rattle.tfpg_clause.proofs.Found.{and_must_found}
+use Rattle.tfpg_clause.proofs.clauses.and_must_alternative.Goals as goal
+
+pub returns : goal.returns
+returns c =
+    let graph = c.args.graph.now in
+    let log = c.args.log.now in
+    let window = c.in_ok-window.window in
+    c.must_alternative_in.ensures
+    ∙ ap
+    (λ edges.
+    option_map (λ (clause : List (List Constraint)). item_at clause c.args.alternative)
+    (option_and_then (λ dues. must_in c.args.node c.args.number window dues) (dues_over graph log c.args.number c.args.horizon edges)))
+    c.edges_into-edges.ensures.value
+    ∙ sym (ap (option_map (λ (clause : List (List Constraint)). item_at clause c.args.alternative))
+    (and_must_found graph log c.args.node c.args.number c.args.horizon window (sym c.is_and.ensures.value ∙ c.if-not-is_and.false)
+    (sym c.find_joint.ensures.value ∙ c.in_ok-window.ensures.ok_part)))

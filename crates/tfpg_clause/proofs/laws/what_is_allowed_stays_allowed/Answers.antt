@@ -1,0 +1,8 @@
+use Rattle.tfpg_clause.proofs.Kept.{clause_stays, fact_stays}
+use Rattle.tfpg_clause.proofs.laws.what_is_allowed_stays_allowed.Goals as goal
+
+pub returns : goal.returns
+returns c = record {
+  clause = λ graph earlier later name clause ordered goes_on. clause_stays graph earlier later ordered goes_on name clause;
+  fact = λ graph earlier later reach reason stated ordered goes_on. fact_stays graph earlier later ordered goes_on reach reason stated;
+}

@@ -1,0 +1,5 @@
+use Rattle.tfpg_clause.proofs.InRange.{small_span_if}
+use Rattle.tfpg_clause.proofs.may.find_span.Goals as goal
+
+pub returns-clause-small : goal.returns-clause-small
+returns-clause-small c = small_span_if c.args.log.now c.args.number c.args.horizon c.span.result c.len-ordered.ensures.ordered c.span.ensures

@@ -1,0 +1,9 @@
+use Rattle.std.proofs.Common.{sym}
+use Rattle.tfpg_clause.specs.inside.Alternatives.{due_by_number}
+use Rattle.tfpg_clause.proofs.Dues.{must_counted}
+use Rattle.tfpg_clause.proofs.must.must_count.Goals as goal
+
+pub returns : goal.returns
+returns c target =
+    must_counted (due_by_number c.args.graph.now c.args.log.now c.args.number c.args.horizon) c.args.edges.now target c.args.number c.in_ok-latest_due.field-0 c.args.window
+    c.if-window-number.false (sym c.in_ok-latest_due.ensures.value)

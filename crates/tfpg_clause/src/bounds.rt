@@ -1,0 +1,73 @@
+//! Constraints on the times of nodes.
+
+ghost use Rattle.std.specs.Prelude.{◌≡◌, ◌<◌, ◌^◌, pos, ◌-ℤ◌};
+ghost use Rattle.tfpg_clause.specs.Bounds.{at_least, at_most, at_least_after, at_most_after};
+
+use tfpg_base::Constraint;
+
+/// The time of the node is at least this.
+pub(crate) fn at_least(node: u32, least: u64) -> Constraint
+    requires node { node < 512 }
+    requires least { least < 2 ^ 63 }
+    ensures { result ≡ at_least node least }
+{
+    Constraint {
+        left: 0,
+        right: node + 1,
+        most: -(least as i64),
+    }
+}
+
+/// The time of the node is at most this.
+pub(crate) fn at_most(node: u32, most: u64) -> Constraint
+    requires node { node < 512 }
+    requires most { most < 2 ^ 63 }
+    ensures { result ≡ at_most node (pos most) }
+{
+    Constraint {
+        left: node + 1,
+        right: 0,
+        most: most as i64,
+    }
+}
+
+/// The one node's time is at most so much after the other's.
+pub(crate) fn at_most_after(node: u32, source: u32, most: u64) -> Constraint
+    requires node { node < 512 }
+    requires source { source < 512 }
+    requires most { most < 2 ^ 63 }
+    ensures { result ≡ at_most_after node source most }
+{
+    Constraint {
+        left: node + 1,
+        right: source + 1,
+        most: most as i64,
+    }
+}
+
+/// The one node's time is at least so much after the other's.
+pub(crate) fn at_least_after(node: u32, source: u32, least: u64) -> Constraint
+    requires node { node < 512 }
+    requires source { source < 512 }
+    requires least { least < 2 ^ 63 }
+    ensures { result ≡ at_least_after node source least }
+{
+    Constraint {
+        left: source + 1,
+        right: node + 1,
+        most: -(least as i64),
+    }
+}
+
+/// The node's time is before this.
+pub(crate) fn before(node: u32, time: u64) -> Constraint
+    requires node { node < 512 }
+    requires time { time < 2 ^ 63 }
+    ensures { result ≡ at_most node (pos time -ℤ pos 1) }
+{
+    Constraint {
+        left: node + 1,
+        right: 0,
+        most: time as i64 - 1,
+    }
+}

@@ -1,0 +1,327 @@
+//! The alternatives of clauses and their constraints.
+
+ghost use Rattle.std.specs.Prelude.{◌≡◌, ◌<◌, ◌≤◌, length, All, IsTrue, IfSome, option_map, option_and_then, slice_get};
+ghost use Rattle.std.specs.Result.{result_ok};
+ghost use Rattle.tfpg_graph.specs.Graph.{is_kind_at, is_or, is_and, incoming};
+ghost use Rattle.tfpg_clause.specs.Clauses.{alternatives, or_may, and_may, or_must, and_must, must_in, count_of, item_at, constraint_at};
+ghost use Rattle.tfpg_clause.specs.inside.Alternatives.{constraints_in, dues_over};
+ghost use Rattle.tfpg_clause.specs.inside.Ranges.{IsSmallWindow};
+
+use crate::alternative::{Alternative, constraint_in};
+use crate::may::{arrival_count, edge_of, find_span, may_alternative};
+use crate::must::{find_joint, find_window, latest_due, must_alternative, must_count};
+use tfpg_base::Constraint;
+use tfpg_evidence::ClauseName;
+use tfpg_graph::{Graph, Kind};
+use tfpg_log::{Log, Window};
+
+/// The name is allowed by no clause of the log.
+#[derive(Clone, Copy, Debug, PartialEq, Eq)]
+pub struct NotAClause;
+
+/// How many alternatives the clause has. The name is refused where it is not allowed: where its horizon is after now, the
+/// span does not begin by it, node or edge is none of the graph or not of the right kind, or a must has no window that
+/// begins with the span and has room for each greatest delay. Takes no memory, and goes through the edges of the clause,
+/// and for each through the spans of one window.
+pub fn count(graph: &Graph, log: &Log, name: ClauseName) -> Result<u32, NotAClause>
+    ensures { result_ok result ≡ count_of graph.now log.now name }
+{
+    match name {
+        ClauseName::OrMay {
+            node,
+            span,
+            horizon,
+        } => count_or_may(graph, log, node, span, horizon),
+        ClauseName::AndMay {
+            edge,
+            span,
+            horizon,
+        } => count_and_may(graph, log, edge, span, horizon),
+        ClauseName::OrMust {
+            edge,
+            span,
+            horizon,
+        } => count_or_must(graph, log, edge, span, horizon),
+        ClauseName::AndMust {
+            node,
+            span,
+            horizon,
+        } => count_and_must(graph, log, node, span, horizon),
+    }
+    .ok_or(NotAClause)
+}
+
+/// The constraint in a place of an alternative of the clause, both counted from 1, where there is one. The name is refused
+/// as [`count`] refuses it, and the cost is the same.
+pub fn constraint(
+    graph: &Graph,
+    log: &Log,
+    name: ClauseName,
+    alternative: u32,
+    place: u32,
+) -> Result<Option<Constraint>, NotAClause>
+    ensures { result_ok result
+        ≡ option_map (λ clause. constraint_at clause alternative place) (alternatives graph.now log.now name) }
+{
+    match alternative_of(graph, log, name, alternative)? {
+        Some(found) => Ok(constraint_in(found, place)),
+        None => Ok(None),
+    }
+}
+
+/// The alternative of this number of the clause, counted from 1, where there is one.
+pub(crate) fn alternative_of(
+    graph: &Graph,
+    log: &Log,
+    name: ClauseName,
+    alternative: u32,
+) -> Result<Option<Alternative>, NotAClause>
+    ensures { option_map (option_map constraints_in) (result_ok result)
+        ≡ option_map (λ clause. item_at clause alternative) (alternatives graph.now log.now name) }
+{
+    match name {
+        ClauseName::OrMay {
+            node,
+            span,
+            horizon,
+        } => or_may_alternative(graph, log, node, span, horizon, alternative),
+        ClauseName::AndMay {
+            edge,
+            span,
+            horizon,
+        } => and_may_alternative(graph, log, edge, span, horizon, alternative),
+        ClauseName::OrMust {
+            edge,
+            span,
+            horizon,
+        } => or_must_alternative(graph, log, edge, span, horizon, alternative),
+        ClauseName::AndMust {
+            node,
+            span,
+            horizon,
+        } => and_must_alternative(graph, log, node, span, horizon, alternative),
+    }
+}
+
+fn count_or_may(graph: &Graph, log: &Log, node: u32, number: u32, horizon: u64) -> Option<u32>
+    ensures { result ≡ option_map length (or_may graph.now log.now node number horizon) }
+{
+    let span = find_span(log, number, horizon)?;
+    if !is_or(graph, node) {
+        return None;
+    }
+    Some(2 + arrival_count(graph, log, edges_into(graph, node), number, horizon, span))
+}
+
+fn count_and_may(graph: &Graph, log: &Log, edge: u32, number: u32, horizon: u64) -> Option<u32>
+    ensures { result ≡ option_map length
+        (option_and_then (λ e. and_may graph.now log.now e number horizon) (slice_get graph.now.edges edge)) }
+{
+    let target = target_of(graph, edge)?;
+    let span = find_span(log, number, horizon)?;
+    if !is_and(graph, target) {
+        return None;
+    }
+    Some(2 + arrival_count(graph, log, &[edge], number, horizon, span))
+}
+
+fn count_or_must(graph: &Graph, log: &Log, edge: u32, number: u32, horizon: u64) -> Option<u32>
+    ensures { result ≡ option_map length
+        (option_and_then (λ e. or_must graph.now log.now e number horizon) (slice_get graph.now.edges edge)) }
+{
+    let target = target_of(graph, edge)?;
+    if !is_or(graph, target) {
+        return None;
+    }
+    let window = find_window(graph, log, edge, number, horizon)?;
+    must_count(graph, log, &[edge], window, number, horizon)
+}
+
+fn count_and_must(graph: &Graph, log: &Log, node: u32, number: u32, horizon: u64) -> Option<u32>
+    ensures { result ≡ option_map length (and_must graph.now log.now node number horizon) }
+{
+    if !is_and(graph, node) {
+        return None;
+    }
+    let window = find_joint(graph, log, node, number, horizon)?;
+    must_count(graph, log, edges_into(graph, node), window, number, horizon)
+}
+
+fn or_may_alternative(
+    graph: &Graph,
+    log: &Log,
+    node: u32,
+    number: u32,
+    horizon: u64,
+    alternative: u32,
+) -> Result<Option<Alternative>, NotAClause>
+    ensures { option_map (option_map constraints_in) (result_ok result)
+        ≡ option_map (λ clause. item_at clause alternative) (or_may graph.now log.now node number horizon) }
+{
+    let span = find_span(log, number, horizon).ok_or(NotAClause)?;
+    if !is_or(graph, node) {
+        return Err(NotAClause);
+    }
+    let edges = edges_into(graph, node);
+    Ok(may_alternative(graph, log, node, edges, number, horizon, span, alternative))
+}
+
+fn and_may_alternative(
+    graph: &Graph,
+    log: &Log,
+    edge: u32,
+    number: u32,
+    horizon: u64,
+    alternative: u32,
+) -> Result<Option<Alternative>, NotAClause>
+    ensures { option_map (option_map constraints_in) (result_ok result)
+        ≡ option_map (λ clause. item_at clause alternative)
+        (option_and_then (λ e. and_may graph.now log.now e number horizon) (slice_get graph.now.edges edge)) }
+{
+    let target = target_of(graph, edge).ok_or(NotAClause)?;
+    let span = find_span(log, number, horizon).ok_or(NotAClause)?;
+    if !is_and(graph, target) {
+        return Err(NotAClause);
+    }
+    Ok(may_alternative(
+        graph,
+        log,
+        target,
+        &[edge],
+        number,
+        horizon,
+        span,
+        alternative,
+    ))
+}
+
+fn or_must_alternative(
+    graph: &Graph,
+    log: &Log,
+    edge: u32,
+    number: u32,
+    horizon: u64,
+    alternative: u32,
+) -> Result<Option<Alternative>, NotAClause>
+    ensures { option_map (option_map constraints_in) (result_ok result)
+        ≡ option_map (λ clause. item_at clause alternative)
+        (option_and_then (λ e. or_must graph.now log.now e number horizon) (slice_get graph.now.edges edge)) }
+{
+    let target = target_of(graph, edge).ok_or(NotAClause)?;
+    if !is_or(graph, target) {
+        return Err(NotAClause);
+    }
+    let window = find_window(graph, log, edge, number, horizon).ok_or(NotAClause)?;
+    must_alternative_in(
+        graph,
+        log,
+        target,
+        &[edge],
+        window,
+        number,
+        horizon,
+        alternative,
+    )
+}
+
+fn and_must_alternative(
+    graph: &Graph,
+    log: &Log,
+    node: u32,
+    number: u32,
+    horizon: u64,
+    alternative: u32,
+) -> Result<Option<Alternative>, NotAClause>
+    ensures { option_map (option_map constraints_in) (result_ok result)
+        ≡ option_map (λ clause. item_at clause alternative) (and_must graph.now log.now node number horizon) }
+{
+    if !is_and(graph, node) {
+        return Err(NotAClause);
+    }
+    let window = find_joint(graph, log, node, number, horizon).ok_or(NotAClause)?;
+    let edges = edges_into(graph, node);
+    must_alternative_in(
+        graph,
+        log,
+        node,
+        edges,
+        window,
+        number,
+        horizon,
+        alternative,
+    )
+}
+
+/// The alternative of a must in this window.
+fn must_alternative_in(
+    graph: &Graph,
+    log: &Log,
+    node: u32,
+    edges: &[u32],
+    window: Window,
+    number: u32,
+    horizon: u64,
+    alternative: u32,
+) -> Result<Option<Alternative>, NotAClause>
+    requires node { node < 512 }
+    requires edges { All (λ edge. edge < length graph.now.edges) edges.now }
+    requires few { length edges.now ≤ 32 }
+    requires small { IsSmallWindow window }
+    ensures { option_map (option_map constraints_in) (result_ok result)
+        ≡ option_map (λ clause. item_at clause alternative)
+        (option_and_then (λ dues. must_in node number window dues) (dues_over graph.now log.now number horizon edges.now)) }
+{
+    if window.first != number {
+        return Err(NotAClause);
+    }
+    let latest = latest_due(graph, log, edges, window.hi, number, horizon).ok_or(NotAClause)?;
+    Ok(must_alternative(
+        graph,
+        log,
+        node,
+        edges,
+        window.hi,
+        latest,
+        number,
+        horizon,
+        alternative,
+    ))
+}
+
+/// The target of the edge, where it is an edge of the graph.
+fn target_of(graph: &Graph, edge: u32) -> Option<u32>
+    ensures value { result ≡ option_map (λ e. e.target) (slice_get graph.now.edges edge) }
+    ensures small { IfSome result (λ target. (target < 512) × (edge < length graph.now.edges)) }
+{
+    if edge >= graph.edge_count() {
+        return None;
+    }
+    Some(edge_of(graph, edge).target)
+}
+
+/// The numbers of the edges into the node.
+fn edges_into(graph: &Graph, node: u32) -> &[u32]
+    requires { node < length graph.now.nodes }
+    ensures value { result.now ≡ incoming graph.now node }
+    ensures edges { All (λ edge. edge < length graph.now.edges) result.now }
+    ensures few { length result.now ≤ 32 }
+{
+    let _few = graph.node_count();
+    graph.incoming(node)
+}
+
+/// Whether it is an OR node of the graph.
+fn is_or(graph: &Graph, node: u32) -> bool
+    ensures value { result ≡ is_kind_at is_or graph.now node }
+    ensures within { IsTrue result → (node < length graph.now.nodes) × (node < 512) }
+{
+    node < graph.node_count() && matches!(graph.kind(node), Kind::Or { lag: _ })
+}
+
+/// Whether it is an AND node of the graph.
+fn is_and(graph: &Graph, node: u32) -> bool
+    ensures value { result ≡ is_kind_at is_and graph.now node }
+    ensures within { IsTrue result → (node < length graph.now.nodes) × (node < 512) }
+{
+    node < graph.node_count() && matches!(graph.kind(node), Kind::And { lag: _ })
+}

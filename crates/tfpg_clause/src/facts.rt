@@ -1,0 +1,183 @@
+//! The facts of a log and of the reach of a set.
+
+ghost use Rattle.std.specs.Prelude.{◌≡◌, ◌<◌, ◌≤◌, ◌+◌, pos, length, not, ◌&&◌, nat_lt, nat_le, option_map, option_and_then, unwrap_or, IfSome};
+ghost use Rattle.std.specs.Result.{result_ok};
+ghost use Rattle.std.specs.Bool.{then_some};
+ghost use Rattle.tfpg_base.specs.Times.{max_time, never};
+ghost use Rattle.tfpg_graph.specs.Graph.{lag_at};
+ghost use Rattle.tfpg_log.specs.Log.{IsOf, now_of, event_at, quiet_at};
+ghost use Rattle.tfpg_graph.specs.Reach.{is_among};
+ghost use Rattle.tfpg_clause.specs.inside.Ranges.{IsSmallAlarm};
+ghost use Rattle.tfpg_clause.specs.Bounds.{at_least, at_most};
+ghost use Rattle.tfpg_clause.specs.Facts.{fact, from_alarm, upto_alarm};
+
+use crate::bounds::{at_least, at_most};
+use tfpg_base::Constraint;
+use tfpg_evidence::Reason;
+use tfpg_graph::{Graph, Kind, NodeSet};
+use tfpg_log::{Event, Log};
+
+/// The number for never, after every time.
+const NEVER: u64 = 1_000_000_000_001;
+
+/// The reason states no fact.
+#[derive(Clone, Copy, Debug, PartialEq, Eq)]
+pub struct NotAFact;
+
+/// The constraint that the reason states, where it is a fact of the log and of a set that reaches these nodes. A pick is
+/// none, and so is a reason that names no node, or no event of the log that says so. Takes constant time and no memory.
+pub fn fact(
+    graph: &Graph,
+    log: &Log,
+    reach: &NodeSet,
+    reason: Reason,
+) -> Result<Constraint, NotAFact>
+    requires of { IsOf graph.now log.now }
+    ensures { result_ok result ≡ fact graph.now log.now reach.now reason }
+{
+    stated(graph, log, reach, reason).ok_or(NotAFact)
+}
+
+/// The constraint of the fact that the reason states, where it states one.
+fn stated(graph: &Graph, log: &Log, reach: &NodeSet, reason: Reason) -> Option<Constraint>
+    requires of { IsOf graph.now log.now }
+    ensures { result ≡ fact graph.now log.now reach.now reason }
+{
+    match reason {
+        Reason::Zero { node } => zero(graph, node),
+        Reason::Top { node } => top(graph, node),
+        Reason::Unreached { node, horizon } => unreached(graph, log, reach, node, horizon),
+        Reason::From { event } => from(graph, log, event),
+        Reason::Upto { event } => upto(graph, log, event),
+        Reason::Quiet { event, node } => quiet(graph, log, event, node),
+        Reason::Pick { split: _, place: _ } => None,
+    }
+}
+
+/// No time is before 0.
+fn zero(graph: &Graph, node: u32) -> Option<Constraint>
+    ensures { result ≡ then_some (nat_lt node (length graph.now.nodes)) (at_least node 0) }
+{
+    if node < graph.node_count() {
+        Some(at_least(node, 0))
+    } else {
+        None
+    }
+}
+
+/// No time is after never.
+fn top(graph: &Graph, node: u32) -> Option<Constraint>
+    ensures { result ≡ then_some (nat_lt node (length graph.now.nodes)) (at_most node (pos never)) }
+{
+    if node < graph.node_count() {
+        Some(at_most(node, NEVER))
+    } else {
+        None
+    }
+}
+
+/// A node that the set does not reach is not active by a horizon up to now.
+fn unreached(
+    graph: &Graph,
+    log: &Log,
+    reach: &NodeSet,
+    node: u32,
+    horizon: u64,
+) -> Option<Constraint>
+    ensures { result ≡ then_some
+        (nat_lt node (length graph.now.nodes) && (nat_le horizon (now_of log.now) && not (is_among reach.now node)))
+        (at_least node (horizon + 1)) }
+{
+    if node < graph.node_count() && horizon <= now(log) && !is_among(reach, node) {
+        Some(at_least(node, horizon + 1))
+    } else {
+        None
+    }
+}
+
+/// The node of an alarm became active at most its lag before.
+fn from(graph: &Graph, log: &Log, number: u32) -> Option<Constraint>
+    requires { IsOf graph.now log.now }
+    ensures { result ≡ option_and_then (from_alarm graph.now) (event_at log.now number) }
+{
+    match find_event(graph, log, number)? {
+        Event::Alarm { time, node } => {
+            Some(at_least(node, time.saturating_sub(lag_of(graph, node))))
+        }
+        Event::Silent { .. } | Event::Sweep { .. } | Event::Tick { .. } | Event::Mode { .. } =>
+            None,
+    }
+}
+
+/// The node of an alarm was active by then.
+fn upto(graph: &Graph, log: &Log, number: u32) -> Option<Constraint>
+    requires { IsOf graph.now log.now }
+    ensures { result ≡ option_and_then upto_alarm (event_at log.now number) }
+{
+    match find_event(graph, log, number)? {
+        Event::Alarm { time, node } => Some(at_most(node, time)),
+        Event::Silent { .. } | Event::Sweep { .. } | Event::Tick { .. } | Event::Mode { .. } =>
+            None,
+    }
+}
+
+/// A silent node was not active by then.
+fn quiet(graph: &Graph, log: &Log, event: u32, node: u32) -> Option<Constraint>
+    requires { IsOf graph.now log.now }
+    ensures { result ≡ option_map (λ time. at_least node (time + 1)) (quiet_at graph.now log.now event node) }
+{
+    let time = quiet_time(graph, log, event, node)?;
+    Some(at_least(node, time + 1))
+}
+
+/// The time of the event of this number, where it is a silence of the node, which is then a node of the graph.
+fn quiet_time(graph: &Graph, log: &Log, event: u32, node: u32) -> Option<u64>
+    requires { IsOf graph.now log.now }
+    ensures value { result ≡ quiet_at graph.now log.now event node }
+    ensures small { IfSome result (λ time. (time ≤ max_time) × (node < 512)) }
+{
+    let _few = graph.node_count();
+    let _ordered = log.len();
+    log.quiet_at(graph, event, node)
+}
+
+/// The event of this number, where there is one.
+fn find_event(graph: &Graph, log: &Log, number: u32) -> Option<Event>
+    requires { IsOf graph.now log.now }
+    ensures value { result ≡ event_at log.now number }
+    ensures small { IfSome result (IsSmallAlarm graph.now) }
+{
+    let _few = graph.node_count();
+    if number == 0 || number > log.len() {
+        return None;
+    }
+    Some(log.event(number))
+}
+
+/// Whether it is one of the nodes.
+fn is_among(nodes: &NodeSet, node: u32) -> bool
+    ensures { result ≡ is_among nodes.now node }
+{
+    nodes.has(node)
+}
+
+/// The time of the last event, which is at most 10^12.
+pub(crate) fn now(log: &Log) -> u64
+    ensures now { result ≡ now_of log.now }
+    ensures in_range { result ≤ max_time }
+{
+    let _ordered = log.len();
+    log.now()
+}
+
+/// The lag of a node, and 0 where it is not monitored.
+fn lag_of(graph: &Graph, node: u32) -> u64
+    requires { node < length graph.now.nodes }
+    ensures { result ≡ unwrap_or (lag_at graph.now node) 0 }
+{
+    match graph.kind(node) {
+        Kind::Failure { rarity: _ } => 0,
+        Kind::Or { lag } => lag.unwrap_or(0),
+        Kind::And { lag } => lag.unwrap_or(0),
+    }
+}

@@ -1,0 +1,136 @@
+//! May clauses: a node becomes active in a span only where the failure arrives by one of some edges.
+
+ghost use Rattle.std.specs.Prelude.{◌≡◌, ◌<◌, ◌≤◌, ◌++◌, length, All, Some, IfSome, option_map, slice_get};
+ghost use Rattle.tfpg_log.specs.Spans.{span_at};
+ghost use Rattle.tfpg_clause.specs.Clauses.{outside_span, item_at};
+ghost use Rattle.tfpg_clause.specs.inside.Ranges.{IsSmallEdge, IsSmallSpan};
+ghost use Rattle.tfpg_clause.specs.inside.Alternatives.{constraints_in, arrival_over, arrivals_over};
+
+use crate::alternative::Alternative;
+use crate::bounds::{at_least, at_least_after, at_most, before};
+use tfpg_graph::{Edge, Graph};
+use tfpg_log::{Log, Span};
+
+/// The alternative of this number, counted from 1, of the clause that the node becomes active in the span only where the
+/// failure arrives by one of these edges.
+pub(crate) fn may_alternative(
+    graph: &Graph,
+    log: &Log,
+    node: u32,
+    edges: &[u32],
+    number: u32,
+    horizon: u64,
+    span: Span,
+    alternative: u32,
+) -> Option<Alternative>
+    requires node { node < 512 }
+    requires edges { All (λ edge. edge < length graph.now.edges) edges.now }
+    requires small { IsSmallSpan span }
+    ensures { option_map constraints_in result
+        ≡ item_at (outside_span node span ++ arrivals_over graph.now log.now number horizon span edges.now) alternative }
+{
+    match alternative {
+        0 => None,
+        1 => Some(Alternative::One(before(node, span.lo))),
+        2 => Some(Alternative::One(at_least(node, span.hi + 1))),
+        _ => arrival_at(graph, log, edges, number, horizon, span, alternative - 3),
+    }
+}
+
+/// How many of these edges the failure may arrive by within the span.
+pub(crate) fn arrival_count(
+    graph: &Graph,
+    log: &Log,
+    edges: &[u32],
+    number: u32,
+    horizon: u64,
+    span: Span,
+) -> u32
+    requires edges { All (λ edge. edge < length graph.now.edges) edges.now }
+    requires few { length edges.now ≤ 32 }
+    requires small { IsSmallSpan span }
+    ensures count { result ≡ length (arrivals_over graph.now log.now number horizon span edges.now) }
+    ensures few { result ≤ 32 }
+{
+    let mut count = 0;
+    for edge in edges {
+        if arrival(graph, log, *edge, number, horizon, span).is_some() {
+            count += 1;
+        }
+    }
+    count
+}
+
+/// The alternative of the edge of this number, counted from 0, among those of these edges that the failure may arrive by.
+fn arrival_at(
+    graph: &Graph,
+    log: &Log,
+    edges: &[u32],
+    number: u32,
+    horizon: u64,
+    span: Span,
+    index: u32,
+) -> Option<Alternative>
+    requires edges { All (λ edge. edge < length graph.now.edges) edges.now }
+    requires small { IsSmallSpan span }
+    ensures { option_map constraints_in result
+        ≡ slice_get (arrivals_over graph.now log.now number horizon span edges.now) index }
+{
+    let mut left = index;
+    for edge in edges {
+        let arrival = arrival(graph, log, *edge, number, horizon, span);
+        if arrival.is_some() {
+            if left == 0 {
+                return arrival;
+            }
+            left -= 1;
+        }
+    }
+    None
+}
+
+/// The alternative that the failure arrives by the edge within the span, where it can: the edge's window began the least
+/// delay before the end of the span, or earlier.
+fn arrival(
+    graph: &Graph,
+    log: &Log,
+    edge: u32,
+    number: u32,
+    horizon: u64,
+    span: Span,
+) -> Option<Alternative>
+    requires edge { edge < length graph.now.edges }
+    requires small { IsSmallSpan span }
+    ensures { option_map constraints_in result ≡ arrival_over graph.now log.now number horizon span edge }
+{
+    let window = log.window_of(graph, edge, number, horizon)?;
+    let propagation = edge_of(graph, edge);
+    let earliest = window.lo.checked_add(propagation.tmin)?;
+    if earliest > span.hi {
+        return None;
+    }
+    Some(Alternative::Arrival([
+        at_least_after(propagation.target, propagation.source, propagation.tmin),
+        at_least(propagation.target, span.lo.max(earliest)),
+        at_most(propagation.target, span.hi),
+    ]))
+}
+
+/// The edge, whose nodes and delays fit the numbers of a constraint.
+pub(crate) fn edge_of(graph: &Graph, edge: u32) -> Edge
+    requires { edge < length graph.now.edges }
+    ensures value { slice_get graph.now.edges edge ≡ Some result }
+    ensures small { IsSmallEdge result }
+{
+    let _few = graph.node_count();
+    graph.edge(edge)
+}
+
+/// The span of this number, up to a horizon, where there is one.
+pub(crate) fn find_span(log: &Log, number: u32, horizon: u64) -> Option<Span>
+    ensures value { result ≡ span_at log.now number horizon }
+    ensures small { IfSome result IsSmallSpan }
+{
+    let _ordered = log.len();
+    log.span(number, horizon)
+}

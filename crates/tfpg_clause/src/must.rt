@@ -1,0 +1,173 @@
+//! Must clauses: a node is active once the failure is due by all of some edges.
+
+ghost use Rattle.std.specs.Prelude.{◌≡◌, ◌<◌, ◌≤◌, ℕ, List, length, All, Some, IfSome, option_map, option_and_then, slice_get};
+ghost use Rattle.tfpg_base.specs.Times.{max_time};
+ghost use Rattle.tfpg_log.specs.Spans.{window_of, joint_of};
+ghost use Rattle.tfpg_clause.specs.declared.due.Due.{Due};
+ghost use Rattle.tfpg_clause.specs.Clauses.{must_in, must_alternatives, starts_late, follows_in_time, item_at};
+ghost use Rattle.tfpg_clause.specs.inside.Ranges.{IsSmallDue, IsSmallWindow};
+ghost use Rattle.tfpg_clause.specs.inside.Alternatives.{constraints_in, due_by_number, dues_over, latest_within};
+
+use crate::alternative::Alternative;
+use crate::bounds::{at_least, at_most, at_most_after};
+use crate::due::Due;
+use crate::may::edge_of;
+use tfpg_graph::Graph;
+use tfpg_log::{Log, Window};
+
+/// How many alternatives the clause has that a node is active once the failure is due by all these edges, where it is
+/// allowed: its window begins with the span, and has room for each greatest delay, which is finite.
+pub(crate) fn must_count(
+    graph: &Graph,
+    log: &Log,
+    edges: &[u32],
+    window: Window,
+    number: u32,
+    horizon: u64,
+) -> Option<u32>
+    requires edges { All (λ edge. edge < length graph.now.edges) edges.now }
+    requires few { length edges.now ≤ 32 }
+    ensures { (target : ℕ) → result ≡ option_map length
+        (option_and_then (λ dues. must_in target number window dues) (dues_over graph.now log.now number horizon edges.now)) }
+{
+    if window.first != number {
+        return None;
+    }
+    latest_due(graph, log, edges, window.hi, number, horizon)?;
+    Some(2 * edges.len() as u32 + 1)
+}
+
+/// The alternative of this number, counted from 1, of the clause that the node is active once the failure is due by all
+/// these edges, in a window that ends here and has room for all.
+pub(crate) fn must_alternative(
+    graph: &Graph,
+    log: &Log,
+    node: u32,
+    edges: &[u32],
+    hi: u64,
+    latest: u64,
+    number: u32,
+    horizon: u64,
+    alternative: u32,
+) -> Option<Alternative>
+    requires node { node < 512 }
+    requires edges { All (λ edge. edge < length graph.now.edges) edges.now }
+    requires few { length edges.now ≤ 32 }
+    requires hi { hi ≤ max_time }
+    requires latest { latest ≤ hi }
+    requires dues { latest_within hi (dues_over graph.now log.now number horizon edges.now) ≡ Some latest }
+    ensures { (dues : List Due) → dues_over graph.now log.now number horizon edges.now ≡ Some dues →
+        option_map constraints_in result ≡ item_at (must_alternatives node hi dues) alternative }
+{
+    let count = edges.len() as u32;
+    let index = alternative.checked_sub(1)?;
+    if index < count {
+        let due = due_over(graph, log, edges[index as usize], number, horizon)?;
+        return Some(starts_late(hi, due));
+    }
+    if index < 2 * count {
+        let due = due_over(graph, log, edges[(index - count) as usize], number, horizon)?;
+        return Some(follows_in_time(due));
+    }
+    if index == 2 * count {
+        return Some(Alternative::One(at_most(node, latest)));
+    }
+    None
+}
+
+/// The latest time at which a failure is due over these edges, where it is due over each of them, in a window that ends here
+/// and has room for all.
+pub(crate) fn latest_due(
+    graph: &Graph,
+    log: &Log,
+    edges: &[u32],
+    hi: u64,
+    number: u32,
+    horizon: u64,
+) -> Option<u64>
+    requires edges { All (λ edge. edge < length graph.now.edges) edges.now }
+    ensures value { result ≡ latest_within hi (dues_over graph.now log.now number horizon edges.now) }
+    ensures within { IfSome result (λ latest. latest ≤ hi) }
+{
+    let mut latest: u64 = 0;
+    for edge in edges {
+        let due = due_over(graph, log, *edge, number, horizon)?;
+        if due.by > hi {
+            return None;
+        }
+        latest = latest.max(due.by);
+    }
+    Some(latest)
+}
+
+/// The source becomes active too late for the failure to be due within a window that ends here.
+fn starts_late(hi: u64, due: Due) -> Alternative
+    requires due { IsSmallDue due }
+    requires hi { hi ≤ max_time }
+    ensures { constraints_in result ≡ starts_late hi due }
+{
+    Alternative::One(at_least(due.source, hi.saturating_sub(due.tmax) + 1))
+}
+
+/// The target becomes active at most the greatest delay after the source.
+fn follows_in_time(due: Due) -> Alternative
+    requires { IsSmallDue due }
+    ensures { constraints_in result ≡ follows_in_time due }
+{
+    Alternative::One(at_most_after(due.target, due.source, due.tmax))
+}
+
+/// What is due over the edge, where its greatest delay is finite and it is active in the span.
+pub(crate) fn due_over(
+    graph: &Graph,
+    log: &Log,
+    edge: u32,
+    number: u32,
+    horizon: u64,
+) -> Option<Due>
+    requires { edge < length graph.now.edges }
+    ensures value { result ≡ due_by_number graph.now log.now number horizon edge }
+    ensures small { IfSome result IsSmallDue }
+{
+    let propagation = edge_of(graph, edge);
+    let tmax = propagation.tmax?;
+    let window = find_window(graph, log, edge, number, horizon)?;
+    Some(Due {
+        source: propagation.source,
+        target: propagation.target,
+        tmax,
+        by: window.lo + tmax,
+    })
+}
+
+/// The window of the edge round the span of this number, up to a horizon, where there is one.
+pub(crate) fn find_window(
+    graph: &Graph,
+    log: &Log,
+    edge: u32,
+    number: u32,
+    horizon: u64,
+) -> Option<Window>
+    requires { edge < length graph.now.edges }
+    ensures value { result ≡ option_and_then (λ e. window_of log.now e number horizon) (slice_get graph.now.edges edge) }
+    ensures small { IfSome result IsSmallWindow }
+{
+    let _ordered = log.len();
+    log.window_of(graph, edge, number, horizon)
+}
+
+/// The joint window of the edges into the node round the span of this number, up to a horizon, where there is one.
+pub(crate) fn find_joint(
+    graph: &Graph,
+    log: &Log,
+    node: u32,
+    number: u32,
+    horizon: u64,
+) -> Option<Window>
+    requires { node < length graph.now.nodes }
+    ensures value { result ≡ joint_of graph.now log.now node number horizon }
+    ensures small { IfSome result IsSmallWindow }
+{
+    let _ordered = log.len();
+    log.joint_of(graph, node, number, horizon)
+}
