@@ -38,7 +38,7 @@ widest_from first (suc count) zero b at =
     (sym (ap (λ (c : Bounds). c.floor) same), sym (ap (λ (c : Bounds). c.ceiling) same))
 widest_from first (suc count) (suc v) b at = widest_from (first + 1) count v b at
 
--- a new system is settled
+-- a new system is ready
 pub IsReady-new : (bounds now : List Bounds) (picks : List Pick) (count : ℕ) (values : List ℕ) (links : List Demand) (backup_values : List ℕ) (backup_links : List Demand)
     (capacity : ℕ) → now ≡ bounds → bounds ≡ unbounded_from 0 count → picks ≡ [] → count < 2 ^ 32 → IsStart now values links (length now) →
     length backup_values ≡ count + 1 → length backup_links ≡ count + 1 → count + 3 ≤ capacity →

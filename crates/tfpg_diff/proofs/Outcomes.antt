@@ -1,4 +1,4 @@
--- What a settled system answers: there is a solution, or there is none.
+-- What a ready system comes to: there is a solution, or there is none.
 use Rattle.std.proofs.Common.{◌≡◌, ℕ, ◌+◌, ◌<◌, ◌≤◌, List, ◌∷◌, ◌++◌, [], length, drop, get_or, set, Some, refl, sym, ◌∙◌, ap, subst, arith, inr}
 use Rattle.std.specs.Prelude.{slice_get, slice_index}
 use Rattle.std.proofs.lemmas.Option.{slice_get_read, slice_get_within}
@@ -33,7 +33,7 @@ pub demands_read : (bounds now_bounds : List Bounds) (picks now_picks : List Pic
 demands_read bounds now_bounds picks now_picks same_bounds same_picks =
     ap (λ (bs : List Bounds). demands_of bs now_picks) same_bounds ∙ ap (λ (ps : List Pick). demands_of bounds ps) same_picks
 
--- what is kept and meets the picks is settled, as the code reads the demands
+-- what is kept and meets the picks is ready, as the code reads the demands
 pub IsReady-read : (bounds now_bounds : List Bounds) (picks now_picks : List Pick) → now_bounds ≡ bounds → now_picks ≡ picks →
     (values : List ℕ) (links : List Demand) (backup_values : List ℕ) (backup_links : List Demand) (capacity : ℕ) →
     IsSound (demands_of bounds picks) → IsKept (demands_of now_bounds now_picks) values links → MeetsPicks values now_picks →
@@ -53,7 +53,7 @@ IsReady-read bounds now_bounds picks now_picks same_bounds same_picks values lin
 module _ (bounds : List Bounds) (picks : List Pick) (values : List ℕ) (links : List Demand) (backup_values : List ℕ) (backup_links : List Demand) (capacity : ℕ)
     (settled : IsReady bounds picks values links backup_values backup_links capacity)
     (demands : Demands) (seen : demands_of bounds picks ≡ demands) where
-  -- a settled system has a solution
+  -- a ready system has a solution
   pub HasSolution-settled : HasSolution demands
   HasSolution-settled = subst HasSolution seen (HasSolution-kept (demands_of bounds picks) values links settled.kept settled.met)
 
@@ -97,7 +97,7 @@ module _ (bounds : List Bounds) (picks : List Pick) (values : List ℕ) (links :
   with_ceiling-set v old most tag at tighter =
       sym (with_ceiling-tighter bounds picks v old at most tag tighter) ∙ ap (λ (d : Demands). with_ceiling d v most tag) seen
 
-  -- a system stays settled above a higher floor that the value is not below
+  -- a system stays ready above a higher floor that the value is not below
   pub IsReady-floor : (v : ℕ) (old : Bounds) (least tag : ℕ) → slice_get bounds v ≡ Some old → old.floor < least → least ≤ slice_index values (v + 1) →
       IsReady (set bounds v (over old least tag)) picks values links backup_values backup_links capacity
   IsReady-floor v old least tag at tighter high =
@@ -146,7 +146,7 @@ module _ (bounds : List Bounds) (picks : List Pick) (values : List ℕ) (links :
       IsKept-ceiling bounds picks v old at most tag values links tighter was.above high
       (IsKept-pick bounds picks (ceiling_pick v most tag) values links settled.kept)
 
-  -- a system stays settled under a lower ceiling that the value is not above
+  -- a system stays ready under a lower ceiling that the value is not above
   pub IsReady-ceiling : (v : ℕ) (old : Bounds) (most tag : ℕ) → slice_get bounds v ≡ Some old → most < old.ceiling → slice_index values (v + 1) ≤ most →
       IsReady (set bounds v (under old most tag)) picks values links backup_values backup_links capacity
   IsReady-ceiling v old most tag at tighter high =
@@ -202,7 +202,7 @@ module _ (bounds : List Bounds) (picks : List Pick) (values : List ℕ) (links :
       IsKept-ceiling bounds picks v old at most tag (set values (v + 1) most) (set links (v + 1) demand) tighter (omega arith) (omega arith)
       (IsKept-lowered more values links kept demand most v old [] [] broken (Walked-none links 0 (v + 1) []) at refl (omega (arith, ints)) above)
 
-  -- a system whose parts were put back is settled as before
+  -- a system whose parts were restored is ready, like the old one
   pub IsReady-restored : (bounds' : List Bounds) (picks' : List Pick) (values' : List ℕ) (links' : List Demand) (backup_values' : List ℕ)
       (backup_links' : List Demand) (capacity' : ℕ) → bounds' ≡ bounds → picks' ≡ picks → values' ≡ values → links' ≡ links →
       length backup_values' ≡ length bounds + 1 → length backup_links' ≡ length bounds + 1 → capacity ≤ capacity' →
@@ -232,7 +232,7 @@ module _ (bounds : List Bounds) (picks : List Pick) (values : List ℕ) (links :
       let same = ap (λ (d : Demands). length d.bounds) seen in
       IsSound-pick bounds picks pick settled.sound (omega arith) (omega arith)
 
-  -- a system stays settled with one more pick that the values meet
+  -- a system stays ready with one more pick that the values meet
   pub IsReady-pick : (pick : Pick) → pick.constraint.left ≤ length demands.bounds → pick.constraint.right ≤ length demands.bounds →
       IsMetBy values (picked pick) → IsReady bounds (picks ++ pick ∷ []) values links backup_values backup_links capacity
   IsReady-pick pick left right met = record {

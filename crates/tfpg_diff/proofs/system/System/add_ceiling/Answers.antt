@@ -55,7 +55,7 @@ sound c tighter = outcome.IsSound-ceiling c.self.inside.bounds.items c.self.insi
     c.self.inside.backup.values.items c.self.inside.backup.links.items (vec_capacity c.self.inside.cycle) c.self.invariant c.args.self.now.demands (seen c)
     c.args.variable c.index-old.result.now c.args.most c.args.tag (at c) tighter
 
--- the bounds that are put back are those from before
+-- the bounds that are restored are the old ones
 restored : (c : After-index-old) → set (set c.self.inside.bounds.items c.args.variable (under c.index-old.result.now c.args.most c.args.tag)) c.args.variable c.index-old.result.now
     ≡ c.self.inside.bounds.items
 restored c = set-set c.self.inside.bounds.items c.args.variable (under c.index-old.result.now c.args.most c.args.tag) c.index-old.result.now

@@ -1,4 +1,4 @@
--- A new system is settled at its ceilings.
+-- A new system is ready at its ceilings.
 use Rattle.std.proofs.Common.{◌≡◌, List, length, sym, ◌∙◌, ap, arith}
 use Rattle.std.specs.Prelude.{slice_get, vec_capacity}
 use Rattle.tfpg_diff.specs.declared.bounds.Bounds.{Bounds}

@@ -1,4 +1,4 @@
--- The values are kept and meet the picks, and what is lent is what stands behind zero.
+-- The values are kept and meet the picks, and what is lent is what comes after zero.
 use Rattle.std.proofs.Common.{ℕ, ◌≤◌, List, drop, sym, ap, subst}
 use Rattle.std.proofs.lemmas.List.{take_rest}
 use Rattle.tfpg_diff.specs.Demands.{Demands}
