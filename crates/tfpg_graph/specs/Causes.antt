@@ -12,7 +12,7 @@ use Rattle.tfpg_graph.specs.Graph.{Tfpg, is_kind_at, is_failure, failures, incom
 use Rattle.tfpg_graph.specs.Text.{header}
 use Rattle.tfpg_base.specs.Times.{max_time}
 use Rattle.tfpg_graph.specs.declared.limits.TheConstants.{MAX_NODES, MAX_FAILURES, MAX_EDGES, MAX_INCOMING, MAX_MODES, MAX_RARITY}
-use Rattle.tfpg_graph.specs.Statements.{NodeWords, FailureWords, OrWords, AndWords, Statement, DeclaresMode, DeclaresNode, DeclaresEdge, Ends, statement_of, statements_of, is_passed_over, declares_mode, declares_edge, ends_text}
+use Rattle.tfpg_graph.specs.Statements.{NodeWords, FailureWords, OrWords, AndWords, Statement, DeclaresMode, DeclaresNode, DeclaresEdge, Ends, statement_of, statements_of, is_skipped, declares_mode, declares_edge, ends_text}
 use Rattle.tfpg_graph.specs.Declares.{modes_listed, ends_named, graph_said}
 
 -- the words in the place of a name
@@ -45,7 +45,7 @@ abbrev pub has_twice : List (List ℕ) → Bool
 has_twice [] = false
 has_twice (name ∷ others) = list_any (bytes_eq name) others || has_twice others
 
--- It stands out of its order: a mode behind a node or an edge, a node behind an edge, or anything else before the first mode.
+-- It stands out of its order: a mode after a node or an edge, a node after an edge, or anything else before the first mode.
 abbrev pub is_out_of_order : List Statement → Statement → Bool
 is_out_of_order before (DeclaresMode name) = list_any (λ said. not (declares_mode said)) before
 is_out_of_order before (DeclaresNode name words) = not (list_any declares_mode before) || list_any declares_edge before
@@ -187,14 +187,14 @@ abbrev pub cause_of_said : List Statement → Option Statement → Option GraphC
 cause_of_said before None = then_some (is_bad_line before None) BadLine
 cause_of_said before (Some said) = first_of (causes (is_bad_line before (Some said)) (graph_said before) said)
 
--- the line stands behind one that ends the text
-abbrev pub is_behind_end : List Statement → Bool
-is_behind_end before = list_any ends_text before
+-- the line stands after one that ends the text
+abbrev pub is_after_end : List Statement → Bool
+is_after_end before = list_any ends_text before
 
--- The cause of a line behind the header, by what the lines before it say. Behind the end every line but one that is passed over is too much.
-abbrev pub cause_behind : List Statement → List ℕ → Option GraphCause
-cause_behind before line =
-    if is_passed_over line then None else (if is_behind_end before then Some AfterEnd else cause_of_said before (statement_of line))
+-- The cause of a line after the header, by what the lines before it say. After the end every line but one that is skipped is too much.
+abbrev pub cause_after : List Statement → List ℕ → Option GraphCause
+cause_after before line =
+    if is_skipped line then None else (if is_after_end before then Some AfterEnd else cause_of_said before (statement_of line))
 
 -- the line is the header
 abbrev pub is_header : List ℕ → Bool
@@ -203,4 +203,4 @@ is_header line = bytes_eq line header
 -- The cause of the line at this place, counted from 0. The first line is tested for the header alone.
 abbrev pub cause_at : List (List ℕ) → ℕ → Option GraphCause
 cause_at lines zero = if is_header (slice_index_or lines 0 []) then None else Some BadHeader
-cause_at lines (suc place) = cause_behind (statements_of (take (suc place) lines)) (slice_index_or lines (suc place) [])
+cause_at lines (suc place) = cause_after (statements_of (take (suc place) lines)) (slice_index_or lines (suc place) [])

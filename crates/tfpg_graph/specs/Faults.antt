@@ -70,7 +70,7 @@ pub record IsCycleFault (lines : List (List ℕ)) (fault : GraphFault) : Type 0 
   pub first : (earlier : ℕ) → earlier < edge → LiesOnZeroCycle (declared_by lines) earlier → ⊥
   pub line : IsLineSaying declares_edge lines edge fault.line
 
--- the line behind the last, where nothing else is wrong and no line ends the text
+-- the line after the last, where nothing else is wrong and no line ends the text
 pub record IsEndFault (lines : List (List ℕ)) (fault : GraphFault) : Type 0 where
   pub cause : fault.cause ≡ MissingEnd
   pub incoming : HasIncomingBefore (declared_by lines) (length (declared_by lines).nodes)

@@ -112,9 +112,9 @@ statement_of line =
 abbrev pub statements_of : List (List ℕ) → List Statement
 statements_of lines = filter_map statement_of lines
 
--- A line after the header that is empty or begins with `#` is passed over, unless it is too long.
-abbrev pub is_passed_over : List ℕ → Bool
-is_passed_over line = is_empty_or_comment line && nat_le (length line) longest_line
+-- A line after the header that is empty or begins with `#` is skipped, unless it is too long.
+abbrev pub is_skipped : List ℕ → Bool
+is_skipped line = is_empty_or_comment line && nat_le (length line) longest_line
 
 -- it declares a mode
 abbrev pub declares_mode : Statement → Bool

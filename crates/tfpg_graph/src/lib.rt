@@ -2,10 +2,20 @@
 //! system modes as edges.
 //!
 //! - [`read`] reads the text of a graph, and [`write`] writes it.
-//! - [`Graph`] is a valid graph with its look-ups.
-//! - [`Kind`] and [`Edge`] are its parts.
-//! - [`NodeSet`] is a set of its nodes, as [`Graph::reach`] gives one.
-//! - [`GraphCause`] says what is wrong with a text that spells no valid graph.
+//! - [`Graph`] is a valid graph with its look-ups. [`Kind`] and [`Edge`] are its parts.
+//! - [`NodeSet`] is a set of its nodes. [`Graph::reach`] returns the nodes that a set of failure modes reaches.
+//! - [`GraphCause`] says what is wrong with a text that spells no valid graph, and [`GraphFault`] in which line.
+//! - [`MAX_NODES`] and the other limits say how much a graph may have of each thing.
+//! - [`laws`] has the laws of the definitions that the contracts cite.
+//!
+//! A failure mode `F` that shows by the alarm `A` at most three milliseconds later:
+//!
+//! ```
+//! let graph = read(rt.alloc(), b"tfpg 1\nmode N\nfailure F 1\nor A watch 0\nedge F A 1 3 *\nend\n")?;
+//! let reached = graph.reach(Set::empty().with(0));
+//! assert_eq!(rt; graph.find(b"A"), Some(1));
+//! assert!(rt; reached.has(1));
+//! ```
 #![tactic(auto)]
 
 mod cause;
@@ -17,8 +27,6 @@ pub mod laws;
 mod limits;
 mod reach;
 mod reading;
-#[cfg(test)]
-mod tests;
 mod writing;
 mod zero_cycle;
 

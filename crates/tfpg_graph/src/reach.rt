@@ -34,7 +34,7 @@ impl Graph {
     fn own_nodes(&self, set: Set) -> NodeSet
         ensures { AreReached self.now set result }
     {
-        // The count tells that the graph is valid, and so the numbers of its nodes are below 512.
+        // The count says that the graph is valid, and so the numbers of its nodes are below 512.
         let _count = self.node_count();
         let mut nodes = NodeSet::empty();
         for place in 0..self.failure_count() {

@@ -24,10 +24,11 @@ use std::alloc::Global;
 
 /// Reads the text of a graph.
 ///
-/// A text that spells a valid graph is answered with that graph, and every other with its first fault: the first line
-/// that has a cause, with the first of its causes; or else what is wrong with the whole text. Instead of either answer
-/// memory may be wanting. Takes time linear in the text, but for look-ups by name, and for each edge in the square of the
-/// number of modes that it lists, which is at most 64 but in a line that has a fault; and memory for the graph and one line.
+/// Returns the graph that the text spells, where it spells a valid one, and else the first fault of the text: the first
+/// line that has a cause, with the first of its causes; or, where no line has one, what is wrong with the whole text. In
+/// place of either it may run out of memory. Takes time linear in the text, but for look-ups by name, and for each edge
+/// the square of the number of modes that it lists, which is at most 64 but in a line that has a fault. Takes memory for
+/// the graph and one line.
 pub fn read(alloc: Global, text: &[u8]) -> Result<Graph, GraphRefusal>
     ensures spelled { IfOk result (λ graph. Spells text.now graph) }
     ensures valid { IfOk result IsValid }

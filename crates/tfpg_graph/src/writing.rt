@@ -16,8 +16,8 @@ use crate::writing::write_node::put_node;
 use tfpg_base::{NoMemory, put_line};
 
 /// Appends the canonical text of the graph: a line for each mode, node and edge in their order, no comment, and a star
-/// for the modes of an edge that is active in all. Where memory is wanting, a part of the text may stand behind the old
-/// bytes. Costs the length of the text, and for each edge one test for each mode.
+/// for the modes of an edge that is active in all. Where memory runs out, the old bytes may be followed by a part of the
+/// text. Costs the length of the text, and for each edge one test for each mode.
 pub fn write(graph: &Graph, into: &mut Vec<u8>) -> Result<(), NoMemory>
     ensures text { Appends result into.old.items into.new.items (canonical_text graph.now) }
 

@@ -24,7 +24,7 @@ pub mod SaidBy
 pub mod DeclaredBy
 pub mod CauseAt
 pub mod CausedSaid
-pub mod PartBehind
+pub mod PartAfter
 pub mod Standing
 pub mod Caused
 pub mod FirstFaults

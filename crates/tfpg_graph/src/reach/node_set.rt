@@ -26,7 +26,8 @@ impl Model for NodeSet {
 
     ghost inverse = { λ nodes. record { words = words_keeping nodes } };
 
-    ghost inverse_ok = { λ set are. ap (λ (words : List ℕ). record { words = words }) (words_keeping-nodes_of set.words are) };
+    ghost inverse_ok = { λ set are. ap (λ (words : List ℕ). record { words = words })
+        (words_keeping-nodes_of set.words are) };
 }
 
 impl NodeSet {

@@ -29,7 +29,10 @@ pub(crate) fn read_edge(
     modes: &[&[u8]],
 ) -> Result<Edge, GraphCause>
     requires listed { map (λ name. name.now) modes.now ≡ modes_listed words.modes.now }
-    ensures first { ReadAs (first_of (causes (is_misplaced declared.now (edge_said words.entry)) declared.now (edge_said words.entry))) (edge_declared declared.now (edge_said words.entry)) result }
+    ensures first { ReadAs
+        (first_of (causes (is_misplaced declared.now (edge_said words.entry)) declared.now (edge_said words.entry)))
+        (edge_declared declared.now (edge_said words.entry))
+        result }
     ensures clear { IfOk result (CanDeclareEdge declared.now) }
 {
     if let Some(cause) = name_cause(declared, words, modes) {
@@ -55,7 +58,8 @@ pub(crate) fn read_edge(
 /// The cause of its place among the lines or of its names, where there is one.
 fn name_cause(declared: &Declared, words: EdgeWords<'_>, modes: &[&[u8]]) -> Option<GraphCause>
     requires listed { map (λ name. name.now) modes.now ≡ modes_listed words.modes.now }
-    ensures first { result ≡ first_of (edge_name_causes declared.now words.entry.source.now words.entry.target.now words.entry.modes.now) }
+    ensures first { result ≡ first_of
+        (edge_name_causes declared.now words.entry.source.now words.entry.target.now words.entry.modes.now) }
     ensures some { IfNone result (0 < length declared.now.modes) }
     ensures few { IfNone result (length declared.now.modes ≤ MAX_MODES) }
     ensures once { IfNone result (has_twice (modes_listed words.entry.modes.now) ≡ false) }
@@ -74,7 +78,8 @@ fn name_cause(declared: &Declared, words: EdgeWords<'_>, modes: &[&[u8]]) -> Opt
 /// Whether each of its words in the place of a name is one.
 fn has_names(words: EdgeWords<'_>, modes: &[&[u8]]) -> bool
     requires listed { map (λ name. name.now) modes.now ≡ modes_listed words.modes.now }
-    ensures { result ≡ list_all is_name (words.entry.source.now ∷ words.entry.target.now ∷ modes_listed words.entry.modes.now) }
+    ensures { result ≡ list_all is_name
+        (words.entry.source.now ∷ words.entry.target.now ∷ modes_listed words.entry.modes.now) }
 {
     has_end_names(words) && are_names(modes)
 }
@@ -98,10 +103,16 @@ fn find_ends(
     modes: &[&[u8]],
 ) -> Result<(u32, u32), GraphCause>
     requires listed { map (λ name. name.now) modes.now ≡ modes_listed words.modes.now }
-    ensures first { ReadAs (first_of (edge_unknown_causes declared.now words.entry.source.now words.entry.target.now words.entry.modes.now)) (ends_named declared.now words.entry.source.now words.entry.target.now) result }
-    ensures within { IfOk result (λ ends. (ends.0 < length declared.now.nodes) × (ends.1 < length declared.now.nodes)) }
-    ensures named { IfOk result (λ ends. (node_named declared.now words.entry.source.now ≡ Some ends.0) × (node_named declared.now words.entry.target.now ≡ Some ends.1)) }
-    ensures known { IfOk result (λ ends. list_any (λ name. is_none (mode_named declared.now name)) (modes_listed words.entry.modes.now) ≡ false) }
+    ensures first { ReadAs
+        (first_of (edge_unknown_causes declared.now words.entry.source.now words.entry.target.now words.entry.modes.now))
+        (ends_named declared.now words.entry.source.now words.entry.target.now)
+        result }
+    ensures within { IfOk result (λ ends. (ends.0 < length declared.now.nodes) ×
+        (ends.1 < length declared.now.nodes)) }
+    ensures named { IfOk result (λ ends. (node_named declared.now words.entry.source.now ≡ Some ends.0) ×
+        (node_named declared.now words.entry.target.now ≡ Some ends.1)) }
+    ensures known { IfOk result (λ ends. list_any (λ name. is_none (mode_named declared.now name))
+        (modes_listed words.entry.modes.now) ≡ false) }
 {
     let (Some(source), Some(target)) = (declared.find(words.source), declared.find(words.target))
     else {
@@ -124,7 +135,8 @@ fn end_cause(
     requires target { node_named declared.now words.target.now ≡ Some target }
     requires source_in { source < length declared.now.nodes }
     requires target_in { target < length declared.now.nodes }
-    ensures first { result ≡ first_of (end_causes declared.now words.entry.source.now words.entry.target.now) }
+    ensures first { result ≡ first_of
+        (end_causes declared.now words.entry.source.now words.entry.target.now) }
     ensures clear { IfNone result (CanJoin declared.now source target) }
 {
     if declared.kind(target).is_failure() {
@@ -138,10 +150,11 @@ fn end_cause(
     }
 }
 
-/// The cause of its modes or of want of room, where there is one.
+/// The cause of its modes, or that there is no room for it, where there is one.
 fn room_cause(declared: &Declared, modes: &[u8], target: u32) -> Option<GraphCause>
     requires target { target < length declared.now.nodes }
-    ensures first { (name : List ℕ) → node_named declared.now name ≡ Some target → result ≡ first_of (edge_room_causes declared.now name modes.now) }
+    ensures first { (name : List ℕ) → node_named declared.now name ≡ Some target →
+        result ≡ first_of (edge_room_causes declared.now name modes.now) }
     ensures clear { IfNone result (HasEdgeRoom declared.now target) }
     ensures some { IfNone result (bytes_eq modes.now (codes "-") ≡ false) }
 {

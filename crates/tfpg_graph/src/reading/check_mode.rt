@@ -14,7 +14,8 @@ use tfpg_base::read_name;
 
 /// The cause of a line that declares a mode of this name, where there is one. Takes one look-up by name.
 pub(crate) fn mode_cause(declared: &Declared, name: &[u8]) -> Option<GraphCause>
-    ensures first { result ≡ first_of (causes (is_misplaced declared.now (DeclaresMode name.now)) declared.now (DeclaresMode name.now)) }
+    ensures first { result ≡ first_of
+        (causes (is_misplaced declared.now (DeclaresMode name.now)) declared.now (DeclaresMode name.now)) }
     ensures clear { IfNone result (CanDeclareMode declared.now name.now) }
 {
     if declared.node_count() > 0 || declared.edge_count() > 0 {

@@ -28,7 +28,8 @@ pub(crate) fn read_node(
     words: NodeWords<'_>,
 ) -> Result<Kind, GraphCause>
     ensures first { ReadAs
-        (first_of (causes (is_misplaced declared.now (DeclaresNode name.now (node_words_of words.entry))) declared.now (DeclaresNode name.now (node_words_of words.entry))))
+        (first_of (causes (is_misplaced declared.now (DeclaresNode name.now (node_words_of words.entry)))
+        declared.now (DeclaresNode name.now (node_words_of words.entry))))
         (kind_of_words (node_words_of words.entry))
         result }
     ensures clear { IfOk result (CanDeclareNode declared.now name.now) }
@@ -65,7 +66,8 @@ fn name_cause(declared: &Declared, name: &[u8]) -> Option<GraphCause>
 fn room_cause(declared: &Declared, kind: Kind) -> Option<GraphCause>
     ensures first { result ≡ first_of (node_room_causes declared.now (is_failure kind)) }
     ensures room { IfNone result (length declared.now.nodes < MAX_NODES) }
-    ensures failure_room { IfNone result (IsTrue (is_failure kind) → length (failures declared.now) < MAX_FAILURES) }
+    ensures failure_room { IfNone result
+        (IsTrue (is_failure kind) → length (failures declared.now) < MAX_FAILURES) }
 {
     if declared.node_count() >= MAX_NODES {
         Some(GraphCause::TooManyNodes)

@@ -24,7 +24,8 @@ pub(crate) fn listed_modes<'a>(alloc: Global, word: &'a [u8]) -> Result<Vec<&'a 
 }
 
 fn parts_at_commas<'a>(alloc: Global, word: &'a [u8]) -> Result<Vec<&'a [u8]>, NoMemory>
-    ensures { IfOk result (λ names. map (λ name. name.now) names.items ≡ slice_split (λ byte. byte == 44) word.now) }
+    ensures { IfOk result
+        (λ names. map (λ name. name.now) names.items ≡ slice_split (λ byte. byte == 44) word.now) }
 {
     let mut names = Vec::new(alloc);
     for name in word.split(|byte| *byte == b',') {
@@ -61,7 +62,8 @@ pub(crate) fn has_unknown_mode(declared: &Declared, names: &[&[u8]]) -> bool
 pub(crate) fn modes_of(declared: &Declared, word: &[u8], names: &[&[u8]]) -> u64
     requires listed { map (λ name. name.now) names.now ≡ modes_listed word.now }
     requires once { has_twice (map (λ name. name.now) names.now) ≡ false }
-    requires known { list_any (λ name. is_none (mode_named declared.now name)) (map (λ name. name.now) names.now) ≡ false }
+    requires known { list_any (λ name. is_none (mode_named declared.now name))
+        (map (λ name. name.now) names.now) ≡ false }
     requires some_mode { bytes_eq word.now (codes "-") ≡ false }
     requires some { 0 < length declared.now.modes }
     requires few { length declared.now.modes ≤ MAX_MODES }
@@ -79,8 +81,10 @@ pub(crate) fn modes_of(declared: &Declared, word: &[u8], names: &[&[u8]]) -> u64
 fn named_modes(declared: &Declared, names: &[&[u8]]) -> Set
     requires once { has_twice (map (λ name. name.now) names.now) ≡ false }
     requires few { length declared.now.modes ≤ MAX_MODES }
-    ensures named { All (Contains (filter_map (mode_named declared.now) (map (λ name. name.now) names.now))) result }
-    ensures worth { sum_by (λ mode. 2 ^ mode) result ≡ sum_by (λ mode. 2 ^ mode) (filter_map (mode_named declared.now) (map (λ name. name.now) names.now)) }
+    ensures named { All (Contains (filter_map (mode_named declared.now) (map (λ name. name.now) names.now)))
+        result }
+    ensures worth { sum_by (λ mode. 2 ^ mode) result ≡ sum_by (λ mode. 2 ^ mode)
+        (filter_map (mode_named declared.now) (map (λ name. name.now) names.now)) }
 {
     match names.split_first() {
         None => Set::empty(),

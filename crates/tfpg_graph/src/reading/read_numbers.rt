@@ -21,7 +21,8 @@ use tfpg_base::{MAX_TIME, Number, read_number};
 
 /// What the words say that a node is.
 pub(crate) fn read_kind(words: NodeWords<'_>) -> Result<Kind, GraphCause>
-    ensures kind { ReadAs (first_of (number_causes (node_number (node_words_of words.entry)))) (kind_of_words (node_words_of words.entry)) result }
+    ensures kind { ReadAs (first_of (number_causes (node_number (node_words_of words.entry))))
+        (kind_of_words (node_words_of words.entry)) result }
     ensures valid { IfOk result HasValidNumber }
 {
     match words {
@@ -42,7 +43,8 @@ pub(crate) fn read_kind(words: NodeWords<'_>) -> Result<Kind, GraphCause>
 
 /// The lag that the word says, in milliseconds, where there is a word.
 fn read_lag(word: Option<&[u8]>) -> Result<Option<u64>, GraphCause>
-    ensures lag { ReadAs (first_of (number_causes (lag_number (word_seen word.entry)))) (lag_of_word (word_seen word.entry)) result }
+    ensures lag { ReadAs (first_of (number_causes (lag_number (word_seen word.entry))))
+        (lag_of_word (word_seen word.entry)) result }
     ensures small { IfOk result (λ lag. IfSome lag (λ time. time ≤ max_time)) }
 {
     match word {
@@ -54,12 +56,12 @@ fn read_lag(word: Option<&[u8]>) -> Result<Option<u64>, GraphCause>
     }
 }
 
-/// The number that the word says, where it is at most `most`.
-fn read_up_to(word: &[u8], most: u64) -> Result<u64, GraphCause>
-    ensures number { ReadAs (first_of (number_causes ((word.now, most) ∷ []))) (number_of word.now) result }
-    ensures small { IfOk result (λ number. number ≤ most) }
+/// The number that the word says, where it is not above the limit.
+fn read_up_to(word: &[u8], limit: u64) -> Result<u64, GraphCause>
+    ensures number { ReadAs (first_of (number_causes ((word.now, limit) ∷ []))) (number_of word.now) result }
+    ensures small { IfOk result (λ number. number ≤ limit) }
 {
-    match read_number(word, most) {
+    match read_number(word, limit) {
         Number::NotANumber => Err(GraphCause::BadNumber),
         Number::TooLarge => Err(GraphCause::NumberTooLarge),
         Number::Value(number) => Ok(number),
@@ -68,7 +70,8 @@ fn read_up_to(word: &[u8], most: u64) -> Result<u64, GraphCause>
 
 /// The delays that the words say, in milliseconds: the least, and the greatest where there is one.
 pub(crate) fn read_delays(tmin: &[u8], tmax: &[u8]) -> Result<(u64, Option<u64>), GraphCause>
-    ensures delays { ReadAs (first_of (delay_causes tmin.now tmax.now)) (delays_of_words tmin.now tmax.now) result }
+    ensures delays { ReadAs (first_of (delay_causes tmin.now tmax.now)) (delays_of_words tmin.now tmax.now)
+        result }
     ensures valid { IfOk result (λ delays. AreDelays delays.0 delays.1) }
 {
     if tmax == b"inf".as_slice() {

@@ -17,7 +17,7 @@ use crate::reading::check_mode::mode_cause;
 use crate::reading::check_node::read_node;
 use crate::reading::find_line::{Declaring, line_declaring};
 use crate::reading::list_modes::listed_modes;
-use crate::reading::statement::{EdgeWords, NodeWords, Statement, is_passed_over, statement_of};
+use crate::reading::statement::{EdgeWords, NodeWords, Statement, is_skipped, statement_of};
 use crate::zero_cycle::first_on_zero_cycle;
 use std::alloc::Global;
 use std::marker::Model;
@@ -30,7 +30,7 @@ pub(crate) enum Part {
     Header,
     /// A line that declares something, or the end.
     Declarations,
-    /// Only lines that are passed over.
+    /// Only lines that are skipped.
     Ended,
 }
 
@@ -47,7 +47,7 @@ impl From<NoMemory> for LineRefusal {
 
     ghost from_gives = { λ _ refusal. refusal ≡ line_refusal.NoMemory };
 
-    fn from(_wanting: NoMemory) -> LineRefusal {
+    fn from(_no_memory: NoMemory) -> LineRefusal {
         LineRefusal::NoMemory
     }
 }
@@ -117,7 +117,7 @@ impl Reader {
         match self.part {
             Part::Header => self.take_header(line),
             Part::Declarations => self.take_declaration(alloc, line),
-            Part::Ended => self.take_behind_end(line),
+            Part::Ended => self.take_after_end(line),
         }
     }
 
@@ -168,11 +168,11 @@ impl Reader {
         })
     }
 
-    fn take_behind_end(self, line: &[u8]) -> Result<Reader, LineRefusal>
+    fn take_after_end(self, line: &[u8]) -> Result<Reader, LineRefusal>
         requires { self.part ≡ Part.Ended }
         ensures { IsTurnAnswer (turn self line.now) result }
     {
-        if !is_passed_over(line) {
+        if !is_skipped(line) {
             return Err(LineRefusal::Cause(GraphCause::AfterEnd));
         }
         Ok(self)
@@ -182,7 +182,7 @@ impl Reader {
         requires { self.part ≡ Part.Declarations }
         ensures { IsTurnAnswer (turn self line.now) result }
     {
-        if is_passed_over(line) {
+        if is_skipped(line) {
             return Ok(self);
         }
         match statement_of(line) {
@@ -221,7 +221,8 @@ impl Reader {
         name: &[u8],
         words: NodeWords<'_>,
     ) -> Result<Reader, LineRefusal>
-        ensures { IsTurnAnswer (turn_said self.graph (Some (DeclaresNode name.now (node_words_of words.entry)))) result }
+        ensures { IsTurnAnswer (turn_said self.graph
+            (Some (DeclaresNode name.now (node_words_of words.entry)))) result }
     {
         let kind = read_node(&self.declared, name, words)?;
         let declared = self.declared.with_node(alloc, name, kind)?;

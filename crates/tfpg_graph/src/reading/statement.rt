@@ -2,12 +2,12 @@
 
 ghost use Rattle.std.specs.Prelude.{◌≡◌, ◌∷◌, [], length, map, option_map};
 ghost use Rattle.tfpg_graph.specs.Text.{is_empty_or_comment};
-ghost use Rattle.tfpg_graph.specs.Statements.{statement_of, statement_in, mode_in, failure_in, or_in, and_in, edge_in, end_in, lag_in, is_passed_over};
+ghost use Rattle.tfpg_graph.specs.Statements.{statement_of, statement_in, mode_in, failure_in, or_in, and_in, edge_in, end_in, lag_in, is_skipped};
 ghost use Rattle.tfpg_graph.specs.inside.reading.StatementSeen.{statement_seen, word_seen};
 
 use tfpg_base::{LONGEST_LINE, Words, has_empty_word};
 
-/// What a line behind the header says.
+/// What a line after the header says.
 #[derive(Clone, Copy)]
 pub(crate) enum Statement<'a> {
     Mode {
@@ -29,7 +29,7 @@ pub(crate) enum NodeWords<'a> {
     And { lag: Option<&'a [u8]> },
 }
 
-/// The words of an edge's line behind its keyword.
+/// The words of an edge's line after its keyword.
 #[derive(Clone, Copy)]
 pub(crate) struct EdgeWords<'a> {
     pub(crate) source: &'a [u8],
@@ -39,9 +39,9 @@ pub(crate) struct EdgeWords<'a> {
     pub(crate) modes: &'a [u8],
 }
 
-/// Whether a line behind the header is passed over: it is empty or begins with `#`, and is not too long.
-pub(crate) fn is_passed_over(line: &[u8]) -> bool
-    ensures { result ≡ is_passed_over line.now }
+/// Whether a line after the header is skipped: it is empty or begins with `#`, and is not too long.
+pub(crate) fn is_skipped(line: &[u8]) -> bool
+    ensures { result ≡ is_skipped line.now }
 {
     is_empty_or_comment(line) && line.len() <= LONGEST_LINE
 }

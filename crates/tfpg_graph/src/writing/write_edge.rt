@@ -32,7 +32,8 @@ fn put_ends_and_delays(graph: &Graph, edge: Edge, into: &mut Vec<u8>) -> Result<
     requires source_in { edge.source < length graph.now.nodes }
     requires target_in { edge.target < length graph.now.nodes }
     ensures { Appends result into.old.items into.new.items
-        (line_of (codes "edge" ∷ unwrap_or (name_at graph.now edge.source) [] ∷ unwrap_or (name_at graph.now edge.target) []
+        (line_of (codes "edge" ∷ unwrap_or (name_at graph.now edge.source) []
+        ∷ unwrap_or (name_at graph.now edge.target) []
         ∷ decimal edge.tmin ∷ tmax_word edge.tmax ∷ [])) }
 {
     let source = node_name(graph, edge.source);

@@ -30,7 +30,8 @@ fn put_discrepancy(
     lag: Option<u64>,
     into: &mut Vec<u8>,
 ) -> Result<(), NoMemory>
-    ensures { Appends result into.old.items into.new.items (text_line (keyword.now ∷ name.now ∷ watch_words lag)) }
+    ensures { Appends result into.old.items into.new.items
+        (text_line (keyword.now ∷ name.now ∷ watch_words lag)) }
 {
     match lag {
         Some(lag) => {

@@ -1,7 +1,7 @@
 //! The groups of nodes that reach each other, which are the strongly connected components, by two depth-first searches.
 
 ghost use Rattle.std.specs.Prelude.{◌≡◌, ◌<◌, [], None, length, replicate, IfOk, OnOk};
-ghost use Rattle.tfpg_graph.specs.inside.zero_cycle.ZeroSearch.{IsSearched, HasVisited, IsFinishingOrder, AreTurned, AreGroups};
+ghost use Rattle.tfpg_graph.specs.inside.zero_cycle.ZeroSearch.{IsSearched, HasVisited, IsFinishingOrder, AreReversed, AreGroups};
 
 use crate::zero_cycle::steps::ZeroSteps;
 use std::alloc::Global;
@@ -36,7 +36,8 @@ fn visit(steps: &ZeroSteps, node: u32, mark: usize, search: &mut Search) -> Resu
     requires count { length search.old.marks.items ≡ length steps.now }
     requires searched { IsSearched steps.now search.old.marks.items search.old.order.items }
     ensures { OnOk result
-        (HasVisited steps.now node mark search.old.marks.items search.old.order.items search.new.marks.items search.new.order.items) }
+        (HasVisited steps.now node mark search.old.marks.items search.old.order.items search.new.marks.items
+        search.new.order.items) }
 {
     if search.marks[node as usize].is_some() {
         return Ok(());
@@ -67,20 +68,20 @@ fn finishing_order(alloc: Global, count: u32, steps: &ZeroSteps) -> Result<Vec<u
 
 /// A mark for each node, so that nodes with one mark reach each other and no step goes to a lesser mark.
 ///
-/// The first search goes along the turned steps. The second takes the nodes from last to first in the order of the
+/// The first search goes along the reversed steps. The second takes the nodes from last to first in the order of the
 /// first, and gives each group the place of its first node in that order (Kosaraju; Sharir 1981). Takes time in
 /// the numbers of nodes and steps, and memory for a mark and a place for each node.
 pub(crate) fn groups(
     alloc: Global,
     count: u32,
     steps: &ZeroSteps,
-    turned: &ZeroSteps,
+    reversed: &ZeroSteps,
 ) -> Result<Vec<Option<usize>>, NoMemory>
     requires count { count ≡ length steps.now }
-    requires turned { AreTurned steps.now turned.now }
+    requires reversed { AreReversed steps.now reversed.now }
     ensures { IfOk result (λ marks. AreGroups steps.now marks.items) }
 {
-    let order = finishing_order(alloc, count, turned)?;
+    let order = finishing_order(alloc, count, reversed)?;
     let mut search = Search::new(alloc, count)?;
     for turn in 0..order.len() {
         let place = order.len() - 1 - turn;

@@ -30,19 +30,19 @@ impl Model for ZeroSteps {
 impl ZeroSteps {
     ghost use Rattle.tfpg_graph.specs.inside.zero_cycle.ZeroEdges.{AreZeroSteps, AddsZeroStep};
 
-    /// The steps along all edges that may take no time, from source to target or, turned, from target to source.
+    /// The steps along all edges that may take no time, from source to target or, reversed, from target to source.
     /// Takes time and memory in the numbers of nodes and edges.
     pub(crate) fn of_edges(
         alloc: Global,
         declared: &Declared,
-        turned: bool,
+        reversed: bool,
     ) -> Result<ZeroSteps, NoMemory>
         requires { All (IsValidEdge declared.now) declared.now.edges }
-        ensures { IfOk result (AreZeroSteps (length declared.now.nodes) declared.now.edges turned) }
+        ensures { IfOk result (AreZeroSteps (length declared.now.nodes) declared.now.edges reversed) }
     {
         let mut steps = ZeroSteps::none(alloc, declared.node_count())?;
         for number in 0..declared.edge_count() {
-            steps = steps.with_edge(declared.edge(number), turned)?;
+            steps = steps.with_edge(declared.edge(number), reversed)?;
         }
         Ok(steps)
     }
@@ -59,15 +59,15 @@ impl ZeroSteps {
     }
 
     /// The steps with that along one more edge, where this may take no time.
-    fn with_edge(self, edge: Edge, turned: bool) -> Result<ZeroSteps, NoMemory>
+    fn with_edge(self, edge: Edge, reversed: bool) -> Result<ZeroSteps, NoMemory>
         requires source { edge.source < length self }
         requires target { edge.target < length self }
-        ensures { IfOk result (AddsZeroStep turned edge self) }
+        ensures { IfOk result (AddsZeroStep reversed edge self) }
     {
         if edge.tmin > 0 {
             return Ok(self);
         }
-        if turned {
+        if reversed {
             self.with_step(edge.target, edge.source)
         } else {
             self.with_step(edge.source, edge.target)

@@ -5,7 +5,8 @@ use Rattle.std.proofs.lemmas.List.Elements.{same_from_all_zip}
 use Rattle.tfpg_graph.specs.declared.kind.Kind.{Kind}
 use Rattle.tfpg_graph.specs.declared.declared.Declared.TheInside.{Inside}
 use Rattle.tfpg_graph.specs.Graph.{Tfpg, Node}
-use Rattle.tfpg_graph.specs.inside.Indexes.{graph_of, HasIndexes, IsValidSoFar, IsDeclared}
+use Rattle.tfpg_graph.specs.inside.Indexes.{graph_of, HasIndexes, IsDeclared}
+use Rattle.tfpg_graph.specs.Valid.{IsValidSoFar}
 
 -- the node that an entry keeps
 abbrev pub node_of : Vec ℕ Global × Kind → Node

@@ -1,4 +1,4 @@
--- A name that is new goes behind the others.
+-- A name that is new goes after the others.
 use Rattle.std.proofs.Common.{◌≡◌, ℕ, Bool, false, cond, ◌||◌, List, [], ◌∷◌, ◌++◌, map, None, position, refl, ap, ◌∙◌, Vec, Global}
 use Rattle.std.proofs.lemmas.List.{map_push}
 use Rattle.std.specs.List.{list_any}

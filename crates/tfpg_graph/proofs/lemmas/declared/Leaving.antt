@@ -25,7 +25,7 @@ find-leaving graph source target =
     ∙ option_map-zero (edge_from_to graph source target)
 
 module _ (test : ℕ → Bool) (xs : List ℕ) (i : ℕ) (within : i < length xs) where
-  -- what fails is passed over
+  -- what fails is skipped
   pub find-past : test (get_or xs i 0) ≡ false → find test (drop i xs) ≡ find test (drop (i + 1) xs)
   find-past fails = at_drop_more (find test) xs i 0 within ∙ ap (λ b. cond b (Some (get_or xs i 0)) (find test (drop (i + 1) xs))) fails
 

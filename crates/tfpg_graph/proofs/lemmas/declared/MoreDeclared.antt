@@ -11,7 +11,8 @@ use Rattle.tfpg_graph.specs.declared.kind.Kind.{Kind}
 use Rattle.tfpg_graph.specs.declared.edge.Edge.{Edge}
 use Rattle.tfpg_graph.specs.Graph.{Tfpg, Node, numbers_from, is_failure, failures, incoming, place_of_failure, node_named, mode_named, edge_from_to}
 use Rattle.tfpg_graph.specs.Valid.{HasValidNumber, IsValidEdge, IsSamePair}
-use Rattle.tfpg_graph.specs.inside.Indexes.{graph_of, with_mode, with_node, with_edge, HasIndexes, IsValidSoFar, IsDeclared}
+use Rattle.tfpg_graph.specs.inside.Indexes.{graph_of, with_mode, with_node, with_edge, HasIndexes, IsDeclared}
+use Rattle.tfpg_graph.specs.Valid.{IsValidSoFar}
 use Rattle.tfpg_graph.proofs.Numbered.{numbers_from-push, All-below-numbers_from}
 use Rattle.tfpg_graph.proofs.Positions.{All-none, bytes_eq-false, position-push_no, position-push_yes, position-All_fail, slice_get-push_before, slice_get-push_last, slice_get-set_same, slice_get-set_other}
 

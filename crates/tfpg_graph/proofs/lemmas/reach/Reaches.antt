@@ -191,7 +191,7 @@ module _ (graph : Tfpg) (set : List ℕ) where
       (get_or_from_slice_get (failures graph) place node 0 at)
       (All-get_or (λ number. number < length graph.nodes) (failures graph) place 0 within
       (All-below-numbers_from (λ n. is_failure n.kind) graph.nodes)) in
-      omega (arith, below, valid.few_nodes)
+      omega (arith, below, valid.so_far.few_nodes)
 
   module _ (end : ℕ) (nodes : List ℕ) (are : AreReachedBefore graph set end nodes) where
     -- one position on, with its node
@@ -228,7 +228,7 @@ module _ (graph : Tfpg) (set : List ℕ) where
         subst (λ (all : List ℕ). AreReachedBefore graph set (end + 1) all) (sym is)
         (AreReachedBefore-with node (own_small valid end node at) member at)
 
-    -- behind the last position
+    -- after the last position
     pub AreReachedBefore-all : length (failures graph) ≤ end → AreReached graph set nodes
     AreReachedBefore-all all = record {
       is_set = are.is_set;

@@ -8,7 +8,7 @@ use Rattle.tfpg_base.specs.Words.{is_number, number_of}
 use Rattle.tfpg_graph.specs.declared.cause.GraphCause.{GraphCause}
 use Rattle.tfpg_graph.specs.declared.cause.GraphCause.TheVariants.{BadLine, UnknownName, BadNumber}
 use Rattle.tfpg_graph.specs.Graph.{Tfpg, node_named}
-use Rattle.tfpg_graph.specs.Statements.{NodeWords, FailureWords, OrWords, AndWords, Statement, DeclaresMode, DeclaresNode, DeclaresEdge, Ends, statement_of, statements_of, is_passed_over, ends_text}
+use Rattle.tfpg_graph.specs.Statements.{NodeWords, FailureWords, OrWords, AndWords, Statement, DeclaresMode, DeclaresNode, DeclaresEdge, Ends, statement_of, statements_of, is_skipped, ends_text}
 use Rattle.tfpg_graph.specs.Declares.{lag_of_word, kind_of_words, tmax_of_word, delays_of_words, ends_named, declared_by}
 use Rattle.std.specs.Bool.{then_some}
 use Rattle.tfpg_base.specs.Choice.{first_of}
@@ -97,7 +97,7 @@ cause_declared graph said = first_of (causes (is_misplaced graph said) graph sai
 -- The cause of a line that says something, where each statement before it has its value and none ends the text.
 pub cause-said : (lines : List (List ℕ)) (line : List ℕ) (said : Statement) → AllHaveValues (statements_of lines)
     → 0 < length lines → list_any ends_text (statements_of lines) ≡ false
-    → is_passed_over line ≡ false → statement_of line ≡ Some said
+    → is_skipped line ≡ false → statement_of line ≡ Some said
     → cause_at (lines ++ line ∷ []) (length lines) ≡ cause_declared (declared_by lines) said
 cause-said lines line said values some unended read says =
     cause-unended lines line some (Some said) unended read says

@@ -141,7 +141,7 @@ module _ (graph : Tfpg) (valid : IsValid graph) where
   pub edges_declared : (edges : List Edge) (said : List Statement) → AllZip (IsEdgeSaid graph) edges said
       → graph_said (said_so_far graph.modes graph.nodes said) ≡ with_edges edges
   edges_declared edges said are =
-      graph_said-so_far graph.modes graph.nodes said (are_of_edges edges said are) valid.node_numbers edges
+      graph_said-so_far graph.modes graph.nodes said (are_of_edges edges said are) valid.so_far.node_numbers edges
       (filter_map-related (edge_declared (with_edges [])) (IsEdgeSaid graph)
       (λ edge s is. ap
       (edge_declared (with_edges [])) is.is
@@ -160,10 +160,10 @@ module _ (graph : Tfpg) (valid : IsValid graph) where
     edge_right said is =
         let word = IsModesWord-spelled graph valid edge.modes is.modes_word is.spells in
         record {
-          source_name = is_name-name_of graph edge.source is.valid.source valid.node_names;
-          target_name = is_name-name_of graph edge.target is.valid.target valid.node_names;
-          source_is = node_named-name_of graph edge.source is.valid.source valid.nodes_differ;
-          target_is = node_named-name_of graph edge.target is.valid.target valid.nodes_differ;
+          source_name = is_name-name_of graph edge.source is.valid.source valid.so_far.node_names;
+          target_name = is_name-name_of graph edge.target is.valid.target valid.so_far.node_names;
+          source_is = node_named-name_of graph edge.source is.valid.source valid.so_far.nodes_differ;
+          target_is = node_named-name_of graph edge.target is.valid.target valid.so_far.nodes_differ;
           mode_names = word.names;
           modes_once = word.once;
           modes_known = word.known;
@@ -227,7 +227,7 @@ module _ (graph : Tfpg) (valid : IsValid graph) where
     runs_modes : Runs [] (map DeclaresMode graph.modes)
     runs_modes =
         Runs-modes [] graph.modes
-        (record { named = valid.mode_names; differ = valid.modes_differ; few = valid.few_modes })
+        (record { named = valid.so_far.mode_names; differ = valid.so_far.modes_differ; few = valid.so_far.few_modes })
 
     runs_nodes : Runs (map DeclaresMode graph.modes) (map node_said graph.nodes)
     runs_nodes =
@@ -235,18 +235,18 @@ module _ (graph : Tfpg) (valid : IsValid graph) where
         (append-nil (map DeclaresMode graph.modes ++ []) ∙ append-nil (map DeclaresMode graph.modes))
         (Runs-nodes graph.modes [] graph.nodes valid.has_mode
         (record {
-          named = valid.node_names;
-          differ = valid.nodes_differ;
-          numbers = valid.node_numbers;
-          few = valid.few_nodes;
-          few_failures = valid.few_failures;
+          named = valid.so_far.node_names;
+          differ = valid.so_far.nodes_differ;
+          numbers = valid.so_far.node_numbers;
+          few = valid.so_far.few_nodes;
+          few_failures = valid.so_far.few_failures;
         }))
 
     runs_edges : Runs (map DeclaresMode graph.modes ++ map node_said graph.nodes) said
     runs_edges =
         subst (λ before. Runs before said) (append-nil (map DeclaresMode graph.modes ++ map node_said graph.nodes))
         (Runs-edges [] [] graph.edges said tt are
-        (record { differ = valid.edges_differ; few = valid.few_edges; few_incoming = valid.few_incoming }))
+        (record { differ = valid.so_far.edges_differ; few = valid.so_far.few_edges; few_incoming = valid.so_far.few_incoming }))
 
     runs_end : Runs (said_so_far graph.modes graph.nodes said) (Ends ∷ [])
     runs_end = (

@@ -142,7 +142,7 @@ module _ (before : List Statement) where
       → All (HasValue other) before
   values-no_edge graph other none values = λ k d within. HasValue-no_edge graph other _ (All-list_any_none declares_edge before none k d within) (values k d within)
 
-  -- the edges behind a statement that declares none, where there was none
+  -- the edges after a statement that declares none, where there was none
   edges-no_edge : (said : Statement) → declares_edge said ≡ false → list_any declares_edge before ≡ false
       → (graph_said (before ++ said ∷ [])).edges ≡ (graph_said before).edges
   edges-no_edge said no_edge none =
@@ -215,7 +215,7 @@ module _ (before : List Statement) (values : AllHaveValues before) where
       → HasValue (graph_said (before ++ said ∷ [])) said → AllHaveValues (before ++ said ∷ [])
   values-push said all last = All-push (HasValue (graph_said (before ++ said ∷ []))) before said all last
 
-  -- The values stay behind one statement more that declares a mode.
+  -- The values stay after one statement more that declares a mode.
   pub values-mode : (name : List ℕ) → is_out_of_order before (DeclaresMode name) ≡ false
       → AllHaveValues (before ++ DeclaresMode name ∷ [])
   values-mode name in_order =
@@ -223,7 +223,7 @@ module _ (before : List Statement) (values : AllHaveValues before) where
       let no_edge = mode-no_edge before name in_order in
       values-push said (values-no_edge before (graph_said before) (graph_said (before ++ said ∷ [])) no_edge values) tt
 
-  -- Behind one that declares a node.
+  -- After one that declares a node.
   pub values-node : (name : List ℕ) (words : NodeWords) → is_out_of_order before (DeclaresNode name words) ≡ false
       → IsTrue (is_some (kind_of_words words)) → AllHaveValues (before ++ DeclaresNode name words ∷ [])
   values-node name words in_order value =
@@ -240,7 +240,7 @@ module _ (before : List Statement) (values : AllHaveValues before) where
       (HasValue-same_names (graph_said before) (graph_said (before ++ said ∷ [])) nodes modes) before values)
       (HasValue-same_names (graph_said before) (graph_said (before ++ said ∷ [])) nodes modes said value)
 
-  -- Behind one that declares an edge.
+  -- After one that declares an edge.
   pub values-edge : (source target tmin tmax modes : List ℕ)
       → IsTrue (is_some (edge_declared (graph_said before) (DeclaresEdge source target tmin tmax modes)))
       → AllHaveValues (before ++ DeclaresEdge source target tmin tmax modes ∷ [])
@@ -248,6 +248,6 @@ module _ (before : List Statement) (values : AllHaveValues before) where
       let said = DeclaresEdge source target tmin tmax modes in
       values-same_names said (sym (filter_map-push_none node_declared before said refl)) (sym (filter_map-push_none mode_declared before said refl)) value
 
-  -- Behind one that ends the text.
+  -- After one that ends the text.
   pub values-end : AllHaveValues (before ++ Ends ∷ [])
   values-end = values-same_names Ends (ap (λ graph. graph.nodes) (graph_said-end before)) (ap (λ graph. graph.modes) (graph_said-end before)) tt

@@ -9,14 +9,14 @@ use Rattle.tfpg_graph.specs.declared.reading.reader.LineRefusal.TheVariants.{Cau
 use Rattle.tfpg_graph.specs.Graph.{Tfpg}
 use Rattle.tfpg_graph.specs.Valid.{IsValid}
 use Rattle.tfpg_graph.specs.ZeroCycle.{LiesOnZeroCycle, HasZeroOrder}
-use Rattle.tfpg_graph.specs.inside.Indexes.{IsValidSoFar}
+use Rattle.tfpg_graph.specs.Valid.{IsValidSoFar}
 use Rattle.tfpg_graph.specs.Statements.{declares_node, declares_edge}
 use Rattle.tfpg_graph.specs.Faults.{IsLineSaying, LacksIncoming, HasIncomingBefore}
 use Rattle.tfpg_graph.specs.declared.reading.reader.Part.{Part}
 use Rattle.tfpg_graph.specs.declared.reading.reader.Part.TheVariants.{Header, Declarations, Ended}
-use Rattle.tfpg_graph.specs.inside.reading.Turns.{ReaderState, part_behind, ReaderRepresents}
+use Rattle.tfpg_graph.specs.inside.reading.Turns.{ReaderState, part_after, ReaderRepresents}
 use Rattle.tfpg_graph.specs.inside.reading.Answered.{refusal_at, IsEndRefusal}
-use Rattle.tfpg_graph.proofs.lemmas.reading.PartBehind.{no_header}
+use Rattle.tfpg_graph.proofs.lemmas.reading.PartAfter.{no_header}
 use Rattle.tfpg_graph.proofs.lemmas.zero_cycle.ZeroCycles.{HasZeroOrder-no_cycle, HasZeroOrder-none_lies}
 use Rattle.tfpg_graph.proofs.lemmas.reading.FirstFaults.{whole_fault-incoming, whole_fault-cycle, whole_fault-end}
 
@@ -28,21 +28,10 @@ some_part bytes = omega (arith, length-slice_split (λ byte. byte == 10) bytes)
 pub IsValid-whole : (graph : Tfpg) → IsValidSoFar graph → HasIncomingBefore graph (length graph.nodes)
     → HasZeroOrder graph → 0 < length graph.modes → IsValid graph
 IsValid-whole graph is incoming order mode = record {
-  node_names = is.node_names;
-  nodes_differ = is.nodes_differ;
-  node_numbers = is.node_numbers;
-  mode_names = is.mode_names;
-  modes_differ = is.modes_differ;
-  edges = is.edges;
-  edges_differ = is.edges_differ;
+  so_far = is;
   has_incoming = incoming;
   no_zero_cycle = HasZeroOrder-no_cycle graph order;
   has_mode = mode;
-  few_nodes = is.few_nodes;
-  few_failures = is.few_failures;
-  few_edges = is.few_edges;
-  few_modes = is.few_modes;
-  few_incoming = is.few_incoming;
 }
 
 -- Where no edge was found, what none gives holds.
@@ -55,11 +44,11 @@ pub edge_within : (graph : Tfpg) (number : ℕ) → LiesOnZeroCycle graph number
 edge_within graph number lies = slice_get_within graph.edges number lies.edge lies.numbered
 
 module _ (progress : ReaderState) (bytes : List ℕ) (stands : ReaderRepresents progress (parts_of bytes)) where
-  -- behind a part the header is read
+  -- after a part the header is read
   read : progress.part ≢ Header
   read at = by (parts_of bytes) (some_part bytes) (sym at ∙ stands.part)
     where
-      by : (lines : List (List ℕ)) → 0 < length lines → Header ≡ part_behind lines → ⊥
+      by : (lines : List (List ℕ)) → 0 < length lines → Header ≡ part_after lines → ⊥
       by [] some header = absurd (omega arith)
       by (first ∷ others) some header = no_header first others header
 
@@ -81,7 +70,7 @@ module _ (progress : ReaderState) (bytes : List ℕ) (stands : ReaderRepresents 
       subst (IsEndRefusal (parts_of bytes)) (sym is)
       (whole_fault-cycle progress (parts_of bytes) stands read edge line incoming lies first says)
 
-  -- what is not ended is behind the header
+  -- what is not ended is after the header
   unended : progress.part ≢ Ended → progress.part ≡ Declarations
   unended goes_on = by progress.part read goes_on
     where

@@ -7,21 +7,21 @@ use Rattle.tfpg_graph.specs.ZeroCycle.{LiesOnZeroCycle}
 use Rattle.tfpg_graph.specs.Statements.{declares_node, declares_edge}
 use Rattle.tfpg_graph.specs.Faults.{IsClean, IsLineFault, IsLineSaying, LacksIncoming, HasIncomingBefore, HasNoZeroCycle, IsWholeFault}
 use Rattle.tfpg_graph.specs.declared.reading.reader.Part.TheVariants.{Header, Declarations}
-use Rattle.tfpg_graph.specs.inside.reading.Turns.{ReaderState, turn, part_behind, ReaderRepresents}
-use Rattle.tfpg_graph.proofs.lemmas.reading.CauseAt.{cause_at-append, cause_at-behind}
-use Rattle.tfpg_graph.proofs.lemmas.reading.PartBehind.{part-declarations}
+use Rattle.tfpg_graph.specs.inside.reading.Turns.{ReaderState, turn, part_after, ReaderRepresents}
+use Rattle.tfpg_graph.proofs.lemmas.reading.CauseAt.{cause_at-append, cause_at-after}
+use Rattle.tfpg_graph.proofs.lemmas.reading.PartAfter.{part-declarations}
 use Rattle.tfpg_graph.proofs.lemmas.reading.Caused.{ReaderRepresents-err}
 
--- A line by which a turn fails is the first fault, whatever stands behind it.
-pub IsLineFault-err : (progress : ReaderState) (before behind : List (List ℕ)) (line : List ℕ) (cause : GraphCause)
+-- A line by which a turn fails is the first fault, whatever stands after it.
+pub IsLineFault-err : (progress : ReaderState) (before after : List (List ℕ)) (line : List ℕ) (cause : GraphCause)
     → ReaderRepresents progress before → turn progress line ≡ Err cause
-    → IsLineFault (before ++ line ∷ behind) (record { line = length before + 1; cause = cause })
-IsLineFault-err progress before behind line cause stands failed = record {
+    → IsLineFault (before ++ line ∷ after) (record { line = length before + 1; cause = cause })
+IsLineFault-err progress before after line cause stands failed = record {
   place = length before;
   number = refl;
-  tested = inr (omega (arith, length-append before (line ∷ behind)));
-  cause = cause_at-behind before behind line (length before) (omega arith) ∙ ReaderRepresents-err progress before line cause stands failed;
-  first = λ earlier within. cause_at-append before (line ∷ behind) earlier within ∙ stands.clean earlier within;
+  tested = inr (omega (arith, length-append before (line ∷ after)));
+  cause = cause_at-after before after line (length before) (omega arith) ∙ ReaderRepresents-err progress before line cause stands failed;
+  first = λ earlier within. cause_at-append before (line ∷ after) earlier within ∙ stands.clean earlier within;
 }
 
 -- A text without a line has no header.
@@ -33,15 +33,15 @@ module _ (progress : ReaderState) (lines : List (List ℕ)) (stands : ReaderRepr
   pub IsClean-some : 0 < length lines → IsClean lines
   IsClean-some some place tested = stands.clean place (⊎_elim (λ first. omega (arith, first)) (λ within. within) tested)
 
-  -- behind the header a line was read
+  -- after the header a line was read
   some_line : progress.part ≢ Header → 0 < length lines
   some_line read = by lines stands.part
     where
-      by : (xs : List (List ℕ)) → progress.part ≡ part_behind xs → 0 < length xs
+      by : (xs : List (List ℕ)) → progress.part ≡ part_after xs → 0 < length xs
       by [] at = absurd (read at)
       by (first ∷ others) at = omega arith
 
-  -- Behind the header no line has a cause.
+  -- After the header no line has a cause.
   pub IsClean-read : progress.part ≢ Header → IsClean lines
   IsClean-read read = IsClean-some (some_line read)
 

@@ -29,7 +29,7 @@ module _ {X Y : Type 0} (h : X → Option Y) where
   filter_map-push_none xs x none =
       filter_map-append h xs (x ∷ []) ∙ ap (λ o. filter_map h xs ++ cons_option o []) none ∙ append-nil (filter_map h xs)
 
-  -- an item with a value more has its value behind the others
+  -- an item with a value more has its value after the others
   filter_map-push_some : (xs : List X) (x : X) (y : Y) → h x ≡ Some y → filter_map h (xs ++ x ∷ []) ≡ filter_map h xs ++ y ∷ []
   filter_map-push_some xs x y some = filter_map-append h xs (x ∷ []) ∙ ap (λ o. filter_map h xs ++ cons_option o []) some
 

@@ -39,7 +39,7 @@ module _ (graph : Tfpg) (name : List ℕ) (words : NodeWords) where
   abbrev pub node_cause : Option GraphCause
   node_cause = first_of (causes (is_misplaced graph (DeclaresNode name words)) graph (DeclaresNode name words))
 
-  -- the tests behind those of the name
+  -- the tests after those of the name
   abbrev node_rest : List (Option GraphCause)
   node_rest = number_causes (node_number words) ++ node_room_causes graph (are_failure_words words)
 
@@ -64,36 +64,36 @@ module _ (graph : Tfpg) (source target tmin tmax modes : List ℕ) where
   abbrev pub edge_cause : Option GraphCause
   edge_cause = first_of (causes (is_misplaced graph (DeclaresEdge source target tmin tmax modes)) graph (DeclaresEdge source target tmin tmax modes))
 
-  abbrev behind_ends : List (Option GraphCause)
-  behind_ends = edge_room_causes graph target modes
+  abbrev after_ends : List (Option GraphCause)
+  after_ends = edge_room_causes graph target modes
 
-  abbrev behind_delays : List (Option GraphCause)
-  behind_delays = end_causes graph source target ++ behind_ends
+  abbrev after_delays : List (Option GraphCause)
+  after_delays = end_causes graph source target ++ after_ends
 
-  abbrev behind_unknown : List (Option GraphCause)
-  behind_unknown = delay_causes tmin tmax ++ behind_delays
+  abbrev after_unknown : List (Option GraphCause)
+  after_unknown = delay_causes tmin tmax ++ after_delays
 
-  abbrev behind_names : List (Option GraphCause)
-  behind_names = edge_unknown_causes graph source target modes ++ behind_unknown
+  abbrev after_names : List (Option GraphCause)
+  after_names = edge_unknown_causes graph source target modes ++ after_unknown
 
   pub edge_cause-name : (cause : GraphCause) → first_of (edge_name_causes graph source target modes) ≡ Some cause → edge_cause ≡ Some cause
-  edge_cause-name cause is = first-caused (edge_name_causes graph source target modes) behind_names cause is
+  edge_cause-name cause is = first-caused (edge_name_causes graph source target modes) after_names cause is
 
   module _ (named : first_of (edge_name_causes graph source target modes) ≡ None) where
     pub edge_cause-unknown : (cause : GraphCause) → first_of (edge_unknown_causes graph source target modes) ≡ Some cause → edge_cause ≡ Some cause
     edge_cause-unknown cause is =
-        first-passed (edge_name_causes graph source target modes) behind_names named ∙ first-caused (edge_unknown_causes graph source target modes) behind_unknown cause is
+        first-passed (edge_name_causes graph source target modes) after_names named ∙ first-caused (edge_unknown_causes graph source target modes) after_unknown cause is
 
     module _ (known : first_of (edge_unknown_causes graph source target modes) ≡ None) where
-      to_delays : edge_cause ≡ first_of behind_unknown
-      to_delays = first-passed (edge_name_causes graph source target modes) behind_names named ∙ first-passed (edge_unknown_causes graph source target modes) behind_unknown known
+      to_delays : edge_cause ≡ first_of after_unknown
+      to_delays = first-passed (edge_name_causes graph source target modes) after_names named ∙ first-passed (edge_unknown_causes graph source target modes) after_unknown known
 
       pub edge_cause-delay : (cause : GraphCause) → first_of (delay_causes tmin tmax) ≡ Some cause → edge_cause ≡ Some cause
-      edge_cause-delay cause is = to_delays ∙ first-caused (delay_causes tmin tmax) behind_delays cause is
+      edge_cause-delay cause is = to_delays ∙ first-caused (delay_causes tmin tmax) after_delays cause is
 
       module _ (delayed : first_of (delay_causes tmin tmax) ≡ None) where
         pub edge_cause-end : (cause : GraphCause) → first_of (end_causes graph source target) ≡ Some cause → edge_cause ≡ Some cause
-        edge_cause-end cause is = to_delays ∙ first-passed (delay_causes tmin tmax) behind_delays delayed ∙ first-caused (end_causes graph source target) behind_ends cause is
+        edge_cause-end cause is = to_delays ∙ first-passed (delay_causes tmin tmax) after_delays delayed ∙ first-caused (end_causes graph source target) after_ends cause is
 
         pub edge_cause-room : first_of (end_causes graph source target) ≡ None → edge_cause ≡ first_of (edge_room_causes graph target modes)
-        edge_cause-room ended = to_delays ∙ first-passed (delay_causes tmin tmax) behind_delays delayed ∙ first-passed (end_causes graph source target) behind_ends ended
+        edge_cause-room ended = to_delays ∙ first-passed (delay_causes tmin tmax) after_delays delayed ∙ first-passed (end_causes graph source target) after_ends ended

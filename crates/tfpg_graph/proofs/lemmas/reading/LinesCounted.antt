@@ -12,7 +12,7 @@ module _ (test : Statement → Bool) (lines : List (List ℕ)) (place : ℕ) (li
   says_at such says_it = ap (says test) (get_or_default lines place [] line within ∙ sym at) ∙ says_it
 
   module _ (count : ℕ) (counted : count ≡ count_by (says test) (take place lines)) where
-    -- This line says such a thing behind so many.
+    -- This line says such a thing after so many.
     pub line_here : says test line ≡ true → IsLineSaying test lines count (place + 1)
     line_here such = IsLineSaying-here test lines place count within (says_at true such) (sym counted)
 

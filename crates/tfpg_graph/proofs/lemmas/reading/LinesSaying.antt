@@ -15,26 +15,26 @@ module _ {X : Type 0} (test : X → Bool) where
   count_by-cons : (x : X) (xs : List X) → count_by test (x ∷ xs) ≡ cond (test x) 1 0 + count_by test xs
   count_by-cons x xs = sum_by-cons (λ y. cond (test y) 1 0) x xs
 
-  -- a place whose item passes, behind so many that do
-  abbrev PassesBehind : List X → ℕ → X → Type 0
-  PassesBehind xs count default = (place : ℕ) × (place < length xs) × (test (get_or xs place default) ≡ true) × (count_by test (take place xs) ≡ count)
+  -- a place whose item passes, after so many that do
+  abbrev PassesAfter : List X → ℕ → X → Type 0
+  PassesAfter xs count default = (place : ℕ) × (place < length xs) × (test (get_or xs place default) ≡ true) × (count_by test (take place xs) ≡ count)
 
-  -- Of more than so many that pass, one stands behind so many.
-  pub passes_behind : (xs : List X) (count : ℕ) (default : X) → count < count_by test xs → PassesBehind xs count default
-  passes_behind [] count default more = absurd (omega arith)
-  passes_behind (x ∷ xs) count default more =
-      by (test x) refl count (subst (λ n. count < n) (count_by-cons x xs) more) (λ before fewer. passes_behind xs before default fewer)
+  -- Of more than so many that pass, one stands after so many.
+  pub passes_after : (xs : List X) (count : ℕ) (default : X) → count < count_by test xs → PassesAfter xs count default
+  passes_after [] count default more = absurd (omega arith)
+  passes_after (x ∷ xs) count default more =
+      by (test x) refl count (subst (λ n. count < n) (count_by-cons x xs) more) (λ before fewer. passes_after xs before default fewer)
     where
-      later : (b : Bool) → test x ≡ b → (before : ℕ) → PassesBehind xs before default
-          → PassesBehind (x ∷ xs) (cond b 1 0 + before) default
+      later : (b : Bool) → test x ≡ b → (before : ℕ) → PassesAfter xs before default
+          → PassesAfter (x ∷ xs) (cond b 1 0 + before) default
       later b is before found = (suc found.0, omega (arith, found.1), found.2, count_by-cons x (take found.0 xs) ∙ (λ i. cond (is i) 1 0 + found.3 i))
 
       by : (b : Bool) → test x ≡ b → (before : ℕ) → before < cond b 1 0 + count_by test xs
-          → ((n : ℕ) → n < count_by test xs → PassesBehind xs n default) → PassesBehind (x ∷ xs) before default
+          → ((n : ℕ) → n < count_by test xs → PassesAfter xs n default) → PassesAfter (x ∷ xs) before default
       by true is zero more_so rest = (0, omega arith, is, refl)
       by true is (suc before) more_so rest =
-          subst (λ n. PassesBehind (x ∷ xs) n default) (omega arith) (later true is before (rest before (omega arith)))
-      by false is before more_so rest = subst (λ n. PassesBehind (x ∷ xs) n default) (omega arith) (later false is before (rest before (omega arith)))
+          subst (λ n. PassesAfter (x ∷ xs) n default) (omega arith) (later true is before (rest before (omega arith)))
+      by false is before more_so rest = subst (λ n. PassesAfter (x ∷ xs) n default) (omega arith) (later false is before (rest before (omega arith)))
 
 -- as many values pass as items whose value passes
 count_by-filter_map : {X Y : Type 0} (value : X → Option Y) (test : Y → Bool) (xs : List X)
@@ -63,14 +63,14 @@ module _ (test : Statement → Bool) (lines : List (List ℕ)) where
       → count_by (says test) (take (place + 1) lines) ≡ count_by (says test) (take place lines) + 1
   count-says_yes place within such = count_by_more_yes (says test) lines place [] within such
 
-  -- Behind the last line the count is that of all.
+  -- After the last line the count is that of all.
   pub count-says_all : (place : ℕ) → length lines ≤ place
       → count_by (says test) (take place lines) ≡ count_by (says test) lines
-  count-says_all place behind = ap (count_by (says test)) (take_all place lines behind)
+  count-says_all place after = ap (count_by (says test)) (take_all place lines after)
 
   -- Where the count is not yet that of all, there are lines ahead.
   pub lines_ahead : (place : ℕ) → count_by (says test) (take place lines) < count_by (says test) lines → place < length lines
-  lines_ahead place less = ⊎_elim (λ within. within) (λ behind. absurd (omega (arith, count-says_all place behind))) (cases_lt place (length lines))
+  lines_ahead place less = ⊎_elim (λ within. within) (λ after. absurd (omega (arith, count-says_all place after))) (cases_lt place (length lines))
 
   -- The line that says such a thing, where the count has come so far.
   pub IsLineSaying-here : (place count : ℕ) → place < length lines → says test (get_or lines place []) ≡ true
@@ -80,7 +80,7 @@ module _ (test : Statement → Bool) (lines : List (List ℕ)) where
   -- There is such a line where more lines than so many say such a thing.
   pub line_saying : (count : ℕ) → count < count_by (says test) lines → (line : ℕ) × IsLineSaying test lines count line
   line_saying count more =
-      let found = passes_behind (says test) lines count [] more in
+      let found = passes_after (says test) lines count [] more in
       (found.0 + 1, IsLineSaying-here found.0 count found.1 found.2 found.3)
 
 module _ (progress : ReaderState) (lines : List (List ℕ)) (stands : ReaderRepresents progress lines) where

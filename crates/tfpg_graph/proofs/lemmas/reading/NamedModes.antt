@@ -34,7 +34,7 @@ sum_by-with_member f place (first ∷ others) new = by (sum_by-with_member f pla
 module _ (graph : Tfpg) (name : List ℕ) (others : List (List ℕ)) (members : List ℕ) (once : has_twice (name ∷ others) ≡ false)
     (named : All (Contains (filter_map (mode_named graph) others)) members)
     (worth : sum_by (λ mode. 2 ^ mode) members ≡ sum_by (λ mode. 2 ^ mode) (filter_map (mode_named graph) others)) where
-  -- a mode that is named is not among those that are named behind it
+  -- a mode that is named is not among those that are named after it
   new_mode : (mode : ℕ) → mode_named graph name ≡ Some mode → Contains members mode → ⊥
   new_mode mode is member =
       All-contains (λ other. mode ≢ other) (filter_map (mode_named graph) others) mode

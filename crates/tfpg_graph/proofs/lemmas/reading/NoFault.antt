@@ -17,7 +17,7 @@ use Rattle.tfpg_graph.specs.Valid.{IsValid, IsValidEdge}
 use Rattle.tfpg_graph.specs.ZeroCycle.{LiesOnZeroCycle}
 use Rattle.tfpg_graph.specs.Statements.{Statement, DeclaresMode, Ends, statement_in, statement_of, statements_of, ends_text}
 use Rattle.tfpg_graph.specs.Declares.{mode_declared, node_declared, edge_declared, graph_said, declared_by}
-use Rattle.tfpg_graph.specs.Causes.{cause_of_said, cause_behind}
+use Rattle.tfpg_graph.specs.Causes.{cause_of_said, cause_after}
 use Rattle.tfpg_graph.specs.Faults.{LacksIncoming, IsClean, IsLineFault, IsIncomingFault, IsCycleFault, IsEndFault, IsWholeFault, IsFirstFault}
 use Rattle.tfpg_graph.proofs.lemmas.reading.LinesSay.{statement_of-mode, statement_of-node, statement_of-end}
 use Rattle.tfpg_graph.proofs.lemmas.reading.SpelledEdges.{edge_said, statement_of-edge_line}
@@ -73,14 +73,14 @@ statements_of-kept (line ∷ lines) said says =
     by rest false skipped [] says = absurd says
     by rest false skipped (s ∷ said) says = λ i. cons_option (says.0 i) (rest said says.1 i)
 
--- Where what they say runs without a cause behind other statements, no line has a cause.
-pub clean_behind : (lines : List (List ℕ)) (before said : List Statement)
+-- Where what they say runs without a cause after other statements, no line has a cause.
+pub clean_after : (lines : List (List ℕ)) (before said : List Statement)
     → All (λ line. length line ≤ longest_line) lines → AllZip Says (kept lines) said → Runs before said
     → (place : ℕ) → place < length lines
-    → cause_behind (before ++ statements_of (take place lines)) (get_or lines place []) ≡ None
-clean_behind [] before said short says runs place within = absurd (omega arith)
-clean_behind (line ∷ lines) before said short says runs place within =
-    by (λ before others says runs place within. clean_behind lines before others
+    → cause_after (before ++ statements_of (take place lines)) (get_or lines place []) ≡ None
+clean_after [] before said short says runs place within = absurd (omega arith)
+clean_after (line ∷ lines) before said short says runs place within =
+    by (λ before others says runs place within. clean_after lines before others
     (All-tail (λ l. length l ≤ longest_line) line lines short) says runs place within)
     (is_empty_or_comment line) refl said says runs place within
   where
@@ -89,27 +89,27 @@ clean_behind (line ∷ lines) before said short says runs place within =
 
     by : ((before others : List Statement) → AllZip Says (kept lines) others → Runs before others → (place : ℕ)
         → place < length lines
-        → cause_behind (before ++ statements_of (take place lines)) (get_or lines place []) ≡ None)
+        → cause_after (before ++ statements_of (take place lines)) (get_or lines place []) ≡ None)
         → (skipped : Bool) → is_empty_or_comment line ≡ skipped → (said : List Statement)
         → AllZip Says (kept_with skipped line lines) said → Runs before said
         → (place : ℕ) → place < length (line ∷ lines)
-        → cause_behind (before ++ statements_of (take place (line ∷ lines))) (get_or (line ∷ lines) place []) ≡ None
+        → cause_after (before ++ statements_of (take place (line ∷ lines))) (get_or (line ∷ lines) place []) ≡ None
     by rest true skipped said says runs zero within = λ i.
         cond (skipped i && fits i) None
         (cond (list_any ends_text (before ++ [])) (Some AfterEnd) (cause_of_said (before ++ []) (statement_of line)))
     by rest true skipped said says runs (suc place) within =
-        ap (λ s. cause_behind (before ++ cons_option s (statements_of (take place lines))) (get_or lines place []))
+        ap (λ s. cause_after (before ++ cons_option s (statements_of (take place lines))) (get_or lines place []))
         (statement_of-skipped line skipped)
         ∙ rest before said says runs place (omega arith)
     by rest false skipped [] says runs place within = absurd says
     by rest false skipped (s ∷ said) says runs zero within =
-        ap (λ b. cause_behind b line) (append-nil before)
+        ap (λ b. cause_after b line) (append-nil before)
         ∙ (λ i. cond (skipped i && nat_le (length line) longest_line) None
         (cond (runs.0 i) (Some AfterEnd) (cause_of_said before (says.0 i))))
         ∙ runs.1
     by rest false skipped (s ∷ said) says runs (suc place) within =
-        ap (λ o. cause_behind (before ++ cons_option o (statements_of (take place lines))) (get_or lines place [])) says.0
-        ∙ ap (λ all. cause_behind all (get_or lines place []))
+        ap (λ o. cause_after (before ++ cons_option o (statements_of (take place lines))) (get_or lines place [])) says.0
+        ∙ ap (λ all. cause_after all (get_or lines place []))
         (sym (append_assoc before (s ∷ []) (statements_of (take place lines))))
         ∙ rest (before ++ s ∷ []) said says.1 runs.2 place (omega arith)
 
@@ -167,10 +167,10 @@ module _ (graph : Tfpg) (valid : IsValid graph) where
       (AllZip-append Says (map mode_line graph.modes) (map DeclaresMode graph.modes) (map node_line graph.nodes)
       (map node_said graph.nodes)
       (AllZip-maps Says mode_line DeclaresMode graph.modes
-      (λ k d within. statement_of-mode (get_or graph.modes k d) (valid.mode_names k d within)))
+      (λ k d within. statement_of-mode (get_or graph.modes k d) (valid.so_far.mode_names k d within)))
       (AllZip-maps Says node_line node_said graph.nodes
       (λ k d within. statement_of-node (get_or graph.nodes k d).name (get_or graph.nodes k d).kind
-      (valid.node_names k d within) (valid.node_numbers k d within))))
+      (valid.so_far.node_names k d within) (valid.so_far.node_numbers k d within))))
       says)
       (statement_of-end, tt)
 
@@ -199,20 +199,20 @@ module _ (graph : Tfpg) (valid : IsValid graph) where
 abbrev IsCleanText : Tfpg → List (List ℕ) → Type 0
 IsCleanText graph lines = IsClean lines × (declared_by lines ≡ graph) × (list_any ends_text (statements_of lines) ≡ true)
 
-module _ (graph : Tfpg) (valid : IsValid graph) (behind : List (List ℕ)) (short : All IsShort behind)
+module _ (graph : Tfpg) (valid : IsValid graph) (after : List (List ℕ)) (short : All IsShort after)
     (said : List Statement) (are : AllZip (IsEdgeSaid graph) graph.edges said)
-    (says : AllZip Says (kept behind) (said_so_far graph.modes graph.nodes said ++ Ends ∷ [])) where
-  clean : IsClean (header ∷ behind)
+    (says : AllZip Says (kept after) (said_so_far graph.modes graph.nodes said ++ Ends ∷ [])) where
+  clean : IsClean (header ∷ after)
   clean zero tested = refl
   clean (suc place) tested =
-      clean_behind behind [] (said_so_far graph.modes graph.nodes said ++ Ends ∷ []) short says
+      clean_after after [] (said_so_far graph.modes graph.nodes said ++ Ends ∷ []) short says
       (Runs-whole graph valid said are) place
       (⊎_elim (λ first. absurd (omega (arith, first))) (λ within. omega (arith, within)) tested)
 
-  all_said : statements_of (header ∷ behind) ≡ said_so_far graph.modes graph.nodes said ++ Ends ∷ []
-  all_said = statements_of-kept behind (said_so_far graph.modes graph.nodes said ++ Ends ∷ []) says
+  all_said : statements_of (header ∷ after) ≡ said_so_far graph.modes graph.nodes said ++ Ends ∷ []
+  all_said = statements_of-kept after (said_so_far graph.modes graph.nodes said ++ Ends ∷ []) says
 
-  clean_text : IsCleanText graph (header ∷ behind)
+  clean_text : IsCleanText graph (header ∷ after)
   clean_text = (
     clean,
     ap graph_said all_said ∙ graph_said-end graph valid (said_so_far graph.modes graph.nodes said)
@@ -222,27 +222,27 @@ module _ (graph : Tfpg) (valid : IsValid graph) (behind : List (List ℕ)) (shor
   )
 
 module _ (text : List ℕ) (graph : Tfpg) (spells : Spells text graph) (valid : IsValid graph) where
-  short_behind : All IsShort spells.behind
-  short_behind =
-      All-tail IsShort header spells.behind
-      (All-same IsShort (header ∷ spells.behind) (lines_of text) (sym spells.lines) spells.short)
+  short_after : All IsShort spells.after
+  short_after =
+      All-tail IsShort header spells.after
+      (All-same IsShort (header ∷ spells.after) (lines_of text) (sym spells.lines) spells.short)
 
   short_edges : All IsShort spells.said.edge_lines
   short_edges =
       let modes_and_nodes = map mode_line graph.modes ++ map node_line graph.nodes in
       All-right IsShort modes_and_nodes spells.said.edge_lines
       (All-left IsShort (modes_and_nodes ++ spells.said.edge_lines) (codes "end" ∷ [])
-      (All-same IsShort (modes_and_nodes ++ spells.said.edge_lines ++ codes "end" ∷ []) (kept spells.behind)
+      (All-same IsShort (modes_and_nodes ++ spells.said.edge_lines ++ codes "end" ∷ []) (kept spells.after)
       (sym spells.said.all)
-      (All-filter (λ line. not (is_empty_or_comment line)) IsShort spells.behind short_behind)))
+      (All-filter (λ line. not (is_empty_or_comment line)) IsShort spells.after short_after)))
 
   -- A text that spells a valid graph has no line with a cause, declares this graph, and has an end.
   pub Spells-clean : IsClean (lines_of text) × (declared_by (lines_of text) ≡ graph)
       × (list_any ends_text (statements_of (lines_of text)) ≡ true)
   Spells-clean =
-      let edges = edges_said graph valid graph.edges spells.said.edge_lines spells.said.edges valid.edges short_edges in
+      let edges = edges_said graph valid graph.edges spells.said.edge_lines spells.said.edges valid.so_far.edges short_edges in
       subst (IsCleanText graph) (sym spells.lines)
-      (clean_text graph valid spells.behind short_behind edges.0 edges.1
+      (clean_text graph valid spells.after short_after edges.0 edges.1
       (subst (λ lines. AllZip Says lines (said_so_far graph.modes graph.nodes edges.0 ++ Ends ∷ []))
       (sym spells.said.all) (says_whole graph valid spells.said.edge_lines edges.0 edges.2)))
 

@@ -5,7 +5,7 @@ use Rattle.std.specs.Str.{bytes_eq}
 use Rattle.std.proofs.lemmas.Bool.{and_parts, eqb-true}
 use Rattle.std.proofs.lemmas.Slice.Eq.{bytes_eq-Decides}
 use Rattle.tfpg_graph.specs.Text.{header}
-use Rattle.tfpg_graph.specs.Statements.{Statement, statement_of, statements_of, statement_in, is_passed_over}
+use Rattle.tfpg_graph.specs.Statements.{Statement, statement_of, statements_of, statement_in, is_skipped}
 use Rattle.tfpg_graph.proofs.Valued.{filter_map-push_some, filter_map-push_none}
 
 -- a keyword that begins with `#` is none
@@ -21,10 +21,10 @@ hash_says others = by _ _ _ (hash_in (slice_split (λ byte. byte == 32) others))
     by false true said none = refl
     by false false said none = none
 
--- A line that is passed over says nothing.
-pub statement_of-passed_over : (line : List ℕ) → is_passed_over line ≡ true → statement_of line ≡ None
-statement_of-passed_over [] passed = refl
-statement_of-passed_over (first ∷ others) passed =
+-- A line that is skipped says nothing.
+pub statement_of-skipped : (line : List ℕ) → is_skipped line ≡ true → statement_of line ≡ None
+statement_of-skipped [] passed = refl
+statement_of-skipped (first ∷ others) passed =
     let hash : first ≡ 35 = eqb-true first 35 (and_parts (first == 35) (nat_le (length (first ∷ others)) 4096) passed).0 in
     ap (λ byte. statement_of (byte ∷ others)) hash ∙ hash_says others
 

@@ -16,12 +16,11 @@ use Rattle.tfpg_graph.specs.Graph.{Tfpg, name_at, node_named}
 use Rattle.tfpg_graph.specs.Text.{node_words, watch_words, tmax_word, SpellsEdge}
 use Rattle.tfpg_base.specs.Times.{max_time}
 use Rattle.tfpg_graph.specs.declared.limits.TheConstants.{MAX_RARITY}
-use Rattle.tfpg_graph.specs.Statements.{NodeWords, FailureWords, OrWords, AndWords, DeclaresNode, DeclaresEdge}
+use Rattle.tfpg_graph.specs.Statements.{NodeWords, FailureWords, OrWords, AndWords, DeclaresNode, DeclaresEdge, words_of_watch, words_of_node, words_of_statement}
 use Rattle.tfpg_graph.specs.Declares.{lag_of_word, kind_of_words, tmax_of_word, delays_of_words, ends_named, edge_declared, modes_of_word}
 use Rattle.tfpg_graph.specs.Causes.{has_bad_number, has_large_number, lag_number, node_number}
 use Rattle.tfpg_graph.proofs.lemmas.declared.Named.{named_found}
 use Rattle.tfpg_graph.proofs.lemmas.reading.WithoutCause.{IsWithoutCause}
-use Rattle.tfpg_graph.proofs.lemmas.reading.SaidWords.{words_of_watch, words_of_node, words_of_statement}
 use Rattle.tfpg_graph.proofs.lemmas.reading.SaidModes.{found, SpellsModes-said}
 
 -- ---- numbers

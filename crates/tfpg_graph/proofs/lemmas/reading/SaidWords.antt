@@ -10,7 +10,7 @@ use Rattle.tfpg_base.specs.Words.{line_of, words_of}
 use Rattle.tfpg_base.specs.Lines.{longest_line}
 use Rattle.tfpg_base.proofs.Separators.{join_with_byte-words_of}
 use Rattle.tfpg_graph.specs.Text.{is_empty_or_comment}
-use Rattle.tfpg_graph.specs.Statements.{NodeWords, FailureWords, OrWords, AndWords, Statement, DeclaresMode, DeclaresNode, DeclaresEdge, Ends, words_of_watch, words_of_node, words_of_statement, lag_in, mode_in, failure_in, or_in, and_in, edge_in, end_in, statement_in, statement_of}
+use Rattle.tfpg_graph.specs.Statements.{FailureWords, OrWords, AndWords, Statement, DeclaresMode, DeclaresNode, DeclaresEdge, Ends, words_of_watch, words_of_statement, lag_in, mode_in, failure_in, or_in, and_in, edge_in, end_in, statement_in, statement_of}
 
 -- ---- laws of choices
 

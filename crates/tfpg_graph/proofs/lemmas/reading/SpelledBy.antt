@@ -14,13 +14,13 @@ use Rattle.tfpg_graph.specs.declared.cause.GraphCause.TheVariants.{BadHeader, Af
 use Rattle.tfpg_graph.specs.Graph.{Tfpg}
 use Rattle.tfpg_base.specs.Words.{line_of}
 use Rattle.tfpg_graph.specs.Text.{header, Spells, is_empty_or_comment}
-use Rattle.tfpg_graph.specs.Statements.{Statement, statement_of, statements_of, is_passed_over, ends_text}
+use Rattle.tfpg_graph.specs.Statements.{Statement, statement_of, statements_of, is_skipped, ends_text, words_of_statement}
 use Rattle.tfpg_graph.specs.Declares.{graph_said}
-use Rattle.tfpg_graph.specs.Causes.{is_out_of_order, cause_of_said, cause_behind}
+use Rattle.tfpg_graph.specs.Causes.{is_out_of_order, cause_of_said, cause_after}
 use Rattle.tfpg_graph.specs.declared.reading.reader.Part.TheVariants.{Declarations, Ended}
 use Rattle.tfpg_graph.specs.inside.reading.Turns.{ReaderState, ReaderRepresents}
 use Rattle.tfpg_graph.proofs.lemmas.reading.WithoutCause.{IsWithoutCause, without_cause}
-use Rattle.tfpg_graph.proofs.lemmas.reading.SaidWords.{words_of_statement, said_by_words, skipped_says_nothing}
+use Rattle.tfpg_graph.proofs.lemmas.reading.SaidWords.{said_by_words, skipped_says_nothing}
 use Rattle.tfpg_graph.proofs.lemmas.reading.SpelledSoFar.{SpellsSoFar, AreSpelled, statement_spelled}
 
 -- ---- one line more
@@ -32,10 +32,10 @@ record SaysWithoutCause (before : List Statement) (line : List ℕ) : Type 0 whe
   unended : list_any ends_text before ≡ false
   without : IsWithoutCause (is_out_of_order before said) (graph_said before) said
 
--- a line without a cause is passed over, or says something that has none
-line_cases : (before : List Statement) (line : List ℕ) → cause_behind before line ≡ None
-    → (is_passed_over line ≡ true) ⊎ SaysWithoutCause before line
-line_cases before line clean = passed (is_passed_over line) refl clean
+-- a line without a cause is skipped, or says something that has none
+line_cases : (before : List Statement) (line : List ℕ) → cause_after before line ≡ None
+    → (is_skipped line ≡ true) ⊎ SaysWithoutCause before line
+line_cases before line clean = passed (is_skipped line) refl clean
   where
     spoken : (o : Option Statement) → statement_of line ≡ o → list_any ends_text before ≡ false
         → cause_of_said before o ≡ None → SaysWithoutCause before line
@@ -52,14 +52,14 @@ line_cases before line clean = passed (is_passed_over line) refl clean
     ended true is clean = absurd cc
     ended false is clean = spoken (statement_of line) refl is clean
 
-    passed : (b : Bool) → is_passed_over line ≡ b
+    passed : (b : Bool) → is_skipped line ≡ b
         → cond b None (cond (list_any ends_text before) (Some AfterEnd) (cause_of_said before (statement_of line))) ≡ None
-        → (is_passed_over line ≡ true) ⊎ SaysWithoutCause before line
+        → (is_skipped line ≡ true) ⊎ SaysWithoutCause before line
     passed true is clean = inl is
     passed false is clean = inr (ended (list_any ends_text before) refl clean)
 
 -- a line without a cause is not too long
-line_short : (before : List Statement) (line : List ℕ) → cause_behind before line ≡ None → length line ≤ longest_line
+line_short : (before : List Statement) (line : List ℕ) → cause_after before line ≡ None → length line ≤ longest_line
 line_short before line clean = ⊎_elim
     (λ passed. leb-true (length line) longest_line (and_parts (is_empty_or_comment line) _ passed).1)
     (λ saying. (said_by_words line saying.said saying.says).0)
@@ -84,11 +84,11 @@ ended_push before said unended =
     list_any-append ends_text before (said ∷ []) ∙ (λ i. unended i || (ends_text said || false)) ∙ or_false (ends_text said)
 
 -- A line without a cause keeps what is declared spelled.
-line_spelled : (before : List Statement) (lines : List (List ℕ)) (line : List ℕ) → cause_behind before line ≡ None
+line_spelled : (before : List Statement) (lines : List (List ℕ)) (line : List ℕ) → cause_after before line ≡ None
     → AreSpelled before lines → AreSpelled (before ++ statements_of (line ∷ [])) (lines ++ kept (line ∷ []))
 line_spelled before lines line clean so_far = ⊎_elim passed spoken (line_cases before line clean)
   where
-    passed : is_passed_over line ≡ true → AreSpelled (before ++ statements_of (line ∷ [])) (lines ++ kept (line ∷ []))
+    passed : is_skipped line ≡ true → AreSpelled (before ++ statements_of (line ∷ [])) (lines ++ kept (line ∷ []))
     passed is =
         let skipped = (and_parts (is_empty_or_comment line) _ is).0 in
         let same_said : before ++ statements_of (line ∷ []) ≡ before =
@@ -112,19 +112,19 @@ line_spelled before lines line clean so_far = ⊎_elim passed spoken (line_cases
 
 -- ---- all lines
 
--- none of the lines has a cause, behind these statements
-abbrev AreCleanBehind : List Statement → List (List ℕ) → Type 0
-AreCleanBehind before [] = Unit {0}
-AreCleanBehind before (line ∷ lines) = (cause_behind before line ≡ None) × AreCleanBehind (before ++ statements_of (line ∷ [])) lines
+-- none of the lines has a cause, after these statements
+abbrev AreCleanAfter : List Statement → List (List ℕ) → Type 0
+AreCleanAfter before [] = Unit {0}
+AreCleanAfter before (line ∷ lines) = (cause_after before line ≡ None) × AreCleanAfter (before ++ statements_of (line ∷ [])) lines
 
-clean_behind : (before : List Statement) (lines : List (List ℕ))
-    → ((place : ℕ) → place < length lines → cause_behind (before ++ statements_of (take place lines)) (get_or lines place []) ≡ None)
-    → AreCleanBehind before lines
-clean_behind before [] clean = tt
-clean_behind before (line ∷ lines) clean = (
-  ap (λ said. cause_behind said line) (sym (append-nil before)) ∙ clean 0 (omega arith),
-  clean_behind (before ++ statements_of (line ∷ [])) lines
-      (λ place within. ap (λ said. cause_behind said (get_or lines place [])) (more place) ∙ clean (suc place) (omega arith)),
+clean_after : (before : List Statement) (lines : List (List ℕ))
+    → ((place : ℕ) → place < length lines → cause_after (before ++ statements_of (take place lines)) (get_or lines place []) ≡ None)
+    → AreCleanAfter before lines
+clean_after before [] clean = tt
+clean_after before (line ∷ lines) clean = (
+  ap (λ said. cause_after said line) (sym (append-nil before)) ∙ clean 0 (omega arith),
+  clean_after (before ++ statements_of (line ∷ [])) lines
+      (λ place within. ap (λ said. cause_after said (get_or lines place [])) (more place) ∙ clean (suc place) (omega arith)),
 )
   where
     more : (place : ℕ)
@@ -134,7 +134,7 @@ clean_behind before (line ∷ lines) clean = (
         ∙ ap (λ said. before ++ said) (sym (filter_map-append statement_of (line ∷ []) (take place lines)))
 
 -- lines without a cause are not too long
-lines_short : (before : List Statement) (lines : List (List ℕ)) → AreCleanBehind before lines
+lines_short : (before : List Statement) (lines : List (List ℕ)) → AreCleanAfter before lines
     → All (λ line. length line ≤ longest_line) lines
 lines_short before [] clean = All-nil (λ line. length line ≤ longest_line)
 lines_short before (line ∷ lines) clean =
@@ -142,18 +142,18 @@ lines_short before (line ∷ lines) clean =
     (lines_short (before ++ statements_of (line ∷ [])) lines clean.1)
 
 -- Lines without a cause keep what is declared spelled.
-lines_spelled : (before : List Statement) (behind lines : List (List ℕ)) → AreSpelled before behind
-    → AreCleanBehind before lines → AreSpelled (before ++ statements_of lines) (behind ++ kept lines)
-lines_spelled before behind [] so_far clean =
-    subst (λ said. AreSpelled said (behind ++ [])) (sym (append-nil before)) (subst (AreSpelled before) (sym (append-nil behind)) so_far)
-lines_spelled before behind (line ∷ lines) so_far clean =
-    let first = line_spelled before behind line clean.0 so_far in
-    let rest = lines_spelled (before ++ statements_of (line ∷ [])) (behind ++ kept (line ∷ [])) lines first clean.1 in
+lines_spelled : (before : List Statement) (after lines : List (List ℕ)) → AreSpelled before after
+    → AreCleanAfter before lines → AreSpelled (before ++ statements_of lines) (after ++ kept lines)
+lines_spelled before after [] so_far clean =
+    subst (λ said. AreSpelled said (after ++ [])) (sym (append-nil before)) (subst (AreSpelled before) (sym (append-nil after)) so_far)
+lines_spelled before after (line ∷ lines) so_far clean =
+    let first = line_spelled before after line clean.0 so_far in
+    let rest = lines_spelled (before ++ statements_of (line ∷ [])) (after ++ kept (line ∷ [])) lines first clean.1 in
     let same_said : before ++ statements_of (line ∷ []) ++ statements_of lines ≡ before ++ statements_of (line ∷ lines) =
     append_assoc before _ _ ∙ ap (λ said. before ++ said) (sym (filter_map-append statement_of (line ∷ []) lines)) in
-    let same_lines : behind ++ kept (line ∷ []) ++ kept lines ≡ behind ++ kept (line ∷ lines) =
-    append_assoc behind _ _ ∙ ap (λ more. behind ++ more) (sym (filter-append (λ line. not (is_empty_or_comment line)) (line ∷ []) lines)) in
-    subst (λ said. AreSpelled said (behind ++ kept (line ∷ lines))) same_said
+    let same_lines : after ++ kept (line ∷ []) ++ kept lines ≡ after ++ kept (line ∷ lines) =
+    append_assoc after _ _ ∙ ap (λ more. after ++ more) (sym (filter-append (λ line. not (is_empty_or_comment line)) (line ∷ []) lines)) in
+    subst (λ said. AreSpelled said (after ++ kept (line ∷ lines))) same_said
     (subst (AreSpelled (before ++ statements_of (line ∷ []) ++ statements_of lines)) same_lines rest)
 
 -- a value that a test lets through lets it through
@@ -165,27 +165,27 @@ ended_by_test : (b : Bool) → cond b Ended Declarations ≡ Ended → b ≡ tru
 ended_by_test true ended = refl
 ended_by_test false ended = absurd cc
 
--- What is read of a whole text: behind the header are lines without a cause, which declare the graph and end.
+-- What is read of a whole text: after the header are lines without a cause, which declare the graph and end.
 record IsReadWhole (graph : Tfpg) (lines : List (List ℕ)) : Type 0 where
-  behind : List (List ℕ)
-  begins : lines ≡ header ∷ behind
-  clean : AreCleanBehind [] behind
-  declared : graph ≡ graph_said (statements_of behind)
-  ended : list_any ends_text (statements_of behind) ≡ true
+  after : List (List ℕ)
+  begins : lines ≡ header ∷ after
+  clean : AreCleanAfter [] after
+  declared : graph ≡ graph_said (statements_of after)
+  ended : list_any ends_text (statements_of after) ≡ true
 
 read_whole : (progress : ReaderState) (lines : List (List ℕ)) → ReaderRepresents progress lines → progress.part ≡ Ended
     → IsReadWhole progress.graph lines
 read_whole progress [] stands ended = absurd cc
-read_whole progress (first ∷ behind) stands ended =
+read_whole progress (first ∷ after) stands ended =
     record {
-      behind = behind;
-      begins = ap (λ line. line ∷ behind) is_header;
-      clean = clean_behind [] behind
-          (λ place within. ap (λ said. cause_behind said (get_or behind place [])) (sym (says_nothing (take place behind)))
+      after = after;
+      begins = ap (λ line. line ∷ after) is_header;
+      clean = clean_after [] after
+          (λ place within. ap (λ said. cause_after said (get_or after place [])) (sym (says_nothing (take place after)))
           ∙ stands.clean (suc place) (omega arith));
-      declared = stands.graph ∙ ap graph_said (says_nothing behind);
-      ended = ap (list_any ends_text) (sym (says_nothing behind))
-          ∙ ended_by_test (list_any ends_text (statements_of (first ∷ behind))) (sym stands.part ∙ ended);
+      declared = stands.graph ∙ ap graph_said (says_nothing after);
+      ended = ap (list_any ends_text) (sym (says_nothing after))
+          ∙ ended_by_test (list_any ends_text (statements_of (first ∷ after))) (sym stands.part ∙ ended);
     }
   where
     is_header : first ≡ header
@@ -198,13 +198,13 @@ read_whole progress (first ∷ behind) stands ended =
 nothing_spelled : AreSpelled [] []
 nothing_spelled = record { edge_lines = []; edges = tt; all = refl; some_mode = λ ended. absurd cc }
 
--- the graph of a whole text is spelled by the lines behind the header
+-- the graph of a whole text is spelled by the lines after the header
 whole_spelled : (graph : Tfpg) (lines : List (List ℕ)) (whole : IsReadWhole graph lines)
-    → SpellsSoFar graph true (kept whole.behind)
+    → SpellsSoFar graph true (kept whole.after)
 whole_spelled graph lines whole =
-    let spelled = lines_spelled [] [] whole.behind nothing_spelled whole.clean in
-    subst (λ g. SpellsSoFar g true (kept whole.behind)) (sym whole.declared)
-    (subst (λ b. SpellsSoFar (graph_said (statements_of whole.behind)) b (kept whole.behind)) whole.ended spelled)
+    let spelled = lines_spelled [] [] whole.after nothing_spelled whole.clean in
+    subst (λ g. SpellsSoFar g true (kept whole.after)) (sym whole.declared)
+    (subst (λ b. SpellsSoFar (graph_said (statements_of whole.after)) b (kept whole.after)) whole.ended spelled)
 
 -- A text that is read to its end without a cause spells its graph.
 pub Spells-read : (text : List ℕ) (progress : ReaderState) → ReaderRepresents progress (lines_of text) → progress.part ≡ Ended
@@ -213,11 +213,11 @@ Spells-read text progress stands ended =
     let whole = read_whole progress (lines_of text) stands ended in
     let spelled = whole_spelled progress.graph (lines_of text) whole in
     record {
-      behind = whole.behind;
+      after = whole.after;
       lines = whole.begins;
       said = record { edge_lines = spelled.edge_lines; edges = spelled.edges; all = spelled.all };
-      short = All-same (λ line. length line ≤ longest_line) (lines_of text) (header ∷ whole.behind) whole.begins
-          (All-cons (λ line. length line ≤ longest_line) header whole.behind (omega arith) (lines_short [] whole.behind whole.clean));
+      short = All-same (λ line. length line ≤ longest_line) (lines_of text) (header ∷ whole.after) whole.begins
+          (All-cons (λ line. length line ≤ longest_line) header whole.after (omega arith) (lines_short [] whole.after whole.clean));
     }
 
 -- Lines that are read to their end without a cause declare a mode.

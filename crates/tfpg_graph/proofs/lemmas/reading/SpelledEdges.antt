@@ -117,7 +117,7 @@ module _ (graph : Tfpg) (valid : IsValid graph) where
       (λ listed. coe 1 0
       (i. IsModesWord graph (listed.5 i)
       ((listed.4 ∙ ap (join_with_byte 44) (filter_map-names graph.modes listed.0 listed.3)) i))
-      (IsModesWord-names graph valid.mode_names valid.modes_differ listed.0 listed.1 listed.2 listed.3))
+      (IsModesWord-names graph valid.so_far.mode_names valid.so_far.modes_differ listed.0 listed.1 listed.2 listed.3))
 
   module _ (edge : Edge) (is : IsValidEdge graph edge) where
     tmax_small : (tmax : Option ℕ) → IfSome tmax (λ time. (edge.tmin ≤ time) × (time ≤ max_time))
@@ -131,8 +131,8 @@ module _ (graph : Tfpg) (valid : IsValid graph) where
         → statement_of (edge_line graph edge word) ≡ Some (edge_said graph edge word)
     statement_of-edge_line word spells short =
         statement_of-edge (name_of graph edge.source) (name_of graph edge.target) edge.tmin edge.tmax word
-        (is_name-name_of graph edge.source is.source valid.node_names)
-        (is_name-name_of graph edge.target is.target valid.node_names)
+        (is_name-name_of graph edge.source is.source valid.so_far.node_names)
+        (is_name-name_of graph edge.target is.target valid.so_far.node_names)
         is.least (tmax_small edge.tmax is.most) (IsModesWord-spelled edge.modes word spells).is_word short
 
     -- What it says declares the edge.
@@ -149,5 +149,5 @@ module _ (graph : Tfpg) (valid : IsValid graph) where
         (tmax_of_word-tmax edge.tmax (tmax_small edge.tmax is.most) i)) (number_of-decimal edge.tmin
         (omega (arith, is.least)) i)))
         (option_and_then
-        (λ from. option_map (λ to. (from, to)) (node_named-name_of graph edge.target is.target valid.nodes_differ i))
-        (node_named-name_of graph edge.source is.source valid.nodes_differ i))
+        (λ from. option_map (λ to. (from, to)) (node_named-name_of graph edge.target is.target valid.so_far.nodes_differ i))
+        (node_named-name_of graph edge.source is.source valid.so_far.nodes_differ i))

@@ -9,11 +9,10 @@ use Rattle.tfpg_graph.specs.Graph.{Tfpg}
 use Rattle.tfpg_base.specs.Words.{line_of}
 use Rattle.tfpg_graph.specs.Text.{mode_line, node_line, node_words, SpellsEdge}
 use Rattle.tfpg_graph.specs.inside.Indexes.{with_mode, with_node, with_edge}
-use Rattle.tfpg_graph.specs.Statements.{Statement, DeclaresMode, DeclaresNode, DeclaresEdge, Ends, ends_text}
+use Rattle.tfpg_graph.specs.Statements.{Statement, DeclaresMode, DeclaresNode, DeclaresEdge, Ends, ends_text, words_of_statement}
 use Rattle.tfpg_graph.specs.Declares.{graph_said}
 use Rattle.tfpg_graph.specs.Causes.{is_out_of_order}
 use Rattle.tfpg_graph.proofs.lemmas.reading.WithoutCause.{IsWithoutCause}
-use Rattle.tfpg_graph.proofs.lemmas.reading.SaidWords.{words_of_statement}
 use Rattle.tfpg_graph.proofs.lemmas.reading.SaidValues.{node_said, edge_said}
 use Rattle.tfpg_graph.proofs.lemmas.reading.GraphsSaid.{some_mode_declared, nothing_before_mode, no_edge_before_node, graph_said-mode, graph_said-node, graph_said-edge, graph_said-end}
 
@@ -46,27 +45,27 @@ pub record SpellsSoFar (graph : Tfpg) (ended : Bool) (lines : List (List ℕ)) :
   pub some_mode : ended ≡ true → 0 < length graph.modes
 
 module _ (modes nodes edges : List (List ℕ)) (line : List ℕ) where
-  -- one line more, behind the modes, the nodes or the edges, where nothing else follows
-  behind_modes : (lines : List (List ℕ)) → lines ≡ modes ++ nodes ++ edges ++ [] → nodes ≡ [] → edges ≡ []
+  -- one line more, after the modes, the nodes or the edges, where nothing else follows
+  after_modes : (lines : List (List ℕ)) → lines ≡ modes ++ nodes ++ edges ++ [] → nodes ≡ [] → edges ≡ []
       → lines ++ line ∷ [] ≡ (modes ++ line ∷ []) ++ nodes ++ [] ++ []
-  behind_modes lines is no_node no_edge =
+  after_modes lines is no_node no_edge =
       ap (λ front. front ++ line ∷ []) (is ∙ append-nil _ ∙ (λ i. modes ++ no_node i ++ no_edge i) ∙ append-nil _ ∙ append-nil _)
       ∙ sym (append-nil _ ∙ append-nil _ ∙ (λ i. (modes ++ line ∷ []) ++ no_node i) ∙ append-nil _)
 
-  behind_nodes : (lines : List (List ℕ)) → lines ≡ modes ++ nodes ++ edges ++ [] → edges ≡ []
+  after_nodes : (lines : List (List ℕ)) → lines ≡ modes ++ nodes ++ edges ++ [] → edges ≡ []
       → lines ++ line ∷ [] ≡ modes ++ (nodes ++ line ∷ []) ++ [] ++ []
-  behind_nodes lines is no_edge =
+  after_nodes lines is no_edge =
       ap (λ front. front ++ line ∷ []) (is ∙ append-nil _ ∙ (λ i. modes ++ nodes ++ no_edge i) ∙ append-nil _)
       ∙ append_assoc modes nodes (line ∷ []) ∙ sym (append-nil _ ∙ append-nil _)
 
-  behind_edges : (lines : List (List ℕ)) → lines ≡ modes ++ nodes ++ edges ++ []
+  after_edges : (lines : List (List ℕ)) → lines ≡ modes ++ nodes ++ edges ++ []
       → lines ++ line ∷ [] ≡ modes ++ nodes ++ (edges ++ line ∷ []) ++ []
-  behind_edges lines is =
+  after_edges lines is =
       ap (λ front. front ++ line ∷ []) (is ∙ append-nil _) ∙ append_assoc (modes ++ nodes) edges (line ∷ []) ∙ sym (append-nil _)
 
-  behind_all : (lines : List (List ℕ)) → lines ≡ modes ++ nodes ++ edges ++ []
+  after_all : (lines : List (List ℕ)) → lines ≡ modes ++ nodes ++ edges ++ []
       → lines ++ line ∷ [] ≡ modes ++ nodes ++ edges ++ line ∷ []
-  behind_all lines is = ap (λ front. front ++ line ∷ []) (is ∙ append-nil _)
+  after_all lines is = ap (λ front. front ++ line ∷ []) (is ∙ append-nil _)
 
 module _ (graph : Tfpg) (lines : List (List ℕ)) (so_far : SpellsSoFar graph false lines) where
   spells-with_mode : (name : List ℕ) → graph.nodes ≡ [] → graph.edges ≡ []
@@ -74,7 +73,7 @@ module _ (graph : Tfpg) (lines : List (List ℕ)) (so_far : SpellsSoFar graph fa
   spells-with_mode name no_node no_edge = record {
     edge_lines = [];
     edges = subst (λ edges. AllZip (SpellsEdge (with_mode graph name)) edges []) (sym no_edge) tt;
-    all = behind_modes (map mode_line graph.modes) (map node_line graph.nodes) so_far.edge_lines (mode_line name) lines so_far.all
+    all = after_modes (map mode_line graph.modes) (map node_line graph.nodes) so_far.edge_lines (mode_line name) lines so_far.all
         (ap (map node_line) no_node) (AllZip-none (SpellsEdge graph) graph.edges so_far.edge_lines no_edge so_far.edges)
         ∙ ap (λ modes. modes ++ map node_line graph.nodes ++ [] ++ []) (sym (map-append mode_line graph.modes (name ∷ [])));
     some_mode = λ ended. absurd cc;
@@ -85,7 +84,7 @@ module _ (graph : Tfpg) (lines : List (List ℕ)) (so_far : SpellsSoFar graph fa
   spells-with_node name kind no_edge = record {
     edge_lines = [];
     edges = subst (λ edges. AllZip (SpellsEdge (with_node graph name kind)) edges []) (sym no_edge) tt;
-    all = behind_nodes (map mode_line graph.modes) (map node_line graph.nodes) so_far.edge_lines (line_of (node_words name kind)) lines so_far.all
+    all = after_nodes (map mode_line graph.modes) (map node_line graph.nodes) so_far.edge_lines (line_of (node_words name kind)) lines so_far.all
         (AllZip-none (SpellsEdge graph) graph.edges so_far.edge_lines no_edge so_far.edges)
         ∙ ap (λ nodes. map mode_line graph.modes ++ nodes ++ [] ++ [])
         (sym (map-append node_line graph.nodes (record { name = name; kind = kind } ∷ [])));
@@ -97,7 +96,7 @@ module _ (graph : Tfpg) (lines : List (List ℕ)) (so_far : SpellsSoFar graph fa
   spells-with_edge edge line spelled = record {
     edge_lines = so_far.edge_lines ++ line ∷ [];
     edges = AllZip-push (SpellsEdge graph) graph.edges so_far.edge_lines edge line so_far.edges spelled;
-    all = behind_edges (map mode_line graph.modes) (map node_line graph.nodes) so_far.edge_lines line lines so_far.all;
+    all = after_edges (map mode_line graph.modes) (map node_line graph.nodes) so_far.edge_lines line lines so_far.all;
     some_mode = λ ended. absurd cc;
   }
 
@@ -105,7 +104,7 @@ module _ (graph : Tfpg) (lines : List (List ℕ)) (so_far : SpellsSoFar graph fa
   spells-with_end mode = record {
     edge_lines = so_far.edge_lines;
     edges = so_far.edges;
-    all = behind_all (map mode_line graph.modes) (map node_line graph.nodes) so_far.edge_lines (codes "end") lines so_far.all;
+    all = after_all (map mode_line graph.modes) (map node_line graph.nodes) so_far.edge_lines (codes "end") lines so_far.all;
     some_mode = λ ended. mode;
   }
 
@@ -115,7 +114,7 @@ module _ (graph : Tfpg) (lines : List (List ℕ)) (so_far : SpellsSoFar graph fa
 abbrev pub AreSpelled : List Statement → List (List ℕ) → Type 0
 AreSpelled said lines = SpellsSoFar (graph_said said) (list_any ends_text said) lines
 
--- A statement without a cause is spelled by its line, behind the others.
+-- A statement without a cause is spelled by its line, after the others.
 pub statement_spelled : (before : List Statement) (lines : List (List ℕ)) (said : Statement)
     → SpellsSoFar (graph_said before) false lines
     → IsWithoutCause (is_out_of_order before said) (graph_said before) said

@@ -1,4 +1,4 @@
--- What is read stands for the lines: for none at first, and behind each turn for one line more.
+-- What is read represents the lines: for none at first, and after each turn for one line more.
 use Rattle.std.proofs.Common.{◌≡◌, ℕ, ◌<◌, Bool, true, false, cond, ◌||◌, List, [], ◌∷◌, ◌++◌, length, Option, Some, None, is_some, option_map, Ok, Err, refl, ap, sym, ◌∙◌, subst, arith}
 use Rattle.std.specs.List.{list_any}
 use Rattle.std.specs.Str.{bytes_eq}
@@ -9,17 +9,17 @@ use Rattle.tfpg_graph.specs.declared.kind.Kind.{Kind}
 use Rattle.tfpg_graph.specs.declared.edge.Edge.{Edge as GraphEdge}
 use Rattle.tfpg_graph.specs.Text.{header}
 use Rattle.tfpg_graph.specs.inside.Indexes.{with_mode, with_node, with_edge}
-use Rattle.tfpg_graph.specs.Statements.{Statement, DeclaresMode, DeclaresNode, DeclaresEdge, Ends, statement_of, statements_of, is_passed_over, ends_text}
+use Rattle.tfpg_graph.specs.Statements.{Statement, DeclaresMode, DeclaresNode, DeclaresEdge, Ends, statement_of, statements_of, is_skipped, ends_text}
 use Rattle.tfpg_graph.specs.Declares.{kind_of_words, edge_declared, graph_said, declared_by}
 use Rattle.tfpg_graph.specs.Causes.{cause_at, is_out_of_order}
 use Rattle.tfpg_graph.specs.declared.reading.reader.Part.{Part}
 use Rattle.tfpg_graph.specs.declared.reading.reader.Part.TheVariants.{Header, Declarations, Ended}
-use Rattle.tfpg_graph.specs.inside.reading.Turns.{ReaderState, nothing_read, is_misplaced, progress_with, cause_or_value, turn_said, turn_of, turn, part_behind, HasValue, ReaderRepresents}
-use Rattle.tfpg_graph.proofs.lemmas.reading.SaidBy.{statement_of-passed_over, statement_of-header, statements_of-push, statements_of-silent}
+use Rattle.tfpg_graph.specs.inside.reading.Turns.{ReaderState, nothing_read, is_misplaced, progress_with, cause_or_value, turn_said, turn_of, turn, part_after, HasValue, ReaderRepresents}
+use Rattle.tfpg_graph.proofs.lemmas.reading.SaidBy.{statement_of-skipped, statement_of-header, statements_of-push, statements_of-silent}
 use Rattle.tfpg_graph.proofs.lemmas.reading.DeclaredBy.{AllHaveValues, is_misplaced-said, graph_said-mode, graph_said-node, graph_said-edge, graph_said-end, values-mode, values-node, values-edge, values-end}
-use Rattle.tfpg_graph.proofs.lemmas.reading.CauseAt.{AllClean, clean-push, cause-passed_over}
+use Rattle.tfpg_graph.proofs.lemmas.reading.CauseAt.{AllClean, clean-push, cause-skipped}
 use Rattle.tfpg_graph.proofs.lemmas.reading.CausedSaid.{in_order, cause_declared, cause-said}
-use Rattle.tfpg_graph.proofs.lemmas.reading.PartBehind.{part-declarations, part-ended, no_header, part_behind-said, part_behind-silent}
+use Rattle.tfpg_graph.proofs.lemmas.reading.PartAfter.{part-declarations, part-ended, no_header, part_after-said, part_after-silent}
 
 -- no line has none
 all_clean-none : AllClean []
@@ -39,7 +39,7 @@ is_taken None None next taken = absurd cc
 module _ (lines : List (List ℕ)) (line : List ℕ) (clean : AllClean lines) (values : AllHaveValues (statements_of lines)) where
   -- one line more that says nothing and has no cause
   stands_silent : (part : Part) → statement_of line ≡ None → cause_at (lines ++ line ∷ []) (length lines) ≡ None
-      → part ≡ part_behind (lines ++ line ∷ [])
+      → part ≡ part_after (lines ++ line ∷ [])
       → ReaderRepresents (record { part = part; graph = declared_by lines }) (lines ++ line ∷ [])
   stands_silent part says none at = record {
     clean = clean-push lines line clean none;
@@ -48,21 +48,21 @@ module _ (lines : List (List ℕ)) (line : List ℕ) (clean : AllClean lines) (v
     values = subst AllHaveValues (sym (statements_of-silent lines line says)) values;
   }
 
-  module _ (some : 0 < length lines) (unended : list_any ends_text (statements_of lines) ≡ false) (read : is_passed_over line ≡ false) (next : ReaderState) where
-    -- what was declared with a statement that has no cause stands for one line more
+  module _ (some : 0 < length lines) (unended : list_any ends_text (statements_of lines) ≡ false) (read : is_skipped line ≡ false) (next : ReaderState) where
+    -- what was declared with a statement that has no cause represents one line more
     stands_grown : (said : Statement) (declared : ReaderState) → statement_of line ≡ Some said
         → cause_declared (declared_by lines) said ≡ None
         → declared ≡ next → declared.part ≡ cond (ends_text said || false) Ended Declarations
         → declared.graph ≡ graph_said (statements_of lines ++ said ∷ []) → AllHaveValues (statements_of lines ++ said ∷ [])
         → ReaderRepresents next (lines ++ line ∷ [])
-    stands_grown said declared says none is at grown values_behind = record {
+    stands_grown said declared says none is at grown values_after = record {
       clean = clean-push lines line clean (cause-said lines line said values some unended read says ∙ none);
       graph = sym (ap (λ p. p.graph) is) ∙ grown ∙ sym (ap graph_said (statements_of-push lines line said says));
-      part = sym (ap (λ p. p.part) is) ∙ at ∙ sym (part_behind-said lines line said says unended);
-      values = subst AllHaveValues (sym (statements_of-push lines line said says)) values_behind;
+      part = sym (ap (λ p. p.part) is) ∙ at ∙ sym (part_after-said lines line said says unended);
+      values = subst AllHaveValues (sym (statements_of-push lines line said says)) values_after;
     }
 
-    -- a statement that has no cause is in its order behind those before
+    -- a statement that has no cause is in its order after those before
     ordered : (said : Statement)
         → cause_declared (declared_by lines) said ≡ None
         → is_out_of_order (statements_of lines) said ≡ false
@@ -100,7 +100,7 @@ module _ (lines : List (List ℕ)) (line : List ℕ) (clean : AllClean lines) (v
     stands_taken Ends says none with_it =
         stands_grown Ends (record { part = Ended; graph = declared_by lines }) says none (cc) refl (graph_said-end (statements_of lines)) (values-end (statements_of lines) values)
 
-    -- a line before the end that is not passed over
+    -- a line before the end that is not skipped
     stands_said : (said : Option Statement) → statement_of line ≡ said → turn_said (declared_by lines) said ≡ Ok next
         → ReaderRepresents next (lines ++ line ∷ [])
     stands_said None says turned = absurd cc
@@ -108,39 +108,39 @@ module _ (lines : List (List ℕ)) (line : List ℕ) (clean : AllClean lines) (v
         let taken = is_taken (cause_declared (declared_by lines) said) (progress_with (declared_by lines) said) next turned in
         stands_taken said says taken.0 taken.1
 
-  -- a line that is passed over
-  stands_passed : (part : Part) (next : ReaderState) → 0 < length lines → is_passed_over line ≡ true
-      → part ≡ part_behind (lines ++ line ∷ [])
+  -- a line that is skipped
+  stands_passed : (part : Part) (next : ReaderState) → 0 < length lines → is_skipped line ≡ true
+      → part ≡ part_after (lines ++ line ∷ [])
       → record { part = part; graph = declared_by lines } ≡ next → ReaderRepresents next (lines ++ line ∷ [])
   stands_passed part next some passed at is =
-      subst (λ p. ReaderRepresents p (lines ++ line ∷ [])) is (stands_silent part (statement_of-passed_over line passed) (cause-passed_over lines line some passed) at)
+      subst (λ p. ReaderRepresents p (lines ++ line ∷ [])) is (stands_silent part (statement_of-skipped line passed) (cause-skipped lines line some passed) at)
 
   -- a line before the end
-  stands_declarations : (next : ReaderState) → Declarations ≡ part_behind lines
+  stands_declarations : (next : ReaderState) → Declarations ≡ part_after lines
       → turn_of Declarations (declared_by lines) line ≡ Ok next → ReaderRepresents next (lines ++ line ∷ [])
-  stands_declarations next at turned = by (is_passed_over line) refl turned
+  stands_declarations next at turned = by (is_skipped line) refl turned
     where
       before : (0 < length lines) × (list_any ends_text (statements_of lines) ≡ false)
       before = part-declarations lines at
 
-      by : (passed : Bool) → is_passed_over line ≡ passed
+      by : (passed : Bool) → is_skipped line ≡ passed
           → cond passed (Ok (record { part = Declarations; graph = declared_by lines })) (turn_said (declared_by lines) (statement_of line)) ≡ Ok next
           → ReaderRepresents next (lines ++ line ∷ [])
-      by true passed turned_so = stands_passed Declarations next before.0 passed (sym (part_behind-silent lines line false (statement_of-passed_over line passed) before.1)) cc
+      by true passed turned_so = stands_passed Declarations next before.0 passed (sym (part_after-silent lines line false (statement_of-skipped line passed) before.1)) cc
       by false read turned_so = stands_said before.0 before.1 read next (statement_of line) refl turned_so
 
-  -- a line behind the end
-  stands_ended : (next : ReaderState) → Ended ≡ part_behind lines → turn_of Ended (declared_by lines) line ≡ Ok next
+  -- a line after the end
+  stands_ended : (next : ReaderState) → Ended ≡ part_after lines → turn_of Ended (declared_by lines) line ≡ Ok next
       → ReaderRepresents next (lines ++ line ∷ [])
-  stands_ended next at turned = by (is_passed_over line) refl turned
+  stands_ended next at turned = by (is_skipped line) refl turned
     where
       before : (0 < length lines) × (list_any ends_text (statements_of lines) ≡ true)
       before = part-ended lines at
 
-      by : (passed : Bool) → is_passed_over line ≡ passed
+      by : (passed : Bool) → is_skipped line ≡ passed
           → cond passed (Ok (record { part = Ended; graph = declared_by lines })) (Err AfterEnd) ≡ Ok next
           → ReaderRepresents next (lines ++ line ∷ [])
-      by true passed turned_so = stands_passed Ended next before.0 passed (sym (part_behind-silent lines line true (statement_of-passed_over line passed) before.1)) cc
+      by true passed turned_so = stands_passed Ended next before.0 passed (sym (part_after-silent lines line true (statement_of-skipped line passed) before.1)) cc
       by false read turned_so = absurd cc
 
 -- the first line
@@ -156,21 +156,21 @@ stands_header line next turned = by (bytes_eq line header) refl turned
         subst (λ p. ReaderRepresents p (line ∷ [])) is
         (stands_silent [] line all_clean-none (All-nil (HasValue (declared_by []))) Declarations (statement_of-header line same)
         (ap (λ b. cond b None (Some BadHeader)) same)
-        (sym (part_behind-silent [] line false (statement_of-header line same) refl)))
+        (sym (part_after-silent [] line false (statement_of-header line same) refl)))
     by false same turned_so = absurd cc
 
 -- a line of each part
-stands_behind : (part : Part) (next : ReaderState) (lines : List (List ℕ)) (line : List ℕ) → AllClean lines
-    → AllHaveValues (statements_of lines) → part ≡ part_behind lines
+stands_after : (part : Part) (next : ReaderState) (lines : List (List ℕ)) (line : List ℕ) → AllClean lines
+    → AllHaveValues (statements_of lines) → part ≡ part_after lines
     → turn_of part (declared_by lines) line ≡ Ok next → ReaderRepresents next (lines ++ line ∷ [])
-stands_behind Header next [] line clean values at turned = stands_header line next turned
-stands_behind Header next (first ∷ others) line clean values at turned = absurd (no_header first others at)
-stands_behind Declarations next lines line clean values at turned = stands_declarations lines line clean values next at turned
-stands_behind Ended next lines line clean values at turned = stands_ended lines line clean values next at turned
+stands_after Header next [] line clean values at turned = stands_header line next turned
+stands_after Header next (first ∷ others) line clean values at turned = absurd (no_header first others at)
+stands_after Declarations next lines line clean values at turned = stands_declarations lines line clean values next at turned
+stands_after Ended next lines line clean values at turned = stands_ended lines line clean values next at turned
 
--- What is read behind a line stands for one line more.
+-- What is read after a line represents one line more.
 pub ReaderRepresents-ok : (progress next : ReaderState) (lines : List (List ℕ)) (line : List ℕ) → ReaderRepresents progress lines
     → turn progress line ≡ Ok next → ReaderRepresents next (lines ++ line ∷ [])
 ReaderRepresents-ok progress next lines line stands turned =
-    stands_behind progress.part next lines line stands.clean stands.values stands.part
+    stands_after progress.part next lines line stands.clean stands.values stands.part
     (ap (λ graph. turn_of progress.part graph line) (sym stands.graph) ∙ turned)

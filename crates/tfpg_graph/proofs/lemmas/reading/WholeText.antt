@@ -67,15 +67,15 @@ module _ (body : List ℕ) where
 
 module _ (text body : List ℕ) (is : IsBody text body) where
   -- The refusal of a line is that of the text.
-  pub IsRefusalOf-line : (progress : ReaderState) (before behind : List (List ℕ)) (line : List ℕ) (refusal : LineRefusal)
+  pub IsRefusalOf-line : (progress : ReaderState) (before after : List (List ℕ)) (line : List ℕ) (refusal : LineRefusal)
       → ReaderRepresents progress before → IsTurnAnswer (turn progress line) (Err refusal)
-      → parts_of body ≡ before ++ line ∷ behind
+      → parts_of body ≡ before ++ line ∷ after
       → IsRefusalOf text (refusal_at refusal (length before + 1))
-  IsRefusalOf-line progress before behind line (line_refusal.Cause cause) stands failed parts =
+  IsRefusalOf-line progress before after line (line_refusal.Cause cause) stands failed parts =
       inl (line_fault body text is (record { line = length before + 1; cause = cause })
       (subst (λ lines. IsLineFault lines (record { line = length before + 1; cause = cause })) (sym parts)
-      (IsLineFault-err progress before behind line cause stands failed)))
-  IsRefusalOf-line progress before behind line line_refusal.NoMemory stands failed parts = tt
+      (IsLineFault-err progress before after line cause stands failed)))
+  IsRefusalOf-line progress before after line line_refusal.NoMemory stands failed parts = tt
 
   -- The refusal at the end is that of the text.
   pub IsRefusalOf-end : (refusal : GraphRefusal) → IsEndRefusal (parts_of body) refusal → IsRefusalOf text refusal
@@ -84,14 +84,14 @@ module _ (text body : List ℕ) (is : IsBody text body) where
       (sym (lines-clean body text is (refused.0 0 (inl refl)))) refused)
   IsRefusalOf-end NoMemory refused = tt
 
-  -- A refused text spells no valid graph, unless memory was wanting.
+  -- A refused text spells no valid graph, unless memory ran out.
   pub IsAnswerOf-refused : (graph : Tfpg) (refusal : GraphRefusal) → IsRefusalOf text refusal → Spells text graph
       → IsValid graph → IsAnswerOf graph (Err refusal)
   IsAnswerOf-refused graph (Fault fault) refused spells valid = Spells-no_fault text graph spells valid fault refused
   IsAnswerOf-refused graph NoMemory refused spells valid = tt
 
   module _ (progress : ReaderState) (stands : ReaderRepresents progress (parts_of body)) (some : 0 < length (parts_of body)) where
-    -- what stands for the parts stands for the lines
+    -- what represents the parts represents the lines
     stands_lines : ReaderRepresents progress (lines_of text)
     stands_lines = subst (ReaderRepresents progress) (sym (lines-clean body text is (stands.clean 0 some))) stands
 

@@ -18,7 +18,7 @@ range_with_len-more from zero = ap (λ (n : ℕ). n ∷ []) (omega arith)
 range_with_len-more from (suc count) =
     ap (λ (ns : List ℕ). from ∷ ns) (range_with_len-more (from + 1) count ∙ ap (λ (n : ℕ). range_with_len (from + 1) count ++ n ∷ []) (omega arith))
 
--- one mode more stands behind the others, where its bit is set
+-- one mode more stands after the others, where its bit is set
 pub modes_before-more : (bits mode : ℕ) → modes_before bits (suc mode) ≡ modes_before bits mode ++ cond (bit_at bits mode == 1) (mode ∷ []) []
 modes_before-more bits mode =
     ap (filter (λ m. bit_at bits m == 1)) (range_with_len-more 0 mode ∙ ap (λ (n : ℕ). range_with_len 0 mode ++ n ∷ []) (zero-add mode))

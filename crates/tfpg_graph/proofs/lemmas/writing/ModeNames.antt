@@ -49,7 +49,7 @@ module _ (graph : Tfpg) (bits mode : ℕ) where
   pub mode_names_before-same : (bit_at bits mode == 1) ≡ false → mode_names_before graph bits (mode + 1) ≡ mode_names_before graph bits mode
   mode_names_before-same is = next_names false is ∙ append-nil (mode_names_before graph bits mode)
 
--- The names of the modes before this one stand behind the old bytes, and whether there is none.
+-- The names of the modes before this one stand after the old bytes, and whether there is none.
 pub record AreListed (graph : Tfpg) (bits : ℕ) (old new : List ℕ) (is_first : Bool) (mode : ℕ) : Type 0 where
   pub text : new ≡ old ++ join_with_byte 44 (mode_names_before graph bits mode)
   pub first : is_first ≡ eqb (length (mode_names_before graph bits mode)) 0

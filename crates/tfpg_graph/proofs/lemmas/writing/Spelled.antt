@@ -45,14 +45,14 @@ kept_node name (And lag) = refl
 abbrev edge_lines_of : Tfpg → List (List ℕ)
 edge_lines_of graph = map (λ edge. edge_line graph edge (modes_word graph edge.modes)) graph.edges
 
--- the lines behind the header
-abbrev lines_behind : Tfpg → List (List ℕ)
-lines_behind graph = map mode_line graph.modes ++ map node_line graph.nodes ++ edge_lines_of graph ++ codes "end" ∷ []
+-- the lines after the header
+abbrev lines_after : Tfpg → List (List ℕ)
+lines_after graph = map mode_line graph.modes ++ map node_line graph.nodes ++ edge_lines_of graph ++ codes "end" ∷ []
 
 -- what holds of each of these lines
-All-behind : (P : List ℕ → Type 0) (graph : Tfpg) → All (λ mode. P (mode_line mode)) graph.modes → All (λ node. P (node_line node)) graph.nodes
-    → All (λ edge. P (edge_line graph edge (modes_word graph edge.modes))) graph.edges → P (codes "end") → All P (lines_behind graph)
-All-behind P graph modes nodes edges end =
+All-after : (P : List ℕ → Type 0) (graph : Tfpg) → All (λ mode. P (mode_line mode)) graph.modes → All (λ node. P (node_line node)) graph.nodes
+    → All (λ edge. P (edge_line graph edge (modes_word graph edge.modes))) graph.edges → P (codes "end") → All P (lines_after graph)
+All-after P graph modes nodes edges end =
     All-append P (map mode_line graph.modes ++ map node_line graph.nodes ++ edge_lines_of graph) (codes "end" ∷ [])
     (All-append P (map mode_line graph.modes ++ map node_line graph.nodes) (edge_lines_of graph)
     (All-append P (map mode_line graph.modes) (map node_line graph.nodes) (All-map P mode_line graph.modes modes) (All-map P node_line graph.nodes nodes))
@@ -60,42 +60,42 @@ All-behind P graph modes nodes edges end =
     (All-cons P (codes "end") [] end (All-nil P))
 
 -- none of them is skipped
-kept : (graph : Tfpg) → filter (λ line. not (is_empty_or_comment line)) (lines_behind graph) ≡ lines_behind graph
-kept graph = filter-all (λ line. not (is_empty_or_comment line)) (lines_behind graph)
-    (All-behind (λ line. not (is_empty_or_comment line) ≡ true) graph (λ k d within. refl) (λ k d within. kept_node _ _) (λ k d within. refl) refl)
+kept : (graph : Tfpg) → filter (λ line. not (is_empty_or_comment line)) (lines_after graph) ≡ lines_after graph
+kept graph = filter-all (λ line. not (is_empty_or_comment line)) (lines_after graph)
+    (All-after (λ line. not (is_empty_or_comment line) ≡ true) graph (λ k d within. refl) (λ k d within. kept_node _ _) (λ k d within. refl) refl)
 
 module _ (graph : Tfpg) (valid : IsValid graph) where
   -- no line is too long
   short : All (λ line. length line ≤ longest_line) (canonical_lines graph)
-  short = All-cons (λ line. length line ≤ longest_line) header (lines_behind graph) (omega arith)
-      (All-behind (λ line. length line ≤ longest_line) graph
-      (All-weaker (λ mode. IsTrue (is_name mode)) (λ mode. length (mode_line mode) ≤ longest_line) short_mode graph.modes valid.mode_names)
-      (λ k d within. short_node _ _ (valid.node_names k d within) (valid.node_numbers k d within))
+  short = All-cons (λ line. length line ≤ longest_line) header (lines_after graph) (omega arith)
+      (All-after (λ line. length line ≤ longest_line) graph
+      (All-weaker (λ mode. IsTrue (is_name mode)) (λ mode. length (mode_line mode) ≤ longest_line) short_mode graph.modes valid.so_far.mode_names)
+      (λ k d within. short_node _ _ (valid.so_far.node_names k d within) (valid.so_far.node_numbers k d within))
       (All-weaker (IsValidEdge graph) (λ edge. length (edge_line graph edge (modes_word graph edge.modes)) ≤ longest_line)
-      (λ edge own. short_edge graph edge (modes_word graph edge.modes) valid.node_names own (short_modes graph edge.modes valid.mode_names valid.few_modes))
-      graph.edges valid.edges)
+      (λ edge own. short_edge graph edge (modes_word graph edge.modes) valid.so_far.node_names own (short_modes graph edge.modes valid.so_far.mode_names valid.so_far.few_modes))
+      graph.edges valid.so_far.edges)
       (omega arith))
 
   -- none has a line end in it
   clean : All HasNoLineEnd (canonical_lines graph)
-  clean = All-cons HasNoLineEnd header (lines_behind graph) clean_header
-      (All-behind HasNoLineEnd graph
-      (All-weaker (λ mode. IsTrue (is_name mode)) (λ mode. HasNoLineEnd (mode_line mode)) clean_mode graph.modes valid.mode_names)
-      (λ k d within. clean_node _ _ (valid.node_names k d within) (valid.node_numbers k d within))
+  clean = All-cons HasNoLineEnd header (lines_after graph) clean_header
+      (All-after HasNoLineEnd graph
+      (All-weaker (λ mode. IsTrue (is_name mode)) (λ mode. HasNoLineEnd (mode_line mode)) clean_mode graph.modes valid.so_far.mode_names)
+      (λ k d within. clean_node _ _ (valid.so_far.node_names k d within) (valid.so_far.node_numbers k d within))
       (All-weaker (IsValidEdge graph) (λ edge. HasNoLineEnd (edge_line graph edge (modes_word graph edge.modes)))
-      (λ edge own. clean_edge graph edge valid.node_names valid.mode_names own) graph.edges valid.edges)
+      (λ edge own. clean_edge graph edge valid.so_far.node_names valid.so_far.mode_names own) graph.edges valid.so_far.edges)
       clean_end)
 
   spelled_edges : AllZip (SpellsEdge graph) graph.edges (edge_lines_of graph)
   spelled_edges = AllZip-map (SpellsEdge graph) (λ edge. edge_line graph edge (modes_word graph edge.modes)) graph.edges
       (All-weaker (IsValidEdge graph) (λ edge. SpellsEdge graph edge (edge_line graph edge (modes_word graph edge.modes)))
       (λ edge own. (modes_word graph edge.modes, SpellsModes-modes_word graph edge.modes own.some_mode own.own_modes, refl))
-      graph.edges valid.edges)
+      graph.edges valid.so_far.edges)
 
   -- a text whose lines are the canonical ones spells the graph
   pub Spells-lines : (text : List ℕ) → lines_of text ≡ canonical_lines graph → Spells text graph
   Spells-lines text lines = record {
-    behind = lines_behind graph;
+    after = lines_after graph;
     lines = lines;
     said = record { edge_lines = edge_lines_of graph; edges = spelled_edges; all = kept graph };
     short = All-same (λ line. length line ≤ longest_line) (lines_of text) (canonical_lines graph) lines short;

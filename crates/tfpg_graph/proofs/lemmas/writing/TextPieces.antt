@@ -28,10 +28,10 @@ grouped : (a b c d e : List ℕ) → a ++ (((b ++ c) ++ d) ++ e) ≡ a ++ b ++ c
 grouped a b c d e = simp append_assoc
 
 module _ (graph : Tfpg) where
-  -- the lines behind the header, with their line ends
-  behind_header : flat_map with_line_end (map mode_line graph.modes ++ map node_line graph.nodes ++ map (λ edge. edge_line graph edge (modes_word graph edge.modes)) graph.edges ++ codes "end" ∷ [])
+  -- the lines after the header, with their line ends
+  after_header : flat_map with_line_end (map mode_line graph.modes ++ map node_line graph.nodes ++ map (λ edge. edge_line graph edge (modes_word graph edge.modes)) graph.edges ++ codes "end" ∷ [])
       ≡ flat_map mode_text graph.modes ++ flat_map node_text graph.nodes ++ flat_map (edge_text graph) graph.edges ++ text_line (codes "end" ∷ [])
-  behind_header =
+  after_header =
       let modes : List (List ℕ) = map mode_line graph.modes in
       let nodes : List (List ℕ) = map node_line graph.nodes in
       let edges : List (List ℕ) = map (λ edge. edge_line graph edge (modes_word graph edge.modes)) graph.edges in
@@ -46,14 +46,14 @@ module _ (graph : Tfpg) where
   pub canonical_text-pieces : canonical_text graph
       ≡ text_line (codes "tfpg" ∷ codes "1" ∷ []) ++ flat_map mode_text graph.modes ++ flat_map node_text graph.nodes ++ flat_map (edge_text graph) graph.edges ++ text_line (codes "end" ∷ [])
   canonical_text-pieces =
-      ap (λ (t : List ℕ). with_line_end header ++ t) behind_header
+      ap (λ (t : List ℕ). with_line_end header ++ t) after_header
       ∙ grouped (with_line_end header) (flat_map mode_text graph.modes) (flat_map node_text graph.nodes) (flat_map (edge_text graph) graph.edges) (text_line (codes "end" ∷ []))
 
--- what a space, a word and a line end behind other words leave, grouped
+-- what a space, a word and a line end after other words leave, grouped
 grouped_line : (old words word : List ℕ) → (((old ++ words) ++ 32 ∷ []) ++ word) ++ 10 ∷ [] ≡ old ++ ((words ++ (32 ∷ word)) ++ 10 ∷ [])
 grouped_line old words word = simp append_assoc
 
--- words that were appended, and behind them a last word and a line end
+-- words that were appended, and after them a last word and a line end
 pub last_word : (first : List ℕ) (others : List (List ℕ)) (word old m1 m2 m3 new : List ℕ) → m1 ≡ old ++ line_of (first ∷ others) → m2 ≡ m1 ++ 32 ∷ [] → m3 ≡ m2 ++ word
     → new ≡ m3 ++ 10 ∷ [] → new ≡ old ++ text_line (first ∷ (others ++ word ∷ []))
 last_word first others word old m1 m2 m3 new h1 h2 h3 h4 =

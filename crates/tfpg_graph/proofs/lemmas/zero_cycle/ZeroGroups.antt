@@ -3,9 +3,9 @@ use Rattle.std.proofs.Common.{◌≡◌, ℕ, zero, suc, ◌+◌, ◌-◌, ◌<�
 use Rattle.std.proofs.lemmas.Bool.{cases_lt}
 use Rattle.std.proofs.lemmas.List.{get_or-replicate, length-replicate, get_or_past, get_or_default, get_or_read}
 use Rattle.std.proofs.lemmas.List.Elements.{Contains-append_left}
-use Rattle.tfpg_graph.specs.inside.zero_cycle.ZeroSearch.{IsStep, mark_of, IsMarked, AreTurned, WalksUnmarked, ReachesUnmarked, ClosesGroup, IsSearched, HasVisited, HasSwept, IsFinishingOrder, IsGroupedFrom, AreGroups}
+use Rattle.tfpg_graph.specs.inside.zero_cycle.ZeroSearch.{IsStep, mark_of, IsMarked, AreReversed, WalksUnmarked, ReachesUnmarked, ClosesGroup, IsSearched, HasVisited, HasSwept, IsFinishingOrder, IsGroupedFrom, AreGroups}
 use Rattle.tfpg_graph.proofs.lemmas.zero_cycle.StepRows.{IsStep-begin}
-use Rattle.tfpg_graph.proofs.lemmas.zero_cycle.ZeroWalks.{mark_cases, not_both, ReachesUnmarked-any, ReachesUnmarked-trans, ReachesUnmarked-turned}
+use Rattle.tfpg_graph.proofs.lemmas.zero_cycle.ZeroWalks.{mark_cases, not_both, ReachesUnmarked-any, ReachesUnmarked-trans, ReachesUnmarked-reversed}
 
 -- no node has a mark
 pub no_mark : (count node : ℕ) → mark_of (replicate count None) node ≡ None
@@ -82,9 +82,9 @@ IsFinishingOrder-swept rows marks order end swept all = record {
 }
 
 -- no group is found
-pub IsGroupedFrom-none : (rows turned : List (List ℕ)) (order : List ℕ) (count : ℕ) → count ≡ length rows
-    → IsGroupedFrom rows turned order (replicate count None) [] (length order)
-IsGroupedFrom-none rows turned order count same =
+pub IsGroupedFrom-none : (rows reversed : List (List ℕ)) (order : List ℕ) (count : ℕ) → count ≡ length rows
+    → IsGroupedFrom rows reversed order (replicate count None) [] (length order)
+IsGroupedFrom-none rows reversed order count same =
     let none = λ (node : ℕ) (mark : ℕ) (e : mark_of (replicate count None) node ≡ Some mark).
     not_both (mark_of (replicate count None) node) mark e (no_mark count node) in
     record {
@@ -98,15 +98,15 @@ IsGroupedFrom-none rows turned order count same =
       searched = IsSearched-none rows (replicate count None);
     }
 
-module _ (rows turned : List (List ℕ)) (order : List ℕ) (place : ℕ) (m₀ : List (Option ℕ)) (o₀ : List ℕ)
+module _ (rows reversed : List (List ℕ)) (order : List ℕ) (place : ℕ) (m₀ : List (Option ℕ)) (o₀ : List ℕ)
     (m₁ : List (Option ℕ)) (o₁ : List ℕ)
-    (round : AreTurned rows turned) (finishing : IsFinishingOrder turned order) (within : place < length order)
-    (was : IsGroupedFrom rows turned order m₀ o₀ (place + 1))
+    (round : AreReversed rows reversed) (finishing : IsFinishingOrder reversed order) (within : place < length order)
+    (was : IsGroupedFrom rows reversed order m₀ o₀ (place + 1))
     (visited : HasVisited rows (get_or order place 0) place m₀ o₀ m₁ o₁) where
   abbrev root : ℕ
   root = get_or order place 0
 
-  abbrev settled : ClosesGroup turned order place
+  abbrev settled : ClosesGroup reversed order place
   settled = finishing.settled place within
 
   -- what has no mark stands up to the root
@@ -120,12 +120,12 @@ module _ (rows turned : List (List ℕ)) (order : List ℕ) (place : ℕ) (m₀ 
 
   -- what steps to the root's part of the order is no earlier
   from_start : (node next here other : ℕ) → get_or order here 0 ≡ node → settled.start ≤ here → here ≤ place
-      → get_or order other 0 ≡ next → IsStep turned next node
+      → get_or order other 0 ≡ next → IsStep reversed next node
       → settled.start ≤ other
   from_start node next here other at from upto at_other leads = ⊎_elim
       (λ early. absurd (settled.apart other here early from upto
-      (subst (λ (x : ℕ). IsStep turned x (get_or order here 0)) (sym at_other)
-      (subst (λ (x : ℕ). IsStep turned next x) (sym at) leads))))
+      (subst (λ (x : ℕ). IsStep reversed x (get_or order here 0)) (sym at_other)
+      (subst (λ (x : ℕ). IsStep reversed next x) (sym at) leads))))
       (λ late. late)
       (cases_lt other settled.start)
 
@@ -136,17 +136,17 @@ module _ (rows turned : List (List ℕ)) (order : List ℕ) (place : ℕ) (m₀ 
   walk_inside zero from to here at start_in upto walk = (here, start_in, upto, at ∙ walk)
   walk_inside (suc steps) from to here at start_in upto walk =
       let next : ℕ = walk.0 in
-      let leads : IsStep turned next from = round.there from next walk.1 in
-      let has : Contains order next = finishing.complete next (IsStep-begin turned next from leads) in
+      let leads : IsStep reversed next from = round.there from next walk.1 in
+      let has : Contains order next = finishing.complete next (IsStep-begin reversed next from leads) in
       let at_next : get_or order has.0 0 ≡ next = get_or_default order has.0 0 next has.1 ∙ has.2 in
       walk_inside steps next to has.0 at_next (from_start from next here has.0 at start_in upto at_next leads)
       (up_to_root next has.0 at_next has.1 walk.2) walk.3
 
   -- what the search from the root reaches reaches the root
-  new_back : (node : ℕ) → ReachesUnmarked rows m₀ root node → ReachesUnmarked turned [] root node
+  new_back : (node : ℕ) → ReachesUnmarked rows m₀ root node → ReachesUnmarked reversed [] root node
   new_back node walk =
       let inside = walk_inside walk.0 root node place refl settled.begins (omega arith) walk.1 in
-      subst (λ (x : ℕ). ReachesUnmarked turned [] root x) inside.3 (settled.reached inside.0 inside.1 inside.2)
+      subst (λ (x : ℕ). ReachesUnmarked reversed [] root x) inside.3 (settled.reached inside.0 inside.1 inside.2)
 
   now_high : (node mark : ℕ) → mark_of m₁ node ≡ Some mark → place ≤ mark
   now_high node mark e = ⊎_elim
@@ -158,7 +158,7 @@ module _ (rows turned : List (List ℕ)) (order : List ℕ) (place : ℕ) (m₀ 
   now_finished = HasVisited-finished rows root place m₀ o₀ m₁ o₁ visited was.finished
 
   -- one group more, or a search that finds nothing
-  pub IsGroupedFrom-more : IsGroupedFrom rows turned order m₁ o₁ place
+  pub IsGroupedFrom-more : IsGroupedFrom rows reversed order m₁ o₁ place
   IsGroupedFrom-more = record {
     count = visited.grown.count ∙ was.count;
     later = λ other from in_order. ⊎_elim
@@ -175,7 +175,7 @@ module _ (rows turned : List (List ℕ)) (order : List ℕ) (place : ℕ) (m₀ 
         (visited.grown.fresh node mark e);
     back = λ node mark e. ⊎_elim
         (was.back node mark)
-        (λ new. subst (λ (at : ℕ). ReachesUnmarked turned [] (get_or order at 0) node) (sym new.same) (new_back node new.walk))
+        (λ new. subst (λ (at : ℕ). ReachesUnmarked reversed [] (get_or order at 0) node) (sym new.same) (new_back node new.walk))
         (visited.grown.fresh node mark e);
     rises = λ from to mark e leads. ⊎_elim
         (λ old. let above = was.rises from to mark old leads in
@@ -190,10 +190,10 @@ module _ (rows turned : List (List ℕ)) (order : List ℕ) (place : ℕ) (m₀ 
   }
 
 -- all groups are found
-pub AreGroups-all : (rows turned : List (List ℕ)) (order : List ℕ) (marks : List (Option ℕ)) (done : List ℕ)
-    → AreTurned rows turned → IsFinishingOrder turned order
-    → IsGroupedFrom rows turned order marks done 0 → AreGroups rows marks
-AreGroups-all rows turned order marks done round finishing grouped = record {
+pub AreGroups-all : (rows reversed : List (List ℕ)) (order : List ℕ) (marks : List (Option ℕ)) (done : List ℕ)
+    → AreReversed rows reversed → IsFinishingOrder reversed order
+    → IsGroupedFrom rows reversed order marks done 0 → AreGroups rows marks
+AreGroups-all rows reversed order marks done round finishing grouped = record {
   count = grouped.count;
   all = λ node within.
       let has : Contains order node = finishing.complete node (omega (arith, within, round.count)) in
@@ -202,7 +202,7 @@ AreGroups-all rows turned order marks done round finishing grouped = record {
   rises = grouped.rises;
   joined = λ from to mark here there.
       ReachesUnmarked-trans rows [] from (get_or order mark 0) to
-      (ReachesUnmarked-turned rows turned round.back (get_or order mark 0) from (grouped.back from mark here))
+      (ReachesUnmarked-reversed rows reversed round.back (get_or order mark 0) from (grouped.back from mark here))
       (grouped.there to mark there);
 }
 
@@ -215,38 +215,38 @@ HasSwept-begin rows count marks order same marks_are order_is =
     (subst (λ (o : List ℕ). HasSwept rows (replicate count None) o 0) (sym order_is) (HasSwept-none rows count same))
 
 -- the second search begins
-pub IsGroupedFrom-begin : (rows turned : List (List ℕ)) (order : List ℕ) (count : ℕ) (marks : List (Option ℕ))
+pub IsGroupedFrom-begin : (rows reversed : List (List ℕ)) (order : List ℕ) (count : ℕ) (marks : List (Option ℕ))
     (done : List ℕ) → count ≡ length rows → marks ≡ replicate count None → done ≡ []
-    → IsGroupedFrom rows turned order marks done (length order - 0)
-IsGroupedFrom-begin rows turned order count marks done same marks_are done_is =
-    subst (λ (from : ℕ). IsGroupedFrom rows turned order marks done from)
+    → IsGroupedFrom rows reversed order marks done (length order - 0)
+IsGroupedFrom-begin rows reversed order count marks done same marks_are done_is =
+    subst (λ (from : ℕ). IsGroupedFrom rows reversed order marks done from)
     (let all : length order ≡ length order - 0 = omega arith in all)
-    (subst (λ (m : List (Option ℕ)). IsGroupedFrom rows turned order m done (length order)) (sym marks_are)
-    (subst (λ (d : List ℕ). IsGroupedFrom rows turned order (replicate count None) d (length order)) (sym done_is)
-    (IsGroupedFrom-none rows turned order count same)))
+    (subst (λ (m : List (Option ℕ)). IsGroupedFrom rows reversed order m done (length order)) (sym marks_are)
+    (subst (λ (d : List ℕ). IsGroupedFrom rows reversed order (replicate count None) d (length order)) (sym done_is)
+    (IsGroupedFrom-none rows reversed order count same)))
 
 -- a turn of the second search, counted from the end of the order
-pub IsGroupedFrom-turn : (rows turned : List (List ℕ)) (order : List ℕ) (turn place node : ℕ) (m₀ : List (Option ℕ))
+pub IsGroupedFrom-turn : (rows reversed : List (List ℕ)) (order : List ℕ) (turn place node : ℕ) (m₀ : List (Option ℕ))
     (o₀ : List ℕ) (m₁ : List (Option ℕ)) (o₁ : List ℕ)
-    → AreTurned rows turned → IsFinishingOrder turned order → place + turn + 1 ≡ length order
+    → AreReversed rows reversed → IsFinishingOrder reversed order → place + turn + 1 ≡ length order
     → node ≡ get_or order place node
-    → IsGroupedFrom rows turned order m₀ o₀ (length order - turn) → HasVisited rows node place m₀ o₀ m₁ o₁
-    → IsGroupedFrom rows turned order m₁ o₁ (length order - (turn + 1))
-IsGroupedFrom-turn rows turned order turn place node m₀ o₀ m₁ o₁ round finishing stands at was visited =
+    → IsGroupedFrom rows reversed order m₀ o₀ (length order - turn) → HasVisited rows node place m₀ o₀ m₁ o₁
+    → IsGroupedFrom rows reversed order m₁ o₁ (length order - (turn + 1))
+IsGroupedFrom-turn rows reversed order turn place node m₀ o₀ m₁ o₁ round finishing stands at was visited =
     let within : place < length order = omega (arith, stands) in
     let before : length order - turn ≡ place + 1 = omega (arith, stands) in
     let after : place ≡ length order - (turn + 1) = omega (arith, stands) in
     let root_is : node ≡ get_or order place 0 = get_or_read order place node within at 0 in
-    subst (λ (from : ℕ). IsGroupedFrom rows turned order m₁ o₁ from) after
-    (IsGroupedFrom-more rows turned order place m₀ o₀ m₁ o₁ round finishing within
-    (subst (λ (from : ℕ). IsGroupedFrom rows turned order m₀ o₀ from) before was)
+    subst (λ (from : ℕ). IsGroupedFrom rows reversed order m₁ o₁ from) after
+    (IsGroupedFrom-more rows reversed order place m₀ o₀ m₁ o₁ round finishing within
+    (subst (λ (from : ℕ). IsGroupedFrom rows reversed order m₀ o₀ from) before was)
     (subst (λ (x : ℕ). HasVisited rows x place m₀ o₀ m₁ o₁) root_is visited))
 
 -- after the last turn
-pub AreGroups-end : (rows turned : List (List ℕ)) (order : List ℕ) (marks : List (Option ℕ)) (done : List ℕ)
-    (turn : ℕ) → AreTurned rows turned → IsFinishingOrder turned order
-    → length order ≤ turn → IsGroupedFrom rows turned order marks done (length order - turn) → AreGroups rows marks
-AreGroups-end rows turned order marks done turn round finishing past grouped =
-    AreGroups-all rows turned order marks done round finishing
-    (subst (λ (from : ℕ). IsGroupedFrom rows turned order marks done from)
+pub AreGroups-end : (rows reversed : List (List ℕ)) (order : List ℕ) (marks : List (Option ℕ)) (done : List ℕ)
+    (turn : ℕ) → AreReversed rows reversed → IsFinishingOrder reversed order
+    → length order ≤ turn → IsGroupedFrom rows reversed order marks done (length order - turn) → AreGroups rows marks
+AreGroups-end rows reversed order marks done turn round finishing past grouped =
+    AreGroups-all rows reversed order marks done round finishing
+    (subst (λ (from : ℕ). IsGroupedFrom rows reversed order marks done from)
     (let none_left : length order - turn ≡ 0 = omega (arith, past) in none_left) grouped)

@@ -1,6 +1,6 @@
 -- Ranks of the nodes of a valid graph, by which each edge that may take no time goes upwards. The rank of a node is the
 -- number of nodes from which one can walk to it over some such edges.
-use Rattle.std.proofs.Common.{◌≡◌, ℕ, zero, suc, ◌+◌, ◌<◌, ◌≤◌, ◌&&◌, ◌||◌, Bool, true, false, cond, ◌⊎◌, ⊎_elim, inl, inr, List, [], ◌∷◌, length, nat_eq, All, Contains, refl, sym, ap, ◌∙◌, subst, arith}
+use Rattle.std.proofs.Common.{◌≡◌, ℕ, zero, suc, ◌+◌, ◌<◌, ◌≤◌, ◌&&◌, ◌||◌, Bool, true, false, cond, ◌⊎◌, ⊎_elim, inl, inr, List, [], ◌∷◌, length, nat_eq, Contains, refl, sym, ap, ◌∙◌, subst, arith}
 use Rattle.std.specs.List.{list_any}
 use Rattle.std.proofs.lemmas.Bool.{and_parts, or_cases, eqb-true, eq-eqb, false≢true, false_from_ne_true, cases_lt}
 use Rattle.std.proofs.lemmas.List.Elements.{All-contains}
@@ -90,7 +90,7 @@ module _ (graph : Tfpg) where
           let other = down parts.1 in (
             one.0 + suc other.0,
             same_steps (suc one.0 + suc other.0) (suc (one.0 + suc other.0)) from to (omega arith)
-            (append_walks (suc one.0) (suc other.0) from below to one.1 other.1),
+                (append_walks (suc one.0) (suc other.0) from below to one.1 other.1),
           )
 
   -- more nodes may stand between
@@ -208,7 +208,7 @@ HasZeroOrder-valid graph valid = record {
 
     up : (edge : Edge) → Contains graph.edges edge → edge.tmin ≡ 0 → rank edge.source < rank edge.target
     up edge among no_time =
-        let is : IsValidEdge graph edge = All-contains (IsValidEdge graph) graph.edges edge valid.edges among in
+        let is : IsValidEdge graph edge = All-contains (IsValidEdge graph) graph.edges edge valid.so_far.edges among in
         let along = walks-edge graph count edge among no_time in
         passing-lt (λ before. walks graph count before edge.source) (λ before. walks graph count before edge.target) count edge.source
         (λ before there. walks-joined graph count before edge.source edge.target is.source there along)

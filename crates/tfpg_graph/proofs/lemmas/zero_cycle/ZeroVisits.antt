@@ -1,4 +1,4 @@
--- What a search in depth leaves behind, step by step.
+-- What a search in depth leaves after, step by step.
 use Rattle.std.proofs.Common.{◌≡◌, ◌≢◌, ℕ, zero, ◌+◌, ◌-◌, ◌<◌, ◌≤◌, inl, inr, ⊎_elim, List, [], ◌∷◌, ◌++◌, length, get_or, set, Option, Some, None, Contains, refl, sym, ap, ◌∙◌, subst, arith, get_or-set_same, get_or-set_other, append_assoc, length-append}
 use Rattle.std.proofs.lemmas.Bool.{cases_lt, cases_eq}
 use Rattle.std.proofs.lemmas.List.{append-nil, length-set, length_push, get_or_append_left, get_or-append_right, get_or_push}

@@ -44,7 +44,7 @@ pub ReachesUnmarked-step : (rows : List (List ℕ)) (marks : List (Option ℕ)) 
     → ReachesUnmarked rows marks next to → ReachesUnmarked rows marks from to
 ReachesUnmarked-step rows marks from next to leads none walk = (suc walk.0, (next, leads, none, walk.1))
 
--- one walk behind another
+-- one walk after another
 walks_on : (rows : List (List ℕ)) (marks : List (Option ℕ)) (steps from mid to : ℕ)
     → WalksUnmarked rows marks from mid steps
     → ReachesUnmarked rows marks mid to → ReachesUnmarked rows marks from to
@@ -56,19 +56,19 @@ pub ReachesUnmarked-trans : (rows : List (List ℕ)) (marks : List (Option ℕ))
     → ReachesUnmarked rows marks mid to → ReachesUnmarked rows marks from to
 ReachesUnmarked-trans rows marks from mid to walk rest = walks_on rows marks walk.0 from mid to walk.1 rest
 
-walks_back : (rows turned : List (List ℕ)) → ((from to : ℕ) → IsStep turned from to → IsStep rows to from)
+walks_back : (rows reversed : List (List ℕ)) → ((from to : ℕ) → IsStep reversed from to → IsStep rows to from)
     → (steps from to : ℕ)
-    → WalksUnmarked turned [] from to steps → ReachesUnmarked rows [] to from
-walks_back rows turned back zero from to walk = (zero, sym walk)
-walks_back rows turned back (suc steps) from to walk =
-    ReachesUnmarked-trans rows [] to walk.0 from (walks_back rows turned back steps walk.0 to walk.3)
+    → WalksUnmarked reversed [] from to steps → ReachesUnmarked rows [] to from
+walks_back rows reversed back zero from to walk = (zero, sym walk)
+walks_back rows reversed back (suc steps) from to walk =
+    ReachesUnmarked-trans rows [] to walk.0 from (walks_back rows reversed back steps walk.0 to walk.3)
     (ReachesUnmarked-step rows [] walk.0 from from (back from walk.0 walk.1) refl (zero, refl))
 
--- a walk along turned steps, walked back
-pub ReachesUnmarked-turned : (rows turned : List (List ℕ)) → ((from to : ℕ) → IsStep turned from to → IsStep rows to from)
+-- a walk along reversed steps, walked back
+pub ReachesUnmarked-reversed : (rows reversed : List (List ℕ)) → ((from to : ℕ) → IsStep reversed from to → IsStep rows to from)
     → (from to : ℕ)
-    → ReachesUnmarked turned [] from to → ReachesUnmarked rows [] to from
-ReachesUnmarked-turned rows turned back from to walk = walks_back rows turned back walk.0 from to walk.1
+    → ReachesUnmarked reversed [] from to → ReachesUnmarked rows [] to from
+ReachesUnmarked-reversed rows reversed back from to walk = walks_back rows reversed back walk.0 from to walk.1
 
 -- a mark more is a node less without one
 pub fewer-set : (marks : List (Option ℕ)) (node mark : ℕ) → node < length marks → mark_of marks node ≡ None

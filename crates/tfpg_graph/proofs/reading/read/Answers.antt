@@ -20,7 +20,7 @@ is_body c = record {
   front = c.without_last_line_end-body.ensures.front;
 }
 
--- this line stands behind those so far
+-- this line stands after those so far
 parts_round : (c : In-Some) → parts_of c.without_last_line_end-body.result.now
     ≡ map (λ line. line.now) c.loop-line.yielded
     ++ c.in-Some.line.now ∷ drop (length c.loop-line.yielded + 1) (parts_of c.without_last_line_end-body.result.now)
@@ -42,7 +42,7 @@ all_parts c =
     (search rules) (search rules) (λ x b q k. search (rules, tests)) in
     YieldsList-end all c.loop-line.yielded _ c.loop-line.yielded_by _ _ c.in-None.is c.next.ensures.steps
 
--- what is read stands for them
+-- what is read represents them
 stands : (c : In-None) → ReaderRepresents c.loop-line.reader (parts_of c.without_last_line_end-body.result.now)
 stands c = subst (ReaderRepresents c.loop-line.reader) (all_parts c).0 c.loop-line.invariant.stands
 
@@ -51,11 +51,11 @@ returns-in-Err-clause-refused c =
     let at = goal.at.returns-in-Err-clause-refused c in
     let body = c.without_last_line_end-body.result.now in
     let before : List (List ℕ) = map (λ line. line.now) c.loop-line.yielded in
-    let behind : List (List ℕ) = drop (length c.loop-line.yielded + 1) (parts_of body) in
+    let after : List (List ℕ) = drop (length c.loop-line.yielded + 1) (parts_of body) in
     let counted : c.loop-line.line_count ≡ length before =
     c.loop-line.invariant.counted ∙ sym (length-map c.loop-line.yielded (λ line. line.now)) in
     subst (IsRefusalOf c.args.text.now) (sym (c.at.ensures ∙ ap (λ n. refusal_at c.in-Err.refusal (n + 1)) counted))
-    (IsRefusalOf-line c.args.text.now body (is_body at.After-next) c.loop-line.reader before behind c.in-Some.line.now
+    (IsRefusalOf-line c.args.text.now body (is_body at.After-next) c.loop-line.reader before after c.in-Some.line.now
     c.in-Err.refusal c.loop-line.invariant.stands c.in-Err.ensures (parts_round at.In-Some))
 
 pub returns-in-Err-clause-exact : goal.returns-in-Err-clause-exact

@@ -1,4 +1,4 @@
--- What the reader answers to a line, beside the turn that the line makes. Want of memory may stand in place of each.
+-- What the reader answers to a line, beside the turn that the line makes. Out of memory may come in place of each.
 use Rattle.std.specs.Prelude.{◌≡◌, ℕ, List, Result, Ok, Err}
 use Rattle.tfpg_graph.specs.declared.cause.GraphCause.{GraphCause}
 use Rattle.tfpg_graph.specs.declared.cause.GraphRefusal.{GraphRefusal}
@@ -8,7 +8,7 @@ use Rattle.tfpg_graph.specs.declared.reading.reader.LineRefusal.TheVariants as l
 use Rattle.tfpg_graph.specs.Faults.{IsClean, IsWholeFault}
 use Rattle.tfpg_graph.specs.inside.reading.Turns.{ReaderState}
 
--- The reader's answer to a line is that of the line's turn, unless memory was wanting.
+-- The reader's answer to a line is that of the line's turn, unless memory ran out.
 abbrev pub IsTurnAnswer : Result ReaderState GraphCause → Result ReaderState LineRefusal → Type 0
 IsTurnAnswer turned (Ok progress) = turned ≡ Ok progress
 IsTurnAnswer turned (Err (line.Cause cause)) = turned ≡ Err cause

@@ -8,7 +8,7 @@ use Rattle.tfpg_graph.specs.declared.reading.reader.Part.TheVariants.{Header, De
 use Rattle.tfpg_graph.specs.Graph.{Tfpg}
 use Rattle.tfpg_graph.specs.Text.{header}
 use Rattle.tfpg_graph.specs.inside.Indexes.{nothing_declared, with_node, with_edge, with_mode}
-use Rattle.tfpg_graph.specs.Statements.{Statement, DeclaresMode, DeclaresNode, DeclaresEdge, Ends, statement_of, statements_of, is_passed_over, ends_text}
+use Rattle.tfpg_graph.specs.Statements.{Statement, DeclaresMode, DeclaresNode, DeclaresEdge, Ends, statement_of, statements_of, is_skipped, ends_text}
 use Rattle.tfpg_graph.specs.Declares.{kind_of_words, edge_declared, declared_by}
 use Rattle.tfpg_base.specs.Choice.{first_of}
 use Rattle.tfpg_graph.specs.Causes.{causes, cause_at}
@@ -56,17 +56,17 @@ turn_said graph (Some said) = cause_or_value (first_of (causes (is_misplaced gra
 -- a line of each part
 abbrev pub turn_of : Part → Tfpg → List ℕ → Result ReaderState GraphCause
 turn_of Header graph line = if bytes_eq line header then Ok (record { part = Declarations; graph = graph }) else Err BadHeader
-turn_of Declarations graph line = if is_passed_over line then Ok (record { part = Declarations; graph = graph }) else turn_said graph (statement_of line)
-turn_of Ended graph line = if is_passed_over line then Ok (record { part = Ended; graph = graph }) else Err AfterEnd
+turn_of Declarations graph line = if is_skipped line then Ok (record { part = Declarations; graph = graph }) else turn_said graph (statement_of line)
+turn_of Ended graph line = if is_skipped line then Ok (record { part = Ended; graph = graph }) else Err AfterEnd
 
 -- One line.
 abbrev pub turn : ReaderState → List ℕ → Result ReaderState GraphCause
 turn progress line = turn_of progress.part progress.graph line
 
--- which lines may come behind these
-abbrev pub part_behind : List (List ℕ) → Part
-part_behind [] = Header
-part_behind (first ∷ others) = if list_any ends_text (statements_of (first ∷ others)) then Ended else Declarations
+-- which lines may come after these
+abbrev pub part_after : List (List ℕ) → Part
+part_after [] = Header
+part_after (first ∷ others) = if list_any ends_text (statements_of (first ∷ others)) then Ended else Declarations
 
 -- what a statement declares has a value
 abbrev pub HasValue : Tfpg → Statement → Type 0
@@ -79,5 +79,5 @@ HasValue graph Ends = Unit {0}
 pub record ReaderRepresents (progress : ReaderState) (lines : List (List ℕ)) : Type 0 where
   pub clean : (place : ℕ) → place < length lines → cause_at lines place ≡ None
   pub graph : progress.graph ≡ declared_by lines
-  pub part : progress.part ≡ part_behind lines
+  pub part : progress.part ≡ part_after lines
   pub values : All (HasValue (declared_by lines)) (statements_of lines)

@@ -16,24 +16,24 @@ step_end false edge = edge.target
 step_end true edge = edge.source
 
 -- A step from the one node to the other is along one of the edges, which may take no time.
-pub record IsZeroStep (edges : List Edge) (turned : Bool) (from to : ℕ) : Type 0 where
+pub record IsZeroStep (edges : List Edge) (reversed : Bool) (from to : ℕ) : Type 0 where
   pub edge : Edge
   pub among : Contains edges edge
   pub no_time : edge.tmin ≡ 0
-  pub begins : step_begin turned edge ≡ from
-  pub ends : step_end turned edge ≡ to
+  pub begins : step_begin reversed edge ≡ from
+  pub ends : step_end reversed edge ≡ to
 
 -- Between this many nodes these are the steps along the edges that may take no time.
-pub record AreZeroSteps (count : ℕ) (edges : List Edge) (turned : Bool) (rows : List (List ℕ)) : Type 0 where
+pub record AreZeroSteps (count : ℕ) (edges : List Edge) (reversed : Bool) (rows : List (List ℕ)) : Type 0 where
   pub row_count : length rows ≡ count
-  pub along : (from to : ℕ) → IsStep rows from to → IsZeroStep edges turned from to
-  pub all : (from to : ℕ) → IsZeroStep edges turned from to → IsStep rows from to
+  pub along : (from to : ℕ) → IsStep rows from to → IsZeroStep edges reversed from to
+  pub all : (from to : ℕ) → IsZeroStep edges reversed from to → IsStep rows from to
 
 -- the steps with that along one more edge, where this may take no time
 abbrev pub AddsZeroStep : Bool → Edge → List (List ℕ) → List (List ℕ) → Type 0
-AddsZeroStep turned edge rows more =
-    (edges : List Edge) → AreZeroSteps (length rows) edges turned rows
-    → AreZeroSteps (length rows) (edges ++ edge ∷ []) turned more
+AddsZeroStep reversed edge rows more =
+    (edges : List Edge) → AreZeroSteps (length rows) edges reversed rows
+    → AreZeroSteps (length rows) (edges ++ edge ∷ []) reversed more
 
 -- Each node has a mark, by which no edge that may take no time goes down; between nodes with one mark one can walk in
 -- no time.

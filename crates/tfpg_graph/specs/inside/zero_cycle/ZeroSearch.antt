@@ -18,11 +18,11 @@ with_step rows from to = set rows from (row rows from ++ to ∷ [])
 abbrev pub AreWithin : List (List ℕ) → Type 0
 AreWithin rows = (from to : ℕ) → IsStep rows from to → to < length rows
 
--- the steps of the one list are those of the other, turned round
-pub record AreTurned (rows turned : List (List ℕ)) : Type 0 where
-  pub count : length turned ≡ length rows
-  pub there : (from to : ℕ) → IsStep rows from to → IsStep turned to from
-  pub back : (from to : ℕ) → IsStep turned from to → IsStep rows to from
+-- the steps of the one list are those of the other, reversed round
+pub record AreReversed (rows reversed : List (List ℕ)) : Type 0 where
+  pub count : length reversed ≡ length rows
+  pub there : (from to : ℕ) → IsStep rows from to → IsStep reversed to from
+  pub back : (from to : ℕ) → IsStep reversed from to → IsStep rows to from
 
 -- the mark of a node, where it has one
 abbrev pub mark_of : List (Option ℕ) → ℕ → Option ℕ
@@ -104,13 +104,13 @@ pub record IsFinishingOrder (rows : List (List ℕ)) (order : List ℕ) : Type 0
   pub settled : (place : ℕ) → place < length order → ClosesGroup rows order place
 
 -- Nodes have been marked by searches from the nodes of the order from this place on, each with the place as its mark.
-pub record IsGroupedFrom (rows turned : List (List ℕ)) (order : List ℕ) (marks : List (Option ℕ)) (done : List ℕ)
+pub record IsGroupedFrom (rows reversed : List (List ℕ)) (order : List ℕ) (marks : List (Option ℕ)) (done : List ℕ)
     (place : ℕ) : Type 0 where
   pub count : length marks ≡ length rows
   pub later : (other : ℕ) → place ≤ other → other < length order → IsMarked marks (slice_index order other)
   pub high : (node mark : ℕ) → mark_of marks node ≡ Some mark → place ≤ mark
   pub there : (node mark : ℕ) → mark_of marks node ≡ Some mark → ReachesUnmarked rows [] (slice_index order mark) node
-  pub back : (node mark : ℕ) → mark_of marks node ≡ Some mark → ReachesUnmarked turned [] (slice_index order mark) node
+  pub back : (node mark : ℕ) → mark_of marks node ≡ Some mark → ReachesUnmarked reversed [] (slice_index order mark) node
   pub rises : (from to mark : ℕ) → mark_of marks from ≡ Some mark → IsStep rows from to
       → (above : ℕ) × (mark_of marks to ≡ Some above) × (mark ≤ above)
   pub finished : (node : ℕ) → IsMarked marks node → Contains done node

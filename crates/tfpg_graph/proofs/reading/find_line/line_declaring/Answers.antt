@@ -23,9 +23,9 @@ abbrev said_before : In-Some → ℕ → ℕ
 said_before c place = count_by (says (test_of c.args.declaring)) (take place (parts_of c.args.text.now))
 
 -- the count goes one line further
-lines_behind : (c : In-Some) → said_before c (length c.loop-line.yielded + 1)
+lines_after : (c : In-Some) → said_before c (length c.loop-line.yielded + 1)
     ≡ said_before c (length (c.loop-line.yielded ++ c.in-Some.line ∷ []))
-lines_behind c = ap (said_before c) (sym (length_push c.loop-line.yielded c.in-Some.line))
+lines_after c = ap (said_before c) (sym (length_push c.loop-line.yielded c.in-Some.line))
 
 pub returns-then-declared-number : goal.returns-then-declared-number
 returns-then-declared-number c =
@@ -45,7 +45,7 @@ loop-line-preserved-then-is_declaring c =
       counted = counted_yes (test_of c.args.declaring) (parts_of c.args.text.now) (length c.loop-line.yielded)
           c.in-Some.line.now part.0 part.1 c.loop-line.declared c.loop-line.invariant.counted
           (sym c.is_declaring.ensures ∙ c.if-is_declaring.true)
-          ∙ lines_behind (goal.at.loop-line-preserved-then-is_declaring c).In-Some;
+          ∙ lines_after (goal.at.loop-line-preserved-then-is_declaring c).In-Some;
     }
 
 pub loop-line-preserved : goal.loop-line-preserved
@@ -57,7 +57,7 @@ loop-line-preserved c =
       counted = counted_no (test_of c.args.declaring) (parts_of c.args.text.now) (length c.loop-line.yielded)
           c.in-Some.line.now part.0 part.1 c.loop-line.declared c.loop-line.invariant.counted
           (sym c.is_declaring.ensures ∙ c.if-is_declaring.false)
-          ∙ lines_behind (goal.at.loop-line-preserved c).In-Some;
+          ∙ lines_after (goal.at.loop-line-preserved c).In-Some;
     }
 
 pub unreachable-requires : goal.unreachable-requires

@@ -5,7 +5,7 @@ use Rattle.tfpg_graph.proofs.zero_cycle.find_groups.groups.Goals as goal
 pub loop-turn-init : goal.loop-turn-init
 loop-turn-init c =
     let search = c.in_ok-search.search in
-    IsGroupedFrom-begin c.args.steps.now c.args.turned.now c.in_ok-order.order.items c.args.count search.marks.items
+    IsGroupedFrom-begin c.args.steps.now c.args.reversed.now c.in_ok-order.order.items c.args.count search.marks.items
     search.order.items
     c.requires.count c.in_ok-search.ensures.marks c.in_ok-search.ensures.order
 
@@ -15,7 +15,7 @@ visit-requires-clause-node c =
     let place = c.len.result - 1 - c.loop-turn.turn in
     let within : place < length order = omega arith in
     let has : Contains order c.index.result.now = (place, within, sym c.index.ensures) in
-    omega (arith, c.in_ok-order.ensures.inside c.index.result.now has, c.requires.turned.count)
+    omega (arith, c.in_ok-order.ensures.inside c.index.result.now has, c.requires.reversed.count)
 
 pub loop-turn-preserved : goal.loop-turn-preserved
 loop-turn-preserved c =
@@ -24,13 +24,13 @@ loop-turn-preserved c =
     let was = c.loop-turn.search in
     let now = c.visit.new.search in
     let stands : place + c.loop-turn.turn + 1 ≡ length order = omega arith in
-    IsGroupedFrom-turn c.args.steps.now c.args.turned.now order c.loop-turn.turn place c.index.result.now
+    IsGroupedFrom-turn c.args.steps.now c.args.reversed.now order c.loop-turn.turn place c.index.result.now
     was.marks.items was.order.items now.marks.items now.order.items
-    c.requires.turned c.in_ok-order.ensures stands c.index.ensures c.loop-turn.invariant c.in_ok-visit.ensures
+    c.requires.reversed c.in_ok-order.ensures stands c.index.ensures c.loop-turn.invariant c.in_ok-visit.ensures
 
 pub returns : goal.returns
 returns c =
     let search = c.loop-turn.search in
-    AreGroups-end c.args.steps.now c.args.turned.now c.in_ok-order.order.items search.marks.items search.order.items
+    AreGroups-end c.args.steps.now c.args.reversed.now c.in_ok-order.order.items search.marks.items search.order.items
     c.loop-turn.turn
-    c.requires.turned c.in_ok-order.ensures (omega arith) c.loop-turn.invariant
+    c.requires.reversed c.in_ok-order.ensures (omega arith) c.loop-turn.invariant

@@ -8,7 +8,7 @@ use Rattle.tfpg_graph.proofs.lemmas.reading.Ending.{edge_within, IfNone-none, Is
 use Rattle.tfpg_graph.proofs.reading.reader.Reader.end.Goals as goal
 use Rattle.tfpg_graph.proofs.reading.reader.Reader.end.Goals.{After-without_incoming, In_ok-edge, In-Some-2}
 
--- what is read stands for the parts, seen by its fields
+-- what is read represents the parts, seen by its fields
 stands : (c : After-without_incoming)
     → ReaderRepresents (record { part = c.self.inside.part; graph = c.self.inside.declared }) (parts_of c.args.text.now)
 stands c = subst (λ progress. ReaderRepresents progress (parts_of c.args.text.now)) (sym c.self.view_is) c.requires.stands
@@ -42,9 +42,9 @@ returns-in-Some-2-clause-fault c =
     c.line_declaring-in-Some-2.result c.fault-in-Some-2.result c.in_default.ensures.all (lies at.In-Some-2) first
     c.line_declaring-in-Some-2.ensures c.fault-in-Some-2.ensures
 
-pub new-requires-clause-valid : goal.new-requires-clause-valid
-new-requires-clause-valid c =
-    let at = goal.at.new-requires-clause-valid c in
+pub new-requires : goal.new-requires
+new-requires c =
+    let at = goal.at.new-requires c in
     IsValid-whole c.self.inside.declared c.in_default.ensures.so_far c.in_default.ensures.all
     (order at.In_ok-edge c.in_default-2.not-Some)
     (has_mode (parts_of c.args.text.now) _ (stands at.After-without_incoming) c.in-Ended.is)

@@ -9,6 +9,6 @@ loop-number-preserved c =
     let within : c.loop-number.number < length edges = omega arith in
     let read = slice_get-get_or edges c.loop-number.number c.edge.result within in
     let at : get_or edges c.loop-number.number c.edge.result ≡ c.edge.result = cc (read, c.edge.ensures) in
-    AreZeroSteps-next (length c.args.declared.now.nodes) edges c.args.turned c.loop-number.steps
+    AreZeroSteps-next (length c.args.declared.now.nodes) edges c.args.reversed c.loop-number.steps
     c.in_ok-steps-2.steps c.loop-number.number c.edge.result within at
     c.loop-number.invariant c.in_ok-steps-2.ensures
