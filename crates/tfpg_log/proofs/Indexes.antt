@@ -15,7 +15,7 @@ use Rattle.tfpg_log.specs.inside.LogIndex.{IsLogIndex, AreSameAlarms, alarm_plac
 use Rattle.tfpg_log.proofs.Events.{now-with_event}
 use Rattle.tfpg_log.proofs.Order.{ordered-with_event}
 use Rattle.tfpg_log.proofs.AlarmPlaces.{alarm_place_quiet, alarm_place_new, alarm_place_other}
-use Rattle.tfpg_log.proofs.ModeChanges.{mode_after-push, mode_before_change, mode_behind_change, changes-push}
+use Rattle.tfpg_log.proofs.ModeChanges.{mode_after-push, mode_before_change, mode_after_change, changes-push}
 use Rattle.tfpg_log.proofs.SpanChanges.{times_rise, spans_with_change, begun_with_change, one_more_change}
 
 abbrev log_of : List Event → Logbook
@@ -82,7 +82,7 @@ indexed_mode events alarms changes count time mode index room not_back in_range 
     let last : begin_of_span changes (length changes) ≤ time + 1 = omega (arith, index.by_now, not_back) in
     let spans : BeginSpans (mode_after 0 (events ++ Mode time mode ∷ [])) (with_change changes time mode) =
     spans_with_change (mode_after 0 events) (mode_after 0 (events ++ Mode time mode ∷ [])) changes time mode index.spans last
-    (mode_before_change events time mode) (mode_behind_change events time mode) in
+    (mode_before_change events time mode) (mode_after_change events time mode) in
     record {
       few = omega (arith, length_push events (Mode time mode), room);
       alarms_are = still_placed events alarms changes count (Mode time mode) index (λ other. refl);

@@ -94,7 +94,7 @@ module _ (graph : Tfpg) (log : Logbook) (node : ℕ) where
         (allowed_throughout edge member) is.run.in_range meets.0 meets.1 in
         (window.0, window.1, lies.0, lies.1)
 
-    -- It begins with the window of some edge, where it begins behind 0.
+    -- It begins with the window of some edge, where it begins after 0.
     pub begins : 0 < joint.lo
         → (edge : Edge) × Contains (edges_into graph node) edge × (window : Window) × (window_of log edge number horizon ≡ Some window) × (window.lo ≡ joint.lo)
     begins behind =

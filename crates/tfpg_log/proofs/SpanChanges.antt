@@ -191,7 +191,7 @@ begun_with_it modes time mode changes spans = elim (cases_Bool (eqb (mode_of_spa
       rw other (omega (arith, ap (begin_of_span (changes ++ change ∷ [])) long, begins)))
 ]
 
--- After one more change, of a time that no earlier one is behind, they begin the spans of the modes: up to that time as
+-- After one more change, of a time that no earlier one is after, they begin the spans of the modes: up to that time as
 -- before, and then the change's.
 pub spans_with_change : (modes newer : ℕ → ℕ) (changes : List ModeChange) (time mode : ℕ) → BeginSpans modes changes → begin_of_span changes (length changes) ≤ time + 1
     → ((instant : ℕ) → instant ≤ time → newer instant ≡ modes instant) → ((instant : ℕ) → time < instant → newer instant ≡ mode)

@@ -37,7 +37,7 @@ within_point changes (suc place) instant counted point = record {
 module _ (log : Logbook) (changes : List ModeChange) (spans : BeginSpans (mode_at log) changes) where
   -- ---- the number of an instant
 
-  -- the next instant lies in the same span, where the next span begins behind it
+  -- the next instant lies in the same span, where the next span begins after it
   still_within : (number instant : ℕ) → IsInSpan changes number instant → (number < length changes → suc instant < begin_of_span changes (suc number))
       → IsInSpan changes number (suc instant)
   still_within number instant within unended = record { counted = within.counted; begun = omega (arith, within.begun); unended = unended }

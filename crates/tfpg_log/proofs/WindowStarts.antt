@@ -111,8 +111,8 @@ module _ (log : Logbook) (changes : List ModeChange) (spans : BeginSpans (mode_a
           ap (has_mode modes) (spans.hold (span_number log instant) instant (number_within log changes spans instant))
           ∙ active (span_number log instant) (from_first instant from) (upto_last instant upto)
 
-      behind_last : (instant : ℕ) → instant ≡ end_of_span changes last horizon + 1 → instant ≤ horizon → passes instant ≡ true → ⊥
-      behind_last instant behind upto passing =
+      after_last : (instant : ℕ) → instant ≡ end_of_span changes last horizon + 1 → instant ≤ horizon → passes instant ≡ true → ⊥
+      after_last instant behind upto passing =
           let next = end.next (omega arith) in
           let within : IsInSpan changes (suc last) instant =
           record { counted = omega (arith, next.0); begun = omega (arith, next.1); unended = λ more. omega (arith, next.1, spans.rise (suc last) more) } in
@@ -128,7 +128,7 @@ module _ (log : Logbook) (changes : List ModeChange) (spans : BeginSpans (mode_a
         in_range = end.in_range;
         throughout = throughout;
         not_before = λ instant before passing. before_first first instant (omega (arith, is_first.upto, by.0)) is_first.alone before passing;
-        not_after = behind_last;
+        not_after = after_last;
       }
 
       first_within : IsInSpan changes first (begin_of_span changes first)

@@ -1,23 +1,18 @@
 -- A line is read as the statement that it is written with.
-use Rattle.std.proofs.Common.{◌≡◌, ℕ, ◌<◌, Bool, true, false, ◌||◌, cond, eqb, List, [], ◌∷◌, length, Option, Some, None, refl, sym, ap, subst, ◌∙◌, arith}
-use Rattle.std.specs.Prelude.{◌↔◌, All, codes, bytes_eq}
+use Rattle.std.proofs.Common.{◌≡◌, ℕ, Bool, true, false, ◌||◌, cond, eqb, List, [], ◌∷◌, length, Option, Some, None, refl, sym, ap, subst, ◌∙◌, arith}
+use Rattle.std.specs.Prelude.{◌↔◌, All, Contains, codes, bytes_eq}
 use Rattle.std.specs.List.{AllByRecursion, onto_first, list_any}
-use Rattle.std.proofs.lemmas.Bool.{eqb-false, ne_eqb}
-use Rattle.std.proofs.lemmas.List.Elements.{All-nil, All-cons, All-tail}
+use Rattle.std.proofs.lemmas.Bool.{or_parts, ne_eqb, eqb-false}
+use Rattle.std.proofs.lemmas.List.Elements.{All-nil, All-cons, All-head, All-tail, All-contains}
 use Rattle.std.proofs.lemmas.Slice.Eq.{bytes_eq-Decides}
 use Rattle.tfpg_base.specs.Words.{words_of, line_of}
+use Rattle.tfpg_base.proofs.Elements.{All-from_members}
 use Rattle.tfpg_base.proofs.Separators.{Lacks, join_with_byte-words_of}
-use Rattle.tfpg_graph.proofs.LinesSay.{slice_split-join}
-use Rattle.tfpg_log.specs.LogStatements.{LogStatement, Alarm, Silent, Sweep, Tick, Mode, words_of_log_statement, IsWholeWord, LineSays, log_statement_in, log_statement_of}
+use Rattle.tfpg_graph.specs.Statements.{IsLineWord}
+use Rattle.tfpg_graph.proofs.lemmas.reading.LinesSay.{slice_split-join}
+use Rattle.tfpg_log.specs.LogStatements.{LogStatement, Alarm, Silent, Sweep, Tick, Mode, words_of_log_statement, SaysLogStatement, log_statement_in, log_statement_of}
 
 -- ---- words
-
--- a byte that is no space
-lacks : (word : List ℕ) → All (λ byte. byte ≡ 32 → ⊥) word → Lacks 32 word
-lacks word no_space k d within = ne_eqb _ 32 (no_space k d within)
-
-no_space : (word : List ℕ) → Lacks 32 word → All (λ byte. byte ≡ 32 → ⊥) word
-no_space word lack k d within = eqb-false _ 32 (lack k d within)
 
 onto_lacks : (byte : ℕ) (parts : List (List ℕ)) → eqb byte 32 ≡ false → AllByRecursion (Lacks 32) parts → AllByRecursion (Lacks 32) (onto_first byte parts)
 onto_lacks byte [] other lack = (All-cons (λ b. eqb b 32 ≡ false) byte [] other (All-nil (λ b. eqb b 32 ≡ false)), tt)
@@ -33,28 +28,37 @@ words_lack (byte ∷ line) = by (eqb byte 32) refl (words_lack line)
     by true space rest = (All-nil (λ b. eqb b 32 ≡ false), rest)
     by false other rest = onto_lacks byte (words_of line) other rest
 
-neither : (one other : Bool) → (one || other) ≡ false → (one ≡ false) × (other ≡ false)
-neither true other e = absurd cc
-neither false other e = (refl, e)
+has_byte : (word : List ℕ) → eqb (length word) 0 ≡ false → word ≡ [] → ⊥
+has_byte word some empty = eqb-false (length word) 0 some (ap length empty)
+
+no_space : (word : List ℕ) → Lacks 32 word → Contains word 32 → ⊥
+no_space word lack has = eqb-false 32 32 (All-contains (λ b. eqb b 32 ≡ false) word 32 lack has) refl
 
 -- words that are not empty and have no space
-whole : (words : List (List ℕ)) → list_any (λ word. eqb (length word) 0) words ≡ false → AllByRecursion (Lacks 32) words → All IsWholeWord words
-whole [] none lack = All-nil IsWholeWord
-whole (word ∷ words) none lack =
-    let both = neither (eqb (length word) 0) (list_any (λ w. eqb (length w) 0) words) none in
-    let some : length word ≡ 0 → ⊥ = eqb-false (length word) 0 both.0 in
-    All-cons IsWholeWord word words (record { some_byte = grind arith; no_space = no_space word lack.0 }) (whole words both.1 lack.1)
+line_words : (words : List (List ℕ)) → list_any (λ word. eqb (length word) 0) words ≡ false → AllByRecursion (Lacks 32) words → All IsLineWord words
+line_words [] none lack = All-nil IsLineWord
+line_words (word ∷ words) none lack =
+    let both = or_parts (eqb (length word) 0) (list_any (λ w. eqb (length w) 0) words) none in
+    All-cons IsLineWord word words (has_byte word both.0, no_space word lack.0) (line_words words both.1 lack.1)
 
-whole_lack : (words : List (List ℕ)) → All IsWholeWord words → AllByRecursion (Lacks 32) words
-whole_lack [] all = tt
-whole_lack (word ∷ words) all = (lacks word (all 0 word (omega arith)).no_space, whole_lack words (All-tail IsWholeWord word words all))
+lacks_space : (word : List ℕ) → IsLineWord word → Lacks 32 word
+lacks_space word is =
+    All-from_members (λ b. eqb b 32 ≡ false) word
+    (λ byte member. ne_eqb byte 32 (λ space. is.1 (subst (λ (other : ℕ). Contains word other) space member)))
 
-none_empty : (words : List (List ℕ)) → All IsWholeWord words → list_any (λ word. eqb (length word) 0) words ≡ false
-none_empty [] all = refl
-none_empty (word ∷ words) all =
-    let some : 0 < length word = (all 0 word (omega arith)).some_byte in
-    let here : eqb (length word) 0 ≡ false = ne_eqb (length word) 0 (λ zero. omega (arith, zero, some)) in
-    rw here (none_empty words (All-tail IsWholeWord word words all))
+lack_spaces : (words : List (List ℕ)) → All IsLineWord words → AllByRecursion (Lacks 32) words
+lack_spaces [] are = tt
+lack_spaces (word ∷ words) are =
+    (lacks_space word (All-head IsLineWord word words are), lack_spaces words (All-tail IsLineWord word words are))
+
+not_empty : (word : List ℕ) → (word ≡ [] → ⊥) → eqb (length word) 0 ≡ false
+not_empty [] some = absurd (some refl)
+not_empty (byte ∷ word) some = ne_eqb (length (byte ∷ word)) 0 (λ zero. omega (arith, zero))
+
+none_empty : (words : List (List ℕ)) → All IsLineWord words → list_any (λ word. eqb (length word) 0) words ≡ false
+none_empty [] are = refl
+none_empty (word ∷ words) are =
+    (λ i. not_empty word (All-head IsLineWord word words are).0 i || none_empty words (All-tail IsLineWord word words are) i)
 
 -- ---- statements
 
@@ -110,19 +114,19 @@ unless_empty false read parts e = (refl, e)
 -- ---- lines
 
 -- A line is read as a statement exactly where it says it.
-pub read_as_written : (line time : List ℕ) (statement : LogStatement) → (log_statement_of line ≡ Some (time, statement)) ↔ LineSays line time statement
+pub read_as_written : (line time : List ℕ) (statement : LogStatement) → (log_statement_of line ≡ Some (time, statement)) ↔ SaysLogStatement line time statement
 read_as_written line time statement = (
   λ read.
       let both = unless_empty (list_any (λ word. eqb (length word) 0) (words_of line)) (log_statement_in (words_of line)) (time, statement) read in
       let words : words_of line ≡ time ∷ words_of_log_statement statement = words_read (words_of line) (time, statement) both.1 in
       record {
-        written = sym (join_with_byte-words_of line) ∙ ap line_of words;
-        words = subst (All IsWholeWord) words (whole (words_of line) both.0 (words_lack line));
+        words = sym (join_with_byte-words_of line) ∙ ap line_of words;
+        each = subst (All IsLineWord) words (line_words (words_of line) both.0 (words_lack line));
       },
   λ says.
       let words : words_of line ≡ time ∷ words_of_log_statement statement =
-      ap words_of says.written ∙ slice_split-join 32 (time ∷ words_of_log_statement statement) (omega arith) (whole_lack (time ∷ words_of_log_statement statement) says.words) in
+      ap words_of says.words ∙ slice_split-join 32 (time ∷ words_of_log_statement statement) (omega arith) (lack_spaces (time ∷ words_of_log_statement statement) says.each) in
       let some : list_any (λ word. eqb (length word) 0) (words_of line) ≡ false =
-      ap (list_any (λ word. eqb (length word) 0)) words ∙ none_empty (time ∷ words_of_log_statement statement) says.words in
+      ap (list_any (λ word. eqb (length word) 0)) words ∙ none_empty (time ∷ words_of_log_statement statement) says.each in
       (λ i. cond (some i) None (log_statement_in (words i))) ∙ statement_read time statement,
 )

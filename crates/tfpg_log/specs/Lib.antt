@@ -1,8 +1,8 @@
 pub use Rattle.tfpg_base.specs.Trace
 pub use Rattle.tfpg_graph.specs.Graph
 pub use Rattle.tfpg_graph.specs.Reach
+pub use Rattle.tfpg_graph.specs.Statements
 pub use Rattle.tfpg_graph.specs.Valid
-pub use Rattle.tfpg_graph.specs.ZeroCycle
 -- What the contracts say.
 pub mod Log
 pub mod Rules

@@ -1,7 +1,8 @@
 -- What a line of a log says by its words alone: no name is looked up, and no number is read.
-use Rattle.std.specs.Prelude.{◌≡◌, ◌≢◌, ℕ, ◌<◌, List, [], ◌∷◌, length, All, ◌==◌, if◌then◌else◌, Option, Some, None, codes, bytes_eq}
+use Rattle.std.specs.Prelude.{◌≡◌, ℕ, List, [], ◌∷◌, length, All, ◌==◌, if◌then◌else◌, Option, Some, None, codes, bytes_eq}
 use Rattle.std.specs.List.{list_any}
 use Rattle.tfpg_base.specs.Words.{words_of, line_of}
+use Rattle.tfpg_graph.specs.Statements.{IsLineWord}
 
 -- what a line of a log says after its time
 pub data LogStatement : Type 0 where
@@ -19,16 +20,11 @@ words_of_log_statement Sweep = codes "sweep" ∷ []
 words_of_log_statement Tick = codes "tick" ∷ []
 words_of_log_statement (Mode name) = codes "mode" ∷ name ∷ []
 
--- The word has some byte, and no space.
-pub record IsWholeWord (word : List ℕ) : Type 0 where
-  pub some_byte : 0 < length word
-  pub no_space : All (λ byte. byte ≢ 32) word
-
--- The line says this, with this word for its time: it is that word and the words of the statement, with a space between
--- each two.
-pub record LineSays (line time : List ℕ) (statement : LogStatement) : Type 0 where
-  pub written : line ≡ line_of (time ∷ words_of_log_statement statement)
-  pub words : All IsWholeWord (time ∷ words_of_log_statement statement)
+-- A line says a statement, with this word for its time: it is that word and the words of the statement, with a space
+-- between each two.
+pub record SaysLogStatement (line time : List ℕ) (statement : LogStatement) : Type 0 where
+  pub words : line ≡ line_of (time ∷ words_of_log_statement statement)
+  pub each : All IsLineWord (time ∷ words_of_log_statement statement)
 
 -- the word for the time and the statement of a line with these words, where it says one: the statement has one word, or a
 -- word and a name

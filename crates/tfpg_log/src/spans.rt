@@ -67,7 +67,7 @@ pub(crate) fn end_of_span(changes: &[ModeChange], number: usize, horizon: u64) -
     horizon
 }
 
-/// Takes one more change, of a time that no earlier change is behind. Where there is room for it, this does not fail.
+/// Takes one more change, of a time that no earlier change is after. Where there is room for it, this does not fail.
 pub(crate) fn take_change(
     changes: &mut Vec<ModeChange>,
     time: u64,

@@ -73,7 +73,7 @@ fn is_active_before(changes: &[ModeChange], modes: &ActiveModes, number: usize) 
     number > 0 && modes.has(mode_of_span(changes, number - 1))
 }
 
-/// Whether a span behind that of this number begins by the horizon, and its mode is one of these.
+/// Whether a span after that of this number begins by the horizon, and its mode is one of these.
 fn is_active_after(changes: &[ModeChange], modes: &ActiveModes, number: usize, horizon: u64) -> bool
     ensures { result ≡ is_active_after modes.now changes.now number horizon }
 {

@@ -87,7 +87,7 @@ module _ (graph : Tfpg) (log : Logbook) (trace : List Activation) (item number :
           | inr short ↦ absurd (shut (own_due.2.allowed gap (omega (arith, short, same)) earlier))
         ]
 
-    -- It is due so long after the later of two, the instant behind its gap and the time of its source.
+    -- It is due so long after the later of two, the instant after its gap and the time of its source.
     pub behind : (gap : Option ℕ) (start delay : ℕ) (found : Option ℕ) → IsGap log edge number gap → edge.tmax ≡ Some delay
         → time_of trace edge.source ≡ Some start → Begins (λ instant. after_gap gap start + delay ≤ instant) span.lo span.hi found
         → Begins (IsDueBy graph log trace item) span.lo span.hi found

@@ -43,7 +43,7 @@ module _ (log : Logbook) where
           ];
     }
 
-    -- Where no span up to an instant has one, and the node is active behind it, there is none.
+    -- Where no span up to an instant has one, and the node is active after it, there is none.
     pub none_at_all : (horizon last end : ℕ) → horizon ≤ now_of log → Some last ≡ cond (leb horizon (now_of log)) (Some (span_number log horizon)) None
         → ((instant : ℕ) → horizon < instant → instant ≤ now_of log → IsActive trace node instant) → last < end → KeepsMustBefore end
         → IsFirstMustFault graph log trace node None

@@ -32,7 +32,7 @@ both_pass time true (Some alarm) passes none = absurd (false≢true (sym none))
 both_pass time false alarm passes none = absurd (false≢true passes)
 
 module _ (graph : Tfpg) (log : Logbook) (trace : List Activation) (number : ℕ) where
-  -- the silence of an event, behind those before it
+  -- the silence of an event, after those before it
   quiet_by_event : (event : Event) (node : ℕ) → event_at log number ≡ Some event → quiet_at graph log number node ≡ quiet_time graph (take (number - 1) log.events) event node
   quiet_by_event event node at = ap (option_and_then (λ said. quiet_time graph (take (number - 1) log.events) said node)) at
 

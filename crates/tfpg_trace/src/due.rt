@@ -1,6 +1,6 @@
 //! When a discrepancy must be active, span by span. In one span an edge that is due stays due, so the first instant at
-//! which it is says all. How long it was active when the span begins is told by its gap: the last instant before the
-//! span at which it was not.
+//! which it is due says from when on it is. How long it was active when the span begins follows from its gap: the last
+//! instant before the span at which it was not.
 
 ghost use Rattle.std.specs.Prelude.{◌≡◌, ◌<◌, ◌≤◌, ◌+◌, ℕ, length, Option, Some, None, min};
 ghost use Rattle.tfpg_graph.specs.Graph.{incoming};
@@ -81,7 +81,7 @@ fn due_by_all(
     Some(first)
 }
 
-/// The first instant of the span at which the edge is due: its greatest delay after the later of two, the instant behind
+/// The first instant of the span at which the edge is due: its greatest delay after the later of two, the instant after
 /// its gap and the time of its source.
 fn due_by_edge(graph: &Graph, trace: &Trace, edge: u32, span: Span, gap: Option<u64>) -> Option<u64>
     requires { edge < length graph.now.edges }
@@ -95,11 +95,11 @@ fn due_by_edge(graph: &Graph, trace: &Trace, edge: u32, span: Span, gap: Option<
     }
     let delay = propagation.tmax?;
     let start = trace.at(propagation.source)?;
-    first_behind(gap, start, delay, span)
+    first_after_gap(gap, start, delay, span)
 }
 
-/// The first instant of the span that is so long after the later of two, the instant behind the gap and the start.
-fn first_behind(gap: Option<u64>, start: u64, delay: u64, span: Span) -> Option<u64>
+/// The first instant of the span that is so long after the later of two, the instant after the gap and the start.
+fn first_after_gap(gap: Option<u64>, start: u64, delay: u64, span: Span) -> Option<u64>
     ensures { Begins (λ instant. after_gap gap start + delay ≤ instant) span.lo span.hi result }
 {
     match gap {

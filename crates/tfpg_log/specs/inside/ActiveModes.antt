@@ -20,7 +20,7 @@ abbrev pub is_active_before : ActiveModes → List ModeChange → ℕ → Bool
 is_active_before modes changes zero = false
 is_active_before modes changes (suc number) = has_mode modes (mode_of_span changes number)
 
--- so has the span behind that of the number, which begins by the horizon
+-- so has the span after that of the number, which begins by the horizon
 abbrev pub is_active_after : ActiveModes → List ModeChange → ℕ → ℕ → Bool
 is_active_after modes changes number horizon =
     nat_lt number (length changes) && (nat_lt (change_at changes number).time horizon && has_mode modes (change_at changes number).mode)

@@ -18,7 +18,7 @@ abbrev pub mode_of_span : List ModeChange → ℕ → ℕ
 mode_of_span changes zero = 0
 mode_of_span changes (suc place) = (change_at changes place).mode
 
--- the last instant, up to a horizon, of a span that begins by it: the next span begins behind its change
+-- the last instant, up to a horizon, of a span that begins by it: the next span begins after its change
 abbrev pub end_of_span : List ModeChange → ℕ → ℕ → ℕ
 end_of_span changes number horizon =
     if nat_lt number (length changes) && nat_lt (change_at changes number).time horizon then (change_at changes number).time else horizon
@@ -36,7 +36,7 @@ pub record IsInSpan (changes : List ModeChange) (number instant : ℕ) : Type 0 
   pub begun : begin_of_span changes number ≤ instant
   pub unended : number < length changes → instant < begin_of_span changes (suc number)
 
--- The changes begin the spans of the modes of the instants: each span begins behind the one before and has another mode,
+-- The changes begin the spans of the modes of the instants: each span begins after the one before and has another mode,
 -- which is that of its instants.
 pub record BeginSpans (modes : ℕ → ℕ) (changes : List ModeChange) : Type 0 where
   pub rise : (number : ℕ) → number < length changes → begin_of_span changes number < begin_of_span changes (suc number)
@@ -47,7 +47,7 @@ pub record BeginSpans (modes : ℕ → ℕ) (changes : List ModeChange) : Type 0
 abbrev pub kept_at : List ModeChange → ℕ → List ModeChange
 kept_at changes time = if begin_of_span changes (length changes) == time + 1 then take (length changes - 1) changes else changes
 
--- the changes with one more behind them, where its mode is another than that of the last span
+-- the changes with one more after them, where its mode is another than that of the last span
 abbrev pub with_other_mode : List ModeChange → ℕ → ℕ → List ModeChange
 with_other_mode changes time mode =
     if mode_of_span changes (length changes) == mode then changes else changes ++ record { time = time; mode = mode } ∷ []

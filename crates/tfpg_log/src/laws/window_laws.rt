@@ -1,4 +1,4 @@
-//! What windows tell of the ages of edges, with no counting back through instants, as functions that do nothing: each
+//! What windows say of the ages of edges, with no counting back through instants, as functions that do nothing: each
 //! says its law in its clauses.
 
 ghost use Rattle.std.specs.Prelude.{◌≡◌, ℕ, ◌+◌, ◌-◌, ◌<◌, ◌≤◌, ◌↔◌, max, List, All, Contains, IsTrue, Some};

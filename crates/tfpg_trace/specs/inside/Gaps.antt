@@ -1,5 +1,4 @@
--- How long an edge has been active when a span begins: told by its gap, the last instant before the span at which it was
--- not.
+-- How long an edge has been active when a span begins: by its gap, the last instant before the span at which it was not.
 use Rattle.std.specs.Prelude.{◌≡◌, ℕ, ◌+◌, ◌<◌, ◌≤◌, List, length, IsTrue, if◌then◌else◌, Option, Some, None, slice_get, slice_index_or, max}
 use Rattle.std.specs.Option.{option_map_or}
 use Rattle.tfpg_graph.specs.declared.edge.Edge.{Edge}
@@ -30,7 +29,7 @@ AreGaps graph log node number gaps =
     (place : ℕ) → place < length (incoming graph node)
     → IsGapOf graph log (slice_index_or (incoming graph node) place 0) number (slice_index_or gaps place None)
 
--- the later of an instant and the one behind a gap
+-- the later of an instant and the one after a gap
 abbrev pub after_gap : Option ℕ → ℕ → ℕ
 after_gap None instant = instant
 after_gap (Some gap) instant = max instant (gap + 1)

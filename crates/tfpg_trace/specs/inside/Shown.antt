@@ -21,13 +21,13 @@ pub record IsAlarmNotShown (graph : Tfpg) (trace : List Activation) (event : Eve
   pub alarm : event ≡ Alarm time node
   pub not_shown : ShowsAlarm graph trace node time → ⊥
 
--- The event, behind these, is a silence of the node at this time, and is not shown. No node before has such a silence.
+-- The event, after these, is a silence of the node at this time, and is not shown. No node before has such a silence.
 pub record IsSilenceNotShown (graph : Tfpg) (trace : List Activation) (before : List Event) (event : Event) (node time : ℕ) : Type 0 where
   pub silent : quiet_time graph before event node ≡ Some time
   pub not_shown : ShowsSilence trace node time → ⊥
   pub first : (earlier : ℕ) → earlier < node → quiet_time graph before event earlier ≡ Some time → ShowsSilence trace earlier time
 
--- what is said of an event, behind these, that is not shown
+-- what is said of an event, after these, that is not shown
 abbrev pub IsNotShown : Tfpg → List Activation → List Event → Event → Verdict → Type 0
 IsNotShown graph trace before event verdict.Yes = ⊥
 IsNotShown graph trace before event (verdict.Late node time) = ⊥

@@ -10,5 +10,5 @@ returns-then-not-is_allowed c log number here gap =
 pub returns : goal.returns
 returns c log number here gap =
     behind c.args.graph.now log c.args.trace.now c.args.edge number c.args.span c.edge-propagation.result c.edge-propagation.ensures here
-    (sym c.is_allowed.ensures ∙ c.if-not-is_allowed.false) c.args.gap c.in_ok-start.start c.in_ok-delay.delay c.first_behind.result
-    (gap c.edge-propagation.result c.edge-propagation.ensures) c.in_ok-delay.was (sym c.in_ok-start.ensures) c.first_behind.ensures
+    (sym c.is_allowed.ensures ∙ c.if-not-is_allowed.false) c.args.gap c.in_ok-start.start c.in_ok-delay.delay c.first_after_gap.result
+    (gap c.edge-propagation.result c.edge-propagation.ensures) c.in_ok-delay.was (sym c.in_ok-start.ensures) c.first_after_gap.ensures
