@@ -18,7 +18,7 @@ use Rattle.tfpg_clause.specs.inside.Alternatives.{latest_within}
 use Rattle.tfpg_clause.proofs.EachOf.{each_at, each_length, each_push, each_missing}
 
 -- there is room for the due
-abbrev fits : ℕ → Due → Bool
+abbrev pub fits : ℕ → Due → Bool
 fits hi due = nat_le due.by hi
 
 map_push : {X Y : Type 0} (f : X → Y) (xs : List X) (x : X) → map f (xs ++ x ∷ []) ≡ map f xs ++ f x ∷ []
@@ -38,7 +38,7 @@ over hi (d ∷ ds) (suc k) due at late = by (fits hi d) (over hi ds k due at lat
     by true rest = rest
     by false rest = refl
 
-passed : {X : Type 0} (b : Bool) (x y : X) → then_some b x ≡ Some y → (b ≡ true) × (x ≡ y)
+pub passed : {X : Type 0} (b : Bool) (x y : X) → then_some b x ≡ Some y → (b ≡ true) × (x ≡ y)
 passed true x y at = (refl, cc)
 passed false x y at = absurd cc
 

@@ -6,3 +6,13 @@ pub mod ByNumber
 pub mod EachOf
 pub mod Dues
 pub mod Found
+pub mod Bounded
+pub mod Members
+pub mod LastDue
+pub mod Agreed
+pub mod MayClauses
+pub mod MustClauses
+pub mod RulesMet
+pub mod FactsMet
+pub mod GivesTrace
+pub mod OwnModes

@@ -1,15 +1,23 @@
 //! What facts, clauses and refutations come to, as functions that do nothing: each says its law in its clauses.
 
-ghost use Rattle.std.specs.Prelude.{◌≡◌, ℕ, pos, ◌≤ℤ◌, List, All, Some};
+ghost use Rattle.std.specs.Prelude.{◌≡◌, ℕ, pos, ◌≤ℤ◌, ◌↔◌, List, All, IsTrue, Some};
+ghost use Rattle.tfpg_base.specs.declared.activation.Activation.{Activation};
 ghost use Rattle.tfpg_base.specs.declared.constraint.Constraint.{Constraint};
-ghost use Rattle.tfpg_graph.specs.Graph.{Tfpg};
-ghost use Rattle.tfpg_log.specs.Log.{Logbook, GoesOn, IsOrdered};
+ghost use Rattle.tfpg_graph.specs.Graph.{Tfpg, is_kind_at, is_failure};
+ghost use Rattle.tfpg_graph.specs.Reach.{IsReach};
+ghost use Rattle.tfpg_graph.specs.Valid.{IsValid};
+ghost use Rattle.tfpg_graph.specs.ZeroCycle.{HasZeroOrder};
+ghost use Rattle.tfpg_log.specs.Log.{Logbook, GoesOn, IsOf, IsOrdered, now_of};
+ghost use Rattle.tfpg_log.specs.Rules.{KeepsRules};
+ghost use Rattle.tfpg_log.specs.Explains.{Explains, ShowsAll, IsMember};
 ghost use Rattle.tfpg_evidence.specs.declared.clause_name.ClauseName.{ClauseName};
 ghost use Rattle.tfpg_evidence.specs.declared.reason.Reason.{Reason};
 ghost use Rattle.tfpg_clause.specs.Bounds.{Meets};
 ghost use Rattle.tfpg_clause.specs.Facts.{fact};
-ghost use Rattle.tfpg_clause.specs.Clauses.{alternatives};
-ghost use Rattle.tfpg_clause.specs.Trees.{IsCycle, sum_of, IsPartial, IsPresentLeaf, Judged, PathSplit};
+ghost use Rattle.tfpg_clause.specs.Clauses.{alternatives, MeetsClause};
+ghost use Rattle.tfpg_clause.specs.Order.{horizon_of};
+ghost use Rattle.tfpg_clause.specs.Cut.{cut, AreNumbers, AreNumbersOf};
+ghost use Rattle.tfpg_clause.specs.Trees.{IsCycle, sum_of};
 
 /// What is allowed at a log stays allowed at each log that goes on from it, with the same constraints: `clause` says it of
 /// clauses, and `fact` of facts.
@@ -26,4 +34,49 @@ pub fn what_is_allowed_stays_allowed()
 pub fn a_cycle_that_is_met_is_not_negative()
     ensures { (times : List ℕ) (constraints : List Constraint) →
         IsCycle constraints → All (Meets times) constraints → pos 0 ≤ℤ sum_of constraints }
+{}
+
+/// Evidence is sound: the numbers of a trace that explains the log from a set meet what evidence is made of. A node that
+/// the trace does not activate may have any number from now + 1 to 10^12 + 1.
+///
+/// - `facts`: they meet each fact of the log and of the reach of the set.
+/// - `clauses`: they meet each allowed clause, at every horizon up to now.
+pub fn traces_meet_facts_and_clauses()
+    ensures facts { (graph : Tfpg) (log : Logbook) (set reach : List ℕ) (trace : List Activation) (numbers : List ℕ) →
+        HasZeroOrder graph → IsOf graph log → IsOrdered log → IsReach graph set reach →
+        Explains graph log set trace → AreNumbersOf graph (now_of log) trace numbers →
+        (reason : Reason) (stated : Constraint) → fact graph log reach reason ≡ Some stated → Meets numbers stated }
+    ensures clauses { (graph : Tfpg) (log : Logbook) (set : List ℕ) (trace : List Activation) (numbers : List ℕ) →
+        IsValid graph → Explains graph log set trace → AreNumbersOf graph (now_of log) trace numbers →
+        (name : ClauseName) (clause : List (List Constraint)) →
+        alternatives graph log name ≡ Some clause → MeetsClause numbers clause }
+{}
+
+/// Evidence is complete: numbers, one for each node, that meet what evidence is made of give a trace, where they are cut at
+/// now.
+///
+/// - `rules`: the trace keeps the propagation rules exactly where they meet each allowed clause with the horizon now.
+/// - `shown`: where they meet each fact, the trace shows each event.
+/// - `from_set`: where they meet each fact, the failure modes that it activates are members of the set.
+/// - `explains`: where they meet all of these, it explains the log from the set.
+pub fn numbers_that_meet_all_give_a_trace()
+    ensures rules { (graph : Tfpg) (log : Logbook) (numbers : List ℕ) → IsValid graph → AreNumbers graph numbers →
+        KeepsRules graph log (cut (now_of log) numbers)
+        ↔ ((name : ClauseName) (clause : List (List Constraint)) → horizon_of name ≡ now_of log →
+        alternatives graph log name ≡ Some clause → MeetsClause numbers clause) }
+    ensures shown { (graph : Tfpg) (log : Logbook) (set reach : List ℕ) (numbers : List ℕ) →
+        IsOf graph log → IsOrdered log → IsReach graph set reach → AreNumbers graph numbers →
+        ((reason : Reason) (stated : Constraint) → fact graph log reach reason ≡ Some stated → Meets numbers stated) →
+        ShowsAll graph (cut (now_of log) numbers) log.events }
+    ensures from_set { (graph : Tfpg) (log : Logbook) (set reach : List ℕ) (numbers : List ℕ) →
+        IsOf graph log → IsOrdered log → IsReach graph set reach → AreNumbers graph numbers →
+        ((reason : Reason) (stated : Constraint) → fact graph log reach reason ≡ Some stated → Meets numbers stated) →
+        All (λ activation. IsTrue (is_kind_at is_failure graph activation.node) → IsMember graph set activation.node)
+        (cut (now_of log) numbers) }
+    ensures explains { (graph : Tfpg) (log : Logbook) (set reach : List ℕ) (numbers : List ℕ) →
+        IsValid graph → IsOf graph log → IsOrdered log → IsReach graph set reach → AreNumbers graph numbers →
+        ((reason : Reason) (stated : Constraint) → fact graph log reach reason ≡ Some stated → Meets numbers stated) →
+        ((name : ClauseName) (clause : List (List Constraint)) → horizon_of name ≡ now_of log →
+        alternatives graph log name ≡ Some clause → MeetsClause numbers clause) →
+        Explains graph log set (cut (now_of log) numbers) }
 {}
