@@ -1,8 +1,9 @@
 //! The public calls of `tfpg_hyp`.
 
+ghost use Rattle.tfpg_hyp.specs.Hypotheses.{IsTableOf};
+
 use std::alloc::Global;
 use std::test::Fail;
-use tfpg_base::Set;
 use tfpg_graph::{Graph, read};
 use tfpg_hyp::{Fraction, Place, Table, TableFault, before, cost, robust};
 use tfpg_log::Log;
@@ -157,14 +158,16 @@ const RANKED: [(&str, (u64, u32, u32, u32), (u64, u32, u32, u32)); 8] = [
 #[test]
 fn ranks_by_cost_then_robustness_then_number(rt: HostRuntime) {
     for (name, better, worse) in &RANKED {
-        assert_eq!(rt; comes_before(*better, *worse), Some(true), "{name}");
+        let better = place_of(*better);
+        let worse = place_of(*worse);
+        assert_eq!(rt; comes_before(&better, &worse), Some(true), "{name}");
         assert_eq!(rt;
-            comes_before(*worse, *better),
+            comes_before(&worse, &better),
             Some(false),
             "{name}, the other way round"
         );
         assert_eq!(rt;
-            comes_before(*better, *better),
+            comes_before(&better, &better),
             Some(false),
             "{name}, before itself"
         );
@@ -172,11 +175,11 @@ fn ranks_by_cost_then_robustness_then_number(rt: HostRuntime) {
 }
 
 /// Whether the one place comes before the other, where both have fractions.
-fn comes_before(a: (u64, u32, u32, u32), b: (u64, u32, u32, u32)) -> Option<bool> {
-    if a.2 == 0 || b.2 == 0 {
+fn comes_before(a: &Place, b: &Place) -> Option<bool> {
+    if a.robust.monitored == 0 || b.robust.monitored == 0 {
         return None;
     }
-    Some(before(&place_of(a), &place_of(b)))
+    Some(before(a, b))
 }
 
 fn place_of(row: (u64, u32, u32, u32)) -> Place {
@@ -207,7 +210,7 @@ fn finds_cost_and_robustness(rt: HostRuntime) -> Result<(), Fail> {
     log.offer(&graph, b"5 alarm A")?;
     for (name, number, worth, alarmed, monitored) in &RANKED_SETS {
         assert!(rt; *number < table.len(), "{name}");
-        assert_eq!(rt; cost_of(&graph, table.set(*number)), Some(*worth), "{name}");
+        assert_eq!(rt; cost_of(&graph, &table, *number), Some(*worth), "{name}");
         let expected = Fraction {
             alarmed: *alarmed,
             monitored: *monitored,
@@ -221,16 +224,12 @@ fn finds_cost_and_robustness(rt: HostRuntime) -> Result<(), Fail> {
     Ok(())
 }
 
-/// The cost of a set of the first three failure modes, where there are three.
-fn cost_of(graph: &Graph, set: Set) -> Option<u64> {
-    if graph.failure_count() < 3 {
+/// The cost of the set of this number, if there is one.
+fn cost_of(graph: &Graph, table: &Table, number: u32) -> Option<u64>
+    requires { IsTableOf graph.now 2 table.now }
+{
+    if number >= table.len() {
         return None;
     }
-    let mut own = Set::empty();
-    for place in 0..3 {
-        if set.has(place) {
-            own = own.with(place);
-        }
-    }
-    Some(cost(graph, own))
+    Some(cost(graph, table.set(number)))
 }
