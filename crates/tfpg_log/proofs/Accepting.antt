@@ -1,10 +1,10 @@
--- What an accepted event is, and that a log with it is again of its graph.
-use Rattle.std.proofs.Common.{◌≡◌, ℕ, zero, suc, ◌<◌, ◌≤◌, Bool, true, false, List, [], ◌∷◌, length, get_or, Option, Some, None, refl, sym, ap, subst, ◌∙◌, inl, inr, arith}
-use Rattle.std.specs.Prelude.{IsTrue, AllPairs, fold, not, nat_lt, nat_le, bytes_eq, option_map, option_and_then}
+-- What an accepted event is, and that a log with it is of its graph.
+use Rattle.std.proofs.Common.{◌≡◌, ℕ, ◌<◌, ◌≤◌, Bool, true, false, List, [], ◌∷◌, length, Option, Some, None, refl, sym, subst, arith}
+use Rattle.std.specs.Prelude.{IsTrue, not, nat_lt, nat_le, bytes_eq, option_map, option_and_then}
 use Rattle.std.specs.Str.Parse.{digits_value}
-use Rattle.std.proofs.lemmas.Bool.{ltb-false, leb-false, cases_lt}
+use Rattle.std.proofs.lemmas.Bool.{ltb-false, leb-false}
 use Rattle.std.proofs.lemmas.List.Elements.{All-push}
-use Rattle.std.proofs.lemmas.List.Quantifiers.{all_pairs_push, position-Some}
+use Rattle.std.proofs.lemmas.List.Quantifiers.{position-Some}
 use Rattle.tfpg_graph.specs.Graph.{Tfpg, node_named, mode_named, is_monitored}
 use Rattle.tfpg_base.specs.Times.{max_time}
 use Rattle.tfpg_log.specs.declared.event.Event.{Event}
@@ -153,30 +153,6 @@ accepted_may_come graph log line event e = by_shape graph log (said_by line) eve
 
 -- ---- the log with it is of the graph
 
-last_time : (events : List Event) (start k : ℕ) (d : Event) → length events ≡ suc k → fold (λ last event. time_of_event event) start events ≡ time_of_event (get_or events k d)
-last_time [] start k d e = absurd (omega arith)
-last_time (event ∷ []) start zero d e = refl
-last_time (event ∷ []) start (suc k) d e = absurd (omega arith)
-last_time (event ∷ next ∷ events) start zero d e = absurd (omega arith)
-last_time (event ∷ next ∷ events) start (suc k) d e = last_time (next ∷ events) (time_of_event event) k d (omega arith)
-
--- no event is later than now
-before_now : (events : List Event) → AllPairs (λ earlier later. time_of_event earlier ≤ time_of_event later) events → (k last : ℕ) (d : Event) → length events ≡ suc last → k < suc last
-    → time_of_event (get_or events k d) ≤ fold (λ last event. time_of_event event) 0 events
-before_now events in_order k last d e lt = elim (cases_lt k last) [
-  | inl below ↦ omega (arith, in_order k last d below (omega arith), last_time events 0 last d e)
-  | inr above ↦ (let same : k ≡ last = omega arith in omega (arith, last_time events 0 k d (e ∙ ap suc (sym same))))
-]
-
-some_length : (events : List Event) (k : ℕ) → k < length events → (last : ℕ) × (length events ≡ suc last)
-some_length [] k lt = absurd (omega arith)
-some_length (event ∷ events) k lt = (length events, refl)
-
 -- A log with one more event that may come is of the graph.
 pub of-with_event : (graph : Tfpg) (log : Logbook) (event : Event) → IsOf graph log → MayCome graph log event → IsOf graph (with_event log event)
-of-with_event graph log event of may = record {
-  own = All-push (IsEventOf graph) log.events event of.own may.own;
-  in_order = all_pairs_push (λ earlier later. time_of_event earlier ≤ time_of_event later) log.events event of.in_order
-      (λ k d lt. let last = some_length log.events k lt in omega (arith, before_now log.events of.in_order k last.0 d last.1 (omega (arith, lt, last.1)), may.not_back));
-  in_range = All-push (λ e. time_of_event e ≤ max_time) log.events event of.in_range may.in_range;
-}
+of-with_event graph log event of may = record { own = All-push (IsEventOf graph) log.events event of.own may.own }

@@ -1,6 +1,7 @@
 pub mod Events
 pub mod AlarmPlaces
 pub mod ModeChanges
+pub mod Order
 pub mod Indexes
 pub mod LogLines
 pub mod Judgements

@@ -1,6 +1,6 @@
 -- A log that goes on keeps its past.
-use Rattle.std.proofs.Common.{◌≡◌, ℕ, ◌≤◌, Bool, cond, ltb, List, [], ◌∷◌, ◌++◌, refl, sym, ap, subst, ◌∙◌, arith}
-use Rattle.std.specs.Prelude.{◌↔◌, fold, All, AllPairs, IsTrue}
+use Rattle.std.proofs.Common.{◌≡◌, ℕ, zero, suc, ◌-◌, ◌<◌, ◌≤◌, Bool, true, false, cond, ltb, eqb, List, [], ◌∷◌, ◌++◌, length, take, Option, Some, refl, sym, ap, subst, ◌∙◌, arith}
+use Rattle.std.specs.Prelude.{◌↔◌, fold, All, AllPairs, IsTrue, slice_get, option_and_then}
 use Rattle.std.proofs.lemmas.Bool.{le-ltb}
 use Rattle.std.proofs.lemmas.List.Elements.{All-tail}
 use Rattle.tfpg_base.specs.declared.activation.Activation.{Activation}
@@ -9,7 +9,7 @@ use Rattle.tfpg_graph.specs.declared.edge.Edge.{Edge}
 use Rattle.tfpg_graph.specs.Graph.{Tfpg, is_allowed}
 use Rattle.tfpg_log.specs.declared.event.Event.{Event}
 use Rattle.tfpg_log.specs.declared.event.Event.TheVariants.{Alarm, Silent, Sweep, Tick, Mode}
-use Rattle.tfpg_log.specs.Log.{Logbook, GoesOn, IsOf, now_of, time_of_event, mode_after, mode_at}
+use Rattle.tfpg_log.specs.Log.{Logbook, GoesOn, IsOrdered, now_of, event_at, alarm_among, alarm_of, quiet_time, quiet_at, time_of_event, mode_after, mode_at}
 use Rattle.tfpg_log.specs.Rules.{HasAge}
 use Rattle.tfpg_log.specs.Spans.{span_number, span_at, window_of, joint_of}
 use Rattle.tfpg_log.proofs.SameModes.{same_number, same_span, same_window, same_joint}
@@ -81,7 +81,7 @@ age_carried log other trace edge instant age alike has = record {
   allowed = λ x after before. subst (λ mode. IsTrue (is_allowed edge mode)) (alike x before) (has.allowed x after before);
 }
 
-module _ (graph : Tfpg) (earlier later : Logbook) (is : IsOf graph later) (goes_on : GoesOn earlier later) where
+module _ (earlier later : Logbook) (is : IsOrdered later) (goes_on : GoesOn earlier later) where
   order : AreInOrder (earlier.events ++ goes_on.0)
   order = subst AreInOrder goes_on.1 is.in_order
 
@@ -109,8 +109,8 @@ module _ (graph : Tfpg) (earlier later : Logbook) (is : IsOf graph later) (goes_
     pub windows_kept : (edge : Edge) → window_of later edge number horizon ≡ window_of earlier edge number horizon
     windows_kept edge = same_window later earlier (now_of earlier) modes_kept number horizon upto (omega (arith, upto, now_kept)) upto edge
 
-    pub joints_kept : (node : ℕ) → joint_of graph later node number horizon ≡ joint_of graph earlier node number horizon
-    joints_kept node = same_joint later earlier (now_of earlier) modes_kept number horizon upto (omega (arith, upto, now_kept)) upto graph node
+    pub joints_kept : (graph : Tfpg) (node : ℕ) → joint_of graph later node number horizon ≡ joint_of graph earlier node number horizon
+    joints_kept graph node = same_joint later earlier (now_of earlier) modes_kept number horizon upto (omega (arith, upto, now_kept)) upto graph node
 
   -- What ages an edge has depends on the modes up to the instant alone.
   pub ages_kept : (trace : List Activation) (edge : Edge) (instant age : ℕ) → instant ≤ now_of earlier
@@ -119,3 +119,54 @@ module _ (graph : Tfpg) (earlier later : Logbook) (is : IsOf graph later) (goes_
     age_carried later earlier trace edge instant age (λ x before. modes_kept x (omega (arith, before, upto))),
     age_carried earlier later trace edge instant age (λ x before. sym (modes_kept x (omega (arith, before, upto)))),
   )
+
+-- ---- events, alarms and silences
+
+item_kept : {X : Type 0} (xs ys : List X) (k : ℕ) (x : X) → slice_get xs k ≡ Some x → slice_get (xs ++ ys) k ≡ Some x
+item_kept [] ys k x e = absurd cc
+item_kept (z ∷ zs) ys zero x e = e
+item_kept (z ∷ zs) ys (suc k) x e = item_kept zs ys k x e
+
+-- An event keeps its number.
+pub events_kept : (earlier later : Logbook) → GoesOn earlier later → (number : ℕ) (event : Event) → event_at earlier number ≡ Some event → event_at later number ≡ Some event
+events_kept earlier later goes_on zero event e = absurd cc
+events_kept earlier later goes_on (suc before) event e =
+    ap (λ events. slice_get events before) goes_on.1 ∙ item_kept earlier.events goes_on.0 before event e
+
+alarm_or : (is_it : Bool) (time found : ℕ) (rest longer : Option ℕ) → (rest ≡ Some found → longer ≡ Some found) → cond is_it (Some time) rest ≡ Some found
+    → cond is_it (Some time) longer ≡ Some found
+alarm_or true time found rest longer kept e = e
+alarm_or false time found rest longer kept e = kept e
+
+alarm_kept : (events more : List Event) (node time : ℕ) → alarm_among events node ≡ Some time → alarm_among (events ++ more) node ≡ Some time
+alarm_kept [] more node time e = absurd cc
+alarm_kept (Alarm at alarmed ∷ events) more node time e =
+    alarm_or (eqb alarmed node) at time (alarm_among events node) (alarm_among (events ++ more) node) (alarm_kept events more node time) e
+alarm_kept (Silent at silent ∷ events) more node time e = alarm_kept events more node time e
+alarm_kept (Sweep at ∷ events) more node time e = alarm_kept events more node time e
+alarm_kept (Tick at ∷ events) more node time e = alarm_kept events more node time e
+alarm_kept (Mode at mode ∷ events) more node time e = alarm_kept events more node time e
+
+-- An alarm keeps its time.
+pub alarms_kept : (earlier later : Logbook) → GoesOn earlier later → (node time : ℕ) → alarm_of earlier node ≡ Some time → alarm_of later node ≡ Some time
+alarms_kept earlier later goes_on node time e = ap (λ events. alarm_among events node) goes_on.1 ∙ alarm_kept earlier.events goes_on.0 node time e
+
+take_kept : {X : Type 0} (xs ys : List X) (k : ℕ) → k ≤ length xs → take k (xs ++ ys) ≡ take k xs
+take_kept xs ys zero within = refl
+take_kept [] ys (suc k) within = absurd (omega arith)
+take_kept (x ∷ xs) ys (suc k) within = ap (λ items. x ∷ items) (take_kept xs ys k (omega arith))
+
+item_within : {X : Type 0} (xs ys : List X) (k : ℕ) → k < length xs → slice_get (xs ++ ys) k ≡ slice_get xs k
+item_within [] ys k within = absurd (omega arith)
+item_within (x ∷ xs) ys zero within = refl
+item_within (x ∷ xs) ys (suc k) within = item_within xs ys k (omega arith)
+
+-- An event that was there is a silence of the same nodes.
+pub silences_kept : (graph : Tfpg) (earlier later : Logbook) → GoesOn earlier later → (number node : ℕ) → number ≤ length earlier.events
+    → quiet_at graph later number node ≡ quiet_at graph earlier number node
+silences_kept graph earlier later goes_on zero node within = refl
+silences_kept graph earlier later goes_on (suc before) node within =
+    ap (λ events. option_and_then (λ event. quiet_time graph (take (suc before - 1) events) event node) (slice_get events before)) goes_on.1
+    ∙ ap (λ first. option_and_then (λ event. quiet_time graph first event node) (slice_get (earlier.events ++ goes_on.0) before))
+    (take_kept earlier.events goes_on.0 (suc before - 1) (omega arith))
+    ∙ ap (option_and_then (λ event. quiet_time graph (take (suc before - 1) earlier.events) event node)) (item_within earlier.events goes_on.0 before (omega arith))

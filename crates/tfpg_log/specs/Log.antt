@@ -96,8 +96,11 @@ IsEventOf graph (Sweep time) = Unit {0}
 IsEventOf graph (Tick time) = Unit {0}
 IsEventOf graph (Mode time mode) = mode < length graph.modes
 
--- A log is of a graph: each event names only its monitored nodes and modes. Its times never fall, and none is too large.
+-- A log is of a graph where each event names only monitored nodes and modes of the graph.
 pub record IsOf (graph : Tfpg) (log : Logbook) : Type 0 where
   pub own : All (IsEventOf graph) log.events
+
+-- The times of a log never fall from one event to the next, and none is too large. Each log that lines were offered to is so.
+pub record IsOrdered (log : Logbook) : Type 0 where
   pub in_order : AllPairs (λ earlier later. time_of_event earlier ≤ time_of_event later) log.events
   pub in_range : All (λ event. time_of_event event ≤ max_time) log.events

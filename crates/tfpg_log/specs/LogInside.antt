@@ -4,7 +4,7 @@ use Rattle.std.specs.List.Sorted.{IsNonDecreasingBy}
 use Rattle.tfpg_log.specs.declared.event.Event.{Event}
 use Rattle.tfpg_log.specs.declared.event.Event.TheVariants.{Alarm, Silent, Sweep, Tick, Mode}
 use Rattle.tfpg_log.specs.declared.mode_change.ModeChange.{ModeChange}
-use Rattle.tfpg_log.specs.Log.{Logbook, now_of, alarm_of, is_mode_change, mode_after}
+use Rattle.tfpg_log.specs.Log.{Logbook, IsOrdered, now_of, alarm_of, is_mode_change, mode_after}
 use Rattle.tfpg_log.specs.Accepted.{max_events}
 use Rattle.tfpg_log.specs.SpanIndex.{begin_of, BeginSpans}
 
@@ -28,6 +28,7 @@ pub record IsIndexed (events : List Event) (alarms : List (Option ℕ)) (changes
   pub spans : BeginSpans (mode_after 0 events) changes
   pub in_order : IsNonDecreasingBy (λ (change : ModeChange). change.time) changes
   pub by_now : begin_of changes (length changes) ≤ now_of (record { events = events }) + 1
+  pub ordered : IsOrdered (record { events = events })
 
 -- the two say the same of each node
 abbrev pub AreSameAlarms : List (Option ℕ) → List (Option ℕ) → Type 0

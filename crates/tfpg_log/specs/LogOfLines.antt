@@ -1,5 +1,5 @@
 -- How a log grows line by line.
-use Rattle.std.specs.Prelude.{ℕ, List, [], length, nat_lt, Bool, if◌then◌else◌}
+use Rattle.std.specs.Prelude.{ℕ, List, [], length, fold, nat_lt, Bool, if◌then◌else◌}
 use Rattle.tfpg_base.specs.Lines.{longest_line}
 use Rattle.tfpg_graph.specs.Graph.{Tfpg}
 use Rattle.tfpg_log.specs.declared.event.Offered.{Offered}
@@ -23,3 +23,8 @@ is_too_long line = nat_lt longest_line (length line)
 -- the log after one more line
 abbrev pub log_after : Tfpg → Logbook → List ℕ → Logbook
 log_after graph log line = if is_too_long line then log else log_after_reply log (reply_to graph log line)
+
+-- The log of a list of lines, each offered in turn to what the lines before it made. Lines that are too long and lines
+-- that are refused leave no trace in it.
+abbrev pub log_of_lines : Tfpg → List (List ℕ) → Logbook
+log_of_lines graph lines = fold (log_after graph) new_log lines

@@ -1,6 +1,6 @@
 //! What the definitions of this crate come to, as functions that do nothing: each says its law in its clause.
 
-ghost use Rattle.std.specs.Prelude.{◌≡◌, ℕ, ◌+◌, ◌≤◌, ◌↔◌, List, [], All, IsTrue, Some};
+ghost use Rattle.std.specs.Prelude.{◌≡◌, ℕ, ◌+◌, ◌≤◌, ◌↔◌, List, [], length, All, IsTrue, Some};
 ghost use Rattle.tfpg_base.specs.declared.activation.Activation.{Activation};
 ghost use Rattle.tfpg_base.specs.Trace.{time_of};
 ghost use Rattle.tfpg_graph.specs.declared.edge.Edge.{Edge};
@@ -8,9 +8,10 @@ ghost use Rattle.tfpg_graph.specs.Graph.{Tfpg, is_allowed, edges_into};
 ghost use Rattle.tfpg_graph.specs.Reach.{Reaches};
 ghost use Rattle.tfpg_graph.specs.Valid.{IsValid};
 ghost use Rattle.tfpg_graph.specs.ZeroCycle.{HasZeroOrder};
+ghost use Rattle.tfpg_log.specs.declared.event.Event.{Event};
 ghost use Rattle.tfpg_log.specs.declared.span.Span.{Span};
 ghost use Rattle.tfpg_log.specs.declared.span.Window.{Window};
-ghost use Rattle.tfpg_log.specs.Log.{Logbook, GoesOn, IsOf, now_of, mode_at};
+ghost use Rattle.tfpg_log.specs.Log.{Logbook, GoesOn, IsOrdered, now_of, event_at, alarm_of, mode_at, quiet_at};
 ghost use Rattle.tfpg_log.specs.Rules.{IsActive, HasAge, IsAge};
 ghost use Rattle.tfpg_log.specs.Spans.{span_number, span_at, is_allowed_at, are_allowed_at, window_of, joint_of};
 ghost use Rattle.tfpg_log.specs.Runs.{IsSpanOf, IsWindowRound};
@@ -79,26 +80,34 @@ pub fn windows_are_runs_of_spans()
 {}
 
 /// A log that goes on keeps its past: what comes later has a time of at least the old now, and a change of mode holds
-/// only behind its own instant. So now does not fall; each instant up to the old now keeps its mode, the number of its
+/// only after its own instant. So now does not fall; each instant up to the old now keeps its mode, the number of its
 /// span, and the ages that edges have there in a trace; and at each horizon up to the old now each span and each window
-/// stays as it was.
+/// stays as it was. Each event keeps its number, each alarm its time, and an event that was there is a silence of the
+/// same nodes.
 pub fn a_log_that_goes_on_keeps_the_past()
-    ensures now { (graph : Tfpg) (earlier later : Logbook) → IsOf graph later → GoesOn earlier later →
+    ensures event { (earlier later : Logbook) → GoesOn earlier later →
+        (number : ℕ) (event : Event) → event_at earlier number ≡ Some event → event_at later number ≡ Some event }
+    ensures alarm { (earlier later : Logbook) → GoesOn earlier later →
+        (node time : ℕ) → alarm_of earlier node ≡ Some time → alarm_of later node ≡ Some time }
+    ensures silence { (graph : Tfpg) (earlier later : Logbook) → GoesOn earlier later →
+        (number node : ℕ) → number ≤ length earlier.events →
+        quiet_at graph later number node ≡ quiet_at graph earlier number node }
+    ensures now { (earlier later : Logbook) → IsOrdered later → GoesOn earlier later →
         now_of earlier ≤ now_of later }
-    ensures mode { (graph : Tfpg) (earlier later : Logbook) → IsOf graph later → GoesOn earlier later →
+    ensures mode { (earlier later : Logbook) → IsOrdered later → GoesOn earlier later →
         (instant : ℕ) → instant ≤ now_of earlier → mode_at later instant ≡ mode_at earlier instant }
-    ensures number { (graph : Tfpg) (earlier later : Logbook) → IsOf graph later → GoesOn earlier later →
+    ensures number { (earlier later : Logbook) → IsOrdered later → GoesOn earlier later →
         (instant : ℕ) → instant ≤ now_of earlier → span_number later instant ≡ span_number earlier instant }
-    ensures span { (graph : Tfpg) (earlier later : Logbook) → IsOf graph later → GoesOn earlier later →
+    ensures span { (earlier later : Logbook) → IsOrdered later → GoesOn earlier later →
         (number horizon : ℕ) → horizon ≤ now_of earlier →
         span_at later number horizon ≡ span_at earlier number horizon }
-    ensures window { (graph : Tfpg) (earlier later : Logbook) → IsOf graph later → GoesOn earlier later →
+    ensures window { (earlier later : Logbook) → IsOrdered later → GoesOn earlier later →
         (number horizon : ℕ) → horizon ≤ now_of earlier →
         (edge : Edge) → window_of later edge number horizon ≡ window_of earlier edge number horizon }
-    ensures joint { (graph : Tfpg) (earlier later : Logbook) → IsOf graph later → GoesOn earlier later →
+    ensures joint { (earlier later : Logbook) → IsOrdered later → GoesOn earlier later →
         (number horizon : ℕ) → horizon ≤ now_of earlier →
-        (node : ℕ) → joint_of graph later node number horizon ≡ joint_of graph earlier node number horizon }
-    ensures age { (graph : Tfpg) (earlier later : Logbook) → IsOf graph later → GoesOn earlier later →
+        (graph : Tfpg) (node : ℕ) → joint_of graph later node number horizon ≡ joint_of graph earlier node number horizon }
+    ensures age { (earlier later : Logbook) → IsOrdered later → GoesOn earlier later →
         (trace : List Activation) (edge : Edge) (instant age : ℕ) → instant ≤ now_of earlier →
         HasAge later trace edge instant age ↔ HasAge earlier trace edge instant age }
 {}

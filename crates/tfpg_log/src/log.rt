@@ -2,18 +2,19 @@
 
 ghost use Rattle.std.specs.Prelude.{◌≡◌, ◌≤◌, ◌<◌, ◌-◌, ℕ, length, take, true, false, ◌&&◌, if◌then◌else◌, nat_lt, nat_le, Some, None, is_none, IfOk, OnOk, OnErr, count_by, vec_len, option_and_then, slice_get};
 ghost use Rattle.tfpg_log.specs.declared.refusal.Refusal.{Refusal};
-ghost use Rattle.tfpg_log.specs.Log.{IsOf, now_of, event_at, alarm_of, alarm_among, mode_at, quiet_at, with_event, time_of_event, is_mode_change};
+ghost use Rattle.tfpg_log.specs.Log.{IsOf, IsOrdered, now_of, event_at, alarm_of, alarm_among, mode_at, quiet_at, with_event, time_of_event, is_mode_change};
 ghost use Rattle.tfpg_log.specs.Spans.{span_number, span_at, window_round, window_of, joint_of};
 ghost use Rattle.tfpg_log.specs.ActiveModes.{has_mode};
 ghost use Rattle.tfpg_log.specs.Accepted.{max_events, max_mode_changes, reply_to};
 ghost use Rattle.tfpg_log.specs.LogOfLines.{new_log, log_after_reply};
 ghost use Rattle.tfpg_log.specs.LogInside.{alarm_place, AreSameAlarms, IsNoSecondAlarm};
+ghost use Rattle.tfpg_base.specs.Times.{max_time};
 ghost use Rattle.tfpg_graph.specs.Graph.{Tfpg, is_monitored};
 
 use crate::active_modes::{ActiveModes, modes_into};
 use crate::event::{Event, Offered};
 use crate::mode_change::ModeChange;
-use crate::reply::{is_monitored, reply};
+use crate::reply::{has_monitor, reply};
 use crate::span::{Span, Window};
 use crate::spans::{mode_of, number_of, span_in, take_change};
 use crate::windows::window_round;
@@ -80,9 +81,10 @@ impl Log {
         }
     }
 
-    /// How many events it has: at most 16,384.
+    /// How many events it has: at most 16,384. Their times never fall, and none is above 10^12.
     pub fn len(&self) -> u32
-        ensures { result ≡ length self.now.events }
+        ensures len { result ≡ length self.now.events }
+        ensures ordered { IsOrdered self.now }
     {
         self.events.len() as u32
     }
@@ -159,27 +161,26 @@ impl Log {
     }
 
     /// The time of the event of this number, in milliseconds, where it is a silence of the node: its own silence, or a
-    /// sweep, where the node is monitored and no event before is an alarm of it. Numbers begin with 1.
+    /// sweep, where the node is monitored and no event before is an alarm of it. Numbers begin with 1. Number and node may
+    /// be any: there is no event of another number, and another node is not monitored.
     pub fn quiet_at(&self, graph: &Graph, number: u32, node: u32) -> Option<u64>
-        requires low { 1 ≤ number }
-        requires high { number ≤ length self.now.events }
-        requires node { node < length graph.now.nodes }
         ensures { result ≡ quiet_at graph.now self.now number node }
     {
-        match self.event(number) {
+        match self.find_event(number)? {
             Event::Silent { time, node: silent } => time_where(silent == node, time),
             Event::Sweep { time } => time_where(self.is_swept(graph, number, node), time),
             Event::Alarm { .. } | Event::Tick { .. } | Event::Mode { .. } => None,
         }
     }
 
-    /// A copy of the log. Takes time and memory linear in it, and in the greatest number of a node that has an alarm.
-    pub fn copy(&self, alloc: Global) -> Result<Log, NoMemory>
+    /// A copy of the log, with the allocator that the log keeps. Takes time and memory linear in the log, and in the
+    /// greatest number of a node that has an alarm.
+    pub fn copy(&self) -> Result<Log, NoMemory>
         ensures { IfOk result (λ log. log ≡ self.now) }
     {
-        let events = Vec::from_slice(alloc, self.events.as_slice())?;
-        let alarms = Vec::from_slice(alloc, self.alarms.as_slice())?;
-        let changes = Vec::from_slice(alloc, self.changes.as_slice())?;
+        let events = self.events.clone()?;
+        let alarms = self.alarms.clone()?;
+        let changes = self.changes.clone()?;
         Ok(Log {
             events,
             alarms,
@@ -247,13 +248,19 @@ impl Log {
         }
     }
 
+    /// The event of this number, where there is one.
+    fn find_event(&self, number: u32) -> Option<Event>
+        ensures { result ≡ event_at self.now number }
+    {
+        let place = number.checked_sub(1)?;
+        self.events.get(place as usize).copied()
+    }
+
     /// Whether a sweep of this number is a silence of the node.
     fn is_swept(&self, graph: &Graph, number: u32, node: u32) -> bool
-        requires low { 1 ≤ number }
-        requires node { node < length graph.now.nodes }
         ensures { result ≡ (is_monitored graph.now node && is_none (alarm_among (take (number - 1) self.now.events) node)) }
     {
-        is_monitored(graph, node) && self.is_without_alarm(number - 1, node)
+        has_monitor(graph, node) && self.is_without_alarm(number.saturating_sub(1), node)
     }
 
     /// Whether none of so many first events is an alarm of the node.
@@ -270,6 +277,7 @@ impl Log {
     fn accept(&mut self, event: Event) -> Result<(), NoMemory>
         requires room { length self.old.events < max_events }
         requires not_back { now_of self.old ≤ time_of_event event }
+        requires in_range { time_of_event event ≤ max_time }
         requires first { IsNoSecondAlarm self.old event }
         ensures ok { OnOk result (self.new ≡ with_event self.old event) }
         ensures err { OnErr result (self.new ≡ self.old) }
@@ -288,6 +296,7 @@ impl Log {
     fn accept_alarm(&mut self, time: u64, node: u32) -> Result<(), NoMemory>
         requires room { length self.old.events < max_events }
         requires not_back { now_of self.old ≤ time }
+        requires in_range { time ≤ max_time }
         requires first { alarm_of self.old node ≡ None }
         ensures ok { OnOk result (self.new ≡ with_event self.old (Event.Alarm time node)) }
         ensures err { OnErr result (self.new ≡ self.old) }
@@ -303,6 +312,7 @@ impl Log {
     fn accept_mode_change(&mut self, time: u64, mode: u32) -> Result<(), NoMemory>
         requires room { length self.old.events < max_events }
         requires not_back { now_of self.old ≤ time }
+        requires in_range { time ≤ max_time }
         ensures ok { OnOk result (self.new ≡ with_event self.old (Event.Mode time mode)) }
         ensures err { OnErr result (self.new ≡ self.old) }
     {

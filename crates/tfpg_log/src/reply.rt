@@ -118,8 +118,15 @@ fn find_monitor(graph: &Graph, name: &[u8]) -> Result<u32, Refusal>
     Ok(node)
 }
 
+/// Whether this is a node that has a monitor. The number may be any.
+pub(crate) fn has_monitor(graph: &Graph, node: u32) -> bool
+    ensures { result ≡ is_monitored graph.now node }
+{
+    node < graph.node_count() && is_monitored(graph, node)
+}
+
 /// Whether the node has a monitor.
-pub(crate) fn is_monitored(graph: &Graph, node: u32) -> bool
+fn is_monitored(graph: &Graph, node: u32) -> bool
     requires { node < length graph.now.nodes }
     ensures { result ≡ is_monitored graph.now node }
 {

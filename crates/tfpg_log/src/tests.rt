@@ -205,7 +205,7 @@ const MODES: [(u64, u32); 8] = [
 fn answers_questions_as_its_copy_does(rt: HostRuntime) -> Result<(), Fail> {
     let graph = graph(rt.alloc())?;
     let log = log_of(rt.alloc(), &graph, &LINES)?;
-    let copy = log.copy(rt.alloc())?;
+    let copy = log.copy()?;
     for (number, wanted) in &QUIETS {
         assert_eq!(rt; quiets(&graph, &log, *number), *wanted, "by {number}");
         assert_eq!(rt; quiets(&graph, &copy, *number), *wanted, "by {number}");
@@ -245,7 +245,7 @@ const TWO_MODES: &[u8] =
 fn a_copy_has_the_same_events(rt: HostRuntime) -> Result<(), Fail> {
     let graph = read(rt.alloc(), TWO_MODES)?;
     let log = log_of(rt.alloc(), &graph, &[b"20 mode D", b"30 alarm A"])?;
-    let copy = log.copy(rt.alloc())?;
+    let copy = log.copy()?;
     assert!(rt; answer_alike(&log, &copy));
     assert_eq!(rt; copy.len(), 2);
     assert_eq!(rt; copy.event(1), Event::Mode { time: 20, mode: 1 });

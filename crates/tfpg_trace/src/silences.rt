@@ -1,6 +1,6 @@
 //! The silences that a trace does not show.
 
-ghost use Rattle.std.specs.Prelude.{◌≡◌, ◌<◌, ◌≤◌, ◌↔◌, ℕ, length, IsTrue, MatchOption};
+ghost use Rattle.std.specs.Prelude.{◌≡◌, ◌↔◌, ℕ, length, IsTrue, MatchOption};
 ghost use Rattle.tfpg_log.specs.Rules.{IsActive};
 ghost use Rattle.tfpg_trace.specs.FirstFault.{NoneBefore};
 ghost use Rattle.tfpg_trace.specs.Strays.{IsFirstNode};
@@ -18,8 +18,6 @@ pub(crate) fn first_not_quiet(
     trace: &Trace,
     number: u32,
 ) -> Option<(u32, u64)>
-    requires low { 1 ≤ number }
-    requires high { number ≤ length log.now.events }
     ensures { MatchOption result
         (NoneBefore (IsNotQuiet graph.now log.now trace.now number) (length graph.now.nodes))
         (λ found. IsFirstNode (IsNotQuiet graph.now log.now trace.now number) (length graph.now.nodes) found.0 found.1) }
@@ -34,9 +32,6 @@ pub(crate) fn first_not_quiet(
 
 /// The time of the event of this number, where it says that the node is silent and the node is active by then.
 fn not_quiet_time(graph: &Graph, log: &Log, trace: &Trace, number: u32, node: u32) -> Option<u64>
-    requires low { 1 ≤ number }
-    requires high { number ≤ length log.now.events }
-    requires node { node < length graph.now.nodes }
     ensures { MatchOption result
         ((time : ℕ) → IsNotQuiet graph.now log.now trace.now number node time → ⊥)
         (IsNotQuiet graph.now log.now trace.now number node) }

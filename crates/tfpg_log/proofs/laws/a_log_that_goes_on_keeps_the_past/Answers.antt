@@ -1,8 +1,11 @@
-use Rattle.tfpg_log.proofs.PastKept.{now_kept, modes_kept, numbers_kept, spans_kept, windows_kept, joints_kept, ages_kept}
+use Rattle.tfpg_log.proofs.PastKept.{events_kept, alarms_kept, silences_kept, now_kept, modes_kept, numbers_kept, spans_kept, windows_kept, joints_kept, ages_kept}
 use Rattle.tfpg_log.proofs.laws.a_log_that_goes_on_keeps_the_past.Goals as goal
 
 pub returns : goal.returns
 returns c = record {
+  event = events_kept;
+  alarm = alarms_kept;
+  silence = silences_kept;
   now = now_kept;
   mode = modes_kept;
   number = numbers_kept;

@@ -14,4 +14,4 @@ invariant_of-self-in-Silent c =
       | inr (inr tick) ↦ subst IsQuiet (sym tick.1) tt
     ] in
     rw c.in_ok-push-in-Silent.ensures.items
-    (indexed_quiet c.self.inside.events.items c.self.inside.alarms.items c.self.inside.changes.items c.self.inside.change_count c.args.event c.self.invariant room not_back quiet)
+    (indexed_quiet c.self.inside.events.items c.self.inside.alarms.items c.self.inside.changes.items c.self.inside.change_count c.args.event c.self.invariant room not_back c.requires.in_range quiet)

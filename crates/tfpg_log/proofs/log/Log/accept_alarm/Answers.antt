@@ -11,4 +11,4 @@ invariant_of-self-2 c =
     let not_back : now_of (record { events = c.self.inside.events.items }) ≤ c.args.time = omega (arith, ap now_of c.self.view_is, c.requires.not_back) in
     let first = ap (λ (log : Logbook). alarm_of log c.args.node) c.self.view_is ∙ c.requires.first in
     rw c.in_ok-push.ensures.items (indexed_alarm c.self.inside.events.items c.self.inside.alarms.items c.lengthen.new.alarms.items c.self.inside.changes.items c.self.inside.change_count c.args.time c.args.node
-    c.len-place.result c.self.invariant room not_back c.in_ok-lengthen.ensures.same (omega (arith, c.in_ok-lengthen.ensures.long)) first (c.len-place.ensures ∙ sym length_is))
+    c.len-place.result c.self.invariant room not_back c.requires.in_range c.in_ok-lengthen.ensures.same (omega (arith, c.in_ok-lengthen.ensures.long)) first (c.len-place.ensures.len ∙ sym length_is))
