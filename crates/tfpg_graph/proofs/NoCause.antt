@@ -16,7 +16,8 @@ use Rattle.tfpg_graph.specs.declared.kind.Kind.TheVariants.{Failure, Or, And}
 use Rattle.tfpg_graph.specs.Graph.{Tfpg, is_kind_at, is_failure, failures, incoming, node_named, mode_named, edge_from_to}
 use Rattle.tfpg_graph.specs.Text.{tmax_word}
 use Rattle.tfpg_base.specs.Times.{max_time}
-use Rattle.tfpg_graph.specs.Valid.{HasValidNumber, max_rarity}
+use Rattle.tfpg_graph.specs.Valid.{HasValidNumber}
+use Rattle.tfpg_graph.specs.declared.limits.TheConstants.{MAX_RARITY}
 use Rattle.tfpg_graph.specs.Statements.{Statement, DeclaresMode, DeclaresNode, DeclaresEdge, Ends}
 use Rattle.tfpg_graph.specs.Declares.{modes_listed}
 use Rattle.tfpg_graph.specs.Causes.{has_bad_name, has_duplicate_name, has_unknown_name, has_bad_number, has_large_number, has_min_over_max, enters_failure, is_self_edge, is_second_edge, names_no_mode, lacks_node_room, lacks_failure_room, lacks_edge_room, lacks_mode_room, lacks_incoming_room, are_failure_words, has_twice, caused_where, first_cause, causes}
@@ -126,7 +127,7 @@ module _ (name : List ℕ) where
   node_numbers (And (Some lag)) small = ap (λ b. not (b && true)) (is_number-decimal lag (omega arith))
 
   node_small : (kind : Kind) → HasValidNumber kind → has_large_number (DeclaresNode name (words_of_kind kind)) ≡ false
-  node_small (Failure rarity) small = ap (λ b. b || false) (not_above max_rarity rarity small (omega arith))
+  node_small (Failure rarity) small = ap (λ b. b || false) (not_above MAX_RARITY rarity small (omega arith))
   node_small (Or None) small = refl
   node_small (Or (Some lag)) small = ap (λ b. b || false) (not_above max_time lag small (omega arith))
   node_small (And None) small = refl

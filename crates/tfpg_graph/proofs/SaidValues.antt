@@ -15,7 +15,7 @@ use Rattle.tfpg_graph.specs.declared.edge.Edge.{Edge}
 use Rattle.tfpg_graph.specs.Graph.{Tfpg, name_at, node_named}
 use Rattle.tfpg_graph.specs.Text.{node_words, watch_words, tmax_word, SpellsEdge}
 use Rattle.tfpg_base.specs.Times.{max_time}
-use Rattle.tfpg_graph.specs.Valid.{max_rarity}
+use Rattle.tfpg_graph.specs.declared.limits.TheConstants.{MAX_RARITY}
 use Rattle.tfpg_graph.specs.Statements.{NodeWords, FailureWords, OrWords, AndWords, DeclaresNode, DeclaresEdge}
 use Rattle.tfpg_graph.specs.Declares.{lag_of_word, kind_of_words, tmax_of_word, delays_of_words, ends_named, edge_declared, modes_of_word}
 use Rattle.tfpg_graph.specs.Causes.{has_bad_number, has_large_number, lag_number, node_number}
@@ -54,7 +54,7 @@ lag_said (Some word) numbers small =
 kind_said : (name : List ℕ) (words : NodeWords) → are_numbers (node_number words) ≡ true → has_large (node_number words) ≡ false
     → (kind : Kind) × (kind_of_words words ≡ Some kind) × (kind_words name words ≡ node_words name kind)
 kind_said name (FailureWords rarity) numbers small =
-    let is = number_said rarity max_rarity (omega arith) (and_parts (is_number rarity) true numbers).0 (or_parts _ false small).0 in
+    let is = number_said rarity MAX_RARITY (omega arith) (and_parts (is_number rarity) true numbers).0 (or_parts _ false small).0 in
     (Failure (digits_value 10 rarity), ap (option_map Failure) is.0, ap (λ word. codes "failure" ∷ name ∷ word ∷ []) is.1)
 kind_said name (OrWords lag) numbers small =
     let is = lag_said lag numbers small in

@@ -9,7 +9,7 @@ use Rattle.tfpg_graph.specs.declared.cause.GraphCause.TheVariants.{BadHeader, Ba
 use Rattle.tfpg_graph.specs.Graph.{Tfpg, is_kind_at, is_failure, failures, incoming, node_named, mode_named, edge_from_to}
 use Rattle.tfpg_graph.specs.Text.{header}
 use Rattle.tfpg_base.specs.Times.{max_time}
-use Rattle.tfpg_graph.specs.Valid.{max_rarity, max_nodes, max_failures, max_edges, max_modes, max_incoming}
+use Rattle.tfpg_graph.specs.declared.limits.TheConstants.{MAX_NODES, MAX_FAILURES, MAX_EDGES, MAX_INCOMING, MAX_MODES, MAX_RARITY}
 use Rattle.tfpg_graph.specs.Statements.{NodeWords, FailureWords, OrWords, AndWords, Statement, DeclaresMode, DeclaresNode, DeclaresEdge, Ends, said_by, said_by_all, is_passed_over, declares_mode, declares_edge, ends_text}
 use Rattle.tfpg_graph.specs.Declares.{modes_listed, ends_named, graph_said}
 
@@ -27,7 +27,7 @@ lag_number (Some lag) = (lag, max_time) ∷ []
 
 -- the word for a node's number, with the greatest that it may be
 abbrev pub node_number : NodeWords → List (List ℕ × ℕ)
-node_number (FailureWords rarity) = (rarity, max_rarity) ∷ []
+node_number (FailureWords rarity) = (rarity, MAX_RARITY) ∷ []
 node_number (OrWords lag) = lag_number lag
 node_number (AndWords lag) = lag_number lag
 
@@ -121,7 +121,7 @@ names_no_mode Ends = false
 -- there is no room for one more node
 abbrev pub lacks_node_room : Tfpg → Statement → Bool
 lacks_node_room graph (DeclaresMode name) = false
-lacks_node_room graph (DeclaresNode name words) = nat_le max_nodes (length graph.nodes)
+lacks_node_room graph (DeclaresNode name words) = nat_le MAX_NODES (length graph.nodes)
 lacks_node_room graph (DeclaresEdge source target tmin tmax modes) = false
 lacks_node_room graph Ends = false
 
@@ -134,7 +134,7 @@ are_failure_words (AndWords lag) = false
 -- there is no room for one more failure mode
 abbrev pub lacks_failure_room : Tfpg → Statement → Bool
 lacks_failure_room graph (DeclaresMode name) = false
-lacks_failure_room graph (DeclaresNode name words) = are_failure_words words && nat_le max_failures (length (failures graph))
+lacks_failure_room graph (DeclaresNode name words) = are_failure_words words && nat_le MAX_FAILURES (length (failures graph))
 lacks_failure_room graph (DeclaresEdge source target tmin tmax modes) = false
 lacks_failure_room graph Ends = false
 
@@ -142,12 +142,12 @@ lacks_failure_room graph Ends = false
 abbrev pub lacks_edge_room : Tfpg → Statement → Bool
 lacks_edge_room graph (DeclaresMode name) = false
 lacks_edge_room graph (DeclaresNode name words) = false
-lacks_edge_room graph (DeclaresEdge source target tmin tmax modes) = nat_le max_edges (length graph.edges)
+lacks_edge_room graph (DeclaresEdge source target tmin tmax modes) = nat_le MAX_EDGES (length graph.edges)
 lacks_edge_room graph Ends = false
 
 -- there is no room for one more mode
 abbrev pub lacks_mode_room : Tfpg → Statement → Bool
-lacks_mode_room graph (DeclaresMode name) = nat_le max_modes (length graph.modes)
+lacks_mode_room graph (DeclaresMode name) = nat_le MAX_MODES (length graph.modes)
 lacks_mode_room graph (DeclaresNode name words) = false
 lacks_mode_room graph (DeclaresEdge source target tmin tmax modes) = false
 lacks_mode_room graph Ends = false
@@ -156,7 +156,7 @@ lacks_mode_room graph Ends = false
 abbrev pub lacks_incoming_room : Tfpg → Statement → Bool
 lacks_incoming_room graph (DeclaresMode name) = false
 lacks_incoming_room graph (DeclaresNode name words) = false
-lacks_incoming_room graph (DeclaresEdge source target tmin tmax modes) = option_map_or (λ node. nat_le max_incoming (length (incoming graph node))) (node_named graph target) false
+lacks_incoming_room graph (DeclaresEdge source target tmin tmax modes) = option_map_or (λ node. nat_le MAX_INCOMING (length (incoming graph node))) (node_named graph target) false
 lacks_incoming_room graph Ends = false
 
 -- the cause, where its condition holds

@@ -3,6 +3,7 @@ use Rattle.std.specs.Prelude.{◌≡◌, ◌≢◌, ℕ, ◌<◌, ◌≤◌, Lis
 use Rattle.tfpg_base.specs.Words.{is_name}
 use Rattle.tfpg_graph.specs.declared.kind.Kind.{Kind}
 use Rattle.tfpg_graph.specs.declared.edge.Edge.{Edge}
+use Rattle.tfpg_graph.specs.declared.limits.TheConstants.{MAX_NODES, MAX_FAILURES, MAX_EDGES, MAX_INCOMING, MAX_MODES}
 use Rattle.tfpg_graph.specs.Graph.{Tfpg, is_failure, is_kind_at, failures, incoming, node_named, mode_named, edge_from_to}
 use Rattle.tfpg_base.specs.Times.{max_time}
 use Rattle.tfpg_graph.specs.Valid.{HasValidNumber, IsValidEdge}
@@ -12,7 +13,7 @@ pub record CanDeclareMode (graph : Tfpg) (name : List ℕ) : Type 0 where
   pub before_edges : graph.edges ≡ []
   pub named : IsTrue (is_name name)
   pub new : mode_named graph name ≡ None
-  pub room : length graph.modes < 64
+  pub room : length graph.modes < MAX_MODES
 
 -- There is no edge yet and room for a node of this kind, and its name is one that no node has.
 pub record CanDeclareNode (graph : Tfpg) (name : List ℕ) (kind : Kind) : Type 0 where
@@ -20,8 +21,8 @@ pub record CanDeclareNode (graph : Tfpg) (name : List ℕ) (kind : Kind) : Type 
   pub named : IsTrue (is_name name)
   pub new : node_named graph name ≡ None
   pub number : HasValidNumber kind
-  pub room : length graph.nodes < 512
-  pub failure_room : IsTrue (is_failure kind) → length (failures graph) < 64
+  pub room : length graph.nodes < MAX_NODES
+  pub failure_room : IsTrue (is_failure kind) → length (failures graph) < MAX_FAILURES
 
 -- these delays are in order and within the limit
 pub record AreDelays (tmin : ℕ) (tmax : Option ℕ) : Type 0 where
@@ -38,8 +39,8 @@ pub record CanJoin (graph : Tfpg) (source target : ℕ) : Type 0 where
 
 -- There is room for the edge.
 pub record HasEdgeRoom (graph : Tfpg) (target : ℕ) : Type 0 where
-  pub room : length graph.edges < 2048
-  pub incoming_room : length (incoming graph target) < 32
+  pub room : length graph.edges < MAX_EDGES
+  pub incoming_room : length (incoming graph target) < MAX_INCOMING
 
 -- The edge is valid and new, and there is room for it.
 pub record CanDeclareEdge (graph : Tfpg) (edge : Edge) : Type 0 where

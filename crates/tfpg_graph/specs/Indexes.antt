@@ -4,6 +4,7 @@ use Rattle.tfpg_base.specs.Words.{is_name}
 use Rattle.tfpg_graph.specs.declared.kind.Kind.{Kind}
 use Rattle.tfpg_graph.specs.declared.edge.Edge.{Edge}
 use Rattle.tfpg_graph.specs.declared.declared.Declared.TheInside.{Inside}
+use Rattle.tfpg_graph.specs.declared.limits.TheConstants.{MAX_NODES, MAX_FAILURES, MAX_EDGES, MAX_INCOMING, MAX_MODES}
 use Rattle.tfpg_graph.specs.Graph.{Tfpg, failures, incoming, place_of_failure}
 use Rattle.tfpg_graph.specs.Valid.{HasValidNumber, IsValidEdge, IsSamePair}
 
@@ -40,11 +41,11 @@ pub record IsValidSoFar (graph : Tfpg) : Type 0 where
   pub modes_differ : AllPairs (λ a b. a ≢ b) graph.modes
   pub edges : All (IsValidEdge graph) graph.edges
   pub edges_differ : AllPairs (λ a b. IsSamePair a b → ⊥) graph.edges
-  pub few_nodes : length graph.nodes ≤ 512
-  pub few_failures : length (failures graph) ≤ 64
-  pub few_edges : length graph.edges ≤ 2048
-  pub few_modes : length graph.modes ≤ 64
-  pub few_incoming : (node : ℕ) → length (incoming graph node) ≤ 32
+  pub few_nodes : length graph.nodes ≤ MAX_NODES
+  pub few_failures : length (failures graph) ≤ MAX_FAILURES
+  pub few_edges : length graph.edges ≤ MAX_EDGES
+  pub few_modes : length graph.modes ≤ MAX_MODES
+  pub few_incoming : (node : ℕ) → length (incoming graph node) ≤ MAX_INCOMING
 
 -- the graph that is declared
 abbrev pub graph_of : Inside → Tfpg

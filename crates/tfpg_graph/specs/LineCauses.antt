@@ -9,6 +9,7 @@ use Rattle.tfpg_graph.specs.declared.cause.GraphCause.{GraphCause}
 use Rattle.tfpg_graph.specs.declared.cause.GraphCause.TheVariants.{BadLine, BadName, DuplicateName, UnknownName, BadNumber, NumberTooLarge, MinOverMax, EdgeIntoFailure, SelfEdge, DuplicateEdge, NoModes, TooManyNodes, TooManyFailures, TooManyEdges, TooManyModes, TooManyIncoming}
 use Rattle.tfpg_graph.specs.Graph.{Tfpg, is_kind_at, is_failure, failures, incoming, node_named, mode_named, edge_from_to}
 use Rattle.tfpg_base.specs.Times.{max_time}
+use Rattle.tfpg_graph.specs.declared.limits.TheConstants.{MAX_NODES, MAX_FAILURES, MAX_EDGES, MAX_INCOMING}
 use Rattle.tfpg_graph.specs.Declares.{modes_listed, ends_named}
 use Rattle.tfpg_graph.specs.Causes.{has_twice, caused_where}
 
@@ -36,8 +37,8 @@ node_room_causes graph failure =
     ∷ caused_where false SelfEdge
     ∷ caused_where false DuplicateEdge
     ∷ caused_where false NoModes
-    ∷ caused_where (nat_le 512 (length graph.nodes)) TooManyNodes
-    ∷ caused_where (failure && nat_le 64 (length (failures graph))) TooManyFailures
+    ∷ caused_where (nat_le MAX_NODES (length graph.nodes)) TooManyNodes
+    ∷ caused_where (failure && nat_le MAX_FAILURES (length (failures graph))) TooManyFailures
     ∷ caused_where false TooManyEdges
     ∷ caused_where false TooManyModes
     ∷ caused_where false TooManyIncoming
@@ -83,9 +84,9 @@ edge_room_causes graph target modes =
     caused_where (bytes_eq modes (codes "-")) NoModes
     ∷ caused_where false TooManyNodes
     ∷ caused_where false TooManyFailures
-    ∷ caused_where (nat_le 2048 (length graph.edges)) TooManyEdges
+    ∷ caused_where (nat_le MAX_EDGES (length graph.edges)) TooManyEdges
     ∷ caused_where false TooManyModes
-    ∷ caused_where (option_map_or (λ node. nat_le 32 (length (incoming graph node))) (node_named graph target) false) TooManyIncoming
+    ∷ caused_where (option_map_or (λ node. nat_le MAX_INCOMING (length (incoming graph node))) (node_named graph target) false) TooManyIncoming
     ∷ []
 
 -- the set with this member, where there is one

@@ -5,35 +5,12 @@ use Rattle.tfpg_base.specs.Words.{is_name}
 use Rattle.tfpg_graph.specs.declared.kind.Kind.{Kind}
 use Rattle.tfpg_graph.specs.declared.kind.Kind.TheVariants.{Failure, Or, And}
 use Rattle.tfpg_graph.specs.declared.edge.Edge.{Edge}
+use Rattle.tfpg_graph.specs.declared.limits.TheConstants.{MAX_NODES, MAX_FAILURES, MAX_EDGES, MAX_INCOMING, MAX_MODES, MAX_RARITY}
 use Rattle.tfpg_graph.specs.Graph.{Tfpg, is_kind_at, is_failure, failures, incoming}
-
--- the greatest rarity
-abbrev pub max_rarity : ℕ
-max_rarity = 1000000
-
--- how many nodes a graph has at most
-abbrev pub max_nodes : ℕ
-max_nodes = 512
-
--- how many of them are failure modes at most
-abbrev pub max_failures : ℕ
-max_failures = 64
-
--- how many edges it has at most
-abbrev pub max_edges : ℕ
-max_edges = 2048
-
--- how many edges go into one node at most
-abbrev pub max_incoming : ℕ
-max_incoming = 32
-
--- how many modes it has at most
-abbrev pub max_modes : ℕ
-max_modes = 64
 
 -- its number is within its limit
 abbrev pub HasValidNumber : Kind → Type 0
-HasValidNumber (Failure rarity) = rarity ≤ max_rarity
+HasValidNumber (Failure rarity) = rarity ≤ MAX_RARITY
 HasValidNumber (Or lag) = IfSome lag (λ l. l ≤ max_time)
 HasValidNumber (And lag) = IfSome lag (λ l. l ≤ max_time)
 
@@ -73,8 +50,8 @@ pub record IsValid (graph : Tfpg) : Type 0 where
   pub has_incoming : (node : ℕ) → node < length graph.nodes → IsTrue (not (is_kind_at is_failure graph node)) → incoming graph node ≢ []
   pub no_zero_cycle : (node steps : ℕ) → WalksInNoTime graph node node (suc steps) → ⊥
   pub has_mode : 0 < length graph.modes
-  pub few_nodes : length graph.nodes ≤ max_nodes
-  pub few_failures : length (failures graph) ≤ max_failures
-  pub few_edges : length graph.edges ≤ max_edges
-  pub few_modes : length graph.modes ≤ max_modes
-  pub few_incoming : (node : ℕ) → length (incoming graph node) ≤ max_incoming
+  pub few_nodes : length graph.nodes ≤ MAX_NODES
+  pub few_failures : length (failures graph) ≤ MAX_FAILURES
+  pub few_edges : length graph.edges ≤ MAX_EDGES
+  pub few_modes : length graph.modes ≤ MAX_MODES
+  pub few_incoming : (node : ℕ) → length (incoming graph node) ≤ MAX_INCOMING

@@ -7,6 +7,7 @@ ghost use Rattle.tfpg_graph.specs.Valid.{HasValidNumber, IsValidEdge};
 
 use crate::edge::Edge;
 use crate::kind::Kind;
+use crate::limits::{MAX_EDGES, MAX_FAILURES, MAX_INCOMING, MAX_MODES, MAX_NODES};
 use indexmap::{IndexMap, IndexSet};
 use std::alloc::Global;
 use std::marker::Model;
@@ -61,7 +62,7 @@ impl Declared {
         requires before_edges { self.edges ≡ [] }
         requires name { IsTrue (is_name name.now) }
         requires new { mode_named self name.now ≡ None }
-        requires room { length self.modes < 64 }
+        requires room { length self.modes < MAX_MODES }
         ensures { IfOk result (λ declared. declared ≡ with_mode self name.now) }
     {
         let mut declared = self;
@@ -81,8 +82,8 @@ impl Declared {
         requires name { IsTrue (is_name name.now) }
         requires new { node_named self name.now ≡ None }
         requires number { HasValidNumber kind }
-        requires room { length self.nodes < 512 }
-        requires failure_room { IsTrue (is_failure kind) → length (failures self) < 64 }
+        requires room { length self.nodes < MAX_NODES }
+        requires failure_room { IsTrue (is_failure kind) → length (failures self) < MAX_FAILURES }
         ensures { IfOk result (λ declared. declared ≡ with_node self name.now kind) }
     {
         let Declared {
@@ -112,8 +113,8 @@ impl Declared {
     pub(crate) fn with_edge(self, edge: Edge) -> Result<Declared, NoMemory>
         requires valid { IsValidEdge self edge }
         requires new { edge_from_to self edge.source edge.target ≡ None }
-        requires room { length self.edges < 2048 }
-        requires incoming_room { length (incoming self edge.target) < 32 }
+        requires room { length self.edges < MAX_EDGES }
+        requires incoming_room { length (incoming self edge.target) < MAX_INCOMING }
         ensures { IfOk result (λ declared. declared ≡ with_edge self edge) }
     {
         let mut declared = self;
@@ -124,15 +125,15 @@ impl Declared {
     }
 
     /// A copy of what is declared. Takes time and memory linear in it.
-    pub(crate) fn copy(&self, alloc: Global) -> Result<Declared, NoMemory>
+    pub(crate) fn copy(&self) -> Result<Declared, NoMemory>
         ensures { IfOk result (λ declared. declared ≡ self.now) }
     {
         let nodes = self.nodes.clone()?;
-        let edges = Vec::from_slice(alloc, self.edges.as_slice())?;
+        let edges = self.edges.clone()?;
         let modes = self.modes.clone()?;
         let incoming = self.incoming.clone()?;
-        let failures = Vec::from_slice(alloc, self.failures.as_slice())?;
-        let places = Vec::from_slice(alloc, self.places.as_slice())?;
+        let failures = self.failures.clone()?;
+        let places = self.places.clone()?;
         Ok(Declared {
             nodes,
             edges,
@@ -157,7 +158,7 @@ impl Declared {
 
     pub(crate) fn mode_count(&self) -> u32
         ensures count { result ≡ length self.now.modes }
-        ensures few { length self.now.modes ≤ 64 }
+        ensures few { length self.now.modes ≤ MAX_MODES }
     {
         self.modes.len() as u32
     }
@@ -226,7 +227,8 @@ impl Declared {
 
     pub(crate) fn incoming(&self, node: u32) -> &[u32]
         requires { node < length self.now.nodes }
-        ensures { result.now ≡ incoming self.now node }
+        ensures edges { result.now ≡ incoming self.now node }
+        ensures few { length (incoming self.now node) ≤ MAX_INCOMING }
     {
         self.incoming[node as usize].as_slice()
     }

@@ -1,5 +1,7 @@
 //! How a failure propagates from one node to another.
 
+ghost use Rattle.std.specs.Prelude.{◌≡◌};
+
 /// A propagation from one node to another.
 #[derive(Clone, Copy, Debug, PartialEq, Eq)]
 pub struct Edge {
@@ -9,8 +11,21 @@ pub struct Edge {
     pub target: u32,
     /// The least delay in milliseconds, from 0 to 10^12.
     pub tmin: u64,
-    /// The greatest delay in milliseconds, from `tmin` to 10^12; with none the edge may carry the failure and never must.
+    /// The greatest delay in milliseconds, from `tmin` to 10^12. With none the edge may carry the failure, and is never
+    /// forced to.
     pub tmax: Option<u64>,
-    /// The system modes in which it is active: bit `m` stands for mode `m`.
+    /// The system modes in which it is active: bit `m` is that of mode `m`.
     pub modes: u64,
+}
+
+impl Edge {
+    ghost use Rattle.tfpg_graph.specs.Graph.{is_allowed};
+
+    /// Whether it is active in the mode of this number. It is active in none from 64 on.
+    pub fn is_allowed(&self, mode: u32) -> bool
+        ensures { result ≡ is_allowed self.now mode }
+    {
+        let modes = self.modes;
+        mode < u64::BITS && modes >> mode & 1 == 1
+    }
 }

@@ -22,7 +22,7 @@ pub(crate) fn put_edge(graph: &Graph, edge: Edge, into: &mut Vec<u8>) -> Result<
 {
     put_ends_and_delays(graph, edge, into)?;
     into.push(b' ')?;
-    put_modes_word(graph, edge.modes, into)?;
+    put_modes_word(graph, &edge, into)?;
     into.push(b'\n')?;
     Ok(())
 }

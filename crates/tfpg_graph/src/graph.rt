@@ -1,6 +1,6 @@
 //! A valid graph with its look-ups.
 
-ghost use Rattle.std.specs.Prelude.{◌≡◌, ◌<◌, length, slice_get, Some, IfOk};
+ghost use Rattle.std.specs.Prelude.{◌≡◌, ◌<◌, ◌≤◌, length, slice_get, Some, IfOk};
 ghost use Rattle.tfpg_graph.specs.Graph.{kind_at, name_at, node_named, mode_named, edge_from_to, incoming, failures, failure_at, place_of_failure};
 ghost use Rattle.tfpg_graph.specs.Valid.{IsValid};
 ghost use Rattle.tfpg_graph.specs.ZeroCycle.{HasZeroOrder};
@@ -8,7 +8,7 @@ ghost use Rattle.tfpg_graph.specs.ZeroCycle.{HasZeroOrder};
 use crate::declared::Declared;
 use crate::edge::Edge;
 use crate::kind::Kind;
-use std::alloc::Global;
+use crate::limits::MAX_INCOMING;
 use std::marker::Model;
 use tfpg_base::NoMemory;
 
@@ -45,15 +45,15 @@ impl Graph {
         Graph { declared }
     }
 
-    /// A copy of the graph. Takes time and memory linear in the graph.
-    pub fn copy(&self, alloc: Global) -> Result<Graph, NoMemory>
+    /// A copy of the graph, with the allocator that the graph keeps. Takes time and memory linear in the graph.
+    pub fn copy(&self) -> Result<Graph, NoMemory>
         ensures { IfOk result (λ graph. graph ≡ self.now) }
     {
-        let declared = self.declared.copy(alloc)?;
+        let declared = self.declared.copy()?;
         Ok(Graph { declared })
     }
 
-    /// How many nodes it has: at most 512.
+    /// How many nodes it has: at most [`MAX_NODES`](crate::MAX_NODES).
     pub fn node_count(&self) -> u32
         ensures count { result ≡ length self.now.nodes }
         ensures valid { IsValid self.now }
@@ -62,21 +62,21 @@ impl Graph {
         self.declared.node_count()
     }
 
-    /// How many edges it has: at most 2,048.
+    /// How many edges it has: at most [`MAX_EDGES`](crate::MAX_EDGES).
     pub fn edge_count(&self) -> u32
         ensures { result ≡ length self.now.edges }
     {
         self.declared.edge_count()
     }
 
-    /// How many modes it has: from 1 to 64.
+    /// How many modes it has: from 1 to [`MAX_MODES`](crate::MAX_MODES).
     pub fn mode_count(&self) -> u32
         ensures { result ≡ length self.now.modes }
     {
         self.declared.mode_count()
     }
 
-    /// How many of its nodes are failure modes: at most 64.
+    /// How many of its nodes are failure modes: at most [`MAX_FAILURES`](crate::MAX_FAILURES).
     pub fn failure_count(&self) -> u32
         ensures { result ≡ length (failures self.now) }
     {
@@ -129,7 +129,7 @@ impl Graph {
         self.declared.find_mode(name)
     }
 
-    /// The edge from the one node to the other. Goes through the edges into the other, at most 32.
+    /// The edge from the one node to the other. Goes through the edges into the other, at most [`MAX_INCOMING`].
     pub fn edge_between(&self, source: u32, target: u32) -> Option<u32>
         requires source_in { source < length self.now.nodes }
         requires target_in { target < length self.now.nodes }
@@ -138,10 +138,12 @@ impl Graph {
         self.declared.edge_between(source, target)
     }
 
-    /// The numbers of the edges into the node, rising: none of a failure mode, at most 32 of a discrepancy.
+    /// The numbers of the edges into the node, rising: none of a failure mode, at most [`MAX_INCOMING`] of a
+    /// discrepancy.
     pub fn incoming(&self, node: u32) -> &[u32]
         requires { node < length self.now.nodes }
-        ensures { result.now ≡ incoming self.now node }
+        ensures edges { result.now ≡ incoming self.now node }
+        ensures few { length (incoming self.now node) ≤ MAX_INCOMING }
     {
         self.declared.incoming(node)
     }

@@ -1,6 +1,6 @@
 //! What a node is.
 
-ghost use Rattle.std.specs.Prelude.{◌≡◌};
+ghost use Rattle.std.specs.Prelude.{◌≡◌, is_some};
 
 /// What a node is. A discrepancy with a lag is monitored: an alarm logged at `t` says that it became active at
 /// most `lag` milliseconds before. One without is hidden.
@@ -15,12 +15,30 @@ pub enum Kind {
 }
 
 impl Kind {
-    ghost use Rattle.tfpg_graph.specs.Graph.{is_failure};
+    ghost use Rattle.tfpg_graph.specs.Graph.{is_failure, lag_of};
 
     /// Whether it is a failure mode.
-    pub(crate) fn is_failure(self) -> bool
-        ensures { result ≡ is_failure self }
+    pub fn is_failure(&self) -> bool
+        ensures { result ≡ is_failure self.now }
     {
         matches!(self, Kind::Failure { rarity: _ })
+    }
+
+    /// The lag of its alarm in milliseconds, where it is monitored.
+    pub fn lag(&self) -> Option<u64>
+        ensures { result ≡ lag_of self.now }
+    {
+        match self {
+            Kind::Failure { rarity: _ } => None,
+            Kind::Or { lag } => *lag,
+            Kind::And { lag } => *lag,
+        }
+    }
+
+    /// Whether it is monitored: an alarm says that it has become active.
+    pub fn is_monitored(&self) -> bool
+        ensures { result ≡ is_some (lag_of self.now) }
+    {
+        self.lag().is_some()
     }
 }

@@ -8,6 +8,7 @@ ghost use Rattle.tfpg_graph.specs.Causes.{has_twice};
 ghost use Rattle.tfpg_graph.specs.LineCauses.{with_option};
 
 use crate::declared::Declared;
+use crate::limits::MAX_MODES;
 use crate::modes_word::all_modes;
 use std::alloc::Global;
 use tfpg_base::{NoMemory, Set};
@@ -63,7 +64,7 @@ pub(crate) fn modes_of(declared: &Declared, word: &[u8], names: &[&[u8]]) -> u64
     requires known { list_any (λ name. is_none (mode_named declared.now name)) (map (λ name. name.now) names.now) ≡ false }
     requires some_mode { bytes_eq word.now (codes "-") ≡ false }
     requires some { 0 < length declared.now.modes }
-    requires few { length declared.now.modes ≤ 64 }
+    requires few { length declared.now.modes ≤ MAX_MODES }
     ensures bits { result ≡ modes_of_word declared.now word.now }
     ensures some { 0 < result }
     ensures own { result < 2 ^ length declared.now.modes }
@@ -77,7 +78,7 @@ pub(crate) fn modes_of(declared: &Declared, word: &[u8], names: &[&[u8]]) -> u64
 /// The modes of these names, as the set of their numbers.
 fn named_modes(declared: &Declared, names: &[&[u8]]) -> Set
     requires once { has_twice (map (λ name. name.now) names.now) ≡ false }
-    requires few { length declared.now.modes ≤ 64 }
+    requires few { length declared.now.modes ≤ MAX_MODES }
     ensures named { All (Contains (filter_map (mode_named declared.now) (map (λ name. name.now) names.now))) result }
     ensures worth { sum_by (λ mode. 2 ^ mode) result ≡ sum_by (λ mode. 2 ^ mode) (filter_map (mode_named declared.now) (map (λ name. name.now) names.now)) }
 {
@@ -89,7 +90,7 @@ fn named_modes(declared: &Declared, names: &[&[u8]]) -> Set
 
 /// The modes with the one of this name, where there is one.
 fn with_named(declared: &Declared, name: &[u8], modes: Set) -> Set
-    requires few { length declared.now.modes ≤ 64 }
+    requires few { length declared.now.modes ≤ MAX_MODES }
     ensures { result ≡ with_option (mode_named declared.now name.now) modes }
 {
     match declared.find_mode(name) {

@@ -14,16 +14,11 @@ ghost use Rattle.tfpg_graph.specs.Declaring.{CanDeclareEdge, CanJoin, HasEdgeRoo
 use crate::cause::GraphCause;
 use crate::declared::Declared;
 use crate::edge::Edge;
+use crate::limits::{MAX_EDGES, MAX_INCOMING, MAX_MODES};
 use crate::listed_modes::{has_twice, has_unknown_mode, modes_of};
 use crate::number_word::read_delays;
 use crate::statement::EdgeWords;
 use tfpg_base::read_name;
-
-/// How many edges there are at most.
-const MAX_EDGES: u32 = 2048;
-
-/// How many edges lead into a node at most.
-const MAX_INCOMING: usize = 32;
 
 /// The edge that a line declares with these words, or the cause of the line. The names are those that the word for
 /// its modes lists. Takes two look-ups by name, and up to two for each mode.
@@ -61,7 +56,7 @@ fn name_cause(declared: &Declared, words: EdgeWords<'_>, modes: &[&[u8]]) -> Opt
     requires listed { map (λ name. name.now) modes.now ≡ modes_listed words.modes.now }
     ensures first { result ≡ first_cause (edge_name_causes declared.now words.entry.source.now words.entry.target.now words.entry.modes.now) }
     ensures some { IfNone result (0 < length declared.now.modes) }
-    ensures few { IfNone result (length declared.now.modes ≤ 64) }
+    ensures few { IfNone result (length declared.now.modes ≤ MAX_MODES) }
     ensures once { IfNone result (has_twice (modes_listed words.entry.modes.now) ≡ false) }
 {
     if declared.mode_count() == 0 {

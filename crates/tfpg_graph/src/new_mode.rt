@@ -8,10 +8,8 @@ ghost use Rattle.tfpg_graph.specs.Declaring.{CanDeclareMode};
 
 use crate::cause::GraphCause;
 use crate::declared::Declared;
+use crate::limits::MAX_MODES;
 use tfpg_base::read_name;
-
-/// How many modes there are at most.
-const MAX_MODES: u32 = 64;
 
 /// The cause of a line that declares a mode of this name, where there is one. Takes one look-up by name.
 pub(crate) fn mode_cause(declared: &Declared, name: &[u8]) -> Option<GraphCause>

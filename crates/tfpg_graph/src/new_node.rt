@@ -14,15 +14,10 @@ ghost use Rattle.tfpg_graph.specs.Declaring.{CanDeclareNode};
 use crate::cause::GraphCause;
 use crate::declared::Declared;
 use crate::kind::Kind;
+use crate::limits::{MAX_FAILURES, MAX_NODES};
 use crate::number_word::read_kind;
 use crate::statement::NodeWords;
 use tfpg_base::read_name;
-
-/// How many nodes there are at most.
-const MAX_NODES: u32 = 512;
-
-/// How many of them are failure modes at most.
-const MAX_FAILURES: u32 = 64;
 
 /// The kind of the node that a line declares with this name and these words, or the cause of the line. Takes one
 /// look-up by name.
@@ -68,8 +63,8 @@ fn name_cause(declared: &Declared, name: &[u8]) -> Option<GraphCause>
 /// The cause that there is no room for a node of this kind, where that is so.
 fn room_cause(declared: &Declared, kind: Kind) -> Option<GraphCause>
     ensures first { result ≡ first_cause (node_room_causes declared.now (is_failure kind)) }
-    ensures room { IfNone result (length declared.now.nodes < 512) }
-    ensures failure_room { IfNone result (IsTrue (is_failure kind) → length (failures declared.now) < 64) }
+    ensures room { IfNone result (length declared.now.nodes < MAX_NODES) }
+    ensures failure_room { IfNone result (IsTrue (is_failure kind) → length (failures declared.now) < MAX_FAILURES) }
 {
     if declared.node_count() >= MAX_NODES {
         Some(GraphCause::TooManyNodes)

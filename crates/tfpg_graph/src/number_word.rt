@@ -3,7 +3,7 @@
 ghost use Rattle.std.specs.Prelude.{◌≡◌, ◌≤◌, ◌∷◌, [], IfOk, IfSome, Some, Ok, Err, nat_lt, if◌then◌else◌};
 ghost use Rattle.tfpg_base.specs.Words.{number_of};
 ghost use Rattle.tfpg_base.specs.Times.{max_time};
-ghost use Rattle.tfpg_graph.specs.Valid.{HasValidNumber, max_rarity};
+ghost use Rattle.tfpg_graph.specs.Valid.{HasValidNumber};
 ghost use Rattle.tfpg_graph.specs.Declares.{kind_of_words, lag_of_word, delays_of_words};
 ghost use Rattle.tfpg_graph.specs.Causes.{first_cause, node_number, lag_number};
 ghost use Rattle.tfpg_graph.specs.LineCauses.{number_causes, delay_causes};
@@ -14,11 +14,9 @@ ghost use Rattle.tfpg_graph.specs.declared.cause.GraphCause.TheVariants.{MinOver
 
 use crate::cause::GraphCause;
 use crate::kind::Kind;
+use crate::limits::MAX_RARITY;
 use crate::statement::NodeWords;
 use tfpg_base::{MAX_TIME, Number, read_number};
-
-/// The greatest rarity.
-const MAX_RARITY: u64 = 1_000_000;
 
 /// What the words say that a node is.
 pub(crate) fn read_kind(words: NodeWords<'_>) -> Result<Kind, GraphCause>

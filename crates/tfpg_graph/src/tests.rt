@@ -158,10 +158,10 @@ fn answer_alike(one: &Graph, other: &Graph) -> bool
 fn a_copy_has_the_same_look_ups(rt: HostRuntime) -> Result<(), Fail> {
     for text in [TWO_ALARMS, THREE_MODES, TWO_MODES] {
         let graph = read(rt.alloc(), text)?;
-        let copy = graph.copy(rt.alloc())?;
+        let copy = graph.copy()?;
         assert!(rt; answer_alike(&graph, &copy), "of {text:?}");
     }
-    let copy = read(rt.alloc(), TWO_MODES)?.copy(rt.alloc())?;
+    let copy = read(rt.alloc(), TWO_MODES)?.copy()?;
     assert_eq!(rt; copy.node_count(), 5);
     assert_eq!(rt; copy.edge_count(), 5);
     assert_eq!(rt; copy.mode_count(), 2);

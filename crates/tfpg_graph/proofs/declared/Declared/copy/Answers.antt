@@ -1,4 +1,5 @@
-use Rattle.std.proofs.Common.{◌∙◌}
+use Rattle.std.proofs.Common.{rules, ◌∙◌}
+use Rattle.std.proofs.lemmas.List.Elements.{same_from_all_zip}
 use Rattle.tfpg_graph.specs.declared.declared.Declared.TheInside.{Inside}
 use Rattle.tfpg_graph.proofs.Copied.{copied_rows, copied_nodes, same_graph, IsDeclared-copy}
 use Rattle.tfpg_graph.proofs.declared.Declared.copy.Goals as goal
@@ -16,11 +17,11 @@ invariant_of-result c =
     IsDeclared-copy c.self.inside copy
     (same_graph c.self.inside copy
     (copied_nodes _ (λ x y same. same) _ (λ x y same. same) c.self.inside.nodes.entries copy.nodes.entries c.in_ok-nodes.ensures.cases)
-    (c.in_ok-edges.ensures.items ∙ c.as_slice.ensures.value)
+    (same_from_all_zip _ _ _ c.in_ok-edges.ensures.cases.0 (λ x y same. same))
     (copied_rows _ (λ x y same. same) c.self.inside.modes.keys copy.modes.keys c.in_ok-modes.ensures.cases))
     (copied_rows _ (λ x y same. same) c.self.inside.incoming.items copy.incoming.items c.in_ok-incoming.ensures.cases.0)
-    (c.in_ok-failures.ensures.items ∙ c.as_slice-2.ensures.value)
-    (c.in_ok-places.ensures.items ∙ c.as_slice-3.ensures.value)
+    (same_from_all_zip _ _ _ c.in_ok-failures.ensures.cases.0 (λ x y same. same))
+    (same_from_all_zip _ _ _ c.in_ok-places.ensures.cases.0 (λ x y same. search (rules, same)))
     c.self.invariant
 
 pub returns : goal.returns
@@ -35,6 +36,6 @@ returns c =
     } in
     same_graph c.self.inside copy
     (copied_nodes _ (λ x y same. same) _ (λ x y same. same) c.self.inside.nodes.entries copy.nodes.entries c.in_ok-nodes.ensures.cases)
-    (c.in_ok-edges.ensures.items ∙ c.as_slice.ensures.value)
+    (same_from_all_zip _ _ _ c.in_ok-edges.ensures.cases.0 (λ x y same. same))
     (copied_rows _ (λ x y same. same) c.self.inside.modes.keys copy.modes.keys c.in_ok-modes.ensures.cases)
     ∙ c.self.view_is

@@ -7,13 +7,13 @@ use Rattle.tfpg_graph.proofs.Leaving.{is_leaving, is_leaving-edge, find-leaving,
 use Rattle.tfpg_graph.proofs.declared.Declared.edge_between.Goals as goal
 
 pub loop-number-init : goal.loop-number-init
-loop-number-init c = rw c.incoming-number-items.ensures (find-leaving c.args.self.now c.args.source c.args.target)
+loop-number-init c = rw c.incoming-number-items.ensures.edges (find-leaving c.args.self.now c.args.source c.args.target)
 
 pub edge-requires : goal.edge-requires
 edge-requires c =
     let edges = c.args.self.now.edges in
     All-get_or (λ number. number < length edges) _ _ 0 c.loop-number-test.true
-    (All-same (λ number. number < length edges) _ _ c.incoming-number-items.ensures (All-below-numbers_from (λ edge. nat_eq edge.target c.args.target) edges))
+    (All-same (λ number. number < length edges) _ _ c.incoming-number-items.ensures.edges (All-below-numbers_from (λ edge. nat_eq edge.target c.args.target) edges))
 
 pub returns-then-edge-source : goal.returns-then-edge-source
 returns-then-edge-source c =

@@ -1,0 +1,19 @@
+//! How much a graph may have of each thing.
+
+/// How many nodes a graph has at most.
+pub const MAX_NODES: u32 = 512;
+
+/// How many of its nodes are failure modes at most.
+pub const MAX_FAILURES: u32 = 64;
+
+/// How many edges it has at most.
+pub const MAX_EDGES: u32 = 2_048;
+
+/// How many edges enter one node at most.
+pub const MAX_INCOMING: usize = 32;
+
+/// How many modes it has at most.
+pub const MAX_MODES: u32 = 64;
+
+/// The greatest rarity.
+pub const MAX_RARITY: u64 = 1_000_000;
