@@ -15,8 +15,8 @@ use Rattle.tfpg_log.specs.Log.{Logbook, now_of, alarm_among, alarm_of, event_at,
 use Rattle.tfpg_log.specs.Rules.{IsDue}
 use Rattle.tfpg_log.specs.Explains.{Explains, Shows}
 use Rattle.tfpg_hyp.specs.Table.{IsTable, IsHypothesis}
-use Rattle.tfpg_clause.specs.Trees.{Judged, Leaf, IsRefutation, IsPartial, IsClosedLeaf}
-use Rattle.tfpg_clause.specs.Trees.{steps_of}
+use Rattle.tfpg_clause.specs.Trees.{Judged, Leaf, IsRefutation, IsPartial, IsClosedLeaf, IsRight, steps_of}
+use Rattle.tfpg_evidence.specs.declared.step.Step.TheVariants.{Cycle}
 use Rattle.tfpg_clause.specs.Bounds.{at_least, at_most}
 use Rattle.tfpg_evidence.specs.declared.reason.Reason.TheVariants.{Unreached, Upto}
 use Rattle.tfpg_log.proofs.AndNodes.{and_node_has_edge}
@@ -101,7 +101,7 @@ explains-empty graph log valid quiet = record {
 
 -- the node is unreached at the alarm's time, and active by then
 closed_by_rejection : (graph : Tfpg) (log : Logbook) (number time node : ℕ) → event_at log number ≡ Some (Alarm time node) → node < length graph.nodes
-    → IsClosedLeaf graph log [] (record { path = []; seen = number; reasons = Unreached node time ∷ Upto number ∷ [] })
+    → IsClosedLeaf graph log [] [] number (Unreached node time ∷ Upto number ∷ [])
 closed_by_rejection graph log number time node e lt =
     let seen = first_events log number in
     let by_now : leb time (now_of seen) ≡ true = le-leb _ _ (omega (arith, now-first_events log number (Alarm time node) e)) in
@@ -119,8 +119,10 @@ pub refutes : (graph : Tfpg) (log : Logbook) (steps : List Judged) → IsRejecti
 refutes graph log steps h = record {
   tree = Leaf h.number (Unreached h.node h.time ∷ Upto h.number ∷ []);
   steps_are = h.steps_are;
-  finished = tt;
-  closed = All-cons (IsClosedLeaf graph log []) (record { path = []; seen = h.number; reasons = Unreached h.node h.time ∷ Upto h.number ∷ [] }) [] (closed_by_rejection graph log h.number h.time h.node h.alarm h.in_graph) (All-nil _);
+  right =
+      All-cons (IsRight graph log [])
+      (record { path = []; step = record { seen = h.number; step = Cycle (Unreached h.node h.time ∷ Upto h.number ∷ []) }; subtrees = 0 }) []
+      (closed_by_rejection graph log h.number h.time h.node h.alarm h.in_graph) (All-nil _);
 }
 
 -- no steps are a partial tree
@@ -128,10 +130,9 @@ pub nothing_is_partial : (graph : Tfpg) (log : Logbook) (reach : List ℕ) → I
 nothing_is_partial graph log reach = record {
   tree = Leaf 0 [];
   more = steps_of (Leaf 0 []);
-  unfinished = λ none. absurd cc;
+  unfinished = omega arith;
   steps_are = refl;
-  finished = tt;
-  closed = All-nil _;
+  right = All-nil _;
 }
 
 -- ---- the table of the empty set alone

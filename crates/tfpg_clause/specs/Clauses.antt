@@ -1,6 +1,8 @@
 -- Clauses: of each, every trace that explains the log meets an alternative.
-use Rattle.std.specs.Prelude.{ℕ, ◌+◌, ◌-◌, max, pos, ◌-ℤ◌, List, [], ◌∷◌, ◌++◌, map, filter_map, fold, Bool, ◌&&◌, nat_le, ◌==◌, if◌then◌else◌, All, Contains, Option, Some, None, option_map, option_and_then, slice_get}
+use Rattle.std.specs.Prelude.{◌≡◌, ℕ, zero, suc, length, ◌+◌, ◌-◌, max, pos, ◌-ℤ◌, List, [], ◌∷◌, ◌++◌, map, filter_map, fold, Bool, ◌&&◌, nat_le, ◌==◌, if◌then◌else◌, All, Contains, Option, Some, None, option_map, option_and_then, slice_get}
+use Rattle.std.specs.Bool.{then_some}
 use Rattle.std.specs.List.{list_all}
+use Rattle.tfpg_base.specs.Choice.{each_of}
 use Rattle.tfpg_base.specs.declared.constraint.Constraint.{Constraint}
 use Rattle.tfpg_graph.specs.declared.edge.Edge.{Edge}
 use Rattle.tfpg_graph.specs.Graph.{Tfpg, is_kind_at, is_or, is_and, edges_into}
@@ -12,16 +14,6 @@ use Rattle.tfpg_evidence.specs.declared.clause_name.ClauseName.{ClauseName}
 use Rattle.tfpg_evidence.specs.declared.clause_name.ClauseName.TheVariants.{OrMay, AndMay, OrMust, AndMust}
 use Rattle.tfpg_clause.specs.Bounds.{at_most, at_least, at_most_after, at_least_after, Meets}
 
--- the value, where the test holds
-abbrev pub only_if : {X : Type 0} → Bool → X → Option X
-only_if holds x = if holds then Some x else None
-
--- the values, where there is each of them
-abbrev pub each_of : {X : Type 0} → List (Option X) → Option (List X)
-each_of [] = Some []
-each_of (None ∷ others) = None
-each_of (Some x ∷ others) = option_map (λ xs. x ∷ xs) (each_of others)
-
 -- The node becomes active before the span; or after it.
 abbrev pub outside_span : ℕ → Span → List (List Constraint)
 outside_span node span = (at_most node (pos span.lo -ℤ pos 1) ∷ []) ∷ (at_least node (span.hi + 1) ∷ []) ∷ []
@@ -30,7 +22,7 @@ outside_span node span = (at_most node (pos span.lo -ℤ pos 1) ∷ []) ∷ (at_
 -- window, for the least delay or longer.
 abbrev pub arrival : Logbook → ℕ → ℕ → Span → Edge → Option (List Constraint)
 arrival log number horizon span edge =
-    option_and_then (λ window. only_if (nat_le (window.lo + edge.tmin) span.hi)
+    option_and_then (λ window. then_some (nat_le (window.lo + edge.tmin) span.hi)
     (at_least_after edge.target edge.source edge.tmin ∷ at_least edge.target (max span.lo (window.lo + edge.tmin)) ∷ at_most edge.target (pos span.hi) ∷ []))
     (window_of log edge number horizon)
 
@@ -68,19 +60,19 @@ must_alternatives target hi dues =
 -- There is a must where the window begins with this span and has room for each greatest delay.
 abbrev pub must_in : ℕ → ℕ → Window → List Due → Option (List (List Constraint))
 must_in target number window dues =
-    only_if ((window.first == number) && list_all (λ due. nat_le due.by window.hi) dues) (must_alternatives target window.hi dues)
+    then_some ((window.first == number) && list_all (λ due. nat_le due.by window.hi) dues) (must_alternatives target window.hi dues)
 
 -- the clause that an OR node becomes active in a span only where the failure arrives by some edge
 abbrev pub or_may : Tfpg → Logbook → ℕ → ℕ → ℕ → Option (List (List Constraint))
 or_may graph log node number horizon =
-    option_and_then (λ span. only_if (is_kind_at is_or graph node)
+    option_and_then (λ span. then_some (is_kind_at is_or graph node)
     (outside_span node span ++ filter_map (arrival log number horizon span) (edges_into graph node)))
     (span_at log number horizon)
 
 -- the clause that an AND node becomes active in a span only where the failure arrives by this edge
 abbrev pub and_may : Tfpg → Logbook → Edge → ℕ → ℕ → Option (List (List Constraint))
 and_may graph log edge number horizon =
-    option_and_then (λ span. only_if (is_kind_at is_and graph edge.target)
+    option_and_then (λ span. then_some (is_kind_at is_and graph edge.target)
     (outside_span edge.target span ++ filter_map (arrival log number horizon span) (edge ∷ [])))
     (span_at log number horizon)
 
@@ -106,6 +98,25 @@ alternatives graph log (AndMay edge number horizon) = option_and_then (λ e. and
 alternatives graph log (OrMust edge number horizon) = option_and_then (λ e. or_must graph log e number horizon) (slice_get graph.edges edge)
 alternatives graph log (AndMust node number horizon) = and_must graph log node number horizon
 
--- The times meet a clause: they meet each constraint of some alternative. Else they violate it.
-abbrev pub MeetsSome : List ℕ → List (List Constraint) → Type 0
-MeetsSome times clause = (alternative : List Constraint) × Contains clause alternative × All (Meets times) alternative
+-- how many alternatives a clause has, where the name is allowed at the log
+abbrev pub count_of : Tfpg → Logbook → ClauseName → Option ℕ
+count_of graph log name = option_map length (alternatives graph log name)
+
+-- the item of a number, where items are counted from 1
+abbrev pub item_at : {X : Type 0} → List X → ℕ → Option X
+item_at items zero = None
+item_at items (suc before) = slice_get items before
+
+-- the constraint in a place of an alternative, both counted from 1
+abbrev pub constraint_at : List (List Constraint) → ℕ → ℕ → Option Constraint
+constraint_at clause number place = option_and_then (λ alternative. item_at alternative place) (item_at clause number)
+
+-- The times meet a clause: they meet each constraint of some alternative.
+abbrev pub MeetsClause : List ℕ → List (List Constraint) → Type 0
+MeetsClause times clause = (alternative : List Constraint) × Contains clause alternative × All (Meets times) alternative
+
+-- The name is allowed at the log, and the times violate its clause: they do not meet it.
+pub record Violates (graph : Tfpg) (log : Logbook) (times : List ℕ) (name : ClauseName) : Type 0 where
+  pub clause : List (List Constraint)
+  pub allowed : alternatives graph log name ≡ Some clause
+  pub not_met : MeetsClause times clause → ⊥

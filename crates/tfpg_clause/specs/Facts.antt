@@ -1,5 +1,6 @@
 -- Facts: constraints that every trace meets which explains the log from a set with this reach.
-use Rattle.std.specs.Prelude.{ℕ, ◌+◌, ◌-◌, pos, List, length, Bool, not, ◌&&◌, nat_lt, nat_le, if◌then◌else◌, Option, Some, None, unwrap_or, option_map, option_and_then}
+use Rattle.std.specs.Prelude.{◌≡◌, ℕ, ◌≤◌, ◌+◌, ◌-◌, pos, List, length, Bool, not, ◌&&◌, nat_lt, nat_le, if◌then◌else◌, Option, Some, None, unwrap_or, option_map, option_and_then}
+use Rattle.std.specs.Bool.{then_some}
 use Rattle.tfpg_base.specs.Times.{never}
 use Rattle.tfpg_base.specs.declared.constraint.Constraint.{Constraint}
 use Rattle.tfpg_graph.specs.Graph.{Tfpg, lag_at}
@@ -10,10 +11,6 @@ use Rattle.tfpg_log.specs.Log.{Logbook, now_of, event_at, quiet_at}
 use Rattle.tfpg_evidence.specs.declared.reason.Reason.{Reason}
 use Rattle.tfpg_evidence.specs.declared.reason.Reason.TheVariants.{Zero, Top, Unreached, From, Upto, Quiet, Pick}
 use Rattle.tfpg_clause.specs.Bounds.{at_most, at_least}
-
--- the constraint, where the test holds
-abbrev pub where_so : Bool → Constraint → Option Constraint
-where_so holds constraint = if holds then Some constraint else None
 
 -- The node became active at most its lag before its alarm.
 abbrev pub from_alarm : Tfpg → Event → Option Constraint
@@ -33,11 +30,23 @@ upto_alarm (Mode time mode) = None
 
 -- The constraint that a reason states, where it is a fact of the log and of a set that reaches these nodes.
 abbrev pub fact : Tfpg → Logbook → List ℕ → Reason → Option Constraint
-fact graph log reach (Zero node) = where_so (nat_lt node (length graph.nodes)) (at_least node 0)
-fact graph log reach (Top node) = where_so (nat_lt node (length graph.nodes)) (at_most node (pos never))
+fact graph log reach (Zero node) = then_some (nat_lt node (length graph.nodes)) (at_least node 0)
+fact graph log reach (Top node) = then_some (nat_lt node (length graph.nodes)) (at_most node (pos never))
 fact graph log reach (Unreached node horizon) =
-    where_so (nat_lt node (length graph.nodes) && (nat_le horizon (now_of log) && not (is_among reach node))) (at_least node (horizon + 1))
+    then_some (nat_lt node (length graph.nodes) && (nat_le horizon (now_of log) && not (is_among reach node))) (at_least node (horizon + 1))
 fact graph log reach (From event) = option_and_then (from_alarm graph) (event_at log event)
 fact graph log reach (Upto event) = option_and_then upto_alarm (event_at log event)
 fact graph log reach (Quiet event node) = option_map (λ time. at_least node (time + 1)) (quiet_at graph log event node)
 fact graph log reach (Pick split place) = None
+
+-- This is the greatest lower bound that the facts give the node.
+pub record IsLow (graph : Tfpg) (log : Logbook) (reach : List ℕ) (node low : ℕ) : Type 0 where
+  pub reason : Reason
+  pub stated : fact graph log reach reason ≡ Some (at_least node low)
+  pub greatest : (other : Reason) (bound : ℕ) → fact graph log reach other ≡ Some (at_least node bound) → bound ≤ low
+
+-- This is the least upper bound that the facts give the node.
+pub record IsHigh (graph : Tfpg) (log : Logbook) (reach : List ℕ) (node high : ℕ) : Type 0 where
+  pub reason : Reason
+  pub stated : fact graph log reach reason ≡ Some (at_most node (pos high))
+  pub least : (other : Reason) (bound : ℕ) → fact graph log reach other ≡ Some (at_most node (pos bound)) → high ≤ bound

@@ -5,4 +5,6 @@ pub use Rattle.tfpg_graph.specs.Reach
 pub mod Bounds
 pub mod Facts
 pub mod Clauses
+pub mod Order
+pub mod Cut
 pub mod Trees

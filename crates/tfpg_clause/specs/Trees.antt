@@ -1,5 +1,7 @@
--- Refutations: trees of clauses, each leaf of which is closed by a cycle of constraints that cannot all hold.
-use Rattle.std.specs.Prelude.{◌≡◌, ◌≢◌, ℕ, zero, suc, ℤ, pos, ◌+ℤ◌, ◌<ℤ◌, List, [], ◌∷◌, ◌++◌, length, take, map, fold, count_by, All, Bool, true, false, Option, Some, None, unwrap_or, option_and_then, slice_get}
+-- Refutations: trees of clauses, each leaf of which is closed by a cycle of constraints that cannot all hold. One walk over a
+-- tree gives its places in the order of the steps, and what is said of trees is said of these.
+use Rattle.std.specs.Prelude.{◌≡◌, ℕ, suc, ◌+◌, ◌<◌, ℤ, pos, ◌+ℤ◌, ◌<ℤ◌, List, [], ◌∷◌, ◌++◌, length, take, map, fold, All, Bool, true, false, Option, Some, option_map, option_and_then, slice_get}
+use Rattle.tfpg_base.specs.Choice.{each_of}
 use Rattle.tfpg_base.specs.declared.constraint.Constraint.{Constraint}
 use Rattle.tfpg_graph.specs.Graph.{Tfpg}
 use Rattle.tfpg_log.specs.Log.{Logbook, first_events}
@@ -9,86 +11,84 @@ use Rattle.tfpg_evidence.specs.declared.reason.Reason.TheVariants.{Zero, Top, Un
 use Rattle.tfpg_evidence.specs.declared.step.Step.{Step}
 use Rattle.tfpg_evidence.specs.declared.step.Step.TheVariants.{Split, Cycle}
 use Rattle.tfpg_clause.specs.Facts.{fact}
-use Rattle.tfpg_clause.specs.Clauses.{alternatives, each_of}
+use Rattle.tfpg_clause.specs.Clauses.{alternatives, count_of, item_at, constraint_at}
 
 -- a step, with the number of events of the log that judged it
 pub record Judged : Type 0 where
   pub seen : ℕ
   pub step : Step
 
--- A tree: a leaf with its reasons, or a branch on a clause with one subtree for each of its alternatives, each with the
--- number of events of the log that judged it.
+-- the test of a step that splits
+abbrev pub is_split : Step → Bool
+is_split (Split name) = true
+is_split (Cycle reasons) = false
+
+-- A tree: a leaf with its reasons, or a branch on a clause with its subtrees, each with the number of events of the log that
+-- judged it.
 mutual
   pub data Tree : Type 0 where
     Leaf : (seen : ℕ) (reasons : List Reason) → Tree
     Branch : (seen : ℕ) (name : ClauseName) (subtrees : Subtrees) → Tree
 
-  -- trees one behind the other
+  -- trees one after the other
   pub data Subtrees : Type 0 where
     NoMore : Subtrees
     Next : (tree : Tree) (others : Subtrees) → Subtrees
 
--- the steps of a tree in prefix order
-abbrev mutual
-  pub steps_of : Tree → List Judged
-  steps_of (Leaf seen reasons) = record { seen = seen; step = Cycle reasons } ∷ []
-  steps_of (Branch seen name subtrees) = record { seen = seen; step = Split name } ∷ steps_of_all subtrees
-
-  -- the steps of the trees, one tree behind the other
-  pub steps_of_all : Subtrees → List Judged
-  steps_of_all NoMore = []
-  steps_of_all (Next tree others) = steps_of tree ++ steps_of_all others
-
 -- how many subtrees there are
-abbrev pub count_of : Subtrees → ℕ
-count_of NoMore = 0
-count_of (Next tree others) = suc (count_of others)
+abbrev pub how_many : Subtrees → ℕ
+how_many NoMore = 0
+how_many (Next tree others) = suc (how_many others)
 
--- A tree is finished where each branch names an allowed clause and has one subtree for each of its alternatives.
-abbrev mutual
-  pub IsFinished : Tfpg → Logbook → Tree → Type 0
-  IsFinished graph log (Leaf seen reasons) = Unit {0}
-  IsFinished graph log (Branch seen name subtrees) =
-      (clause : List (List Constraint)) × (alternatives graph (first_events log seen) name ≡ Some clause) × (count_of subtrees ≡ length clause) × AreFinished graph log subtrees
-
-  -- Each of these trees is finished.
-  pub AreFinished : Tfpg → Logbook → Subtrees → Type 0
-  AreFinished graph log NoMore = Unit {0}
-  AreFinished graph log (Next tree others) = IsFinished graph log tree × AreFinished graph log others
-
--- A leaf in its place: the alternatives picked on the path to it, one for each split from the root.
-pub record LeafOnPath : Type 0 where
-  pub path : List (List Constraint)
+-- a split on the path to a step, with the number of the alternative in whose subtree the step stands, counted from 1
+pub record PathSplit : Type 0 where
+  pub name : ClauseName
   pub seen : ℕ
-  pub reasons : List Reason
+  pub alternative : ℕ
 
--- the leaves of a tree in order
+-- a step in its place in a tree: the splits from the root to it, the step, and how many subtrees it has
+pub record StepPlace : Type 0 where
+  pub path : List PathSplit
+  pub step : Judged
+  pub subtrees : ℕ
+
+-- The places of a tree, in the order of the steps: a split, and then its subtrees one after the other.
 abbrev mutual
-  pub leaves : Tfpg → Logbook → List (List Constraint) → Tree → List LeafOnPath
-  leaves graph log path (Leaf seen reasons) = record { path = path; seen = seen; reasons = reasons } ∷ []
-  leaves graph log path (Branch seen name subtrees) = leaves_of_all graph log path (unwrap_or (alternatives graph (first_events log seen) name) []) subtrees
+  pub places : List PathSplit → Tree → List StepPlace
+  places path (Leaf seen reasons) = record { path = path; step = record { seen = seen; step = Cycle reasons }; subtrees = 0 } ∷ []
+  places path (Branch seen name subtrees) =
+      record { path = path; step = record { seen = seen; step = Split name }; subtrees = how_many subtrees } ∷ places_from path name seen 1 subtrees
 
-  -- the first subtree lies in the first of these alternatives
-  pub leaves_of_all : Tfpg → Logbook → List (List Constraint) → List (List Constraint) → Subtrees → List LeafOnPath
-  leaves_of_all graph log path clause NoMore = []
-  leaves_of_all graph log path [] (Next tree others) = []
-  leaves_of_all graph log path (alternative ∷ clause) (Next tree others) =
-      leaves graph log (path ++ alternative ∷ []) tree ++ leaves_of_all graph log path clause others
+  -- the places of the subtrees of a split, the first of which is that of the alternative of this number
+  pub places_from : List PathSplit → ClauseName → ℕ → ℕ → Subtrees → List StepPlace
+  places_from path name seen number NoMore = []
+  places_from path name seen number (Next tree others) =
+      places (path ++ record { name = name; seen = seen; alternative = number } ∷ []) tree ++ places_from path name seen (number + 1) others
 
--- the item at a place that counts from 1
-abbrev pub counted_from_1 : {X : Type 0} → List X → ℕ → Option X
-counted_from_1 items zero = None
-counted_from_1 items (suc before) = slice_get items before
+-- the places of a whole tree
+abbrev pub places_of : Tree → List StepPlace
+places_of tree = places [] tree
 
--- the constraint that a reason states at a leaf: a fact, or one that was picked on the path
-abbrev pub stated : Tfpg → Logbook → List ℕ → List (List Constraint) → Reason → Option Constraint
-stated graph log reach path (Pick split place) = option_and_then (λ alternative. counted_from_1 alternative place) (counted_from_1 path split)
-stated graph log reach path (Zero node) = fact graph log reach (Zero node)
-stated graph log reach path (Top node) = fact graph log reach (Top node)
-stated graph log reach path (Unreached node horizon) = fact graph log reach (Unreached node horizon)
-stated graph log reach path (From event) = fact graph log reach (From event)
-stated graph log reach path (Upto event) = fact graph log reach (Upto event)
-stated graph log reach path (Quiet event node) = fact graph log reach (Quiet event node)
+-- the steps of a tree, in order
+abbrev pub steps_of : Tree → List Judged
+steps_of tree = map (λ place. place.step) (places_of tree)
+
+-- the constraint in a place of the alternative that was taken at a split, both counted from 1
+abbrev pub picked : Tfpg → Logbook → List PathSplit → ℕ → ℕ → Option Constraint
+picked graph log path split place =
+    option_and_then (λ (taken : PathSplit). option_and_then (λ clause. constraint_at clause taken.alternative place) (alternatives graph (first_events log taken.seen) taken.name))
+    (item_at path split)
+
+-- The constraint that a reason states at a leaf of this path, judged by the log of so many events: a fact, or one that was
+-- picked on the path.
+abbrev pub stated : Tfpg → Logbook → List ℕ → List PathSplit → ℕ → Reason → Option Constraint
+stated graph log reach path seen (Pick split place) = picked graph log path split place
+stated graph log reach path seen (Zero node) = fact graph (first_events log seen) reach (Zero node)
+stated graph log reach path seen (Top node) = fact graph (first_events log seen) reach (Top node)
+stated graph log reach path seen (Unreached node horizon) = fact graph (first_events log seen) reach (Unreached node horizon)
+stated graph log reach path seen (From event) = fact graph (first_events log seen) reach (From event)
+stated graph log reach path seen (Upto event) = fact graph (first_events log seen) reach (Upto event)
+stated graph log reach path seen (Quiet event node) = fact graph (first_events log seen) reach (Quiet event node)
 
 -- Each right side is the next left side, and the last right side is this one.
 abbrev pub IsChainTo : ℕ → List Constraint → Type 0
@@ -106,29 +106,36 @@ abbrev pub sum_of : List Constraint → ℤ
 sum_of constraints = fold (λ total constraint. total +ℤ constraint.most) (pos 0) constraints
 
 -- A leaf is closed: its reasons hold there, they chain into a cycle, and the sum of their bounds is negative.
-pub record IsClosedLeaf (graph : Tfpg) (log : Logbook) (reach : List ℕ) (leaf : LeafOnPath) : Type 0 where
+pub record IsClosedLeaf (graph : Tfpg) (log : Logbook) (reach : List ℕ) (path : List PathSplit) (seen : ℕ) (reasons : List Reason) : Type 0 where
   pub constraints : List Constraint
-  pub hold : each_of (map (stated graph (first_events log leaf.seen) reach leaf.path) leaf.reasons) ≡ Some constraints
+  pub hold : each_of (map (stated graph log reach path seen) reasons) ≡ Some constraints
   pub cycle : IsCycle constraints
   pub negative : sum_of constraints <ℤ pos 0
 
--- The steps are a refutation: those of a finished tree whose leaves are all closed. Nothing goes on from a finished tree.
+-- The step is right in a place: a split has an allowed name, and one subtree for each alternative; a cycle closes its leaf.
+abbrev pub IsRightStep : Tfpg → Logbook → List ℕ → List PathSplit → ℕ → ℕ → Step → Type 0
+IsRightStep graph log reach path seen subtrees (Split name) = count_of graph (first_events log seen) name ≡ Some subtrees
+IsRightStep graph log reach path seen subtrees (Cycle reasons) = IsClosedLeaf graph log reach path seen reasons
+
+-- so is the step of a place
+abbrev pub IsRight : Tfpg → Logbook → List ℕ → StepPlace → Type 0
+IsRight graph log reach place = IsRightStep graph log reach place.path place.step.seen place.subtrees place.step.step
+
+-- The steps are a refutation: those of a tree all of whose places are right.
 pub record IsRefutation (graph : Tfpg) (log : Logbook) (reach : List ℕ) (steps : List Judged) : Type 0 where
   pub tree : Tree
   pub steps_are : steps ≡ steps_of tree
-  pub finished : IsFinished graph log tree
-  pub closed : All (IsClosedLeaf graph log reach) (leaves graph log [] tree)
+  pub right : All (IsRight graph log reach) (places_of tree)
 
--- the test of a step that closes a leaf by a cycle
-abbrev pub is_cycle : Step → Bool
-is_cycle (Split name) = false
-is_cycle (Cycle reasons) = true
-
--- The steps are a partial tree: some further steps make them a finished tree, and the leaves so far are all closed.
+-- The steps are a partial tree: a tree begins with them and goes on, and its places so far are right.
 pub record IsPartial (graph : Tfpg) (log : Logbook) (reach : List ℕ) (steps : List Judged) : Type 0 where
   pub tree : Tree
   pub more : List Judged
-  pub unfinished : more ≢ []
+  pub unfinished : 0 < length more
   pub steps_are : steps ++ more ≡ steps_of tree
-  pub finished : IsFinished graph log tree
-  pub closed : All (IsClosedLeaf graph log reach) (take (count_by (λ judged. is_cycle judged.step) steps) (leaves graph log [] tree))
+  pub right : All (IsRight graph log reach) (take (length steps) (places_of tree))
+
+-- The present leaf of a partial tree has this path: the next step would stand there.
+pub record IsPresentLeaf (graph : Tfpg) (log : Logbook) (reach : List ℕ) (steps : List Judged) (path : List PathSplit) : Type 0 where
+  pub partial : IsPartial graph log reach steps
+  pub here : option_map (λ (place : StepPlace). place.path) (slice_get (places_of partial.tree) (length steps)) ≡ Some path

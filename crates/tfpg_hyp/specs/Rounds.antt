@@ -1,5 +1,5 @@
 -- What a round is: a finding for each hypothesis, each with its evidence, in order and counted.
-use Rattle.std.specs.Prelude.{◌≡◌, ℕ, ◌≤◌, List, [], ◌∷◌, ◌++◌, length, map, count_by, flat_map, AllPairs, Contains, Bool, true, false, IsTrue, not, Option, Some, None, slice_get, option_map, option_and_then, unwrap_or}
+use Rattle.std.specs.Prelude.{◌≡◌, ℕ, ◌≤◌, List, [], ◌∷◌, ◌++◌, length, map, count_by, flat_map, AllPairs, Contains, Bool, true, false, IsTrue, Option, Some, None, slice_get, option_map, option_and_then, unwrap_or}
 use Rattle.std.specs.List.{list_any}
 use Rattle.tfpg_base.specs.Set.{IsProperPart}
 use Rattle.tfpg_graph.specs.Graph.{Tfpg}
@@ -12,7 +12,7 @@ use Rattle.tfpg_evidence.specs.declared.finding.Status.TheVariants.{Ranked, Cove
 use Rattle.tfpg_evidence.specs.declared.round.Round.{Round}
 use Rattle.tfpg_evidence.specs.declared.round.Counts.{Counts}
 use Rattle.tfpg_evidence.specs.RoundOf.{is_ranked}
-use Rattle.tfpg_clause.specs.Trees.{Judged, IsRefutation, IsPartial, is_cycle}
+use Rattle.tfpg_clause.specs.Trees.{Judged, IsRefutation, IsPartial, is_split}
 use Rattle.tfpg_hyp.specs.Table.{IsTable}
 use Rattle.tfpg_hyp.specs.declared.place.Place.{Place}
 use Rattle.tfpg_hyp.specs.Ranking.{cost_of, robustness_of, IsRankedBefore}
@@ -72,7 +72,7 @@ HasEvidence graph log budget findings reach steps finding (Ranked trace c alarme
     × (robustness_of graph log reach ≡ record { alarmed = alarmed; monitored = monitored })
 -- This round spent its whole budget on splits, the tree is not closed, and no proper part is ranked.
 HasEvidence graph log budget findings reach steps finding Open =
-    IsPartial graph log reach steps × (HasRankedPart findings finding.set → ⊥) × (count_by (λ step. not (is_cycle step)) finding.steps ≡ budget)
+    IsPartial graph log reach steps × (HasRankedPart findings finding.set → ⊥) × (count_by is_split finding.steps ≡ budget)
 
 -- The finding on the hypothesis of this number.
 pub record IsFinding (graph : Tfpg) (log : Logbook) (budget : ℕ) (rounds : List Round) (findings : List Finding) (number : ℕ) (set : List ℕ) (finding : Finding) : Type 0 where

@@ -1,0 +1,48 @@
+-- The order of the clauses of one horizon, and the first that times violate.
+use Rattle.std.specs.Prelude.{◌≡◌, ◌⊎◌, ℕ, ◌<◌, List}
+use Rattle.tfpg_graph.specs.Graph.{Tfpg}
+use Rattle.tfpg_log.specs.Log.{Logbook, now_of}
+use Rattle.tfpg_evidence.specs.declared.clause_name.ClauseName.{ClauseName}
+use Rattle.tfpg_evidence.specs.declared.clause_name.ClauseName.TheVariants.{OrMay, AndMay, OrMust, AndMust}
+use Rattle.tfpg_clause.specs.Clauses.{Violates}
+
+-- the rank of a kind of clause
+abbrev pub rank_of : ClauseName → ℕ
+rank_of (OrMay node span horizon) = 0
+rank_of (AndMay edge span horizon) = 1
+rank_of (OrMust edge span horizon) = 2
+rank_of (AndMust node span horizon) = 3
+
+-- the number of the node or the edge that a name has
+abbrev pub subject_of : ClauseName → ℕ
+subject_of (OrMay node span horizon) = node
+subject_of (AndMay edge span horizon) = edge
+subject_of (OrMust edge span horizon) = edge
+subject_of (AndMust node span horizon) = node
+
+-- the number of its span
+abbrev pub span_of : ClauseName → ℕ
+span_of (OrMay node span horizon) = span
+span_of (AndMay edge span horizon) = span
+span_of (OrMust edge span horizon) = span
+span_of (AndMust node span horizon) = span
+
+-- its horizon
+abbrev pub horizon_of : ClauseName → ℕ
+horizon_of (OrMay node span horizon) = horizon
+horizon_of (AndMay edge span horizon) = horizon
+horizon_of (OrMust edge span horizon) = horizon
+horizon_of (AndMust node span horizon) = horizon
+
+-- Of two clauses of one horizon the one comes before the other: by its kind, then by its node or edge, then by its span.
+abbrev pub ComesBefore : ClauseName → ClauseName → Type 0
+ComesBefore one other =
+    (rank_of one < rank_of other)
+    ⊎ ((rank_of one ≡ rank_of other)
+    × ((subject_of one < subject_of other) ⊎ ((subject_of one ≡ subject_of other) × (span_of one < span_of other))))
+
+-- Of the clauses with the horizon now it is the first that the times violate.
+pub record IsFirstViolated (graph : Tfpg) (log : Logbook) (times : List ℕ) (name : ClauseName) : Type 0 where
+  pub at_now : horizon_of name ≡ now_of log
+  pub violated : Violates graph log times name
+  pub first : (other : ClauseName) → horizon_of other ≡ now_of log → ComesBefore other name → Violates graph log times other → ⊥
