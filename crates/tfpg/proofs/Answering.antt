@@ -17,7 +17,8 @@ use Rattle.tfpg_check.specs.Report.{Progress, IsBlockOf, event_of_line, event_of
 use Rattle.tfpg.specs.declared.diagnoser.Diagnoser.{Diagnoser}
 use Rattle.tfpg.specs.declared.diagnoser.Told.{Told}
 use Rattle.tfpg.specs.declared.diagnoser.Told.TheVariants as told
-use Rattle.tfpg.specs.Diagnoser.{budget, StandsFor, Tells, after_told, HasBlock}
+use Rattle.tfpg.specs.ForNow.{budget}
+use Rattle.tfpg.specs.inside.Diagnoser.{DiagnoserRepresents, Tells, after_told, HasBlock}
 use Rattle.tfpg.proofs.Telling.{last_of_all}
 
 -- an accepted event is of the graph, where the log that it lengthened is
@@ -41,43 +42,45 @@ progress_same rounds rounds' log log' r l = ap (λ (x : List Round). progress_of
 
 -- the block of a line that the log refused
 pub block_of_refusal : (graph : Tfpg) (before : Progress) (number : ℕ) (line : List ℕ) (refusal : Refusal) (t : Told) (bytes : List ℕ) (diagnoser : Diagnoser)
-    → length line ≤ 4096 → t ≡ told.Refused refusal → Tells graph before number line t → StandsFor diagnoser (after_told graph before line t)
+    → length line ≤ 4096 → t ≡ told.Refused refusal → Tells graph before number line t → DiagnoserRepresents diagnoser (after_told graph before line t)
     → bytes ≡ refused_text number (Offer refusal) → HasBlock graph before number line bytes diagnoser
 block_of_refusal graph before number line refusal t bytes diagnoser le e tells stands text =
     let refused : reply_to graph before.log line ≡ Refused refusal = subst (Tells graph before number line) e tells in
-    let same : StandsFor diagnoser before = subst (λ (x : Told). StandsFor diagnoser (after_told graph before line x)) e stands in
+    let same : DiagnoserRepresents diagnoser before = subst (λ (x : Told). DiagnoserRepresents diagnoser (after_told graph before line x)) e stands in
     let block = RefusedBlock number (Offer refusal) in
     record {
       block = block;
       is_block = subst (IsBlockOf graph 0 budget before number block) (sym (short_line graph before.log line (Refused refusal) le refused)) refl;
       no_losses = tt;
+      none_open = tt;
       text = text;
-      stands = subst (StandsFor diagnoser) (sym (progress_same (before.rounds ++ []) before.rounds (log_after graph before.log line) before.log
+      stands = subst (DiagnoserRepresents diagnoser) (sym (progress_same (before.rounds ++ []) before.rounds (log_after graph before.log line) before.log
           (append-nil before.rounds) (short_log graph before.log line le ∙ ap (log_after_reply before.log) refused))) same;
     }
 
 -- the block of a round
 pub block_of_round : (graph : Tfpg) (before : Progress) (number : ℕ) (line : List ℕ) (round : Round) (t : Told) (bytes : List ℕ) (diagnoser : Diagnoser)
-    → length line ≤ 4096 → t ≡ told.Round round → Tells graph before number line t → StandsFor diagnoser (after_told graph before line t)
+    → length line ≤ 4096 → t ≡ told.Round round → Tells graph before number line t → DiagnoserRepresents diagnoser (after_told graph before line t)
     → bytes ≡ round_text graph round → HasBlock graph before number line bytes diagnoser
 block_of_round graph before number line round t bytes diagnoser le e tells stands text =
     let tells_round = subst (Tells graph before number line) e tells in
     let event = tells_round.0 in
-    let same : StandsFor diagnoser (after_told graph before line (told.Round round)) = subst (λ (x : Told). StandsFor diagnoser (after_told graph before line x)) e stands in
+    let same : DiagnoserRepresents diagnoser (after_told graph before line (told.Round round)) = subst (λ (x : Told). DiagnoserRepresents diagnoser (after_told graph before line x)) e stands in
     let block = RoundBlock round [] in
     record {
       block = block;
       is_block = subst (IsBlockOf graph 0 budget before number block) (sym (short_line graph before.log line (Accepted event) le tells_round.1))
           (round, [], refl, tells_round.2, λ i j d lt below. absurd (omega arith));
       no_losses = refl;
+      none_open = tells_round.3;
       text = text ∙ sym (append-nil (round_text graph round));
-      stands = subst (StandsFor diagnoser) (sym (progress_same (before.rounds ++ round ∷ []) (before.rounds ++ round ∷ []) (log_after graph before.log line)
+      stands = subst (DiagnoserRepresents diagnoser) (sym (progress_same (before.rounds ++ round ∷ []) (before.rounds ++ round ∷ []) (log_after graph before.log line)
           (log_after_reply before.log (reply_to graph before.log line)) refl (short_log graph before.log line le))) same;
     }
 
 -- the block of a line that is too long
 pub block_of_long_line : (graph : Tfpg) (before : Progress) (number : ℕ) (line bytes : List ℕ) (diagnoser : Diagnoser)
-    → 4096 < length line → StandsFor diagnoser before → bytes ≡ refused_text number TooLong → HasBlock graph before number line bytes diagnoser
+    → 4096 < length line → DiagnoserRepresents diagnoser before → bytes ≡ refused_text number TooLong → HasBlock graph before number line bytes diagnoser
 block_of_long_line graph before number line bytes diagnoser lt stands text =
     let long : is_too_long line ≡ true = lt-ltb _ _ lt in
     let block = RefusedBlock number TooLong in
@@ -87,6 +90,7 @@ block_of_long_line graph before number line bytes diagnoser lt stands text =
       block = block;
       is_block = subst (IsBlockOf graph 0 budget before number block) (sym none) refl;
       no_losses = tt;
+      none_open = tt;
       text = text;
-      stands = subst (StandsFor diagnoser) (sym (progress_same (before.rounds ++ []) before.rounds (log_after graph before.log line) before.log (append-nil before.rounds) log_same)) stands;
+      stands = subst (DiagnoserRepresents diagnoser) (sym (progress_same (before.rounds ++ []) before.rounds (log_after graph before.log line) before.log (append-nil before.rounds) log_same)) stands;
     }

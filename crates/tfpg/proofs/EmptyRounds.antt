@@ -15,7 +15,7 @@ use Rattle.tfpg_evidence.specs.declared.step.Step.{Step}
 use Rattle.tfpg_clause.specs.Trees.{Judged, IsRefutation, IsPartial}
 use Rattle.tfpg_hyp.specs.Rounds.{IsRound, IsFinding, IsOrder, IsRankedPart, steps_in, steps_so_far, place_at}
 use Rattle.tfpg_hyp.specs.declared.place.Place.{Place}
-use Rattle.tfpg.specs.EmptyRounds.{ranking_round, rejecting_round}
+use Rattle.tfpg.specs.inside.EmptyRounds.{ranking_round, rejecting_round}
 use Rattle.tfpg.proofs.EmptySet.{reach-empty, explains-empty, nothing_is_partial, table-empty}
 
 -- the finding on the empty set

@@ -23,7 +23,7 @@ use Rattle.tfpg_log.proofs.AndNodes.{and_node_has_edge}
 use Rattle.tfpg_log.proofs.Events.{now-first_events, event_at-first_events}
 use Rattle.std.proofs.lemmas.Bool.{lt-ltb, le-leb}
 use Rattle.std.proofs.lemmas.List.Elements.{All-cons}
-use Rattle.tfpg.specs.Diagnoser.{IsRejection}
+use Rattle.tfpg.specs.inside.Diagnoser.{IsRejection}
 
 -- ---- what it reaches
 

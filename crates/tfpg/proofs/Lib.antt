@@ -6,3 +6,6 @@ pub mod Putting
 pub mod Answering
 pub mod Turns
 pub mod Whole
+pub mod MapWords
+pub mod MapTexts
+pub mod Stops

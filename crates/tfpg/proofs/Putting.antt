@@ -1,25 +1,38 @@
--- Putting one piece after another.
-use Rattle.std.proofs.Common.{◌≡◌, ℕ, List, [], ◌++◌, take, drop, Option, Some, None, sym, ap, subst, ◌∙◌, append_assoc}
+-- Writing one piece after another.
+use Rattle.std.proofs.Common.{◌≡◌, ℕ, List, [], ◌++◌, take, drop, Option, Some, None, IfSome, sym, ap, subst, ◌∙◌, append_assoc}
 use Rattle.std.proofs.lemmas.List.{take-append-drop, append-nil}
-use Rattle.tfpg_base.specs.Outside.{Puts}
+use Rattle.tfpg_base.specs.Outside.{SinkState, Puts}
 
--- what was put in two turns
-pub Puts-append : (before mid after : Option (List ℕ)) (first second : List ℕ) → Puts before mid first → Puts mid after second → Puts before after (first ++ second)
-Puts-append None mid after first second a b = tt
-Puts-append (Some held) mid after first second a b =
-    let put : Puts (Some (held ++ first)) after second = subst (λ (m : Option (List ℕ)). Puts m after second) a b in
-    put ∙ ap Some (append_assoc held first second)
+-- what was written in two turns
+pub Puts-append : (before mid after : SinkState) (first second : List ℕ) → Puts before mid first → Puts mid after second → Puts before after (first ++ second)
+Puts-append before mid after first second one two = go before.holds one
+  where
+    go : (holds : Option (List ℕ)) → IfSome holds (λ held. mid.holds ≡ Some (held ++ first)) → IfSome holds (λ held. after.holds ≡ Some (held ++ (first ++ second)))
+    go None put = tt
+    go (Some held) put =
+        subst (λ (m : Option (List ℕ)). IfSome m (λ h. after.holds ≡ Some (h ++ second))) put two ∙ ap Some (append_assoc held first second)
 
--- nothing is put where nothing changed
-pub Puts-nothing : (holds : Option (List ℕ)) → Puts holds holds []
-Puts-nothing None = tt
-Puts-nothing (Some held) = ap Some (sym (append-nil held))
+-- nothing is written where what is held stays as it was
+pub Puts-same_held : (before after : SinkState) → after.holds ≡ before.holds → Puts before after []
+Puts-same_held before after same = go before.holds same
+  where
+    go : (holds : Option (List ℕ)) → after.holds ≡ holds → IfSome holds (λ held. after.holds ≡ Some (held ++ []))
+    go None is = tt
+    go (Some held) is = is ∙ ap Some (sym (append-nil held))
 
--- equal bytes were put
-pub Puts-same : (before after : Option (List ℕ)) (bytes same : List ℕ) → bytes ≡ same → Puts before after bytes → Puts before after same
+-- equal bytes were written
+pub Puts-same : (before after : SinkState) (bytes same : List ℕ) → bytes ≡ same → Puts before after bytes → Puts before after same
 Puts-same before after bytes same e h = subst (Puts before after) e h
 
--- a piece of which more is put
+-- a front that was written before a call that failed
+pub Puts-failed : (before mid after : SinkState) (front : List ℕ) → Puts before mid front → after.holds ≡ mid.holds → Puts before after front
+Puts-failed before mid after front put same = go before.holds put
+  where
+    go : (holds : Option (List ℕ)) → IfSome holds (λ held. mid.holds ≡ Some (held ++ front)) → IfSome holds (λ held. after.holds ≡ Some (held ++ front))
+    go None h = tt
+    go (Some held) h = same ∙ h
+
+-- a piece of which more is written
 pub more_is_put : (piece front rest : List ℕ) (count : ℕ) → piece ≡ front ++ rest → piece ≡ (front ++ take count rest) ++ drop count rest
 more_is_put piece front rest count e =
     e ∙ ap (λ (r : List ℕ). front ++ r) (sym (take-append-drop count rest)) ∙ sym (append_assoc front (take count rest) (drop count rest))

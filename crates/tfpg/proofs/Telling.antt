@@ -17,11 +17,12 @@ use Rattle.tfpg_evidence.specs.declared.round.Round.{Round}
 use Rattle.tfpg_evidence.specs.declared.step.Step.{Step}
 use Rattle.tfpg_evidence.specs.RoundOf.{Sizes, IsReasonOf, IsStepOf, IsFindingOf, IsRoundOf, IsRankedIn}
 use Rattle.tfpg_clause.specs.Trees.{Judged, IsRefutation}
-use Rattle.tfpg_hyp.specs.Rounds.{IsRound, steps_so_far}
+use Rattle.tfpg_hyp.specs.Rounds.{IsRound, HasNoneOpen, steps_so_far}
 use Rattle.tfpg_check.specs.Report.{Progress}
-use Rattle.tfpg.specs.EmptyRounds.{rejection, ranking_round, rejecting_round}
+use Rattle.tfpg.specs.inside.EmptyRounds.{rejection, ranking_round, rejecting_round}
 use Rattle.tfpg.specs.declared.diagnoser.Diagnoser.{Diagnoser}
-use Rattle.tfpg.specs.Diagnoser.{budget, IsRejection, IsSettled, IsReady, HasHeard}
+use Rattle.tfpg.specs.ForNow.{budget}
+use Rattle.tfpg.specs.inside.Diagnoser.{IsRejection, IsSettled, IsReady, HasHeard}
 use Rattle.tfpg.proofs.EmptySet.{refutes}
 use Rattle.tfpg_log.proofs.AndNodes.{some_is_below}
 use Rattle.tfpg.proofs.EmptyRounds.{ranks_empty, rejects_empty, steps-more}
@@ -101,6 +102,7 @@ last_of_all P xs x h = subst P (item_at_end xs x) (h (length xs) x (omega (arith
 -- what is told of an event, by a diagnoser that is then in this state
 pub record IsTold (graph : Tfpg) (log : Logbook) (rejected : Bool) (before : Progress) (line : ℕ) (round : Round) : Type 0 where
   pub is_round : IsRound graph 0 budget before.rounds log line round
+  pub none_open : HasNoneOpen round
   pub settled : IsSettled graph log rejected (steps_so_far 0 (before.rounds ++ round ∷ []))
 
 -- the empty set was rejected before
@@ -113,6 +115,7 @@ told_again graph before event line valid h =
     let same : steps_so_far 0 before.rounds ++ [] ≡ steps_so_far 0 before.rounds = append-nil (steps_so_far 0 before.rounds) in
     record {
       is_round = rejects_empty graph budget before.rounds log line [] valid (subst (IsRefutation graph log []) (sym same) (refutes graph log (steps_so_far 0 before.rounds) stays));
+      none_open = refl;
       settled = record { quiet = λ e. absurd cc; refuted = λ e. subst (IsRejection graph log) (sym (steps-more 0 before.rounds round ∙ same)) stays };
     }
 
@@ -134,6 +137,7 @@ told_by_alarm graph before time node line valid of_graph none =
     let rejects : IsRejection graph log judged = record { number = number; time = time; node = node; alarm = last; in_graph = in_graph; steps_are = refl } in
     record {
       is_round = rejects_empty graph budget before.rounds log line steps valid (subst (IsRefutation graph log []) (sym all) (refutes graph log judged rejects));
+      none_open = refl;
       settled = record { quiet = λ e. absurd cc; refuted = λ e. subst (IsRejection graph log) (sym (steps-more 0 before.rounds round ∙ all)) rejects };
     }
 
@@ -147,6 +151,7 @@ told_quietly graph before event line valid no_alarm quiet none =
     let still : (node : ℕ) → alarm_of log node ≡ None = λ node. still_quiet before.log.events event node no_alarm (quiet node) in
     record {
       is_round = ranks_empty graph budget before.rounds log line valid still none;
+      none_open = refl;
       settled = record { quiet = λ e. (still, steps-more 0 before.rounds round ∙ append-nil (steps_so_far 0 before.rounds) ∙ none); refuted = λ e. absurd cc };
     }
 

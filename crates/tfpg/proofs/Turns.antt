@@ -1,34 +1,36 @@
 -- One turn of a diagnosis after another.
-use Rattle.std.proofs.Common.{◌-◌, ◌^◌, ◌≡◌, ℕ, ◌+◌, ◌<◌, ◌≤◌, List, [], ◌∷◌, ◌++◌, length, take, drop, Option, Result, Ok, Err, refl, sym, ap, subst, ◌∙◌, arith, inl, append_assoc}
-use Rattle.std.specs.Prelude.{flat_map, IsErrAnd, IfErr, OnErr}
+use Rattle.std.proofs.Common.{◌-◌, ◌^◌, ◌≡◌, ◌⊎◌, ℕ, ◌+◌, ◌<◌, ◌≤◌, List, [], ◌∷◌, ◌++◌, length, take, drop, Option, Some, None, Result, Ok, Err, refl, sym, ap, subst, ◌∙◌, arith, inl, inr, append_assoc}
+use Rattle.std.specs.Prelude.{flat_map, IsErrAnd, IfErr, OnErr, IfSome, unwrap_or, slice_get}
 use Rattle.std.specs.List.{AllByRecursion, slice_split}
 use Rattle.std.proofs.lemmas.List.Splits.{length-slice_split}
 use Rattle.std.proofs.lemmas.List.Sums.{count_by-le-length}
-use Rattle.std.proofs.lemmas.List.{take-append-drop, append-nil, length-append, length-take, take_at, take-take}
+use Rattle.std.proofs.lemmas.List.{take-append-drop, take-append-le, append-nil, length-append, length-take, take_at, take_all, take-take}
 use Rattle.std.proofs.lemmas.List.Concat.{flat_map-append}
+use Rattle.std.proofs.lemmas.Option.{slice_get_within}
 use Rattle.tfpg_base.specs.declared.line.Line.{Line}
 use Rattle.tfpg_base.specs.declared.line.Line.TheVariants as line
 use Rattle.tfpg_base.specs.declared.line.LineFault.{LineFault}
 use Rattle.tfpg_base.specs.declared.line.LineFault.TheVariants as fault
-use Rattle.tfpg_base.specs.Outside.{Rose, Puts}
-use Rattle.tfpg_base.specs.Lines.{Reading, Buffered, Continues, IsNext, with_bytes, with_line, lines_of, whole_lines, line_of_part, last_part, ends_line, max_bytes, new_reading}
-use Rattle.tfpg_base.specs.Lines as reader
-use Rattle.tfpg_base.proofs.LinesOf.{take-lines_of}
-use Rattle.tfpg_base.proofs.Taking.{Takes-append, Takes-nothing, Rose-later}
-use Rattle.tfpg_base.proofs.ReadingOn.{GaveLine, Continues-turn, Continues-text, Continues-too_long, Continues-end}
+use Rattle.tfpg_base.specs.Outside.{SourceState, SinkState, Rose, Takes, Puts, IsAtEnd}
+use Rattle.tfpg_base.specs.Lines.{Reading, Buffered, LinesRepresent, Continues, IsNext, with_bytes, with_line, next_whole, lines_of, whole_lines, line_of_part, last_part, ends_line, max_bytes, new_reading}
+use Rattle.tfpg_base.proofs.LinesOf.{take-lines_of, lines_of-append}
+use Rattle.tfpg_base.proofs.Taking.{Takes-append, Takes-nothing}
+use Rattle.tfpg_base.proofs.ReadingOn.{GaveLine, Continues-turn, Continues-text, Continues-too_long}
 use Rattle.tfpg_graph.specs.Graph.{Tfpg}
 use Rattle.tfpg_report.specs.declared.refused_line.RefusedLine.TheVariants.{TooLong}
 use Rattle.tfpg_report.specs.Blocks.{Block, block_text, head_text, refused_text}
-use Rattle.tfpg.proofs.Answering.{block_of_long_line}
-use Rattle.tfpg_check.specs.Report.{Progress, IsBlock, AreBlocks, BeginsReport, report_text, start, after, after_all}
+use Rattle.tfpg_check.specs.Report.{Progress, IsBlock, AreBlocks, report_text, start, after}
+use Rattle.tfpg_check.specs.inside.Progress.{after_all}
 use Rattle.tfpg.specs.declared.diagnoser.Diagnoser.{Diagnoser}
-use Rattle.tfpg.specs.declared.end.End.{End}
-use Rattle.tfpg.specs.declared.end.End.TheVariants as ends
-use Rattle.tfpg.specs.EndsOf.{end_of_fault}
-use Rattle.tfpg.specs.Diagnoser.{budget, StandsFor, HasBlock, LosesNone}
-use Rattle.tfpg.specs.Run.{Streams, Diagnoses}
-use Rattle.tfpg.specs.Course.{IsUnderWay, BeginsBadly}
-use Rattle.tfpg.proofs.Putting.{Puts-append, Puts-same}
+use Rattle.tfpg.specs.declared.fault.StreamFault.{StreamFault}
+use Rattle.tfpg.specs.declared.fault.StreamFault.TheVariants as faults
+use Rattle.tfpg.specs.EndsOf.{stream_fault_of_lines}
+use Rattle.tfpg.specs.ForNow.{budget, LosesNone, OpensNone}
+use Rattle.tfpg.specs.Run.{Streams, HasLeft, HasNoFault, BeginsReportOfInput, Diagnoses}
+use Rattle.tfpg.specs.inside.Diagnoser.{DiagnoserRepresents, HasBlock}
+use Rattle.tfpg.specs.inside.Course.{IsUnderWay}
+use Rattle.tfpg.proofs.Answering.{block_of_long_line}
+use Rattle.tfpg.proofs.Putting.{Puts-append, Puts-same_held}
 
 -- ---- one block more
 
@@ -56,106 +58,177 @@ report_text-push graph k b blocks block =
     append_assoc (head_text k b) (flat_map (block_text graph) blocks) (block_text graph block)
     ∙ ap (λ (t : List ℕ). head_text k b ++ t) (sym (flat_map-append (block_text graph) blocks (block ∷ []) ∙ ap (λ (t : List ℕ). flat_map (block_text graph) blocks ++ t) (append-nil (block_text graph block))))
 
-no_losses-push : (blocks : List Block) (block : Block) → AllByRecursion LosesNone blocks → LosesNone block → AllByRecursion LosesNone (blocks ++ block ∷ [])
-no_losses-push [] block h l = (l, tt)
-no_losses-push (other ∷ blocks) block h l = (h.0, no_losses-push blocks block h.1 l)
+All-push : {X : Type 0} (P : X → Type 0) (xs : List X) (x : X) → AllByRecursion P xs → P x → AllByRecursion P (xs ++ x ∷ [])
+All-push P [] x are is = (is, tt)
+All-push P (first ∷ others) x are is = (are.0, All-push P others x are.1 is)
 
--- ---- ends
+-- ---- the lines of the input
+
+-- the bytes that the input has left, where they are known
+abbrev rest_of : SourceState → List ℕ
+rest_of input = unwrap_or input.left []
+
+-- it has those left
+rest_is_left : (input : SourceState) → HasLeft input (rest_of input)
+rest_is_left input = by input.left
+  where
+    by : (left : Option (List ℕ)) → IfSome left (λ known. unwrap_or left [] ≡ known)
+    by None = tt
+    by (Some known) = refl
+
+-- at its end it has none left
+rest_at_end : (input : SourceState) → IsAtEnd input → rest_of input ≡ []
+rest_at_end input end = by input.left end.left
+  where
+    by : (left : Option (List ℕ)) → IfSome left (λ rest. rest ≡ []) → unwrap_or left [] ≡ []
+    by None h = refl
+    by (Some known) h = h
+
+module _ (reading : Reading) (first : List ℕ) (input : SourceState) (next : IsNext reading first (IsAtEnd input)) where
+  -- a line that has come whole is a line of the bytes whatever follows
+  front_of_whole_line : (rest : List ℕ) → next_whole reading ≡ Some first → take (length reading.given + 1) (lines_of (reading.taken ++ rest)) ≡ reading.given ++ first ∷ []
+  front_of_whole_line rest whole =
+      let all : take max_bytes reading.taken ≡ reading.taken = take_all max_bytes reading.taken next.few in
+      let there : slice_get (whole_lines reading.taken) (length reading.given) ≡ Some first = sym (ap (λ (bytes : List ℕ). slice_get (whole_lines bytes) (length reading.given)) all) ∙ whole in
+      let within : length reading.given + 1 ≤ length (whole_lines reading.taken) = omega (arith, slice_get_within (whole_lines reading.taken) (length reading.given) first there) in
+      ap (take (length reading.given + 1)) (lines_of-append reading.taken rest)
+      ∙ take-append-le (length reading.given + 1) (whole_lines reading.taken) (lines_of (last_part reading.taken ++ rest)) within
+      ∙ sym (take-append-le (length reading.given + 1) (whole_lines reading.taken) (line_of_part (last_part reading.taken)) within)
+      ∙ next.front
+
+  -- the lines that were read are the first of the input
+  front_of_input : take (length reading.given + 1) (lines_of (reading.taken ++ rest_of input)) ≡ reading.given ++ first ∷ []
+  front_of_input = by next.whole
+    where
+      by : (next_whole reading ≡ Some first) ⊎ IsAtEnd input → take (length reading.given + 1) (lines_of (reading.taken ++ rest_of input)) ≡ reading.given ++ first ∷ []
+      by (inl whole) = front_of_whole_line (rest_of input) whole
+      by (inr end) = ap (λ (rest : List ℕ). take (length reading.given + 1) (lines_of (reading.taken ++ rest))) (rest_at_end input end)
+          ∙ ap (λ (bytes : List ℕ). take (length reading.given + 1) (lines_of bytes)) (append-nil reading.taken) ∙ next.front
 
 front_is_within : (lines given : List (List ℕ)) → take (length given) lines ≡ given → length given ≤ length lines
 front_is_within lines given e = let same : length (take (length given) lines) ≡ length given = ap length e in omega (arith, same, length-take (length given) lines)
 
--- what is put so far begins the report
-begins : (graph : Tfpg) (taken : List ℕ) (given : List (List ℕ)) (blocks : List Block) → take (length given) (lines_of taken) ≡ given
-    → AreBlocks graph 0 budget start 1 given blocks → (put rest : List ℕ) → report_text graph 0 budget blocks ≡ put ++ rest
-    → BeginsReport graph 0 budget (lines_of taken) blocks put
-begins graph taken given blocks front are put rest e = record {
-  count = length given;
-  within = front_is_within (lines_of taken) given front;
-  report = report_text graph 0 budget blocks;
-  is_report = record { are_blocks = subst (λ (ls : List (List ℕ)). AreBlocks graph 0 budget start 1 ls blocks) (sym front) are; text = refl };
-  more = rest;
-  begins = e;
+-- what is written so far begins the report
+begins : (graph : Tfpg) (input : SourceState) (taken : List ℕ) (given : List (List ℕ)) (blocks : List Block) → take (length given) (lines_of (taken ++ rest_of input)) ≡ given
+    → AreBlocks graph 0 budget start 1 given blocks → (written rest : List ℕ) → report_text graph 0 budget blocks ≡ written ++ rest
+    → BeginsReportOfInput graph input taken blocks written
+begins graph input taken given blocks front are written rest e = record {
+  rest = rest_of input;
+  left = rest_is_left input;
+  begins = record {
+    count = length given;
+    within = front_is_within (lines_of (taken ++ rest_of input)) given front;
+    report = report_text graph 0 budget blocks;
+    is_report = record { are_blocks = subst (λ (ls : List (List ℕ)). AreBlocks graph 0 budget start 1 ls blocks) (sym front) are; text = refl };
+    more = rest;
+    begins = e;
+  };
 }
 
--- a diagnosis that is under way may end for want of memory at any time
-pub ends_for_memory : (graph : Tfpg) (before now : Streams) (lines : Buffered) (diagnoser : Diagnoser) → IsUnderWay graph before now lines diagnoser → Diagnoses graph before now ends.NoMemory
-ends_for_memory graph before now lines diagnoser under = record {
-  taken = under.reading.taken;
-  takes = under.takes;
-  put = report_text graph 0 budget under.blocks;
-  puts = under.puts;
-  blocks = under.blocks;
-  no_losses = under.no_losses;
-  ends = begins graph under.reading.taken under.reading.given under.blocks under.front under.are_blocks (report_text graph 0 budget under.blocks) [] (sym (append-nil _));
-}
+-- ---- ends
 
 -- The streams after the next line was asked for: only the input has changed.
-abbrev pub asked : Streams → Option (List ℕ) → ℕ → Streams
-asked now left input_faults = record { left = left; holds = now.holds; input_faults = input_faults; sink_faults = now.sink_faults }
-
-front_of_whole : (whole given : List (List ℕ)) (last : List (List ℕ)) → whole ≡ given → take (length given) (whole ++ last) ≡ given
-front_of_whole whole given last e = subst (λ (w : List (List ℕ)). take (length given) (w ++ last) ≡ given) (sym e) (take_at given last (length given) refl)
+abbrev pub asked : Streams → SourceState → Streams
+asked now input = record { input = input; output = now.output }
 
 -- a fault of the reader ends the diagnosis
-pub ends_by_fault : (graph : Tfpg) (before now : Streams) (lines lines' : Buffered) (diagnoser : Diagnoser) (left : Option (List ℕ)) (input_faults : ℕ) (f : LineFault)
-    → (under : IsUnderWay graph before now lines diagnoser) → Continues under.reading under.reading.ended now.left left (Rose now.input_faults input_faults) (Err f) lines'
-    → Diagnoses graph before (asked now left input_faults) (end_of_fault f)
-ends_by_fault graph before now lines lines' diagnoser left input_faults fault.ReadFault under continues =
+pub ends_by_fault : (graph : Tfpg) (before now : Streams) (lines lines' : Buffered) (diagnoser : Diagnoser) (input : SourceState) (f : LineFault)
+    → (under : IsUnderWay graph before now lines diagnoser) → Continues under.reading under.reading.ended now.input input (Err f) lines'
+    → Diagnoses graph before (asked now input) (Err (stream_fault_of_lines f))
+ends_by_fault graph before now lines lines' diagnoser input fault.ReadFault under continues =
     let reading = under.reading in
-    let turn = Continues-turn reading now.left left (Rose now.input_faults input_faults) (Err fault.ReadFault) lines' under.goes_on (λ e. cc) continues in
-    let taken = reading.taken ++ turn.0 in
-    let answers = turn.3 in
+    let turn = Continues-turn reading now.input input (Err fault.ReadFault) lines' under.goes_on (λ e. cc) continues in
+    let taken = reading.taken ++ turn.more in
+    let front : take (length reading.given) (lines_of (taken ++ rest_of input)) ≡ reading.given =
+    subst (λ (ls : List (List ℕ)). take (length ls) (lines_of (taken ++ rest_of input)) ≡ ls) turn.returns.0 (take-lines_of taken (rest_of input)) in
     record {
       taken = taken;
-      takes = Takes-append before.left now.left left reading.taken turn.0 under.takes turn.1;
-      put = report_text graph 0 budget under.blocks;
-      puts = under.puts;
+      takes = Takes-append before.input now.input input reading.taken turn.more under.takes turn.takes;
+      written = report_text graph 0 budget under.blocks;
+      writes = under.writes;
       blocks = under.blocks;
       no_losses = under.no_losses;
+      none_open = under.none_open;
       ends = (
-        Rose-later before.input_faults now.input_faults input_faults under.input_faults answers.1,
-        begins graph taken reading.given under.blocks (front_of_whole (whole_lines taken) reading.given (line_of_part (last_part taken)) answers.0) under.are_blocks
-            (report_text graph 0 budget under.blocks) [] (sym (append-nil _)),
+        subst (λ (count : ℕ). Rose count input.faults) under.no_fault.input turn.faults,
+        begins graph input taken reading.given under.blocks front under.are_blocks (report_text graph 0 budget under.blocks) [] (sym (append-nil _)),
       );
     }
-ends_by_fault graph before now lines lines' diagnoser left input_faults fault.TooMuchInput under continues =
+ends_by_fault graph before now lines lines' diagnoser input fault.TooMuchInput under continues =
     let reading = under.reading in
-    let turn = Continues-turn reading now.left left (Rose now.input_faults input_faults) (Err fault.TooMuchInput) lines' under.goes_on (λ e. cc) continues in
-    let taken = reading.taken ++ turn.0 in
-    let answers = turn.3 in
+    let turn = Continues-turn reading now.input input (Err fault.TooMuchInput) lines' under.goes_on (λ e. cc) continues in
+    let taken = reading.taken ++ turn.more in
     let firsts = take max_bytes taken in
-    let front : take (length reading.given) (lines_of taken) ≡ reading.given =
-    subst (λ (ls : List (List ℕ)). take (length ls) (lines_of taken) ≡ ls) answers.0
-    (subst (λ (t : List ℕ). take (length (whole_lines firsts)) (lines_of t) ≡ whole_lines firsts) (take-append-drop max_bytes taken) (take-lines_of firsts (drop max_bytes taken))) in
+    let same : firsts ++ (drop max_bytes taken ++ rest_of input) ≡ taken ++ rest_of input =
+    sym (append_assoc firsts (drop max_bytes taken) (rest_of input)) ∙ ap (λ (bytes : List ℕ). bytes ++ rest_of input) (take-append-drop max_bytes taken) in
+    let front : take (length reading.given) (lines_of (taken ++ rest_of input)) ≡ reading.given =
+    subst (λ (ls : List (List ℕ)). take (length ls) (lines_of (taken ++ rest_of input)) ≡ ls) turn.returns.0
+    (subst (λ (t : List ℕ). take (length (whole_lines firsts)) (lines_of t) ≡ whole_lines firsts) same (take-lines_of firsts (drop max_bytes taken ++ rest_of input))) in
     record {
       taken = taken;
-      takes = Takes-append before.left now.left left reading.taken turn.0 under.takes turn.1;
-      put = report_text graph 0 budget under.blocks;
-      puts = under.puts;
+      takes = Takes-append before.input now.input input reading.taken turn.more under.takes turn.takes;
+      written = report_text graph 0 budget under.blocks;
+      writes = under.writes;
       blocks = under.blocks;
       no_losses = under.no_losses;
-      ends = (answers.1, begins graph taken reading.given under.blocks front under.are_blocks (report_text graph 0 budget under.blocks) [] (sym (append-nil _)));
+      none_open = under.none_open;
+      ends = (
+        turn.returns.1,
+        begins graph input taken reading.given under.blocks front under.are_blocks (report_text graph 0 budget under.blocks) [] (sym (append-nil _)),
+      );
+    }
+
+-- What holds where a call has found the end, after which no more was taken than may be.
+record CameToEnd (reading : Reading) (before after : SourceState) : Type 0 where
+  more : List ℕ
+  takes : Takes before after more
+  few : length (reading.taken ++ more) ≤ max_bytes
+  all : lines_of (reading.taken ++ more) ≡ reading.given
+  end : IsAtEnd after
+  no_fault : after.faults ≡ before.faults
+
+came_to_end : (reading : Reading) (before after : SourceState) (old reader : Buffered) → length reading.taken ≤ max_bytes
+    → (reading.ended ≡ None) ⊎ ((reading.ended ≡ Some (Ok line.End)) × IsAtEnd before) → LinesRepresent old reading → Continues reading reading.ended before after (Ok line.End) reader
+    → CameToEnd reading before after
+came_to_end reading before after old reader few goes_on represents continues = go reading.ended refl goes_on continues
+  where
+    go : (ended : Option (Result Line LineFault)) → reading.ended ≡ ended → (ended ≡ None) ⊎ ((ended ≡ Some (Ok line.End)) × IsAtEnd before)
+        → Continues reading ended before after (Ok line.End) reader → CameToEnd reading before after
+    go None was is turn = record { more = turn.more; takes = turn.takes; few = turn.returns.2; all = turn.returns.0; end = turn.returns.1; no_fault = turn.faults }
+    go (Some answer) was (inl is) turn = absurd cc
+    go (Some answer) was (inr is) turn = record {
+      more = [];
+      takes = subst (λ source. Takes before source []) (sym turn.1) (Takes-nothing before);
+      few = omega (arith, few, ap length (append-nil reading.taken));
+      all = ap lines_of (append-nil reading.taken) ∙ represents.all_given (was ∙ is.0);
+      end = subst IsAtEnd (sym turn.1) is.1;
+      no_fault = ap (λ (source : SourceState). source.faults) turn.1;
     }
 
 -- the end of the input ends the diagnosis
-pub ends_done : (graph : Tfpg) (before now : Streams) (lines lines' : Buffered) (diagnoser : Diagnoser) (left : Option (List ℕ)) (input_faults : ℕ)
-    → (under : IsUnderWay graph before now lines diagnoser) → Continues under.reading under.reading.ended now.left left (Rose now.input_faults input_faults) (Ok line.End) lines'
-    → Diagnoses graph before (asked now left input_faults) ends.Done
-ends_done graph before now lines lines' diagnoser left input_faults under continues =
+pub ends_done : (graph : Tfpg) (before now : Streams) (lines lines' : Buffered) (diagnoser : Diagnoser) (input : SourceState)
+    → (under : IsUnderWay graph before now lines diagnoser) → Continues under.reading under.reading.ended now.input input (Ok line.End) lines'
+    → Diagnoses graph before (asked now input) (Ok tt)
+ends_done graph before now lines lines' diagnoser input under continues =
     let reading = under.reading in
-    let end = Continues-end reading now.left left (Rose now.input_faults input_faults) lines lines' under.goes_on under.stands continues in
+    let end = came_to_end reading now.input input lines lines' under.few under.goes_on under.represents continues in
     record {
-      taken = reading.taken ++ end.0;
-      takes = Takes-append before.left now.left left reading.taken end.0 under.takes end.1;
-      put = report_text graph 0 budget under.blocks;
-      puts = under.puts;
+      taken = reading.taken ++ end.more;
+      takes = Takes-append before.input now.input input reading.taken end.more under.takes end.takes;
+      written = report_text graph 0 budget under.blocks;
+      writes = under.writes;
       blocks = under.blocks;
       no_losses = under.no_losses;
-      ends = (record { are_blocks = subst (λ (ls : List (List ℕ)). AreBlocks graph 0 budget start 1 ls under.blocks) (sym end.2) under.are_blocks; text = refl }, end.3);
+      none_open = under.none_open;
+      ends = record {
+        report = record { are_blocks = subst (λ (ls : List (List ℕ)). AreBlocks graph 0 budget start 1 ls under.blocks) (sym end.all) under.are_blocks; text = refl };
+        few = end.few;
+        at_end = end.end;
+        no_fault = record { input = end.no_fault ∙ under.no_fault.input; output = under.no_fault.output };
+      };
     }
 
--- ---- a line that was given
+-- ---- a line that was read
 
 front_before : (lines given : List (List ℕ)) (first : List ℕ) → take (length given + 1) lines ≡ given ++ first ∷ [] → take (length given) lines ≡ given
 front_before lines given first e =
@@ -167,25 +240,30 @@ front_with lines given first e =
     let more : length (given ++ first ∷ []) ≡ length given + 1 = omega (arith, length-append given (first ∷ [])) in
     ap (λ (n : ℕ). take n lines) more ∙ e
 
-module _ (graph : Tfpg) (before now : Streams) (lines : Buffered) (diagnoser : Diagnoser) (left : Option (List ℕ)) (input_faults : ℕ) (reader : Buffered)
-    (under : IsUnderWay graph before now lines diagnoser) (falls : now.input_faults ≤ input_faults) (gave : GaveLine under.reading now.left left reader) where
-  -- where memory is wanting for the block, what was put before begins the report
-  pub gave_without_memory : Diagnoses graph before (asked now left input_faults) ends.NoMemory
+module _ (graph : Tfpg) (before now : Streams) (lines : Buffered) (diagnoser : Diagnoser) (input : SourceState) (reader : Buffered)
+    (under : IsUnderWay graph before now lines diagnoser) (gave : GaveLine under.reading now.input input reader) where
+  -- where memory runs out for the block, what was written before begins the report
+  pub gave_without_memory : Diagnoses graph before (asked now input) (Err faults.NoMemory)
   gave_without_memory =
       let reading = under.reading in
       let taken = reading.taken ++ gave.more in
       record {
         taken = taken;
-        takes = Takes-append before.left now.left left reading.taken gave.more under.takes gave.takes;
-        put = report_text graph 0 budget under.blocks;
-        puts = under.puts;
+        takes = Takes-append before.input now.input input reading.taken gave.more under.takes gave.takes;
+        written = report_text graph 0 budget under.blocks;
+        writes = under.writes;
         blocks = under.blocks;
         no_losses = under.no_losses;
-        ends = begins graph taken reading.given under.blocks (front_before (lines_of taken) reading.given gave.first gave.next.front) under.are_blocks
-            (report_text graph 0 budget under.blocks) [] (sym (append-nil _));
+        none_open = under.none_open;
+        ends = (
+          tt,
+          begins graph input taken reading.given under.blocks
+              (front_before (lines_of (taken ++ rest_of input)) reading.given gave.first (front_of_input (with_bytes reading gave.more) gave.first input gave.next)) under.are_blocks
+              (report_text graph 0 budget under.blocks) [] (sym (append-nil _)),
+        );
       }
 
-  module _ (number : ℕ) (bytes : List ℕ) (answered : Diagnoser) (holds : Option (List ℕ)) (sink_faults : ℕ)
+  module _ (number : ℕ) (bytes : List ℕ) (answered : Diagnoser) (output : SinkState)
       (number_is : number ≡ reader.number) (block : HasBlock graph (after_all graph start under.reading.given under.blocks) number gave.first bytes answered) where
     blocks_are : AreBlocks graph 0 budget start 1 (under.reading.given ++ gave.first ∷ []) (under.blocks ++ block.block ∷ [])
     blocks_are =
@@ -193,88 +271,90 @@ module _ (graph : Tfpg) (before now : Streams) (lines : Buffered) (diagnoser : D
         let place : number ≡ 1 + length given = omega (arith, number_is, gave.stands.number, length-append given (gave.first ∷ [])) in
         AreBlocks-push graph 0 budget start 1 number given under.blocks gave.first block.block place under.are_blocks block.is_block
 
-    -- where the block is put, the diagnosis is under way still
-    pub gave_block : Puts now.holds holds bytes → now.sink_faults ≤ sink_faults → answered.graph ≡ graph
-        → IsUnderWay graph before (record { left = left; holds = holds; input_faults = input_faults; sink_faults = sink_faults }) reader answered
-    gave_block puts fell same =
+    -- where the block is written, the diagnosis is under way still
+    pub gave_block : Puts now.output output bytes → output.faults ≡ now.output.faults → answered.graph ≡ graph
+        → IsUnderWay graph before (record { input = input; output = output }) reader answered
+    gave_block puts no_fault same =
         let reading = under.reading in
         let given = reading.given in
         let taken = reading.taken ++ gave.more in
         record {
           reading = with_line (with_bytes reading gave.more) gave.first;
-          takes = Takes-append before.left now.left left reading.taken gave.more under.takes gave.takes;
+          takes = Takes-append before.input now.input input reading.taken gave.more under.takes gave.takes;
           few = gave.next.few;
-          stands = gave.stands;
+          represents = gave.stands;
           goes_on = gave.goes_on;
           front = front_with (lines_of taken) given gave.first gave.next.front;
           blocks = under.blocks ++ block.block ∷ [];
-          puts = subst (Puts before.holds holds) (ap (λ (t : List ℕ). report_text graph 0 budget under.blocks ++ t) block.text ∙ report_text-push graph 0 budget under.blocks block.block)
-              (Puts-append before.holds now.holds holds (report_text graph 0 budget under.blocks) bytes under.puts puts);
+          writes = subst (Puts before.output output) (ap (λ (t : List ℕ). report_text graph 0 budget under.blocks ++ t) block.text ∙ report_text-push graph 0 budget under.blocks block.block)
+              (Puts-append before.output now.output output (report_text graph 0 budget under.blocks) bytes under.writes puts);
           are_blocks = blocks_are;
-          no_losses = no_losses-push under.blocks block.block under.no_losses block.no_losses;
-          told = subst (StandsFor answered) (sym (after_all-push graph 0 budget start 1 given under.blocks gave.first block.block under.are_blocks)) block.stands;
+          no_losses = All-push LosesNone under.blocks block.block under.no_losses block.no_losses;
+          none_open = All-push OpensNone under.blocks block.block under.none_open block.none_open;
+          reported = subst (DiagnoserRepresents answered) (sym (after_all-push graph 0 budget start 1 given under.blocks gave.first block.block under.are_blocks)) block.stands;
           same_graph = same;
-          input_faults = omega (arith, under.input_faults, falls);
-          sink_faults = omega (arith, under.sink_faults, fell);
+          no_fault = record { input = gave.no_fault ∙ under.no_fault.input; output = no_fault ∙ under.no_fault.output };
         }
 
     -- it is one line on
     pub gave_one_more : reader.number ≡ lines.number + 1
-    gave_one_more = omega (arith, gave.stands.number, under.stands.number, length-append under.reading.given (gave.first ∷ []))
+    gave_one_more = omega (arith, gave.stands.number, under.represents.number, length-append under.reading.given (gave.first ∷ []))
 
-    -- where only a front of the block is put, the diagnosis ends with what begins the report
-    pub gave_front : (front rest : List ℕ) → bytes ≡ front ++ rest → Puts now.holds holds front → Rose now.sink_faults sink_faults
-        → Diagnoses graph before (record { left = left; holds = holds; input_faults = input_faults; sink_faults = sink_faults }) ends.WriteFault
+    -- where only a front of the block is written, the diagnosis ends with what begins the report
+    pub gave_front : (front rest : List ℕ) → bytes ≡ front ++ rest → Puts now.output output front → Rose now.output.faults output.faults
+        → Diagnoses graph before (record { input = input; output = output }) (Err faults.WriteFault)
     gave_front front rest parts puts rose =
         let reading = under.reading in
         let given = reading.given in
         let taken = reading.taken ++ gave.more in
-        let put = report_text graph 0 budget under.blocks ++ front in
-        let whole : report_text graph 0 budget (under.blocks ++ block.block ∷ []) ≡ put ++ rest =
+        let written = report_text graph 0 budget under.blocks ++ front in
+        let whole : report_text graph 0 budget (under.blocks ++ block.block ∷ []) ≡ written ++ rest =
         sym (report_text-push graph 0 budget under.blocks block.block) ∙ ap (λ (t : List ℕ). report_text graph 0 budget under.blocks ++ t) (sym block.text ∙ parts)
         ∙ sym (append_assoc (report_text graph 0 budget under.blocks) front rest) in
         record {
           taken = taken;
-          takes = Takes-append before.left now.left left reading.taken gave.more under.takes gave.takes;
-          put = put;
-          puts = Puts-append before.holds now.holds holds (report_text graph 0 budget under.blocks) front under.puts puts;
+          takes = Takes-append before.input now.input input reading.taken gave.more under.takes gave.takes;
+          written = written;
+          writes = Puts-append before.output now.output output (report_text graph 0 budget under.blocks) front under.writes puts;
           blocks = under.blocks ++ block.block ∷ [];
-          no_losses = no_losses-push under.blocks block.block under.no_losses block.no_losses;
+          no_losses = All-push LosesNone under.blocks block.block under.no_losses block.no_losses;
+          none_open = All-push OpensNone under.blocks block.block under.none_open block.none_open;
           ends = (
-            Rose-later before.sink_faults now.sink_faults sink_faults under.sink_faults rose,
-            begins graph taken (given ++ gave.first ∷ []) (under.blocks ++ block.block ∷ []) (front_with (lines_of taken) given gave.first gave.next.front) blocks_are put rest whole,
+            subst (λ (count : ℕ). Rose count output.faults) under.no_fault.output rose,
+            begins graph input taken (given ++ gave.first ∷ []) (under.blocks ++ block.block ∷ [])
+                (front_with (lines_of (taken ++ rest_of input)) given gave.first (front_of_input (with_bytes reading gave.more) gave.first input gave.next)) blocks_are written rest whole,
           );
         }
 
 -- ---- as the code comes to it
 
--- A line was given, and it is answered by these bytes.
-pub record IsAnswered (graph : Tfpg) (before now : Streams) (lines : Buffered) (diagnoser : Diagnoser) (left : Option (List ℕ)) (reader : Buffered)
+-- A line was read, and it is answered by these bytes.
+pub record IsAnswered (graph : Tfpg) (before now : Streams) (lines : Buffered) (diagnoser : Diagnoser) (input : SourceState) (reader : Buffered)
     (under : IsUnderWay graph before now lines diagnoser) (number : ℕ) (bytes : List ℕ) (answered : Diagnoser) : Type 0 where
-  pub gave : GaveLine under.reading now.left left reader
+  pub gave : GaveLine under.reading now.input input reader
   pub block : HasBlock graph (after_all graph start under.reading.given under.blocks) number gave.first bytes answered
 
-module _ (graph : Tfpg) (before now : Streams) (lines : Buffered) (diagnoser : Diagnoser) (left : Option (List ℕ)) (input_faults : ℕ) (reader : Buffered)
-    (under : IsUnderWay graph before now lines diagnoser) (l : Line) (continues : Continues under.reading under.reading.ended now.left left (Rose now.input_faults input_faults) (Ok l) reader) where
+module _ (graph : Tfpg) (before now : Streams) (lines : Buffered) (diagnoser : Diagnoser) (input : SourceState) (reader : Buffered)
+    (under : IsUnderWay graph before now lines diagnoser) (l : Line) (continues : Continues under.reading under.reading.ended now.input input (Ok l) reader) where
   -- the input has ended
-  pub met_end : l ≡ line.End → Diagnoses graph before (asked now left input_faults) ends.Done
-  met_end e = ends_done graph before now lines reader diagnoser left input_faults under
-      (subst (λ (x : Line). Continues under.reading under.reading.ended now.left left (Rose now.input_faults input_faults) (Ok x) reader) e continues)
+  pub met_end : l ≡ line.End → Diagnoses graph before (asked now input) (Ok tt)
+  met_end e = ends_done graph before now lines reader diagnoser input under
+      (subst (λ (x : Line). Continues under.reading under.reading.ended now.input input (Ok x) reader) e continues)
 
-  -- a text was given
-  pub met_text : l ≡ line.Text → (gave : GaveLine under.reading now.left left reader) × (length gave.first ≤ 4096) × (reader.text ≡ gave.first)
-  met_text e = Continues-text under.reading now.left left (Rose now.input_faults input_faults) reader under.goes_on
-      (subst (λ (x : Line). Continues under.reading under.reading.ended now.left left (Rose now.input_faults input_faults) (Ok x) reader) e continues)
+  -- a text was read
+  pub met_text : l ≡ line.Text → (gave : GaveLine under.reading now.input input reader) × (length gave.first ≤ 4096) × (reader.text ≡ gave.first)
+  met_text e = Continues-text under.reading now.input input reader under.goes_on
+      (subst (λ (x : Line). Continues under.reading under.reading.ended now.input input (Ok x) reader) e continues)
 
   -- a line that is too long was passed
-  pub met_long : l ≡ line.TooLong → (gave : GaveLine under.reading now.left left reader) × (4096 < length gave.first)
-  met_long e = Continues-too_long under.reading now.left left (Rose now.input_faults input_faults) reader under.goes_on
-      (subst (λ (x : Line). Continues under.reading under.reading.ended now.left left (Rose now.input_faults input_faults) (Ok x) reader) e continues)
+  pub met_long : l ≡ line.TooLong → (gave : GaveLine under.reading now.input input reader) × (4096 < length gave.first)
+  met_long e = Continues-too_long under.reading now.input input reader under.goes_on
+      (subst (λ (x : Line). Continues under.reading under.reading.ended now.input input (Ok x) reader) e continues)
 
   -- the block of a text
   pub answered_text : (number : ℕ) (text bytes : List ℕ) (answered : Diagnoser) → l ≡ line.Text → text ≡ reader.text
-      → ((b : Progress) → StandsFor diagnoser b → length text ≤ 4096 → HasBlock diagnoser.graph b number text bytes answered)
-      → IsAnswered graph before now lines diagnoser left reader under number bytes answered
+      → ((b : Progress) → DiagnoserRepresents diagnoser b → length text ≤ 4096 → HasBlock diagnoser.graph b number text bytes answered)
+      → IsAnswered graph before now lines diagnoser input reader under number bytes answered
   answered_text number text bytes answered e t answers =
       let met = met_text e in
       let text_is : text ≡ met.0.first = t ∙ met.2 in
@@ -283,27 +363,33 @@ module _ (graph : Tfpg) (before now : Streams) (lines : Buffered) (diagnoser : D
       record {
         gave = met.0;
         block = subst (λ (x : List ℕ). HasBlock graph at number x bytes answered) text_is
-            (subst (λ (x : Tfpg). HasBlock x at number text bytes answered) under.same_graph (answers at under.told short));
+            (subst (λ (x : Tfpg). HasBlock x at number text bytes answered) under.same_graph (answers at under.reported short));
       }
 
   -- the block of a line that is too long
   pub answered_long : (number : ℕ) (bytes : List ℕ) → l ≡ line.TooLong → bytes ≡ refused_text number TooLong
-      → IsAnswered graph before now lines diagnoser left reader under number bytes diagnoser
+      → IsAnswered graph before now lines diagnoser input reader under number bytes diagnoser
   answered_long number bytes e text =
       let met = met_long e in
       record {
         gave = met.0;
-        block = block_of_long_line graph (after_all graph start under.reading.given under.blocks) number met.0.first bytes diagnoser met.1 under.told text;
+        block = block_of_long_line graph (after_all graph start under.reading.given under.blocks) number met.0.first bytes diagnoser met.1 under.reported text;
       }
 
--- what the exit of a `?` answers
-pub err_is : {T : Type 0} (result : Result T End) (P : End → Type 0) (e : End) → IsErrAnd result (λ x. x ≡ e) → P e → IfErr result P
+-- what holds at the exit of a `?`
+pub err_is : {T : Type 0} (result : Result T StreamFault) (P : StreamFault → Type 0) (e : StreamFault) → IsErrAnd result (λ x. x ≡ e) → P e → IfErr result P
 err_is (Ok x) P e h p = absurd h
 err_is (Err x) P e h p = subst P (sym h) p
 
--- what putting a block that failed answers
-pub stopped_by : {T : Type 0} (result : Result T End) (F R : Type 0) (P : End → Type 0) → IfErr result (λ x. x ≡ ends.WriteFault) → OnErr result F → OnErr result R
-    → (F → R → P ends.WriteFault) → IfErr result P
+-- the same, where it ends the diagnosis
+pub result_is : (graph : Tfpg) (before now : Streams) (result : Result (Unit {0}) StreamFault) (e : StreamFault) → IsErrAnd result (λ x. x ≡ e) → Diagnoses graph before now (Err e)
+    → Diagnoses graph before now result
+result_is graph before now (Ok x) e h d = absurd h
+result_is graph before now (Err x) e h d = subst (λ (f : StreamFault). Diagnoses graph before now (Err f)) (sym h) d
+
+-- what holds after a block that could not be written
+pub stopped_by : {T : Type 0} (result : Result T StreamFault) (F R : Type 0) (P : StreamFault → Type 0) → IfErr result (λ x. x ≡ faults.WriteFault) → OnErr result F → OnErr result R
+    → (F → R → P faults.WriteFault) → IfErr result P
 stopped_by (Ok x) F R P e f r h = tt
 stopped_by (Err x) F R P e f r h = subst P (sym e) (h f r)
 
@@ -325,59 +411,61 @@ few_lines bytes =
       count_by-le-length ends_line bytes,
     )
 
--- no more lines are given than bytes may be taken, but for a last one
+-- no more lines are read than bytes may be taken, but for a last one
 pub few_given : (graph : Tfpg) (before now : Streams) (lines : Buffered) (diagnoser : Diagnoser) → IsUnderWay graph before now lines diagnoser → lines.number ≤ 2 ^ 32 + 1
 few_given graph before now lines diagnoser under =
     let within = front_is_within (lines_of under.reading.taken) under.reading.given under.front in
-    omega (arith, within, few_lines under.reading.taken, under.few, under.stands.number)
+    omega (arith, within, few_lines under.reading.taken, under.few, under.represents.number)
 
 -- a diagnosis begins
-pub begins_under_way : (graph : Tfpg) (before : Streams) (lines : Buffered) (diagnoser : Diagnoser) (holds : Option (List ℕ)) (sink_faults : ℕ)
-    → reader.StandsFor lines new_reading → StandsFor diagnoser start → diagnoser.graph ≡ graph → Puts before.holds holds (head_text 0 budget) → before.sink_faults ≤ sink_faults
-    → IsUnderWay graph before (record { left = before.left; holds = holds; input_faults = before.input_faults; sink_faults = sink_faults }) lines diagnoser
-begins_under_way graph before lines diagnoser holds sink_faults stands told same puts fell = record {
+pub begins_under_way : (graph : Tfpg) (before : Streams) (lines : Buffered) (diagnoser : Diagnoser) (output : SinkState)
+    → LinesRepresent lines new_reading → DiagnoserRepresents diagnoser start → diagnoser.graph ≡ graph → Puts before.output output (head_text 0 budget) → output.faults ≡ before.output.faults
+    → IsUnderWay graph before (record { input = before.input; output = output }) lines diagnoser
+begins_under_way graph before lines diagnoser output unread new same puts no_fault = record {
   reading = new_reading;
-  takes = Takes-nothing before.left;
+  takes = Takes-nothing before.input;
   few = omega arith;
-  stands = stands;
+  represents = unread;
   goes_on = inl refl;
   front = refl;
   blocks = [];
-  puts = Puts-same before.holds holds (head_text 0 budget) (report_text graph 0 budget []) (sym (append-nil (head_text 0 budget))) puts;
+  writes = subst (Puts before.output output) (sym (append-nil (head_text 0 budget))) puts;
   are_blocks = tt;
   no_losses = tt;
-  told = told;
+  none_open = tt;
+  reported = new;
   same_graph = same;
-  input_faults = omega arith;
-  sink_faults = fell;
+  no_fault = record { input = refl; output = no_fault };
 }
 
--- a diagnosis that ends before its first line is whole
-pub begins_badly : (graph : Tfpg) (before : Streams) (holds : Option (List ℕ)) (sink_faults : ℕ) (end : End) → BeginsBadly before.holds holds before.sink_faults sink_faults end
-    → Diagnoses graph before (record { left = before.left; holds = holds; input_faults = before.input_faults; sink_faults = sink_faults }) end
-begins_badly graph before holds sink_faults ends.NoMemory h = record {
-  taken = [];
-  takes = Takes-nothing before.left;
-  put = [];
-  puts = h;
-  blocks = [];
-  no_losses = tt;
-  ends = begins graph [] [] [] refl tt [] (report_text graph 0 budget []) refl;
-}
-begins_badly graph before holds sink_faults ends.WriteFault h = record {
-  taken = [];
-  takes = Takes-nothing before.left;
-  put = h.0;
-  puts = h.3;
-  blocks = [];
-  no_losses = tt;
-  ends = (h.4, begins graph [] [] [] refl tt h.0 h.1 (append-nil (head_text 0 budget) ∙ h.2));
-}
-begins_badly graph before holds sink_faults ends.Done h = absurd h
-begins_badly graph before holds sink_faults (ends.Usage cause) h = absurd h
-begins_badly graph before holds sink_faults (ends.Graph line cause) h = absurd h
-begins_badly graph before holds sink_faults ends.ReadFault h = absurd h
-begins_badly graph before holds sink_faults ends.TooMuchInput h = absurd h
+-- a diagnosis ends before it has written its first line whole
+module _ (graph : Tfpg) (before : Streams) where
+  -- without memory, when nothing is written
+  pub begins_without_memory : Diagnoses graph before before (Err faults.NoMemory)
+  begins_without_memory = record {
+    taken = [];
+    takes = Takes-nothing before.input;
+    written = [];
+    writes = Puts-same_held before.output before.output refl;
+    blocks = [];
+    no_losses = tt;
+    none_open = tt;
+    ends = (tt, begins graph before.input [] [] [] refl tt [] (report_text graph 0 budget []) refl);
+  }
+
+  -- or since the output failed
+  pub begins_badly : (output : SinkState) (head front rest : List ℕ) → head ≡ head_text 0 budget → head ≡ front ++ rest → Puts before.output output front → Rose before.output.faults output.faults
+      → Diagnoses graph before (record { input = before.input; output = output }) (Err faults.WriteFault)
+  begins_badly output head front rest is parts puts rose = record {
+    taken = [];
+    takes = Takes-nothing before.input;
+    written = front;
+    writes = puts;
+    blocks = [];
+    no_losses = tt;
+    none_open = tt;
+    ends = (rose, begins graph before.input [] [] [] refl tt front rest (append-nil (head_text 0 budget) ∙ sym is ∙ parts));
+  }
 
 -- one line on, fewer are left
 pub falls_short : (number after : ℕ) → number ≤ 2 ^ 32 + 1 → after ≡ number + 1 → 2 ^ 32 + 2 - after < 2 ^ 32 + 2 - number

@@ -1,8 +1,10 @@
-pub mod EmptyRounds
-pub mod Diagnoser
+-- What the public contracts say.
 pub mod Command
-pub mod Ends
+pub mod Map
 pub mod Fetch
 pub mod Run
-pub mod Course
+pub mod ForNow
+pub mod Ends
 pub mod EndsOf
+-- What no public contract cites.
+pub mod inside

@@ -1,81 +1,110 @@
 -- What a run of the program does with the outside.
-use Rattle.std.specs.Prelude.{◌≡◌, ◌⊎◌, ℕ, ◌+◌, List, length, Option, Some, None}
+use Rattle.std.specs.Prelude.{◌≡◌, ◌⊎◌, ℕ, ◌+◌, ◌≤◌, List, ◌++◌, length, Option, Some, None, IfSome, Result, Ok, Err}
 use Rattle.std.specs.List.{AllByRecursion}
 use Rattle.tfpg_base.specs.Lines.{lines_of, max_bytes}
-use Rattle.tfpg_base.specs.Outside.{Rose, Takes, Puts, IsAtEnd}
+use Rattle.tfpg_base.specs.Outside.{SourceState, SinkState, ShelfState, Rose, Takes, Puts, IsAtEnd}
 use Rattle.tfpg_graph.specs.Graph.{Tfpg}
 use Rattle.tfpg_report.specs.Blocks.{Block}
 use Rattle.tfpg_check.specs.Report.{IsReport, BeginsReport}
 use Rattle.tfpg.specs.declared.end.End.{End}
-use Rattle.tfpg.specs.declared.end.End.TheVariants.{Done, Usage, Graph, ReadFault, WriteFault, TooMuchInput, NoMemory}
+use Rattle.tfpg.specs.declared.end.End.TheVariants as ends
+use Rattle.tfpg.specs.declared.end.UsageCause.TheVariants.{NotBuilt}
+use Rattle.tfpg.specs.declared.fault.FetchFault.{FetchFault}
+use Rattle.tfpg.specs.declared.fault.StreamFault.{StreamFault}
+use Rattle.tfpg.specs.declared.fault.StreamFault.TheVariants.{ReadFault, WriteFault, TooMuchInput, NoMemory}
+use Rattle.tfpg.specs.EndsOf.{end_of_fetch_fault, end_of_stream_fault}
 use Rattle.tfpg.specs.Command.{graph_word}
-use Rattle.tfpg.specs.Fetch.{GivesGraph, FetchEnds}
-use Rattle.tfpg.specs.Diagnoser.{budget, LosesNone}
+use Rattle.tfpg.specs.Fetch.{GivesGraph, IsFetchFault}
+use Rattle.tfpg.specs.ForNow.{budget, LosesNone, OpensNone}
 
--- what contracts see of the input and the output: what is left of the one and held by the other, where they tell it, and how
--- often each has failed
+-- the states of the input and the output
 pub record Streams : Type 0 where
-  pub left : Option (List ℕ)
-  pub holds : Option (List ℕ)
-  pub input_faults : ℕ
-  pub sink_faults : ℕ
+  pub input : SourceState
+  pub output : SinkState
 
--- the streams, from what is left of the input, what the output holds, and how often each has failed
-abbrev pub streams : Option (List ℕ) → Option (List ℕ) → ℕ → ℕ → Streams
-streams left holds input_faults sink_faults = record { left = left; holds = holds; input_faults = input_faults; sink_faults = sink_faults }
+-- the streams with these states
+abbrev pub streams : SourceState → SinkState → Streams
+streams input output = record { input = input; output = output }
 
--- How a diagnosis ends, where these bytes were taken and those put, which are of these blocks.
-abbrev pub DiagnosisEnds : Tfpg → Streams → Streams → List ℕ → List ℕ → List Block → End → Type 0
--- The whole input was taken and its whole report put.
-DiagnosisEnds graph before now taken put blocks Done = IsReport graph 0 budget (lines_of taken) blocks put × IsAtEnd now.left
--- Else what was put is nothing, or begins the report of the first lines; and the end has its cause.
-DiagnosisEnds graph before now taken put blocks ReadFault = Rose before.input_faults now.input_faults × BeginsReport graph 0 budget (lines_of taken) blocks put
-DiagnosisEnds graph before now taken put blocks WriteFault = Rose before.sink_faults now.sink_faults × BeginsReport graph 0 budget (lines_of taken) blocks put
-DiagnosisEnds graph before now taken put blocks TooMuchInput = (length taken ≡ max_bytes + 1) × BeginsReport graph 0 budget (lines_of taken) blocks put
-DiagnosisEnds graph before now taken put blocks NoMemory = BeginsReport graph 0 budget (lines_of taken) blocks put
-DiagnosisEnds graph before now taken put blocks (Usage cause) = ⊥
-DiagnosisEnds graph before now taken put blocks (Graph line cause) = ⊥
+-- The input has these bytes left, where its contents are known, and any where they are not.
+abbrev pub HasLeft : SourceState → List ℕ → Type 0
+HasLeft input rest = IfSome input.left (λ known. rest ≡ known)
 
--- A diagnosis of the graph took these bytes from the input and put those to the output.
-pub record Diagnoses (graph : Tfpg) (before now : Streams) (end : End) : Type 0 where
+-- The bytes begin the report of the first lines of the input: of what was taken from it and what it has left.
+pub record BeginsReportOfInput (graph : Tfpg) (input : SourceState) (taken : List ℕ) (blocks : List Block) (bytes : List ℕ) : Type 0 where
+  pub rest : List ℕ
+  pub left : HasLeft input rest
+  pub begins : BeginsReport graph 0 budget (lines_of (taken ++ rest)) blocks bytes
+
+-- Nothing failed.
+pub record HasNoFault (before now : Streams) : Type 0 where
+  pub input : now.input.faults ≡ before.input.faults
+  pub output : now.output.faults ≡ before.output.faults
+
+-- The whole input was taken, at most 2^32 bytes, its whole report was written, and nothing failed.
+pub record IsWhole (graph : Tfpg) (before now : Streams) (taken : List ℕ) (blocks : List Block) (written : List ℕ) : Type 0 where
+  pub report : IsReport graph 0 budget (lines_of taken) blocks written
+  pub few : length taken ≤ max_bytes
+  pub at_end : IsAtEnd now.input
+  pub no_fault : HasNoFault before now
+
+-- what shows each fault, where these bytes were taken
+abbrev pub IsShown : Streams → Streams → List ℕ → StreamFault → Type 0
+IsShown before now taken ReadFault = Rose before.input.faults now.input.faults
+IsShown before now taken WriteFault = Rose before.output.faults now.output.faults
+IsShown before now taken TooMuchInput = length taken ≡ max_bytes + 1
+IsShown before now taken NoMemory = Unit {0}
+
+-- How a diagnosis ends, where these bytes were taken and those written, which are of these blocks.
+abbrev pub DiagnosisEnds : Tfpg → Streams → Streams → List ℕ → List Block → List ℕ → Result (Unit {0}) StreamFault → Type 0
+DiagnosisEnds graph before now taken blocks written (Ok done) = IsWhole graph before now taken blocks written
+DiagnosisEnds graph before now taken blocks written (Err fault) =
+    IsShown before now taken fault × BeginsReportOfInput graph now.input taken blocks written
+
+-- A diagnosis of the graph took these bytes from the input and wrote those. No panel is lost, and no finding is open.
+pub record Diagnoses (graph : Tfpg) (before now : Streams) (result : Result (Unit {0}) StreamFault) : Type 0 where
   pub taken : List ℕ
-  pub takes : Takes before.left now.left taken
-  pub put : List ℕ
-  pub puts : Puts before.holds now.holds put
+  pub takes : Takes before.input now.input taken
+  pub written : List ℕ
+  pub writes : Puts before.output now.output written
   pub blocks : List Block
   pub no_losses : AllByRecursion LosesNone blocks
-  pub ends : DiagnosisEnds graph before now taken put blocks end
+  pub none_open : AllByRecursion OpensNone blocks
+  pub ends : DiagnosisEnds graph before now taken blocks written result
 
--- The input and the output are untouched.
-abbrev pub AreUntouched : Streams → Streams → Type 0
-AreUntouched before now = now ≡ before
+-- the end of a run whose diagnosis had this result
+abbrev pub end_of_result : Result (Unit {0}) StreamFault → End
+end_of_result (Ok done) = ends.Done
+end_of_result (Err fault) = end_of_stream_fault fault
 
--- The graph of the file that the words name could not be had, for this reason.
-abbrev pub LacksGraph : List (List ℕ) → Option (List (List ℕ × List ℕ)) → Type 0 → Streams → Streams → End → Type 0
-LacksGraph words files shelf_rose before now end =
-    (name : List ℕ) × (graph_word words ≡ Some name) × FetchEnds files name shelf_rose end × AreUntouched before now
+-- There is no graph of the file of this name, for this reason, and input and output are untouched.
+pub record LacksGraph (shelf_before shelf_now : ShelfState) (name : List ℕ) (before now : Streams) (end : End) : Type 0 where
+  pub fault : FetchFault
+  pub is_fault : IsFetchFault shelf_before shelf_now name fault
+  pub end_is : end ≡ end_of_fetch_fault fault
+  pub untouched : now ≡ before
 
--- The graph of the file of this name was diagnosed, to this end.
-abbrev pub DiagnosesNamed : Option (List (List ℕ × List ℕ)) → List ℕ → Streams → Streams → End → Type 0
-DiagnosesNamed files name before now end = (graph : Tfpg) × GivesGraph files name graph × Diagnoses graph before now end
+-- The graph of the file of this name was diagnosed.
+pub record DiagnosesFile (shelf_before shelf_now : ShelfState) (name : List ℕ) (before now : Streams) (end : End) : Type 0 where
+  pub graph : Tfpg
+  pub gives : GivesGraph shelf_before name graph
+  pub no_fault : shelf_now.faults ≡ shelf_before.faults
+  pub result : Result (Unit {0}) StreamFault
+  pub diagnoses : Diagnoses graph before now result
+  pub end_is : end ≡ end_of_result result
 
--- the same of the file that the words name
-abbrev pub DiagnosesFile : List (List ℕ) → Option (List (List ℕ × List ℕ)) → Streams → Streams → End → Type 0
-DiagnosesFile words files before now end = (name : List ℕ) × (graph_word words ≡ Some name) × DiagnosesNamed files name before now end
+-- Nothing was asked for, taken or written, since the words are refused.
+pub record IsRefused (shelf_before shelf_now : ShelfState) (before now : Streams) (end : End) : Type 0 where
+  pub end_is : end ≡ ends.Usage NotBuilt
+  pub asked_nothing : shelf_now ≡ shelf_before
+  pub untouched : now ≡ before
 
--- There was no graph of that name to be had; or it was diagnosed, to this end.
-abbrev pub StopsAt : Option (List (List ℕ × List ℕ)) → List ℕ → Type 0 → Streams → Streams → End → Type 0
-StopsAt files name shelf_rose before now end = (FetchEnds files name shelf_rose end × AreUntouched before now) ⊎ DiagnosesNamed files name before now end
+-- There is no graph of the file of that name; or it was diagnosed.
+abbrev pub StopsAt : ShelfState → ShelfState → List ℕ → Streams → Streams → End → Type 0
+StopsAt shelf_before shelf_now name before now end =
+    LacksGraph shelf_before shelf_now name before now end ⊎ DiagnosesFile shelf_before shelf_now name before now end
 
--- How a run ends, with these words and files, where the shelf's count of faults rose or not.
-abbrev pub RunEnds : List (List ℕ) → Option (List (List ℕ × List ℕ)) → Type 0 → Streams → Streams → End → Type 0
-RunEnds words files shelf_rose before now (Usage cause) = (graph_word words ≡ None) × AreUntouched before now
-RunEnds words files shelf_rose before now (Graph line cause) = LacksGraph words files shelf_rose before now (Graph line cause)
-RunEnds words files shelf_rose before now Done = DiagnosesFile words files before now Done
-RunEnds words files shelf_rose before now WriteFault = DiagnosesFile words files before now WriteFault
-RunEnds words files shelf_rose before now ReadFault =
-    LacksGraph words files shelf_rose before now ReadFault ⊎ DiagnosesFile words files before now ReadFault
-RunEnds words files shelf_rose before now TooMuchInput =
-    LacksGraph words files shelf_rose before now TooMuchInput ⊎ DiagnosesFile words files before now TooMuchInput
-RunEnds words files shelf_rose before now NoMemory =
-    LacksGraph words files shelf_rose before now NoMemory ⊎ DiagnosesFile words files before now NoMemory
+-- How a run ends: words that name no graph are refused, and else it goes as the file of that name says.
+abbrev pub RunEnds : Option (List ℕ) → ShelfState → ShelfState → Streams → Streams → End → Type 0
+RunEnds None shelf_before shelf_now before now end = IsRefused shelf_before shelf_now before now end
+RunEnds (Some name) shelf_before shelf_now before now end = StopsAt shelf_before shelf_now name before now end

@@ -5,12 +5,13 @@ ghost use Rattle.tfpg_base.specs.Lines.{longest_line};
 ghost use Rattle.tfpg_graph.specs.Graph.{Tfpg};
 ghost use Rattle.tfpg_evidence.specs.RoundOf.{IsRoundOf};
 ghost use Rattle.tfpg_log.specs.Log.{IsEventOf};
-ghost use Rattle.tfpg_hyp.specs.Rounds.{IsRound};
+ghost use Rattle.tfpg_hyp.specs.Rounds.{IsRound, HasNoneOpen};
 ghost use Rattle.tfpg_graph.specs.Valid.{IsValid};
 ghost use Rattle.tfpg_report.specs.Blocks.{sizes_of, refused_text, round_text};
 ghost use Rattle.tfpg_check.specs.Report.{Progress, start};
-ghost use Rattle.tfpg.specs.EmptyRounds.{ranking_round, rejecting_round, rejection};
-ghost use Rattle.tfpg.specs.Diagnoser.{budget, StandsFor, HasHeard, IsReady, Tells, after_told, IsToldOf, HasBlock};
+ghost use Rattle.tfpg.specs.inside.EmptyRounds.{ranking_round, rejecting_round, rejection};
+ghost use Rattle.tfpg.specs.ForNow.{budget};
+ghost use Rattle.tfpg.specs.inside.Diagnoser.{DiagnoserRepresents, HasHeard, IsReady, Tells, after_told, IsToldOf, HasBlock};
 
 use std::alloc::Global;
 use tfpg_base::{NoMemory, NumberList, Set, Trace};
@@ -38,7 +39,7 @@ impl Diagnoser {
     /// A diagnoser that has heard nothing.
     pub(crate) fn new(alloc: Global, graph: Graph) -> Diagnoser
         requires { IsValid graph }
-        ensures stands { StandsFor result start }
+        ensures stands { DiagnoserRepresents result start }
         ensures graph { result.graph ≡ graph }
         ensures ready { IsReady result }
     {
@@ -57,7 +58,7 @@ impl Diagnoser {
         text: &[u8],
     ) -> Result<Vec<u8>, NoMemory>
         requires { IsReady self.old }
-        ensures block { (before : Progress) → StandsFor self.old before → length text.now ≤ longest_line
+        ensures block { (before : Progress) → DiagnoserRepresents self.old before → length text.now ≤ longest_line
             → IfOk result (λ block. HasBlock self.old.graph before number text.now block.items self.new) }
         ensures graph { self.new.graph ≡ self.old.graph }
         ensures ready { IsReady self.new }
@@ -71,8 +72,8 @@ impl Diagnoser {
     /// What a line of this number and text gives.
     fn hear(&mut self, alloc: Global, line: u64, text: &[u8]) -> Result<Told, NoMemory>
         requires { IsReady self.old }
-        ensures told { (before : Progress) → StandsFor self.old before
-            → IfOk result (λ told. Tells self.old.graph before line text.now told × StandsFor self.new (after_told self.old.graph before text.now told)) }
+        ensures told { (before : Progress) → DiagnoserRepresents self.old before
+            → IfOk result (λ told. Tells self.old.graph before line text.now told × DiagnoserRepresents self.new (after_told self.old.graph before text.now told)) }
         ensures of_graph { IfOk result (IsToldOf (sizes_of self.old.graph)) }
         ensures graph { self.new.graph ≡ self.old.graph }
         ensures ready { IsReady self.new }
@@ -88,8 +89,8 @@ impl Diagnoser {
         requires ready { IsReady self.old }
         requires event { IsEventOf self.old.graph event }
         ensures told { (before : Progress) → HasHeard self.old before event
-            → IfOk result (λ round. IsRound self.old.graph 0 budget before.rounds self.old.log line round
-            × StandsFor self.new (record { rounds = before.rounds ++ round ∷ []; log = self.old.log })) }
+            → IfOk result (λ round. IsRound self.old.graph 0 budget before.rounds self.old.log line round × HasNoneOpen round
+            × DiagnoserRepresents self.new (record { rounds = before.rounds ++ round ∷ []; log = self.old.log })) }
         ensures of_graph { IfOk result (IsRoundOf (sizes_of self.old.graph)) }
         ensures graph { self.new.graph ≡ self.old.graph }
         ensures log { self.new.log ≡ self.old.log }

@@ -4,12 +4,12 @@ ghost use Rattle.std.specs.Prelude.{◌≡◌, ◌∷◌, [], codes, decimal};
 ghost use Rattle.tfpg_base.specs.Append.{Appends};
 ghost use Rattle.tfpg_base.specs.Words.{line_of};
 ghost use Rattle.tfpg.specs.Ends.{graph_cause_name, line_of_end, status_of, usage_name};
-ghost use Rattle.tfpg.specs.EndsOf.{end_of_fault, end_of_shelf, end_of_refusal};
-ghost use Rattle.tfpg.specs.declared.end.End.TheVariants as ends;
+ghost use Rattle.tfpg.specs.EndsOf.{end_of_fetch_fault, end_of_stream_fault};
 
+use crate::fault::{FetchFault, StreamFault};
 use itoa::Buffer;
-use tfpg_base::{Failed, LineFault, NoMemory, ShelfFault, put_words};
-use tfpg_graph::{GraphCause, GraphRefusal};
+use tfpg_base::{NoMemory, put_words};
+use tfpg_graph::GraphCause;
 
 /// Why the words of the command line are refused.
 #[derive(Clone, Copy, Debug, PartialEq, Eq)]
@@ -18,7 +18,7 @@ pub enum UsageCause {
     NotBuilt,
 }
 
-/// How a run ends. Of several that would hold, the first in the order of the work counts: words, file, graph, and then
+/// How a run ends. Of several that would hold, the first in the order of the work decides: words, file, graph, and then
 /// input and output line by line.
 #[derive(Clone, Copy, Debug, PartialEq, Eq)]
 pub enum End {
@@ -26,7 +26,7 @@ pub enum End {
     Done,
     /// The words are refused.
     Usage { cause: UsageCause },
-    /// The graph file has this cause in this line.
+    /// The graph file has this fault in this line.
     Graph { line: u64, cause: GraphCause },
     /// The shelf of files or the input failed.
     ReadFault,
@@ -34,7 +34,7 @@ pub enum End {
     WriteFault,
     /// The input has more than 2^32 bytes, or the graph file more than 2^24.
     TooMuchInput,
-    /// Memory was asked for and not found.
+    /// Out of memory.
     NoMemory,
 }
 
@@ -70,55 +70,31 @@ impl End {
     }
 }
 
-impl From<LineFault> for End {
-    ghost from_gives = { λ fault e. e ≡ end_of_fault fault };
+impl From<FetchFault> for End {
+    ghost from_gives = { λ fault e. e ≡ end_of_fetch_fault fault };
 
-    fn from(fault: LineFault) -> End {
+    fn from(fault: FetchFault) -> End {
         match fault {
-            LineFault::ReadFault => End::ReadFault,
-            LineFault::TooMuchInput => End::TooMuchInput,
-        }
-    }
-}
-
-impl From<NoMemory> for End {
-    ghost from_gives = { λ _ e. e ≡ ends.NoMemory };
-
-    fn from(_e: NoMemory) -> End {
-        End::NoMemory
-    }
-}
-
-impl From<Failed> for End {
-    ghost from_gives = { λ _ e. e ≡ ends.WriteFault };
-
-    fn from(_e: Failed) -> End {
-        End::WriteFault
-    }
-}
-
-impl From<ShelfFault> for End {
-    ghost from_gives = { λ fault e. e ≡ end_of_shelf fault };
-
-    fn from(fault: ShelfFault) -> End {
-        match fault {
-            ShelfFault::Failed => End::ReadFault,
-            ShelfFault::TooLong => End::TooMuchInput,
-            ShelfFault::NoMemory => End::NoMemory,
-        }
-    }
-}
-
-impl From<GraphRefusal> for End {
-    ghost from_gives = { λ refusal e. e ≡ end_of_refusal refusal };
-
-    fn from(refusal: GraphRefusal) -> End {
-        match refusal {
-            GraphRefusal::Fault(fault) => End::Graph {
+            FetchFault::Failed => End::ReadFault,
+            FetchFault::TooLong => End::TooMuchInput,
+            FetchFault::Graph(fault) => End::Graph {
                 line: fault.line,
                 cause: fault.cause,
             },
-            GraphRefusal::NoMemory => End::NoMemory,
+            FetchFault::NoMemory => End::NoMemory,
+        }
+    }
+}
+
+impl From<StreamFault> for End {
+    ghost from_gives = { λ fault e. e ≡ end_of_stream_fault fault };
+
+    fn from(fault: StreamFault) -> End {
+        match fault {
+            StreamFault::ReadFault => End::ReadFault,
+            StreamFault::WriteFault => End::WriteFault,
+            StreamFault::TooMuchInput => End::TooMuchInput,
+            StreamFault::NoMemory => End::NoMemory,
         }
     }
 }

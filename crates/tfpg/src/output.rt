@@ -1,16 +1,16 @@
-//! Putting whole pieces to a sink.
+//! Writing whole pieces to a sink.
 
-ghost use Rattle.std.specs.Prelude.{◌≡◌, ◌≤◌, ◌++◌, List, ℕ, OnOk, OnErr};
+ghost use Rattle.std.specs.Prelude.{◌≡◌, ◌++◌, List, ℕ, OnOk, OnErr};
 ghost use Rattle.tfpg_base.specs.Outside.{Rose, Puts};
 
 use tfpg_base::{Failed, Sink};
 
-/// Puts the whole piece, in as many calls as the sink wants. Where it fails, a front of the piece was put.
+/// Writes the whole piece, in as many calls as the sink wants. Where it fails, a front of the piece was written.
 pub(crate) fn put_all<K: Sink>(out: &mut K, piece: &[u8]) -> Result<(), Failed>
-    ensures put { OnOk result (Puts (K.holds out.old) (K.holds out.new) piece.now) }
-    ensures front { OnErr result ((front rest : List ℕ) × (piece.now ≡ front ++ rest) × Puts (K.holds out.old) (K.holds out.new) front) }
-    ensures failed { OnErr result (Rose (K.faults out.old) (K.faults out.new)) }
-    ensures never_falls { K.faults out.old ≤ K.faults out.new }
+    ensures put { OnOk result (Puts (K.state out.old) (K.state out.new) piece.now) }
+    ensures no_fault { OnOk result ((K.state out.new).faults ≡ (K.state out.old).faults) }
+    ensures front { OnErr result ((front rest : List ℕ) × (piece.now ≡ front ++ rest) × Puts (K.state out.old) (K.state out.new) front) }
+    ensures failed { OnErr result (Rose (K.state out.old).faults (K.state out.new).faults) }
 {
     let mut rest = piece;
     while !rest.is_empty() {

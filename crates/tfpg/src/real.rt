@@ -1,8 +1,8 @@
 //! The outside as it is: standard input, standard output and files by name.
 //!
-//! These adapters are the trusted edge: no clause sees which bytes reach the system or come from it, since a real file or
-//! stream tells of none. Where the reader or writer under an adapter does, as a slice or a vector, the adapter passes on
-//! exactly those. Each counts the faults that it raises, up to the last value of the count.
+//! These adapters are the trusted edge: no clause sees which bytes reach the system or come from it, since those of a real
+//! file or stream are not known. Where those of the reader or writer under an adapter are, as of a slice or a vector, the
+//! adapter passes on exactly those. Each counts its faults, up to the last value of the count.
 
 mod fault_count;
 mod file_shelf;

@@ -27,7 +27,7 @@ pub record Progress : Type 0 where
   pub rounds : List Round
   pub log : Logbook
 
--- nothing has been told yet
+-- nothing is reported yet
 abbrev pub start : Progress
 start = record { rounds = []; log = new_log }
 
@@ -49,7 +49,7 @@ IsBlockOf graph k budget before number block (Ok event) =
     × IsRound graph k budget before.rounds (with_event before.log event) number round
     × AllPairs (λ earlier later. earlier.panel < later.panel) losses
 
--- This is the block of a line of this number, behind what the report has come to.
+-- This is the block of a line of this number, after what the report has come to.
 abbrev pub IsBlock : Tfpg → ℕ → ℕ → Progress → ℕ → List ℕ → Block → Type 0
 IsBlock graph k budget before number line block = IsBlockOf graph k budget before number block (event_of_line graph before.log line)
 
@@ -78,9 +78,3 @@ pub record BeginsReport (graph : Tfpg) (k budget : ℕ) (lines : List (List ℕ)
   pub is_report : IsReport graph k budget (take count lines) blocks report
   pub more : List ℕ
   pub begins : report ≡ bytes ++ more
-
--- how far a report has come after these lines with these blocks
-abbrev pub after_all : Tfpg → Progress → List (List ℕ) → List Block → Progress
-after_all graph before [] blocks = before
-after_all graph before (line ∷ lines) [] = before
-after_all graph before (line ∷ lines) (block ∷ blocks) = after_all graph (after graph before line block) lines blocks

@@ -1,5 +1,6 @@
 -- What a round is: a finding for each hypothesis, each with its evidence, in order and counted.
 use Rattle.std.specs.Prelude.{◌≡◌, ℕ, ◌≤◌, List, [], ◌∷◌, ◌++◌, length, map, count_by, flat_map, AllPairs, Contains, Bool, true, false, IsTrue, Option, Some, None, slice_get, option_map, option_and_then, unwrap_or}
+use Rattle.std.specs.List.{list_any}
 use Rattle.tfpg_base.specs.Set.{IsProperPart}
 use Rattle.tfpg_graph.specs.Graph.{Tfpg}
 use Rattle.tfpg_graph.specs.Reach.{IsReach}
@@ -98,6 +99,10 @@ pub record IsOrder (findings : List Finding) (order : List ℕ) : Type 0 where
   pub all_ranked : map (place_at findings) order ≡ map Some places
   pub each_ranked : (number : ℕ) (place : Place) → place_at findings number ≡ Some place → Contains order number
   pub in_order : AllPairs IsRankedBefore places
+
+-- No finding of the round is open.
+abbrev pub HasNoneOpen : Round → Type 0
+HasNoneOpen round = list_any (λ finding. is_open finding.status) round.findings ≡ false
 
 -- how many hypotheses have each status
 abbrev pub counts_of : List Finding → Counts

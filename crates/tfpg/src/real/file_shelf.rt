@@ -43,17 +43,18 @@ impl<'a, R> FileShelf<'a, R> {
 impl<'a, R: Files> Shelf for FileShelf<'a, R> {
     ghost use Rattle.std.specs.Prelude.{None};
 
-    ghost faults = { λ shelf. shelf.faults.count };
-
-    ghost files = { λ _. None };
-
-    ghost asked = { λ _. None };
+    ghost state = { λ shelf. record { files = None; asked = None; faults = shelf.faults.count } };
 
     fn fetch(&mut self, _alloc: Global, name: &str, into: &mut Vec<u8>) -> Result<(), ShelfFault> {
         into.clear();
         let answer = read_file(self.files, name, into);
-        if answer == Err(ShelfFault::Failed) {
-            self.faults.raise();
+        match answer {
+            Err(ShelfFault::Failed) => {
+                into.clear();
+                self.faults.raise();
+            }
+            Err(ShelfFault::NoMemory) => into.clear(),
+            Err(ShelfFault::TooLong) | Ok(()) => {}
         }
         answer
     }
@@ -64,6 +65,7 @@ fn read_file<R: Files>(files: &R, name: &str, into: &mut Vec<u8>) -> Result<(), 
     requires { into.old.items ≡ [] }
     ensures small { OnOk result (length into.new.items ≤ 2 ^ 24) }
     ensures too_long { IsErrOf result ShelfFault.TooLong → length into.new.items ≡ 2 ^ 24 }
+    ensures no_memory { IsErrOf result ShelfFault.NoMemory → vec_capacity into.old < 2 ^ 24 }
 {
     match fs::open(files, name) {
         Ok(mut file) => read_whole(&mut file, into),
@@ -76,6 +78,7 @@ fn read_whole<R: Read>(reader: &mut R, into: &mut Vec<u8>) -> Result<(), ShelfFa
     requires { into.old.items ≡ [] }
     ensures small { OnOk result (length into.new.items ≤ 2 ^ 24) }
     ensures too_long { IsErrOf result ShelfFault.TooLong → length into.new.items ≡ 2 ^ 24 }
+    ensures no_memory { IsErrOf result ShelfFault.NoMemory → vec_capacity into.old < 2 ^ 24 }
     ensures whole { OnOk result (IfSome (R.remaining reader.old) (λ told. into.new.items ≡ told)) }
     ensures front { IsErrOf result ShelfFault.TooLong → IfSome (R.remaining reader.old) (λ told. (more : List ℕ) × (0 < length more) × (told ≡ into.new.items ++ more)) }
 {
@@ -99,6 +102,8 @@ fn append(part: &[u8], into: &mut Vec<u8>) -> Result<(), ShelfFault>
     ensures too_long { IsErrOf result ShelfFault.TooLong → length into.new.items ≡ 2 ^ 24 }
     ensures front { IsErrOf result ShelfFault.TooLong → (more : List ℕ) × (0 < length more) × (into.old.items ++ part.now ≡ into.new.items ++ more) }
     ensures no_memory { IsErrOf result ShelfFault.NoMemory → vec_capacity into.old < length into.old.items + length part.now }
+    ensures limit { IsErrOf result ShelfFault.NoMemory → vec_capacity into.old < 2 ^ 24 }
+    ensures capacity { vec_capacity into.old ≤ vec_capacity into.new }
     ensures no_fault { result ≢ Err ShelfFault.Failed }
 {
     let (kept, more) = part.split_at(part.len().min(LONGEST_FILE - into.len()));

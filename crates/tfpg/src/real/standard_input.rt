@@ -1,32 +1,35 @@
 //! Standard input as a source.
 
-ghost use Rattle.std.specs.Prelude.{◌≡◌};
+ghost use Rattle.std.specs.Prelude.{◌≡◌, false};
 
 use super::fault_count::FaultCount;
 use super::steady::SteadyRead;
 use super::tries::read_uncut;
 use tfpg_base::{Failed, Source};
 
-/// A reader as a source. Each call reads once, into the caller's room, so an answer comes as soon as there are bytes.
+/// A reader as a source. Each call reads once, into the caller's room, so it returns as soon as there are bytes.
 #[derive(Drop)]
 pub(crate) struct StandardInput<R> {
     reader: R,
+    ended: bool,
     faults: FaultCount,
 }
 
 impl<R> StandardInput<R> {
-    /// A source over this reader, which has not failed.
+    /// A source over this reader, which has neither ended nor failed.
     pub(crate) fn new(reader: R) -> StandardInput<R>
         ensures reader { result.reader ≡ reader }
+        ensures begins { result.ended ≡ false }
         ensures no_fault { result.faults.count ≡ 0 }
     {
         StandardInput {
             reader,
+            ended: false,
             faults: FaultCount::new(),
         }
     }
 
-    /// How often taking has failed.
+    /// How often reading has failed.
     #[cfg(test)]
     pub(crate) fn faults(&self) -> u64
         ensures { result ≡ self.now.faults.count }
@@ -36,13 +39,16 @@ impl<R> StandardInput<R> {
 }
 
 impl<R: SteadyRead> Source for StandardInput<R> {
-    ghost faults = { λ input. input.faults.count };
-
-    ghost left = { λ input. R.remaining input.reader };
+    ghost state = { λ input. record { left = R.remaining input.reader; ended = input.ended; faults = input.faults.count } };
 
     fn take(&mut self, room: &mut [u8]) -> Result<usize, Failed> {
         match read_uncut(&mut self.reader, room) {
-            Ok(count) => Ok(count),
+            Ok(count) => {
+                if count == 0 && !room.is_empty() {
+                    self.ended = true;
+                }
+                Ok(count)
+            }
             Err(_) => {
                 self.faults.raise();
                 Err(Failed)

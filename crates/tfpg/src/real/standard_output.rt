@@ -8,7 +8,7 @@ use super::tries::write_uncut;
 use tfpg_base::{Failed, Sink};
 
 /// A writer as a sink. The writer is to pass its bytes on in each call, as standard output does, so that a reader sees each
-/// answer at once: nothing is flushed.
+/// block at once: nothing is flushed.
 #[derive(Drop)]
 pub(crate) struct StandardOutput<W> {
     writer: W,
@@ -27,7 +27,7 @@ impl<W> StandardOutput<W> {
         }
     }
 
-    /// How often putting has failed.
+    /// How often writing has failed.
     #[cfg(test)]
     pub(crate) fn faults(&self) -> u64
         ensures { result ≡ self.now.faults.count }
@@ -37,9 +37,7 @@ impl<W> StandardOutput<W> {
 }
 
 impl<W: SteadyWrite> Sink for StandardOutput<W> {
-    ghost faults = { λ output. output.faults.count };
-
-    ghost holds = { λ output. W.contents output.writer };
+    ghost state = { λ output. record { holds = W.contents output.writer; faults = output.faults.count } };
 
     fn put(&mut self, piece: &[u8]) -> Result<usize, Failed> {
         match write_uncut(&mut self.writer, piece) {

@@ -1,19 +1,19 @@
-//! Readers and writers that tell the contracts their contents always or never.
+//! Readers and writers whose contents contracts know always or never.
 //!
-//! The toolchain lets one that tells nothing begin to tell in a call that fails. A source and a sink may not: they are to be
-//! as they were.
+//! The toolchain lets the contents of one become known in a call that fails. Those of a source and a sink may not: they are
+//! to stay as they were.
 
 ghost use Rattle.std.specs.Prelude.{◌≡◌};
 ghost use Rattle.std.specs.Io.KnownBytes.{Keeps};
 
 use std::io::{Read, Stdin, Stdout, Write};
 
-/// A reader that does not begin to tell what it has left.
+/// A reader of which it does not become known what it has left.
 pub(crate) trait SteadyRead: Read {
     ghost steady: { (before after : Self) → Keeps (Self.remaining before) (Self.remaining after) → Self.remaining after ≡ Self.remaining before };
 }
 
-/// A writer that does not begin to tell what it holds.
+/// A writer of which it does not become known what it holds.
 pub(crate) trait SteadyWrite: Write {
     ghost steady: { (before after : Self) → Keeps (Self.contents before) (Self.contents after) → Self.contents after ≡ Self.contents before };
 }

@@ -1,19 +1,16 @@
 use Rattle.std.proofs.Common.{◌-◌, ◌+◌, ◌^◌}
-use Rattle.tfpg.specs.Diagnoser.{IsReady}
 use Rattle.tfpg.specs.Run.{streams}
-use Rattle.tfpg.specs.Course.{IsUnderWay}
+use Rattle.tfpg.specs.inside.Course.{IsUnderWay}
+use Rattle.tfpg.specs.inside.Diagnoser.{IsReady}
 use Rattle.tfpg.proofs.course.diagnose.Given as goal
 
 -- the lines so far are answered
-abbrev pub invariant-loop-lines : goal.invariant-loop-lines
-invariant-loop-lines g l = record {
-  under : IsUnderWay l.fn.graph
-      (streams (g.S.Source.left l.fn.input) (g.K.Sink.holds l.fn.out) (g.S.Source.faults l.fn.input) (g.K.Sink.faults l.fn.out))
-      (streams (g.S.Source.left l.input) (g.K.Sink.holds l.out) (g.S.Source.faults l.input) (g.K.Sink.faults l.out))
-      l.lines l.diagnoser;
+abbrev pub invariant-loop-head : goal.invariant-loop-head
+invariant-loop-head g l = record {
+  under : IsUnderWay l.fn.graph (streams (g.S.Source.state l.fn.input) (g.K.Sink.state l.fn.out)) (streams (g.S.Source.state l.input) (g.K.Sink.state l.out)) l.lines l.diagnoser;
   ready : IsReady l.diagnoser;
 }
 
 -- there are no more lines than bytes that are taken, but for a last one
-abbrev pub decreases-loop-lines : goal.decreases-loop-lines
-decreases-loop-lines g l = 2 ^ 32 + 2 - l.lines.number
+abbrev pub decreases-loop-head : goal.decreases-loop-head
+decreases-loop-head g l = 2 ^ 32 + 2 - l.lines.number

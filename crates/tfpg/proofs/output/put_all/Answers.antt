@@ -1,4 +1,4 @@
-use Rattle.std.proofs.Common.{◌++◌, take, List, ℕ, arith, ◌∙◌, ap, sym}
+use Rattle.std.proofs.Common.{◌++◌, take, List, ℕ, ◌∙◌, ap, sym}
 use Rattle.tfpg.proofs.Putting.{Puts-append, more_is_put}
 use Rattle.tfpg.proofs.output.put_all.Goals as goal
 
@@ -10,6 +10,6 @@ loop-rest-preserved g c =
     record {
       front = front ++ take count rest;
       parts = more_is_put c.args.piece.now front rest count c.loop-rest.invariant.parts ∙ ap (λ (r : List ℕ). (front ++ take count rest) ++ r) (sym c.split_at.ensures.back);
-      puts = Puts-append _ _ _ front (take count rest) c.loop-rest.invariant.puts c.in_ok-count.ensures.put;
-      falls = omega (arith, c.loop-rest.invariant.falls, c.in_ok-count.ensures.never_falls);
+      puts = Puts-append (g.K.Sink.state c.args.out.now) (g.K.Sink.state c.loop-rest.out) (g.K.Sink.state c.put.new.self) front (take count rest) c.loop-rest.invariant.puts c.in_ok-count.ensures.put;
+      no_fault = c.in_ok-count.ensures.no_fault ∙ c.loop-rest.invariant.no_fault;
     }

@@ -12,7 +12,7 @@ returns-then-self-clause-told c before heard =
     IfOk-weaker c.rejecting_round.result _ _ (λ round e.
     let told = tells_again c.args.self.now before c.args.event c.args.line c.len-number.result c.now-now.result c.new.result round
     c.requires.ready.valid heard c.if-self.true c.len-number.ensures c.now-now.ensures c.new.ensures e in
-    (told.is_round, record { log = refl; settled = told.settled })) c.rejecting_round.ensures
+    (told.is_round, told.none_open, record { log = refl; settled = told.settled })) c.rejecting_round.ensures
 
 pub returns-then-self-clause-of_graph : goal.returns-then-self-clause-of_graph
 returns-then-self-clause-of_graph c =
@@ -25,7 +25,7 @@ returns-in_ok-steps-in-Alarm-clause-told c before heard =
     IfOk-weaker c.rejecting_round-in-Alarm.result _ _ (λ round e.
     let told = tells_by_alarm c.args.self.now before c.args.event c.in-Alarm.time c.in-Alarm.node c.args.line c.len-number.result c.now-now.result c.in_ok-steps-in-Alarm.steps round
     c.requires.ready heard c.if-self.false c.in-Alarm.is c.len-number.ensures c.now-now.ensures c.in_ok-steps-in-Alarm.ensures e in
-    (told.is_round, record { log = refl; settled = told.settled })) c.rejecting_round-in-Alarm.ensures
+    (told.is_round, told.none_open, record { log = refl; settled = told.settled })) c.rejecting_round-in-Alarm.ensures
 
 pub returns-in_ok-steps-in-Alarm-clause-of_graph : goal.returns-in_ok-steps-in-Alarm-clause-of_graph
 returns-in_ok-steps-in-Alarm-clause-of_graph c =
@@ -42,7 +42,7 @@ returns-in_default c =
       told = λ before heard. IfOk-weaker c.ranking_round.result _ _ (λ round e.
           let told = tells_quietly c.args.self.now before c.args.event c.args.line c.len-number.result c.now-now.result round
           c.requires.ready.valid heard c.if-self.false c.in_default.not-Alarm c.len-number.ensures c.now-now.ensures e in
-          (told.is_round, record { log = refl; settled = told.settled })) c.ranking_round.ensures;
+          (told.is_round, told.none_open, record { log = refl; settled = told.settled })) c.ranking_round.ensures;
       of_graph = IfOk-weaker c.ranking_round.result _ _ (λ round e. subst (IsRoundOf sizes) (sym e) (ranking_is_of sizes c.len-number.result c.args.line c.now-now.result)) c.ranking_round.ensures;
       graph = refl;
       log = refl;

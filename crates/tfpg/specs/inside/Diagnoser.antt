@@ -1,4 +1,4 @@
--- What a diagnoser of the empty hypothesis stands for.
+-- What a diagnoser of the empty hypothesis represents.
 use Rattle.std.specs.Prelude.{◌≡◌, ℕ, ◌<◌, List, [], ◌∷◌, ◌++◌, length, Bool, true, false, Some, None}
 use Rattle.tfpg_graph.specs.Graph.{Tfpg}
 use Rattle.tfpg_graph.specs.Valid.{IsValid}
@@ -10,22 +10,14 @@ use Rattle.tfpg_log.specs.Accepted.{reply_to}
 use Rattle.tfpg_log.specs.LogOfLines.{log_after_reply}
 use Rattle.tfpg_clause.specs.Trees.{Judged}
 use Rattle.tfpg_evidence.specs.RoundOf.{Sizes, IsRoundOf}
-use Rattle.tfpg_hyp.specs.Rounds.{steps_so_far, IsRound}
+use Rattle.tfpg_hyp.specs.Rounds.{steps_so_far, IsRound, HasNoneOpen}
 use Rattle.tfpg_report.specs.Blocks.{Block, RefusedBlock, RoundBlock, block_text}
 use Rattle.tfpg_check.specs.Report.{Progress, IsBlock, after}
 use Rattle.tfpg.specs.declared.diagnoser.Diagnoser.{Diagnoser}
 use Rattle.tfpg.specs.declared.diagnoser.Told.{Told}
 use Rattle.tfpg.specs.declared.diagnoser.Told.TheVariants as told
-use Rattle.tfpg.specs.EmptyRounds.{rejection}
-
--- No panel is lost, since there are no panels yet.
-abbrev pub LosesNone : Block → Type 0
-LosesNone (RefusedBlock line cause) = Unit {0}
-LosesNone (RoundBlock round losses) = losses ≡ []
-
--- the budget of the program, which the empty hypothesis never spends
-abbrev pub budget : ℕ
-budget = 1000
+use Rattle.tfpg.specs.ForNow.{budget, LosesNone, OpensNone}
+use Rattle.tfpg.specs.inside.EmptyRounds.{rejection}
 
 -- The steps are the rejection by some alarm of the log.
 pub record IsRejection (graph : Tfpg) (log : Logbook) (steps : List Judged) : Type 0 where
@@ -43,7 +35,7 @@ pub record IsSettled (graph : Tfpg) (log : Logbook) (rejected : Bool) (steps : L
   pub refuted : rejected ≡ true → IsRejection graph log steps
 
 -- The diagnoser has told the rounds of this progress.
-pub record StandsFor (diagnoser : Diagnoser) (progress : Progress) : Type 0 where
+pub record DiagnoserRepresents (diagnoser : Diagnoser) (progress : Progress) : Type 0 where
   pub log : diagnoser.log ≡ progress.log
   pub settled : IsSettled diagnoser.graph diagnoser.log diagnoser.rejected (steps_so_far 0 progress.rounds)
 
@@ -57,7 +49,7 @@ abbrev pub Tells : Tfpg → Progress → ℕ → List ℕ → Told → Type 0
 Tells graph before number line (told.Refused refusal) = reply_to graph before.log line ≡ Refused refusal
 Tells graph before number line (told.Round round) =
     (event : Event) × (reply_to graph before.log line ≡ Accepted event)
-    × IsRound graph 0 budget before.rounds (with_event before.log event) number round
+    × IsRound graph 0 budget before.rounds (with_event before.log event) number round × HasNoneOpen round
 
 -- what is told names only what the graph has
 abbrev pub IsToldOf : Sizes → Told → Type 0
@@ -80,5 +72,6 @@ pub record HasBlock (graph : Tfpg) (before : Progress) (number : ℕ) (line byte
   pub block : Block
   pub is_block : IsBlock graph 0 budget before number line block
   pub no_losses : LosesNone block
+  pub none_open : OpensNone block
   pub text : bytes ≡ block_text graph block
-  pub stands : StandsFor diagnoser (after graph before line block)
+  pub stands : DiagnoserRepresents diagnoser (after graph before line block)

@@ -1,0 +1,338 @@
+-- What the words of the lines of a map say.
+use Rattle.std.proofs.Common.{◌≡◌, ◌≢◌, ℕ, zero, suc, ◌+◌, ◌<◌, ◌≤◌, ◌^◌, ◌==◌, Bool, true, false, not, cond, List, [], ◌∷◌, length, map, get_or, leb, All, AllPairs, IsTrue, Option, Some, None, unwrap_or, slice_get, codes, refl, ap, sym, subst, ◌∙◌, arith}
+use Rattle.std.specs.Prelude.{decimal, IfSome}
+use Rattle.std.specs.Option.{option_map, option_and_then}
+use Rattle.std.specs.List.{AllByRecursion, list_all, join_with_byte, slice_split, position}
+use Rattle.std.specs.Str.{bytes_eq}
+use Rattle.std.proofs.lemmas.Bool.{and_parts, not-true, eq-eqb, eqb-true, ne_eqb, lt-ltb, false≢true}
+use Rattle.std.proofs.lemmas.Bool.Decides.{nat_tests}
+use Rattle.std.proofs.lemmas.List.{length-map}
+use Rattle.std.proofs.lemmas.List.Elements.{All-nil, All-cons, All-head, All-tail, All-weaker, All-append}
+use Rattle.std.proofs.lemmas.List.Quantifiers.{position-Some}
+use Rattle.std.proofs.lemmas.List.Splits.{join_with_byte-slice_split, length-slice_split}
+use Rattle.std.proofs.lemmas.Option.{slice_get-get_or, slice_get_within}
+use Rattle.std.proofs.lemmas.Slice.Eq.{bytes_eq-Decides}
+use Rattle.tfpg_base.specs.declared.activation.Activation.{Activation}
+use Rattle.tfpg_base.specs.declared.word.Number.TheVariants.{Value, TooLarge}
+use Rattle.tfpg_base.specs.Set.{with_member}
+use Rattle.tfpg_base.specs.Times.{max_time}
+use Rattle.tfpg_base.specs.Words.{words_of, line_of, is_name, is_name_byte, number_of, number_up_to}
+use Rattle.tfpg_base.proofs.Elements.{AllPairs-head, AllPairs-tail, AllPairs-cons}
+use Rattle.tfpg_base.proofs.Numbers.{number_of-decimal, decimal-number_of}
+use Rattle.tfpg_base.proofs.Separators.{Lacks, name_lacks, decimal_lacks, join_with_byte-words_of}
+use Rattle.tfpg_graph.specs.Graph.{Tfpg, name_at, node_named, failures, failure_at, place_of_failure, is_failure}
+use Rattle.tfpg_graph.specs.Valid.{IsValid}
+use Rattle.tfpg_graph.proofs.LinesSay.{slice_split-join}
+use Rattle.tfpg_graph.proofs.Named.{named_found}
+use Rattle.tfpg_graph.proofs.SpelledValues.{position-at}
+use Rattle.tfpg_graph.proofs.SpelledEdges.{is_name-name_of, node_named-name_of}
+use Rattle.tfpg_trace.proofs.NumberedItems.{IsItemOf, item_of, one_place}
+use Rattle.tfpg_report.specs.Blocks.{set_word, name_word}
+use Rattle.tfpg.specs.Map.{IsSetOf, IsActivationOf, set_line, at_line}
+use Rattle.tfpg.specs.inside.MapLines.{word_after_set, words_after_at, failure_named, failure_name, AreFrom}
+
+-- ---- words and lines
+
+lacks_checked : (byte : ℕ) (word : List ℕ) → list_all (λ other. not (other == byte)) word ≡ true → Lacks byte word
+lacks_checked byte [] all = All-nil (λ other. (other == byte) ≡ false)
+lacks_checked byte (first ∷ others) all =
+    let parts = and_parts (not (first == byte)) (list_all (λ other. not (other == byte)) others) all in
+    All-cons (λ other. (other == byte) ≡ false) first others (not-true (first == byte) parts.0) (lacks_checked byte others parts.1)
+
+same_some : {X : Type 0} (one other : X) → Some one ≡ Some other → one ≡ other
+same_some one other e = cc
+
+-- the words of a line that is read as that of an activation
+words_are-at : (words : List (List ℕ)) (read : List ℕ × List ℕ) → words_after_at words ≡ Some read → words ≡ codes "at" ∷ read.0 ∷ read.1 ∷ []
+words_are-at [] read e = absurd cc
+words_are-at (keyword ∷ []) read e = absurd cc
+words_are-at (keyword ∷ name ∷ []) read e = absurd cc
+words_are-at (keyword ∷ name ∷ time ∷ []) read e = by (bytes_eq keyword (codes "at")) refl e
+  where
+    by : (b : Bool) → bytes_eq keyword (codes "at") ≡ b → cond b (Some (name, time)) None ≡ Some read → keyword ∷ name ∷ time ∷ [] ≡ codes "at" ∷ read.0 ∷ read.1 ∷ []
+    by true is same =
+        ap (λ (word : List ℕ). word ∷ name ∷ time ∷ []) ((bytes_eq-Decides keyword (codes "at")).0 is)
+        ∙ ap (λ (words : List ℕ × List ℕ). codes "at" ∷ words.0 ∷ words.1 ∷ []) (same_some (name, time) read same)
+    by false is same = absurd cc
+words_are-at (keyword ∷ name ∷ time ∷ more ∷ others) read e = absurd cc
+
+-- the words of a line that is read as that of a set
+words_are-set : (words : List (List ℕ)) (read : List ℕ) → word_after_set words ≡ Some read → words ≡ codes "set" ∷ read ∷ []
+words_are-set [] read e = absurd cc
+words_are-set (keyword ∷ []) read e = absurd cc
+words_are-set (keyword ∷ word ∷ []) read e = by (bytes_eq keyword (codes "set")) refl e
+  where
+    by : (b : Bool) → bytes_eq keyword (codes "set") ≡ b → cond b (Some word) None ≡ Some read → keyword ∷ word ∷ [] ≡ codes "set" ∷ read ∷ []
+    by true is same =
+        ap (λ (k : List ℕ). k ∷ word ∷ []) ((bytes_eq-Decides keyword (codes "set")).0 is) ∙ ap (λ (w : List ℕ). codes "set" ∷ w ∷ []) (same_some word read same)
+    by false is same = absurd cc
+words_are-set (keyword ∷ word ∷ more ∷ others) read e = absurd cc
+
+-- a line that is read as that of an activation
+pub line_is-at : (line name time : List ℕ) → words_after_at (words_of line) ≡ Some (name, time) → line ≡ line_of (codes "at" ∷ name ∷ time ∷ [])
+line_is-at line name time e = sym (join_with_byte-words_of line) ∙ ap (join_with_byte 32) (words_are-at (words_of line) (name, time) e)
+
+-- a line that is read as that of a set
+pub line_is-set : (line word : List ℕ) → word_after_set (words_of line) ≡ Some word → line ≡ line_of (codes "set" ∷ word ∷ [])
+line_is-set line word e = sym (join_with_byte-words_of line) ∙ ap (join_with_byte 32) (words_are-set (words_of line) word e)
+
+-- the time of an activation is small
+small_time : (time : ℕ) → time ≤ max_time → time < 2 ^ 64
+small_time time within = omega (arith, within)
+
+-- a number up to the greatest time is read as it is
+pub time_read : (time : ℕ) → time ≤ max_time → number_up_to max_time (number_of (decimal time)) ≡ Value time
+time_read time within = ap (number_up_to max_time) (number_of-decimal time (small_time time within)) ∙ by (leb time max_time) refl
+  where
+    by : (b : Bool) → leb time max_time ≡ b → cond b (Value time) TooLarge ≡ Value time
+    by true is = refl
+    by false is = absurd (grind (arith, nat_tests))
+
+value_read : (word : List ℕ) (time : ℕ) (read : Option ℕ) → number_of word ≡ read → number_up_to max_time read ≡ Value time → (number_of word ≡ Some time) × (time ≤ max_time)
+value_read word time None is e = absurd cc
+value_read word time (Some value) is e = by (leb value max_time) refl e
+  where
+    by : (b : Bool) → leb value max_time ≡ b → cond b (Value value) TooLarge ≡ Value time → (number_of word ≡ Some time) × (time ≤ max_time)
+    by true small same =
+        let value_is : value ≡ time = cc in
+        (is ∙ ap Some value_is, subst (λ n. n ≤ max_time) value_is (grind (arith, nat_tests)))
+    by false small same = absurd cc
+
+-- a word that is read as a time up to the greatest one
+pub time_spelled : (word : List ℕ) (time : ℕ) → number_up_to max_time (number_of word) ≡ Value time → (word ≡ decimal time) × (time ≤ max_time)
+time_spelled word time e =
+    let read = value_read word time (number_of word) refl e in
+    (decimal-number_of word time read.0 (small_time time read.1), read.1)
+
+module _ (graph : Tfpg) (valid : IsValid graph) where
+  -- the line of an activation is read so
+  pub at_line-read : (activation : Activation) → IsActivationOf graph activation → words_after_at (words_of (at_line graph activation)) ≡ Some (name_word graph activation.node, decimal activation.time)
+  at_line-read activation of =
+      ap words_after_at (slice_split-join 32 (codes "at" ∷ name_word graph activation.node ∷ decimal activation.time ∷ []) (omega arith) (
+        lacks_checked 32 (codes "at") refl,
+        (
+          name_lacks 32 (name_word graph activation.node) refl (is_name-name_of graph activation.node of.in_graph valid.node_names),
+          (decimal_lacks 32 activation.time refl (small_time activation.time of.in_range), tt),
+        ),
+      ))
+
+  -- the name of a node names it
+  pub node_of_word : (node : ℕ) → node < length graph.nodes → node_named graph (name_word graph node) ≡ Some node
+  node_of_word node within = node_named-name_of graph node within valid.nodes_differ
+
+  -- two lines of activations that are the same are of one node
+  pub one_node : (one other : Activation) → IsActivationOf graph one → IsActivationOf graph other → at_line graph one ≡ at_line graph other → one.node ≡ other.node
+  one_node one other of too same =
+      let words = same_some _ _ (sym (at_line-read one of) ∙ ap (λ line. words_after_at (words_of line)) same ∙ at_line-read other too) in
+      same_some one.node other.node (sym (node_of_word one.node of.in_graph) ∙ ap (λ (words : List ℕ × List ℕ). node_named graph words.0) words ∙ node_of_word other.node too.in_graph)
+
+-- the word of a node that was found by its name
+pub word_of_named : (graph : Tfpg) (name : List ℕ) (node : ℕ) → node_named graph name ≡ Some node → (node < length graph.nodes) × (name ≡ name_word graph node)
+word_of_named graph name node found = let is = named_found graph name node found in (is.0, sym (ap (λ o. unwrap_or o []) is.1))
+
+-- ---- names of failure modes
+
+-- the failure mode at a position is a node
+failure_in_graph : (graph : Tfpg) (place node : ℕ) → failure_at graph place ≡ Some node → node < length graph.nodes
+failure_in_graph graph place node at =
+    let item = item_of (λ n. is_failure n.kind) 0 graph.nodes place node at in
+    omega (arith, item.counted, slice_get_within graph.nodes item.place item.item item.at)
+
+-- its name is that of the node
+failure_name-node : (graph : Tfpg) (place node : ℕ) → failure_at graph place ≡ Some node → failure_name graph place ≡ name_word graph node
+failure_name-node graph place node at = ap (λ o. unwrap_or (option_and_then (name_at graph) o) []) at
+
+-- a failure mode stands at its position, and at no earlier one
+place_of-failure : (graph : Tfpg) (place node : ℕ) → place < length (failures graph) → failure_at graph place ≡ Some node → place_of_failure graph node ≡ Some place
+place_of-failure graph place node within at =
+    let same : (k : ℕ) → k < length (failures graph) → failure_at graph k ≡ Some (get_or (failures graph) k 0) = λ k lt. slice_get-get_or (failures graph) k 0 lt in
+    position-at (λ failure. failure == node) (failures graph) place 0 within
+    (eq-eqb _ _ (same_some _ _ (sym (same place within) ∙ at)))
+    (λ earlier before. ne_eqb (get_or (failures graph) earlier 0) node (λ is. omega (
+      arith,
+      before,
+      one_place (λ n. is_failure n.kind) 0 graph.nodes earlier place node (same earlier (omega (arith, before, within)) ∙ ap Some is) at,
+    )))
+
+module _ (graph : Tfpg) (valid : IsValid graph) where
+  -- the name of a failure mode names its position
+  pub failure_named-name : (place : ℕ) → place < length (failures graph) → failure_named graph (failure_name graph place) ≡ Some place
+  failure_named-name place within =
+      let node = get_or (failures graph) place 0 in
+      let at : failure_at graph place ≡ Some node = slice_get-get_or (failures graph) place 0 within in
+      ap (failure_named graph) (failure_name-node graph place node at)
+      ∙ ap (λ o. option_and_then (place_of_failure graph) o) (node_of_word graph valid node (failure_in_graph graph place node at))
+      ∙ place_of-failure graph place node within at
+
+  -- and is a name
+  failure_name-is_name : (place : ℕ) → place < length (failures graph) → IsTrue (is_name (failure_name graph place))
+  failure_name-is_name place within =
+      let node = get_or (failures graph) place 0 in
+      let at : failure_at graph place ≡ Some node = slice_get-get_or (failures graph) place 0 within in
+      ap is_name (failure_name-node graph place node at) ∙ is_name-name_of graph node (failure_in_graph graph place node at) valid.node_names
+
+-- a position that a name names is of a failure mode of that name
+pub place_named : (graph : Tfpg) (name : List ℕ) (place : ℕ) → failure_named graph name ≡ Some place → (place < length (failures graph)) × (failure_name graph place ≡ name)
+place_named graph name place e = by (node_named graph name) refl e
+  where
+    by : (o : Option ℕ) → node_named graph name ≡ o → option_and_then (place_of_failure graph) o ≡ Some place → (place < length (failures graph)) × (failure_name graph place ≡ name)
+    by None is same = absurd cc
+    by (Some node) is same =
+        let found = position-Some (λ failure. failure == node) (failures graph) place 0 same in
+        let at : failure_at graph place ≡ Some node = slice_get-get_or (failures graph) place 0 found.0 ∙ ap Some (eqb-true _ _ found.1) in
+        (found.0, failure_name-node graph place node at ∙ sym (word_of_named graph name node is).1)
+
+-- ---- the positions of names
+
+-- a member before all others is the first
+with_first : (place : ℕ) (places : List ℕ) → All (λ other. place + 1 ≤ other) places → with_member place places ≡ place ∷ places
+with_first place [] later = refl
+with_first place (first ∷ others) later =
+    let above : place + 1 ≤ first = All-head (λ other. place + 1 ≤ other) first others later in
+    ap (λ b. cond b (place ∷ first ∷ others) (cond (place == first) (first ∷ others) (first ∷ with_member place others))) (lt-ltb place first (omega (arith, above)))
+
+module _ (graph : Tfpg) (least : ℕ) where
+  -- the positions after the first
+  AreFrom-others : (first : ℕ) (others : List ℕ) → AreFrom graph least (first ∷ others) → AreFrom graph (first + 1) others
+  AreFrom-others first others are = record {
+    rising = AllPairs-tail (λ a b. a < b) first others are.rising;
+    not_before = All-weaker (λ other. first < other) (λ other. first + 1 ≤ other) (λ other lt. omega (arith, lt)) others (AllPairs-head (λ a b. a < b) first others are.rising);
+    members = All-tail (λ place. place < length (failures graph)) first others are.members;
+  }
+
+  -- one more position in front
+  AreFrom-first : (first : ℕ) (others : List ℕ) → least ≤ first → first < length (failures graph) → AreFrom graph (first + 1) others → AreFrom graph least (first ∷ others)
+  AreFrom-first first others from within are = record {
+    rising = AllPairs-cons (λ a b. a < b) first others (All-weaker (λ other. first + 1 ≤ other) (λ other. first < other) (λ other le. omega (arith, le)) others are.not_before) are.rising;
+    not_before = All-cons (λ other. least ≤ other) first others from (All-weaker (λ other. first + 1 ≤ other) (λ other. least ≤ other) (λ other le. omega (arith, le, from)) others are.not_before);
+    members = All-cons (λ place. place < length (failures graph)) first others within are.members;
+  }
+
+  -- with a first name of no failure mode, there are no positions of these names
+  pub no_places-unknown : IsValid graph → (name : List ℕ) (names : List (List ℕ)) (places : List ℕ) → failure_named graph name ≡ None → AreFrom graph least places
+      → map (failure_name graph) places ≡ name ∷ names → ⊥
+  no_places-unknown valid name names [] none are e = absurd cc
+  no_places-unknown valid name names (place ∷ places) none are e =
+      let head : failure_name graph place ≡ name = cc in
+      let found = failure_named-name graph valid place (All-head (λ p. p < length (failures graph)) place places are.members) in
+      let same = sym found ∙ ap (failure_named graph) head ∙ none in
+      cc
+
+  -- nor with one of a failure mode that is too early
+  pub no_places-early : IsValid graph → (name : List ℕ) (names : List (List ℕ)) (first : ℕ) (places : List ℕ) → failure_named graph name ≡ Some first → first < least → AreFrom graph least places
+      → map (failure_name graph) places ≡ name ∷ names → ⊥
+  no_places-early valid name names first [] some early are e = absurd cc
+  no_places-early valid name names first (place ∷ places) some early are e =
+      let head : failure_name graph place ≡ name = cc in
+      let found = failure_named-name graph valid place (All-head (λ p. p < length (failures graph)) place places are.members) in
+      let same = same_some _ _ (sym found ∙ ap (failure_named graph) head ∙ some) in
+      omega (arith, same, early, All-head (λ other. least ≤ other) place places are.not_before)
+
+  -- nor where there are none of the others
+  pub no_places-others : IsValid graph → (name : List ℕ) (names : List (List ℕ)) (first : ℕ) (places : List ℕ) → failure_named graph name ≡ Some first
+      → ((others : List ℕ) → AreFrom graph (first + 1) others → map (failure_name graph) others ≡ names → ⊥) → AreFrom graph least places
+      → map (failure_name graph) places ≡ name ∷ names → ⊥
+  no_places-others valid name names first [] some none are e = absurd cc
+  no_places-others valid name names first (place ∷ places) some none are e =
+      let head : failure_name graph place ≡ name = cc in
+      let tail : map (failure_name graph) places ≡ names = cc in
+      let found = failure_named-name graph valid place (All-head (λ p. p < length (failures graph)) place places are.members) in
+      let same = same_some _ _ (sym found ∙ ap (failure_named graph) head ∙ some) in
+      none places (subst (λ (p : ℕ). AreFrom graph (p + 1) places) same (AreFrom-others place places are)) tail
+
+  -- with one more name, there is one more position
+  pub places-more : (name : List ℕ) (names : List (List ℕ)) (first : ℕ) (others : List ℕ) → failure_named graph name ≡ Some first → least ≤ first → AreFrom graph (first + 1) others
+      → map (failure_name graph) others ≡ names → AreFrom graph least (with_member first others) × (map (failure_name graph) (with_member first others) ≡ name ∷ names)
+  places-more name names first others some from are e =
+      let named = place_named graph name first some in
+      let is : with_member first others ≡ first ∷ others = with_first first others are.not_before in (
+        subst (AreFrom graph least) (sym is) (AreFrom-first first others from named.0 are),
+        ap (map (failure_name graph)) is ∙ ap (λ (n : List ℕ). n ∷ map (failure_name graph) others) named.1 ∙ ap (λ (ns : List (List ℕ)). name ∷ ns) e,
+      )
+
+-- ---- the word of a set
+
+names_lack : (graph : Tfpg) → IsValid graph → (byte : ℕ) → is_name_byte byte ≡ false → (places : List ℕ) → All (λ place. place < length (failures graph)) places
+    → AllByRecursion (Lacks byte) (map (failure_name graph) places)
+names_lack graph valid byte other_byte [] are = tt
+names_lack graph valid byte other_byte (place ∷ places) are = (
+  name_lacks byte (failure_name graph place) other_byte (failure_name-is_name graph valid place (All-head (λ p. p < length (failures graph)) place places are)),
+  names_lack graph valid byte other_byte places (All-tail (λ p. p < length (failures graph)) place places are),
+)
+
+-- a word whose parts are the names of some positions spells their set
+pub set_spelled : (graph : Tfpg) (word : List ℕ) (places : List ℕ) → AreFrom graph 0 places → map (failure_name graph) places ≡ slice_split (λ byte. byte == 44) word
+    → IsSetOf graph places × (word ≡ set_word graph places)
+set_spelled graph word [] are e = absurd (omega (arith, ap length e, length-slice_split (λ byte. byte == 44) word))
+set_spelled graph word (place ∷ places) are e =
+    (record { rising = are.rising; members = are.members }, sym (join_with_byte-slice_split 44 word) ∙ ap (join_with_byte 44) (sym e))
+
+-- a word that spells a set, and is no hyphen, has the names of the set's positions as its parts
+pub set_parts : (graph : Tfpg) → IsValid graph → (word : List ℕ) (places : List ℕ) → bytes_eq word (codes "-") ≡ false → IsSetOf graph places → word ≡ set_word graph places
+    → AreFrom graph 0 places × (map (failure_name graph) places ≡ slice_split (λ byte. byte == 44) word)
+set_parts graph valid word [] no_hyphen set e = absurd (false≢true (sym no_hyphen ∙ (bytes_eq-Decides word (codes "-")).1 e))
+set_parts graph valid word (place ∷ places) no_hyphen set e = (
+  record { rising = set.rising; not_before = λ k d within. omega arith; members = set.members },
+  sym (ap (slice_split (λ byte. byte == 44)) e ∙ slice_split-join 44 (map (failure_name graph) (place ∷ places)) (omega arith) (names_lack graph valid 44 refl (place ∷ places) set.members)),
+)
+
+hyphen_or_names : (graph : Tfpg) → IsValid graph → (places : List ℕ) → All (λ place. place < length (failures graph)) places → Lacks 32 (set_word graph places)
+hyphen_or_names graph valid [] members = lacks_checked 32 (codes "-") refl
+hyphen_or_names graph valid (place ∷ places) members = join_lacks (map (failure_name graph) (place ∷ places)) (names_lack graph valid 32 refl (place ∷ places) members)
+  where
+    join_lacks : (words : List (List ℕ)) → AllByRecursion (Lacks 32) words → Lacks 32 (join_with_byte 44 words)
+    join_lacks [] are = All-nil (λ other. (other == 32) ≡ false)
+    join_lacks (word ∷ []) are = are.0
+    join_lacks (word ∷ second ∷ others) are =
+        All-append (λ other. (other == 32) ≡ false) word (44 ∷ join_with_byte 44 (second ∷ others)) are.0
+        (All-cons (λ other. (other == 32) ≡ false) 44 (join_with_byte 44 (second ∷ others)) refl (join_lacks (second ∷ others) are.1))
+
+-- the line of a set is read so
+pub set_line-read : (graph : Tfpg) → IsValid graph → (places : List ℕ) → IsSetOf graph places → word_after_set (words_of (set_line graph places)) ≡ Some (set_word graph places)
+set_line-read graph valid places set =
+    ap word_after_set (slice_split-join 32 (codes "set" ∷ set_word graph places ∷ []) (omega arith)
+    (lacks_checked 32 (codes "set") refl, (hyphen_or_names graph valid places set.members, tt)))
+
+-- ---- as the code comes to it
+
+module _ (graph : Tfpg) (valid : IsValid graph) (line : List ℕ) where
+  -- a line that is not read as that of an activation spells none
+  pub no_activation-unread : words_after_at (words_of line) ≡ None → (activation : Activation) → IsActivationOf graph activation → line ≡ at_line graph activation → ⊥
+  no_activation-unread unread activation of e =
+      let same = sym unread ∙ ap (λ l. words_after_at (words_of l)) e ∙ at_line-read graph valid activation of in
+      cc
+
+  -- nor does one whose words are those of no activation
+  pub no_activation-read : (name time : List ℕ) → words_after_at (words_of line) ≡ Some (name, time)
+      → ((activation : Activation) → IsActivationOf graph activation → name ≡ name_word graph activation.node → time ≡ decimal activation.time → ⊥)
+      → (activation : Activation) → IsActivationOf graph activation → line ≡ at_line graph activation → ⊥
+  no_activation-read name time read none activation of e =
+      let words = same_some _ _ (sym read ∙ ap (λ l. words_after_at (words_of l)) e ∙ at_line-read graph valid activation of) in
+      none activation of (ap (λ (w : List ℕ × List ℕ). w.0) words) (ap (λ (w : List ℕ × List ℕ). w.1) words)
+
+  -- a line that is not read as that of a set spells none
+  pub no_set-unread : word_after_set (words_of line) ≡ None → (set : List ℕ) → IsSetOf graph set → line ≡ set_line graph set → ⊥
+  no_set-unread unread set of e =
+      let same = sym unread ∙ ap (λ l. word_after_set (words_of l)) e ∙ set_line-read graph valid set of in
+      cc
+
+  -- nor does one whose word spells none
+  pub no_set-read : (word : List ℕ) → word_after_set (words_of line) ≡ Some word → ((set : List ℕ) → IsSetOf graph set → word ≡ set_word graph set → ⊥)
+      → (set : List ℕ) → IsSetOf graph set → line ≡ set_line graph set → ⊥
+  no_set-read word read none set of e =
+      none set of (same_some _ _ (sym read ∙ ap (λ l. word_after_set (words_of l)) e ∙ set_line-read graph valid set of))
+
+-- a line whose words are those of an activation spells it
+pub activation_spelled : (graph : Tfpg) (line name time : List ℕ) (result : Option Activation) → words_after_at (words_of line) ≡ Some (name, time)
+    → IfSome result (λ activation. IsActivationOf graph activation × (name ≡ name_word graph activation.node) × (time ≡ decimal activation.time))
+    → IfSome result (λ activation. IsActivationOf graph activation × (line ≡ at_line graph activation))
+activation_spelled graph line name time None read h = tt
+activation_spelled graph line name time (Some activation) read h = (
+  h.0,
+  line_is-at line name time read ∙ ap (λ (n : List ℕ). line_of (codes "at" ∷ n ∷ time ∷ [])) h.1
+      ∙ ap (λ (t : List ℕ). line_of (codes "at" ∷ name_word graph activation.node ∷ t ∷ [])) h.2,
+)
+
+-- a line whose word spells a set
+pub set_line_spelled : (graph : Tfpg) (line word set : List ℕ) → word_after_set (words_of line) ≡ Some word → word ≡ set_word graph set → line ≡ set_line graph set
+set_line_spelled graph line word set read e = line_is-set line word read ∙ ap (λ (w : List ℕ). line_of (codes "set" ∷ w ∷ [])) e

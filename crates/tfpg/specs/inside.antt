@@ -1,0 +1,5 @@
+-- What no public contract cites.
+pub mod Diagnoser
+pub mod EmptyRounds
+pub mod Course
+pub mod MapLines

@@ -1,0 +1,39 @@
+-- A diagnosis under way.
+use Rattle.std.specs.Prelude.{◌+◌, ◌≡◌, ◌⊎◌, ℕ, ◌≤◌, List, length, take, Some, None, Ok}
+use Rattle.std.specs.List.{AllByRecursion}
+use Rattle.tfpg_base.specs.declared.line.Line.TheVariants as line
+use Rattle.tfpg_base.specs.Lines.{Reading, Buffered, LinesRepresent, lines_of, max_bytes}
+use Rattle.tfpg_base.specs.Outside.{Takes, Puts, IsAtEnd}
+use Rattle.tfpg_graph.specs.Graph.{Tfpg}
+use Rattle.tfpg_report.specs.Blocks.{Block}
+use Rattle.tfpg_check.specs.Report.{AreBlocks, report_text, start}
+use Rattle.tfpg_check.specs.inside.Progress.{after_all}
+use Rattle.tfpg.specs.declared.diagnoser.Diagnoser.{Diagnoser}
+use Rattle.tfpg.specs.declared.course.Turn.{Turn}
+use Rattle.tfpg.specs.declared.course.Turn.TheVariants.{Answered, Ended}
+use Rattle.tfpg.specs.ForNow.{budget, LosesNone, OpensNone}
+use Rattle.tfpg.specs.inside.Diagnoser.{DiagnoserRepresents}
+use Rattle.tfpg.specs.Run.{Streams, HasNoFault, Diagnoses}
+
+-- A diagnosis that began with the streams before has come to this: each line that the reader has returned is answered,
+-- its block is written, and nothing else was written but the head. Nothing has failed.
+pub record IsUnderWay (graph : Tfpg) (before now : Streams) (lines : Buffered) (diagnoser : Diagnoser) : Type 0 where
+  pub reading : Reading
+  pub takes : Takes before.input now.input reading.taken
+  pub few : length reading.taken ≤ max_bytes
+  pub represents : LinesRepresent lines reading
+  pub goes_on : (reading.ended ≡ None) ⊎ ((reading.ended ≡ Some (Ok line.End)) × IsAtEnd now.input)
+  pub front : take (length reading.given) (lines_of reading.taken) ≡ reading.given
+  pub blocks : List Block
+  pub writes : Puts before.output now.output (report_text graph 0 budget blocks)
+  pub are_blocks : AreBlocks graph 0 budget start 1 reading.given blocks
+  pub no_losses : AllByRecursion LosesNone blocks
+  pub none_open : AllByRecursion OpensNone blocks
+  pub reported : DiagnoserRepresents diagnoser (after_all graph start reading.given blocks)
+  pub same_graph : diagnoser.graph ≡ graph
+  pub no_fault : HasNoFault before now
+
+-- What a turn after the line of this number leads to: the diagnosis is under way still, one line on; or it is done.
+abbrev pub LeadsTo : Tfpg → Streams → Streams → ℕ → Buffered → Diagnoser → Turn → Type 0
+LeadsTo graph before now number lines diagnoser Answered = IsUnderWay graph before now lines diagnoser × (lines.number ≡ number + 1)
+LeadsTo graph before now number lines diagnoser Ended = Diagnoses graph before now (Ok tt)

@@ -1,0 +1,87 @@
+//! The map that `explain` reads: a set of failure modes, and a trace.
+
+ghost use Rattle.std.specs.Prelude.{◌≡◌, ◌≤◌, ◌++◌, ◌∷◌, [], ℕ, List, length, OnOk, IsErrOf};
+ghost use Rattle.tfpg_base.specs.Lines.{longest_line};
+ghost use Rattle.tfpg_graph.specs.Graph.{Tfpg};
+ghost use Rattle.tfpg.specs.Map.{BeginsMap};
+ghost use Rattle.tfpg.specs.inside.MapLines.{MapRepresents, TakesActivation, IsNoActivation};
+
+use crate::map_lines::{read_activation, read_set_line};
+use std::alloc::Global;
+use tfpg_base::{NoMemory, Set, Trace};
+use tfpg_graph::Graph;
+
+/// Why a line is not taken.
+#[derive(Clone, Copy, Debug, PartialEq, Eq)]
+pub(crate) enum MapFault {
+    /// No map begins with the lines so far and this one.
+    BadMap,
+    /// Out of memory.
+    NoMemory,
+}
+
+/// Reads the lines of a map one by one.
+#[derive(Drop)]
+pub(crate) struct MapReader {
+    /// The set, once its line was read.
+    pub(crate) set: Option<Set>,
+    /// The activations so far.
+    pub(crate) trace: Trace,
+}
+
+impl MapReader {
+    /// A reader that has read no line.
+    pub(crate) fn new(alloc: Global) -> MapReader
+        ensures { (graph : Tfpg) → MapRepresents graph result [] }
+    {
+        MapReader {
+            set: None,
+            trace: Trace::new(alloc),
+        }
+    }
+
+    /// Reads one more line. A reader whose line was not taken is of no further use.
+    pub(crate) fn take(&mut self, alloc: Global, graph: &Graph, line: &[u8]) -> Result<(), MapFault>
+        requires { length line.now ≤ longest_line }
+        ensures taken { (lines : List (List ℕ)) → MapRepresents graph.now self.old lines
+            → OnOk result (MapRepresents graph.now self.new (lines ++ line.now ∷ [])) }
+        ensures bad { (lines : List (List ℕ)) → MapRepresents graph.now self.old lines → IsErrOf result MapFault.BadMap
+            → BeginsMap graph.now (lines ++ line.now ∷ []) → ⊥ }
+    {
+        let _valid = graph.node_count();
+        match self.set {
+            None => {
+                self.set = Some(read_set_line(alloc, graph, line)?);
+                Ok(())
+            }
+            Some(_) => self.take_activation(graph, line),
+        }
+    }
+
+    /// Reads the line of one more activation.
+    fn take_activation(&mut self, graph: &Graph, line: &[u8]) -> Result<(), MapFault>
+        requires short { length line.now ≤ longest_line }
+        ensures set { self.new.set ≡ self.old.set }
+        ensures taken { OnOk result (TakesActivation graph.now self.old.trace line.now self.new.trace) }
+        ensures bad { IsErrOf result MapFault.BadMap → IsNoActivation graph.now self.old.trace line.now }
+    {
+        let _valid = graph.node_count();
+        let Some(activation) = read_activation(graph, line) else {
+            return Err(MapFault::BadMap);
+        };
+        if self.trace.at(activation.node).is_some() {
+            return Err(MapFault::BadMap);
+        }
+        Ok(self.trace.set(activation.node, activation.time)?)
+    }
+}
+
+impl From<NoMemory> for MapFault {
+    ghost use Rattle.tfpg.specs.declared.map.MapFault.TheVariants as fault;
+
+    ghost from_gives = { λ _ e. e ≡ fault.NoMemory };
+
+    fn from(_e: NoMemory) -> MapFault {
+        MapFault::NoMemory
+    }
+}
