@@ -1,1 +1,2 @@
+-- How the code lists and counts. No public clause reaches it.
 pub mod Choices

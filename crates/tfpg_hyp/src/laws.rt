@@ -15,8 +15,8 @@ pub fn the_table_is_one()
     ensures count { (graph : Tfpg) (k count other : ℕ) →
         HasHypotheses graph k count → HasHypotheses graph k other → count ≡ other }
     ensures once { (graph : Tfpg) (k : ℕ) (sets : List (List ℕ)) → IsTable graph k sets →
-        (number other : ℕ) (set : List ℕ) → slice_get sets number ≡ Some set → slice_get sets other ≡ Some set →
-        number ≡ other }
+        (number other : ℕ) (set : List ℕ) →
+        slice_get sets number ≡ Some set → slice_get sets other ≡ Some set → number ≡ other }
 {}
 
 /// Each subset of a hypothesis is a hypothesis, and a proper one has the lesser number.

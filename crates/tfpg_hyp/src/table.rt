@@ -60,8 +60,8 @@ impl Table {
     /// fault says how many, and none is listed.
     pub fn new(alloc: Global, graph: &Graph, k: u32) -> Result<Table, TableFault>
         ensures table { IfOk result (λ table. IsTableOf graph.now k table) }
-        ensures too_many { (count : ℕ) →
-            (result ≡ Err (TableFault.TooMany count)) ↔ ((max_hypotheses < count) × HasHypotheses graph.now k count) }
+        ensures too_many { (count : ℕ) → (result ≡ Err (TableFault.TooMany count)) ↔
+            ((max_hypotheses < count) × HasHypotheses graph.now k count) }
     {
         let _nodes = graph.node_count();
         let count = count_sets(graph.failure_count(), k);
