@@ -23,7 +23,7 @@ use Rattle.tfpg_graph.proofs.lemmas.reading.PartAfter.{part-declarations, part-e
 
 -- no line has none
 all_clean-none : AllClean []
-all_clean-none place within = absurd (omega arith)
+all_clean-none index within = absurd (omega arith)
 
 -- Before the first line nothing is read.
 pub ReaderRepresents-nothing : ReaderRepresents nothing_read []

@@ -77,7 +77,7 @@ HasValue graph Ends = Unit {0}
 
 -- The lines were read, none of them has a cause, and they declare what is declared.
 pub record ReaderRepresents (progress : ReaderState) (lines : List (List ℕ)) : Type 0 where
-  pub clean : (place : ℕ) → place < length lines → cause_at lines place ≡ None
+  pub clean : (index : ℕ) → index < length lines → cause_at lines index ≡ None
   pub graph : progress.graph ≡ declared_by lines
   pub part : progress.part ≡ part_after lines
   pub values : All (HasValue (declared_by lines)) (statements_of lines)
