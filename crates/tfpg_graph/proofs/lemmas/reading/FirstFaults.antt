@@ -7,7 +7,8 @@ use Rattle.tfpg_graph.specs.ZeroCycle.{LiesOnZeroCycle}
 use Rattle.tfpg_graph.specs.Statements.{declares_node, declares_edge}
 use Rattle.tfpg_graph.specs.Faults.{IsClean, IsLineFault, IsLineSaying, LacksIncoming, HasIncomingBefore, HasNoZeroCycle, IsWholeFault}
 use Rattle.tfpg_graph.specs.declared.reading.reader.Part.TheVariants.{Header, Declarations}
-use Rattle.tfpg_graph.specs.inside.reading.Turns.{ReaderState, turn, part_after, ReaderRepresents}
+use Rattle.tfpg_graph.specs.inside.reading.ReaderState.{ReaderState}
+use Rattle.tfpg_graph.specs.inside.reading.Turns.{turn, part_after, ReaderRepresents}
 use Rattle.tfpg_graph.proofs.lemmas.reading.CauseAt.{cause_at-append, cause_at-after}
 use Rattle.tfpg_graph.proofs.lemmas.reading.PartAfter.{part-declarations}
 use Rattle.tfpg_graph.proofs.lemmas.reading.Caused.{ReaderRepresents-err}

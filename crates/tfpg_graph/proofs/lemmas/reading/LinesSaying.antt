@@ -7,7 +7,8 @@ use Rattle.std.proofs.lemmas.List.{take_all}
 use Rattle.std.proofs.lemmas.List.Sums.{sum_by-cons, count_by_more_yes, count_by_more_no}
 use Rattle.tfpg_graph.specs.Statements.{Statement, statement_of, statements_of, declares_mode, declares_node, declares_edge}
 use Rattle.tfpg_graph.specs.Faults.{says, IsLineSaying}
-use Rattle.tfpg_graph.specs.inside.reading.Turns.{ReaderState, ReaderRepresents}
+use Rattle.tfpg_graph.specs.inside.reading.ReaderState.{ReaderState}
+use Rattle.tfpg_graph.specs.inside.reading.Turns.{ReaderRepresents}
 use Rattle.tfpg_graph.proofs.lemmas.reading.DeclaredBy.{count-modes, count-nodes, count-edges}
 
 module _ {X : Type 0} (test : X → Bool) where

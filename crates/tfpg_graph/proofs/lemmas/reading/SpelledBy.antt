@@ -18,7 +18,8 @@ use Rattle.tfpg_graph.specs.Statements.{Statement, statement_of, statements_of, 
 use Rattle.tfpg_graph.specs.Declares.{graph_said}
 use Rattle.tfpg_graph.specs.Causes.{is_out_of_order, cause_of_said, cause_after}
 use Rattle.tfpg_graph.specs.declared.reading.reader.Part.TheVariants.{Declarations, Ended}
-use Rattle.tfpg_graph.specs.inside.reading.Turns.{ReaderState, ReaderRepresents}
+use Rattle.tfpg_graph.specs.inside.reading.ReaderState.{ReaderState}
+use Rattle.tfpg_graph.specs.inside.reading.Turns.{ReaderRepresents}
 use Rattle.tfpg_graph.proofs.lemmas.reading.WithoutCause.{IsWithoutCause, without_cause}
 use Rattle.tfpg_graph.proofs.lemmas.reading.SaidWords.{said_by_words, skipped_says_nothing}
 use Rattle.tfpg_graph.proofs.lemmas.reading.SpelledSoFar.{SpellsSoFar, AreSpelled, statement_spelled}

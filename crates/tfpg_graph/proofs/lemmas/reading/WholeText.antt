@@ -13,7 +13,8 @@ use Rattle.tfpg_graph.specs.Valid.{IsValid}
 use Rattle.tfpg_graph.specs.Causes.{cause_at}
 use Rattle.tfpg_graph.specs.Faults.{IsTested, IsClean, IsLineFault, IsWholeFault, IsRefusalOf, IsAnswerOf}
 use Rattle.tfpg_graph.specs.declared.reading.reader.Part.TheVariants.{Ended}
-use Rattle.tfpg_graph.specs.inside.reading.Turns.{ReaderState, turn, ReaderRepresents}
+use Rattle.tfpg_graph.specs.inside.reading.ReaderState.{ReaderState}
+use Rattle.tfpg_graph.specs.inside.reading.Turns.{turn, ReaderRepresents}
 use Rattle.tfpg_graph.specs.inside.reading.Answered.{IsTurnAnswer, refusal_at, IsEndRefusal}
 use Rattle.tfpg_graph.proofs.lemmas.reading.FirstFaults.{IsLineFault-err}
 use Rattle.tfpg_graph.proofs.lemmas.reading.SpelledBy.{Spells-read}

@@ -11,12 +11,8 @@ use Rattle.tfpg_graph.specs.inside.Indexes.{nothing_declared, with_node, with_ed
 use Rattle.tfpg_graph.specs.Statements.{Statement, DeclaresMode, DeclaresNode, DeclaresEdge, Ends, statement_of, statements_of, is_skipped, ends_text}
 use Rattle.tfpg_graph.specs.Declares.{kind_of_words, edge_declared, declared_by}
 use Rattle.tfpg_base.specs.Choice.{first_of}
+use Rattle.tfpg_graph.specs.inside.reading.ReaderState.{ReaderState}
 use Rattle.tfpg_graph.specs.Causes.{causes, cause_at}
-
--- how far a text is read
-pub record ReaderState : Type 0 where
-  pub part : Part
-  pub graph : Tfpg
 
 -- before the first line
 abbrev pub nothing_read : ReaderState
