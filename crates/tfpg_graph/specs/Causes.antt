@@ -200,7 +200,7 @@ cause_after before line =
 abbrev pub is_header : List ℕ → Bool
 is_header line = bytes_eq line header
 
--- The cause of the line at this place, counted from 0. The first line is tested for the header alone.
+-- The cause of the line at this index, from 0. The first line is tested for the header alone.
 abbrev pub cause_at : List (List ℕ) → ℕ → Option GraphCause
 cause_at lines zero = if is_header (slice_index_or lines 0 []) then None else Some BadHeader
-cause_at lines (suc place) = cause_after (statements_of (take (suc place) lines)) (slice_index_or lines (suc place) [])
+cause_at lines (suc index) = cause_after (statements_of (take (suc index) lines)) (slice_index_or lines (suc index) [])

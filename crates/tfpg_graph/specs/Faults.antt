@@ -13,21 +13,21 @@ use Rattle.tfpg_graph.specs.Statements.{Statement, statement_of, statements_of, 
 use Rattle.tfpg_graph.specs.Declares.{declared_by}
 use Rattle.tfpg_graph.specs.Causes.{cause_at}
 
--- The places of the lines that are tested, counted from 0. The first is tested also where the text has no line.
+-- The indexes of the lines that are tested, from 0. The first is tested also where the text has no line.
 abbrev pub IsTested : List (List ℕ) → ℕ → Type 0
-IsTested lines place = (place ≡ 0) ⊎ (place < length lines)
+IsTested lines index = (index ≡ 0) ⊎ (index < length lines)
 
 -- no line that is tested has a cause
 abbrev pub IsClean : List (List ℕ) → Type 0
-IsClean lines = (place : ℕ) → IsTested lines place → cause_at lines place ≡ None
+IsClean lines = (index : ℕ) → IsTested lines index → cause_at lines index ≡ None
 
 -- The fault's line is the first that has a cause, and the fault's cause is the first of that line.
 pub record IsLineFault (lines : List (List ℕ)) (fault : GraphFault) : Type 0 where
-  pub place : ℕ
-  pub number : fault.line ≡ place + 1
-  pub tested : IsTested lines place
-  pub cause : cause_at lines place ≡ Some fault.cause
-  pub first : (earlier : ℕ) → earlier < place → cause_at lines earlier ≡ None
+  pub index : ℕ
+  pub number : fault.line ≡ index + 1
+  pub tested : IsTested lines index
+  pub cause : cause_at lines index ≡ Some fault.cause
+  pub first : (earlier : ℕ) → earlier < index → cause_at lines earlier ≡ None
 
 -- whether a line says such a thing
 abbrev pub says : (Statement → Bool) → List ℕ → Bool
@@ -35,11 +35,11 @@ says test line = option_map_or test (statement_of line) false
 
 -- The line of this number, counted from 1, says such a thing, and so many lines before it do.
 pub record IsLineSaying (test : Statement → Bool) (lines : List (List ℕ)) (count line : ℕ) : Type 0 where
-  pub place : ℕ
-  pub number : line ≡ place + 1
-  pub within : place < length lines
-  pub here : IsTrue (says test (slice_index_or lines place []))
-  pub before : count_by (says test) (take place lines) ≡ count
+  pub index : ℕ
+  pub number : line ≡ index + 1
+  pub within : index < length lines
+  pub here : IsTrue (says test (slice_index_or lines index []))
+  pub before : count_by (says test) (take index lines) ≡ count
 
 -- the node of this number is a discrepancy with no edge into it
 abbrev pub LacksIncoming : Tfpg → ℕ → Type 0

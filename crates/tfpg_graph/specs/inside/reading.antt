@@ -1,3 +1,4 @@
+pub mod ReaderState
 pub mod Turns
 pub mod Answered
 pub mod StatementSeen

@@ -89,7 +89,7 @@ pub(crate) struct Reader {
 }
 
 impl Model for Reader {
-    ghost use Rattle.tfpg_graph.specs.inside.reading.Turns.{ReaderState};
+    ghost use Rattle.tfpg_graph.specs.inside.reading.ReaderState.{ReaderState};
 
     ghost Value = { ReaderState };
 

@@ -10,18 +10,18 @@ use Rattle.tfpg_graph.specs.Statements.{Statement, statement_of, statements_of, 
 use Rattle.tfpg_graph.specs.Causes.{cause_of_said, cause_after, cause_at}
 
 -- the cause of a line by those before it is none that stands after
-pub cause_at-append : (lines more : List (List ℕ)) (place : ℕ) → place < length lines
-    → cause_at (lines ++ more) place ≡ cause_at lines place
+pub cause_at-append : (lines more : List (List ℕ)) (index : ℕ) → index < length lines
+    → cause_at (lines ++ more) index ≡ cause_at lines index
 cause_at-append lines more zero within = ap (λ line. cond (bytes_eq line header) None (Some BadHeader)) (get_or_append_left lines more [] 0 within)
-cause_at-append lines more (suc place) within =
-    λ i. cause_after (statements_of (take-append-le (suc place) lines more (omega arith) i)) (get_or_append_left lines more [] (suc place) within i)
+cause_at-append lines more (suc index) within =
+    λ i. cause_after (statements_of (take-append-le (suc index) lines more (omega arith) i)) (get_or_append_left lines more [] (suc index) within i)
 
 -- A line among those up to it, with others after it.
-pub cause_at-after : (before after : List (List ℕ)) (line : List ℕ) (place : ℕ) → place ≤ length before
-    → cause_at (before ++ line ∷ after) place ≡ cause_at (before ++ line ∷ []) place
-cause_at-after before after line place within =
-    ap (λ lines. cause_at lines place) (sym (append_assoc before (line ∷ []) after))
-    ∙ cause_at-append (before ++ line ∷ []) after place (omega (arith, length_push before line))
+pub cause_at-after : (before after : List (List ℕ)) (line : List ℕ) (index : ℕ) → index ≤ length before
+    → cause_at (before ++ line ∷ after) index ≡ cause_at (before ++ line ∷ []) index
+cause_at-after before after line index within =
+    ap (λ lines. cause_at lines index) (sym (append_assoc before (line ∷ []) after))
+    ∙ cause_at-append (before ++ line ∷ []) after index (omega (arith, length_push before line))
 
 -- The cause of a line after others.
 pub cause_at-last : (lines : List (List ℕ)) (line : List ℕ) → 0 < length lines
@@ -33,15 +33,15 @@ cause_at-last (first ∷ others) line some =
 
 -- No line has a cause.
 abbrev pub AllClean : List (List ℕ) → Type 0
-AllClean lines = (place : ℕ) → place < length lines → cause_at lines place ≡ None
+AllClean lines = (index : ℕ) → index < length lines → cause_at lines index ≡ None
 
 -- One line more without a cause.
 pub clean-push : (lines : List (List ℕ)) (line : List ℕ) → AllClean lines
     → cause_at (lines ++ line ∷ []) (length lines) ≡ None → AllClean (lines ++ line ∷ [])
-clean-push lines line clean last place within = ⊎_elim
+clean-push lines line clean last index within = ⊎_elim
     (λ at. ap (cause_at (lines ++ line ∷ [])) at ∙ last)
-    (λ apart. let before : place < length lines = omega (arith, length_push lines line) in cause_at-append lines (line ∷ []) place before ∙ clean place before)
-    (cases_eq place (length lines))
+    (λ apart. let before : index < length lines = omega (arith, length_push lines line) in cause_at-append lines (line ∷ []) index before ∙ clean index before)
+    (cases_eq index (length lines))
 
 module _ (lines : List (List ℕ)) (line : List ℕ) (some : 0 < length lines) where
   -- The cause of a line that is skipped.

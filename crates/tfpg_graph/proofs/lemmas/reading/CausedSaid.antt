@@ -19,11 +19,11 @@ use Rattle.tfpg_graph.proofs.lemmas.reading.DeclaredBy.{AllHaveValues, is_mispla
 use Rattle.tfpg_graph.proofs.lemmas.reading.CauseAt.{cause-unended}
 
 -- where no test of several finds a cause, each finds none
-each_none : (tests : List (Option GraphCause)) → first_of tests ≡ None → (place : ℕ) → get_or tests place None ≡ None
-each_none [] none place = refl
-each_none (Some cause ∷ others) none place = absurd cc
+each_none : (tests : List (Option GraphCause)) → first_of tests ≡ None → (index : ℕ) → get_or tests index None ≡ None
+each_none [] none index = refl
+each_none (Some cause ∷ others) none index = absurd cc
 each_none (None ∷ others) none zero = refl
-each_none (None ∷ others) none (suc place) = each_none others none place
+each_none (None ∷ others) none (suc index) = each_none others none index
 
 not_held : (holds : Bool) (cause : GraphCause) → then_some holds cause ≡ None → holds ≡ false
 not_held true cause none = absurd cc

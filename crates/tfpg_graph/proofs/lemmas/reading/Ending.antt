@@ -14,7 +14,8 @@ use Rattle.tfpg_graph.specs.Statements.{declares_node, declares_edge}
 use Rattle.tfpg_graph.specs.Faults.{IsLineSaying, LacksIncoming, HasIncomingBefore}
 use Rattle.tfpg_graph.specs.declared.reading.reader.Part.{Part}
 use Rattle.tfpg_graph.specs.declared.reading.reader.Part.TheVariants.{Header, Declarations, Ended}
-use Rattle.tfpg_graph.specs.inside.reading.Turns.{ReaderState, part_after, ReaderRepresents}
+use Rattle.tfpg_graph.specs.inside.reading.ReaderState.{ReaderState}
+use Rattle.tfpg_graph.specs.inside.reading.Turns.{part_after, ReaderRepresents}
 use Rattle.tfpg_graph.specs.inside.reading.Answered.{refusal_at, IsEndRefusal}
 use Rattle.tfpg_graph.proofs.lemmas.reading.PartAfter.{no_header}
 use Rattle.tfpg_graph.proofs.lemmas.zero_cycle.ZeroCycles.{HasZeroOrder-no_cycle, HasZeroOrder-none_lies}

@@ -7,7 +7,8 @@ use Rattle.tfpg_graph.specs.ZeroCycle.{LiesOnZeroCycle}
 use Rattle.tfpg_graph.specs.Statements.{declares_node, declares_edge}
 use Rattle.tfpg_graph.specs.Faults.{IsClean, IsLineFault, IsLineSaying, LacksIncoming, HasIncomingBefore, HasNoZeroCycle, IsWholeFault}
 use Rattle.tfpg_graph.specs.declared.reading.reader.Part.TheVariants.{Header, Declarations}
-use Rattle.tfpg_graph.specs.inside.reading.Turns.{ReaderState, turn, part_after, ReaderRepresents}
+use Rattle.tfpg_graph.specs.inside.reading.ReaderState.{ReaderState}
+use Rattle.tfpg_graph.specs.inside.reading.Turns.{turn, part_after, ReaderRepresents}
 use Rattle.tfpg_graph.proofs.lemmas.reading.CauseAt.{cause_at-append, cause_at-after}
 use Rattle.tfpg_graph.proofs.lemmas.reading.PartAfter.{part-declarations}
 use Rattle.tfpg_graph.proofs.lemmas.reading.Caused.{ReaderRepresents-err}
@@ -17,7 +18,7 @@ pub IsLineFault-err : (progress : ReaderState) (before after : List (List ℕ)) 
     → ReaderRepresents progress before → turn progress line ≡ Err cause
     → IsLineFault (before ++ line ∷ after) (record { line = length before + 1; cause = cause })
 IsLineFault-err progress before after line cause stands failed = record {
-  place = length before;
+  index = length before;
   number = refl;
   tested = inr (omega (arith, length-append before (line ∷ after)));
   cause = cause_at-after before after line (length before) (omega arith) ∙ ReaderRepresents-err progress before line cause stands failed;
@@ -26,12 +27,12 @@ IsLineFault-err progress before after line cause stands failed = record {
 
 -- A text without a line has no header.
 pub IsLineFault-empty : IsLineFault [] (record { line = 1; cause = BadHeader })
-IsLineFault-empty = record { place = 0; number = refl; tested = inl refl; cause = refl; first = λ earlier within. absurd (omega arith) }
+IsLineFault-empty = record { index = 0; number = refl; tested = inl refl; cause = refl; first = λ earlier within. absurd (omega arith) }
 
 module _ (progress : ReaderState) (lines : List (List ℕ)) (stands : ReaderRepresents progress lines) where
   -- Where a line was read, none has a cause.
   pub IsClean-some : 0 < length lines → IsClean lines
-  IsClean-some some place tested = stands.clean place (⊎_elim (λ first. omega (arith, first)) (λ within. within) tested)
+  IsClean-some some index tested = stands.clean index (⊎_elim (λ first. omega (arith, first)) (λ within. within) tested)
 
   -- after the header a line was read
   some_line : progress.part ≢ Header → 0 < length lines

@@ -7,7 +7,8 @@ use Rattle.std.proofs.lemmas.List.{take_all}
 use Rattle.std.proofs.lemmas.List.Sums.{sum_by-cons, count_by_more_yes, count_by_more_no}
 use Rattle.tfpg_graph.specs.Statements.{Statement, statement_of, statements_of, declares_mode, declares_node, declares_edge}
 use Rattle.tfpg_graph.specs.Faults.{says, IsLineSaying}
-use Rattle.tfpg_graph.specs.inside.reading.Turns.{ReaderState, ReaderRepresents}
+use Rattle.tfpg_graph.specs.inside.reading.ReaderState.{ReaderState}
+use Rattle.tfpg_graph.specs.inside.reading.Turns.{ReaderRepresents}
 use Rattle.tfpg_graph.proofs.lemmas.reading.DeclaredBy.{count-modes, count-nodes, count-edges}
 
 module _ {X : Type 0} (test : X → Bool) where
@@ -15,9 +16,9 @@ module _ {X : Type 0} (test : X → Bool) where
   count_by-cons : (x : X) (xs : List X) → count_by test (x ∷ xs) ≡ cond (test x) 1 0 + count_by test xs
   count_by-cons x xs = sum_by-cons (λ y. cond (test y) 1 0) x xs
 
-  -- a place whose item passes, after so many that do
+  -- a index whose item passes, after so many that do
   abbrev PassesAfter : List X → ℕ → X → Type 0
-  PassesAfter xs count default = (place : ℕ) × (place < length xs) × (test (get_or xs place default) ≡ true) × (count_by test (take place xs) ≡ count)
+  PassesAfter xs count default = (index : ℕ) × (index < length xs) × (test (get_or xs index default) ≡ true) × (count_by test (take index xs) ≡ count)
 
   -- Of more than so many that pass, one stands after so many.
   pub passes_after : (xs : List X) (count : ℕ) (default : X) → count < count_by test xs → PassesAfter xs count default
@@ -54,28 +55,28 @@ module _ (test : Statement → Bool) (lines : List (List ℕ)) where
   count-says = count_by-filter_map statement_of test lines
 
   -- One line more that says no such thing leaves the count.
-  pub count-says_no : (place : ℕ) → place < length lines → says test (get_or lines place []) ≡ false
-      → count_by (says test) (take (place + 1) lines) ≡ count_by (says test) (take place lines)
-  count-says_no place within other = count_by_more_no (says test) lines place [] within other
+  pub count-says_no : (index : ℕ) → index < length lines → says test (get_or lines index []) ≡ false
+      → count_by (says test) (take (index + 1) lines) ≡ count_by (says test) (take index lines)
+  count-says_no index within other = count_by_more_no (says test) lines index [] within other
 
   -- And one that does raises it.
-  pub count-says_yes : (place : ℕ) → place < length lines → says test (get_or lines place []) ≡ true
-      → count_by (says test) (take (place + 1) lines) ≡ count_by (says test) (take place lines) + 1
-  count-says_yes place within such = count_by_more_yes (says test) lines place [] within such
+  pub count-says_yes : (index : ℕ) → index < length lines → says test (get_or lines index []) ≡ true
+      → count_by (says test) (take (index + 1) lines) ≡ count_by (says test) (take index lines) + 1
+  count-says_yes index within such = count_by_more_yes (says test) lines index [] within such
 
   -- After the last line the count is that of all.
-  pub count-says_all : (place : ℕ) → length lines ≤ place
-      → count_by (says test) (take place lines) ≡ count_by (says test) lines
-  count-says_all place after = ap (count_by (says test)) (take_all place lines after)
+  pub count-says_all : (index : ℕ) → length lines ≤ index
+      → count_by (says test) (take index lines) ≡ count_by (says test) lines
+  count-says_all index after = ap (count_by (says test)) (take_all index lines after)
 
   -- Where the count is not yet that of all, there are lines ahead.
-  pub lines_ahead : (place : ℕ) → count_by (says test) (take place lines) < count_by (says test) lines → place < length lines
-  lines_ahead place less = ⊎_elim (λ within. within) (λ after. absurd (omega (arith, count-says_all place after))) (cases_lt place (length lines))
+  pub lines_ahead : (index : ℕ) → count_by (says test) (take index lines) < count_by (says test) lines → index < length lines
+  lines_ahead index less = ⊎_elim (λ within. within) (λ after. absurd (omega (arith, count-says_all index after))) (cases_lt index (length lines))
 
   -- The line that says such a thing, where the count has come so far.
-  pub IsLineSaying-here : (place count : ℕ) → place < length lines → says test (get_or lines place []) ≡ true
-      → count_by (says test) (take place lines) ≡ count → IsLineSaying test lines count (place + 1)
-  IsLineSaying-here place count within such counted = record { place = place; number = refl; within = within; here = such; before = counted }
+  pub IsLineSaying-here : (index count : ℕ) → index < length lines → says test (get_or lines index []) ≡ true
+      → count_by (says test) (take index lines) ≡ count → IsLineSaying test lines count (index + 1)
+  IsLineSaying-here index count within such counted = record { index = index; number = refl; within = within; here = such; before = counted }
 
   -- There is such a line where more lines than so many say such a thing.
   pub line_saying : (count : ℕ) → count < count_by (says test) lines → (line : ℕ) × IsLineSaying test lines count line
@@ -107,11 +108,11 @@ module _ (progress : ReaderState) (lines : List (List ℕ)) (stands : ReaderRepr
   line_of_edge edge within = line_saying declares_edge lines edge (omega (arith, count-edge_lines))
 
   -- While the lines counted declare no more nodes than come before this one, lines are ahead.
-  pub node_ahead : (node place : ℕ) → node < length progress.graph.nodes
-      → count_by (says declares_node) (take place lines) ≤ node → place < length lines
-  node_ahead node place within counted = lines_ahead declares_node lines place (omega (arith, count-node_lines))
+  pub node_ahead : (node index : ℕ) → node < length progress.graph.nodes
+      → count_by (says declares_node) (take index lines) ≤ node → index < length lines
+  node_ahead node index within counted = lines_ahead declares_node lines index (omega (arith, count-node_lines))
 
   -- The same of an edge.
-  pub edge_ahead : (edge place : ℕ) → edge < length progress.graph.edges
-      → count_by (says declares_edge) (take place lines) ≤ edge → place < length lines
-  edge_ahead edge place within counted = lines_ahead declares_edge lines place (omega (arith, count-edge_lines))
+  pub edge_ahead : (edge index : ℕ) → edge < length progress.graph.edges
+      → count_by (says declares_edge) (take index lines) ≤ edge → index < length lines
+  edge_ahead edge index within counted = lines_ahead declares_edge lines index (omega (arith, count-edge_lines))

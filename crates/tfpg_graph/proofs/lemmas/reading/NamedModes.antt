@@ -21,15 +21,15 @@ use Rattle.tfpg_graph.specs.inside.reading.LineCauses.{with_option}
 use Rattle.tfpg_graph.proofs.lemmas.reading.SaidModes.{mode_found, unlike_others, filter_map-some, All-filter_map}
 
 -- one more member that is new is worth its own more
-sum_by-with_member : (f : ℕ → ℕ) (place : ℕ) (members : List ℕ) → (Contains members place → ⊥) → sum_by f (with_member place members) ≡ f place + sum_by f members
-sum_by-with_member f place [] new = sum_by-cons f place []
-sum_by-with_member f place (first ∷ others) new = by (sum_by-with_member f place others (λ is. new (Contains-tail first others place is))) (nat_lt place first) (place == first) refl
+sum_by-with_member : (f : ℕ → ℕ) (index : ℕ) (members : List ℕ) → (Contains members index → ⊥) → sum_by f (with_member index members) ≡ f index + sum_by f members
+sum_by-with_member f index [] new = sum_by-cons f index []
+sum_by-with_member f index (first ∷ others) new = by (sum_by-with_member f index others (λ is. new (Contains-tail first others index is))) (nat_lt index first) (index == first) refl
   where
-    by : sum_by f (with_member place others) ≡ f place + sum_by f others → (before same : Bool) → (place == first) ≡ same
-        → sum_by f (cond before (place ∷ first ∷ others) (cond same (first ∷ others) (first ∷ with_member place others))) ≡ f place + sum_by f (first ∷ others)
-    by later true same at = sum_by-cons f place (first ∷ others)
-    by later false true at = absurd (new (subst (Contains (first ∷ others)) (sym (eqb-true place first at)) (Contains-head first others)))
-    by later false false at = omega (arith, sum_by-cons f first (with_member place others), sum_by-cons f first others, later)
+    by : sum_by f (with_member index others) ≡ f index + sum_by f others → (before same : Bool) → (index == first) ≡ same
+        → sum_by f (cond before (index ∷ first ∷ others) (cond same (first ∷ others) (first ∷ with_member index others))) ≡ f index + sum_by f (first ∷ others)
+    by later true same at = sum_by-cons f index (first ∷ others)
+    by later false true at = absurd (new (subst (Contains (first ∷ others)) (sym (eqb-true index first at)) (Contains-head first others)))
+    by later false false at = omega (arith, sum_by-cons f first (with_member index others), sum_by-cons f first others, later)
 
 module _ (graph : Tfpg) (name : List ℕ) (others : List (List ℕ)) (members : List ℕ) (once : has_twice (name ∷ others) ≡ false)
     (named : All (Contains (filter_map (mode_named graph) others)) members)
@@ -62,26 +62,26 @@ module _ (graph : Tfpg) (name : List ℕ) (others : List (List ℕ)) (members : 
       by (Some mode) is = sum_by-with_member (λ mode. 2 ^ mode) mode members (new_mode mode is) ∙ ap (λ rest. 2 ^ mode + rest) worth
           ∙ sym (sum_by-cons (λ mode. 2 ^ mode) mode (filter_map (mode_named graph) others))
 
--- rising places below a bound are worth less than the bit of the bound, by at least the bit of a place at or before the first
-below : (places : List ℕ) (first bound : ℕ) → AllPairs ◌<◌ places → All (λ place. first ≤ place) places → All (λ place. place < bound) places → first ≤ bound
-    → sum_by (λ place. 2 ^ place) places + 2 ^ first ≤ 2 ^ bound
+-- rising places below a bound are worth less than the bit of the bound, by at least the bit of a index at or before the first
+below : (places : List ℕ) (first bound : ℕ) → AllPairs ◌<◌ places → All (λ index. first ≤ index) places → All (λ index. index < bound) places → first ≤ bound
+    → sum_by (λ index. 2 ^ index) places + 2 ^ first ≤ 2 ^ bound
 below [] first bound rises from to within = let bit : 2 ^ first ≤ 2 ^ bound = pow_mono within in omega (arith, bit)
-below (place ∷ others) first bound rises from to within =
-    let low : first ≤ place = All-head (λ p. first ≤ p) place others from in
-    let high : place < bound = All-head (λ p. p < bound) place others to in
-    let rest : sum_by (λ p. 2 ^ p) others + 2 ^ suc place ≤ 2 ^ bound = below others (suc place) bound (AllPairs-tail ◌<◌ place others rises) (AllPairs-head ◌<◌ place others rises)
-    (All-tail (λ p. p < bound) place others to) high in
-    let bit : 2 ^ first ≤ 2 ^ place = pow_mono low in
-    omega (arith, rest, bit, pow-suc 2 place, sum_by-cons (λ p. 2 ^ p) place others)
+below (index ∷ others) first bound rises from to within =
+    let low : first ≤ index = All-head (λ p. first ≤ p) index others from in
+    let high : index < bound = All-head (λ p. p < bound) index others to in
+    let rest : sum_by (λ p. 2 ^ p) others + 2 ^ suc index ≤ 2 ^ bound = below others (suc index) bound (AllPairs-tail ◌<◌ index others rises) (AllPairs-head ◌<◌ index others rises)
+    (All-tail (λ p. p < bound) index others to) high in
+    let bit : 2 ^ first ≤ 2 ^ index = pow_mono low in
+    omega (arith, rest, bit, pow-suc 2 index, sum_by-cons (λ p. 2 ^ p) index others)
 
 -- the bits of a set of modes are below the bit of the number of modes
-pub worth_below : (places : List ℕ) (bound : ℕ) → AllPairs ◌<◌ places → All (λ place. place < bound) places → sum_by (λ place. 2 ^ place) places < 2 ^ bound
+pub worth_below : (places : List ℕ) (bound : ℕ) → AllPairs ◌<◌ places → All (λ index. index < bound) places → sum_by (λ index. 2 ^ index) places < 2 ^ bound
 worth_below places bound rises to = omega (arith, below places 0 bound rises (λ k d within. omega arith) to (omega arith))
 
 -- a list with an item is worth something
-pub worth_some : (places : List ℕ) → places ≢ [] → 0 < sum_by (λ place. 2 ^ place) places
+pub worth_some : (places : List ℕ) → places ≢ [] → 0 < sum_by (λ index. 2 ^ index) places
 worth_some [] some = absurd (some refl)
-worth_some (place ∷ others) some = omega (arith, sum_by-cons (λ p. 2 ^ p) place others, pow_pos place)
+worth_some (index ∷ others) some = omega (arith, sum_by-cons (λ p. 2 ^ p) index others, pow_pos index)
 
 module _ (graph : Tfpg) (word : List ℕ) (named : bytes_eq word (codes "*") ≡ false) (some_mode : bytes_eq word (codes "-") ≡ false)
     (known : list_any (λ name. is_none (mode_named graph name)) (modes_listed word) ≡ false) where

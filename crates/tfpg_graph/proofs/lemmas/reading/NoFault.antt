@@ -76,42 +76,42 @@ statements_of-kept (line ∷ lines) said says =
 -- Where what they say runs without a cause after other statements, no line has a cause.
 pub clean_after : (lines : List (List ℕ)) (before said : List Statement)
     → All (λ line. length line ≤ longest_line) lines → AllZip Says (kept lines) said → Runs before said
-    → (place : ℕ) → place < length lines
-    → cause_after (before ++ statements_of (take place lines)) (get_or lines place []) ≡ None
-clean_after [] before said short says runs place within = absurd (omega arith)
-clean_after (line ∷ lines) before said short says runs place within =
-    by (λ before others says runs place within. clean_after lines before others
-    (All-tail (λ l. length l ≤ longest_line) line lines short) says runs place within)
-    (is_empty_or_comment line) refl said says runs place within
+    → (index : ℕ) → index < length lines
+    → cause_after (before ++ statements_of (take index lines)) (get_or lines index []) ≡ None
+clean_after [] before said short says runs index within = absurd (omega arith)
+clean_after (line ∷ lines) before said short says runs index within =
+    by (λ before others says runs index within. clean_after lines before others
+    (All-tail (λ l. length l ≤ longest_line) line lines short) says runs index within)
+    (is_empty_or_comment line) refl said says runs index within
   where
     fits : nat_le (length line) longest_line ≡ true
     fits = le-leb (length line) longest_line (All-head (λ l. length l ≤ longest_line) line lines short)
 
-    by : ((before others : List Statement) → AllZip Says (kept lines) others → Runs before others → (place : ℕ)
-        → place < length lines
-        → cause_after (before ++ statements_of (take place lines)) (get_or lines place []) ≡ None)
+    by : ((before others : List Statement) → AllZip Says (kept lines) others → Runs before others → (index : ℕ)
+        → index < length lines
+        → cause_after (before ++ statements_of (take index lines)) (get_or lines index []) ≡ None)
         → (skipped : Bool) → is_empty_or_comment line ≡ skipped → (said : List Statement)
         → AllZip Says (kept_with skipped line lines) said → Runs before said
-        → (place : ℕ) → place < length (line ∷ lines)
-        → cause_after (before ++ statements_of (take place (line ∷ lines))) (get_or (line ∷ lines) place []) ≡ None
+        → (index : ℕ) → index < length (line ∷ lines)
+        → cause_after (before ++ statements_of (take index (line ∷ lines))) (get_or (line ∷ lines) index []) ≡ None
     by rest true skipped said says runs zero within = λ i.
         cond (skipped i && fits i) None
         (cond (list_any ends_text (before ++ [])) (Some AfterEnd) (cause_of_said (before ++ []) (statement_of line)))
-    by rest true skipped said says runs (suc place) within =
-        ap (λ s. cause_after (before ++ cons_option s (statements_of (take place lines))) (get_or lines place []))
+    by rest true skipped said says runs (suc index) within =
+        ap (λ s. cause_after (before ++ cons_option s (statements_of (take index lines))) (get_or lines index []))
         (statement_of-skipped line skipped)
-        ∙ rest before said says runs place (omega arith)
-    by rest false skipped [] says runs place within = absurd says
+        ∙ rest before said says runs index (omega arith)
+    by rest false skipped [] says runs index within = absurd says
     by rest false skipped (s ∷ said) says runs zero within =
         ap (λ b. cause_after b line) (append-nil before)
         ∙ (λ i. cond (skipped i && nat_le (length line) longest_line) None
         (cond (runs.0 i) (Some AfterEnd) (cause_of_said before (says.0 i))))
         ∙ runs.1
-    by rest false skipped (s ∷ said) says runs (suc place) within =
-        ap (λ o. cause_after (before ++ cons_option o (statements_of (take place lines))) (get_or lines place [])) says.0
-        ∙ ap (λ all. cause_after all (get_or lines place []))
-        (sym (append_assoc before (s ∷ []) (statements_of (take place lines))))
-        ∙ rest (before ++ s ∷ []) said says.1 runs.2 place (omega arith)
+    by rest false skipped (s ∷ said) says runs (suc index) within =
+        ap (λ o. cause_after (before ++ cons_option o (statements_of (take index lines))) (get_or lines index [])) says.0
+        ∙ ap (λ all. cause_after all (get_or lines index []))
+        (sym (append_assoc before (s ∷ []) (statements_of (take index lines))))
+        ∙ rest (before ++ s ∷ []) said says.1 runs.2 index (omega arith)
 
 -- ---- the lines that spell a graph
 
@@ -204,9 +204,9 @@ module _ (graph : Tfpg) (valid : IsValid graph) (after : List (List ℕ)) (short
     (says : AllZip Says (kept after) (said_so_far graph.modes graph.nodes said ++ Ends ∷ [])) where
   clean : IsClean (header ∷ after)
   clean zero tested = refl
-  clean (suc place) tested =
+  clean (suc index) tested =
       clean_after after [] (said_so_far graph.modes graph.nodes said ++ Ends ∷ []) short says
-      (Runs-whole graph valid said are) place
+      (Runs-whole graph valid said are) index
       (⊎_elim (λ first. absurd (omega (arith, first))) (λ within. omega (arith, within)) tested)
 
   all_said : statements_of (header ∷ after) ≡ said_so_far graph.modes graph.nodes said ++ Ends ∷ []
@@ -260,7 +260,7 @@ IsValid-no_zero_cycle graph valid number lies =
 
 module _ (lines : List (List ℕ)) (graph : Tfpg) (valid : IsValid graph) (fault : GraphFault) where
   no_line_fault : IsClean lines → IsLineFault lines fault → ⊥
-  no_line_fault clean is = none-some fault.cause (sym (clean is.place is.tested) ∙ is.cause)
+  no_line_fault clean is = none-some fault.cause (sym (clean is.index is.tested) ∙ is.cause)
 
   no_incoming_fault : declared_by lines ≡ graph → IsIncomingFault lines fault → ⊥
   no_incoming_fault declared is =

@@ -38,14 +38,14 @@ same_unless_less a b not_less not_more =
 same_fault : (a b : GraphFault) → a.line ≡ b.line → a.cause ≡ b.cause → a ≡ b
 same_fault a b line cause = λ i. record { line = line i; cause = cause i }
 
--- An item that passes is not counted before its place, and is after it.
-counted_after : {X : Type 0} (test : X → Bool) (xs : List X) (default : X) (place later : ℕ) → place < later → later ≤ length xs
-    → test (get_or xs place default) ≡ true → count_by test (take place xs) < count_by test (take later xs)
-counted_after test xs default place later before within passes =
-    let more = count_by_more_yes test xs place default (omega arith) passes in
-    let fewer = sum_by-take-le (λ y. cond (test y) 1 0) (take later xs) (place + 1) in
-    let front = take-take (place + 1) later xs (omega arith) in
-    let counted : count_by test (take (place + 1) xs) ≤ count_by test (take later xs) =
+-- An item that passes is not counted before its index, and is after it.
+counted_after : {X : Type 0} (test : X → Bool) (xs : List X) (default : X) (index later : ℕ) → index < later → later ≤ length xs
+    → test (get_or xs index default) ≡ true → count_by test (take index xs) < count_by test (take later xs)
+counted_after test xs default index later before within passes =
+    let more = count_by_more_yes test xs index default (omega arith) passes in
+    let fewer = sum_by-take-le (λ y. cond (test y) 1 0) (take later xs) (index + 1) in
+    let front = take-take (index + 1) later xs (omega arith) in
+    let counted : count_by test (take (index + 1) xs) ≤ count_by test (take later xs) =
     subst (λ ys. count_by test ys ≤ count_by test (take later xs)) front fewer in
     omega (arith, more, counted)
 
@@ -53,21 +53,21 @@ module _ (test : Statement → Bool) (lines : List (List ℕ)) (count : ℕ) whe
   -- One line says such a thing after so many that do.
   one_line : (line other : ℕ) → IsLineSaying test lines count line → IsLineSaying test lines count other → line ≡ other
   one_line line other is so =
-      is.number ∙ ap (λ n. n + 1) (same_unless_less is.place so.place
-      (λ less. let more = counted_after (says test) lines [] is.place so.place less (omega (arith, so.within)) is.here in
+      is.number ∙ ap (λ n. n + 1) (same_unless_less is.index so.index
+      (λ less. let more = counted_after (says test) lines [] is.index so.index less (omega (arith, so.within)) is.here in
       omega (arith, more, is.before, so.before))
-      (λ less. let more = counted_after (says test) lines [] so.place is.place less (omega (arith, is.within)) so.here in
+      (λ less. let more = counted_after (says test) lines [] so.index is.index less (omega (arith, is.within)) so.here in
       omega (arith, more, is.before, so.before)))
       ∙ sym so.number
 
 module _ (lines : List (List ℕ)) (one other : GraphFault) where
   line_faults : IsLineFault lines one → IsLineFault lines other → one ≡ other
   line_faults is so =
-      let place : is.place ≡ so.place = same_unless_less is.place so.place
-      (λ less. some_not_none one.cause (sym (so.first is.place less) ∙ is.cause))
-      (λ less. some_not_none other.cause (sym (is.first so.place less) ∙ so.cause)) in
-      let cause : Some one.cause ≡ Some other.cause = sym is.cause ∙ ap (cause_at lines) place ∙ so.cause in
-      same_fault one other (is.number ∙ ap (λ n. n + 1) place ∙ sym so.number) (cc)
+      let index : is.index ≡ so.index = same_unless_less is.index so.index
+      (λ less. some_not_none one.cause (sym (so.first is.index less) ∙ is.cause))
+      (λ less. some_not_none other.cause (sym (is.first so.index less) ∙ so.cause)) in
+      let cause : Some one.cause ≡ Some other.cause = sym is.cause ∙ ap (cause_at lines) index ∙ so.cause in
+      same_fault one other (is.number ∙ ap (λ n. n + 1) index ∙ sym so.number) (cc)
 
   incoming_faults : IsIncomingFault lines one → IsIncomingFault lines other → one ≡ other
   incoming_faults is so =
@@ -107,7 +107,7 @@ module _ (lines : List (List ℕ)) where
 
   -- where no line has a cause, no line has a fault
   clean_or_fault : (fault : GraphFault) → IsClean lines → IsLineFault lines fault → ⊥
-  clean_or_fault fault clean is = some_not_none fault.cause (sym (clean is.place is.tested) ∙ is.cause)
+  clean_or_fault fault clean is = some_not_none fault.cause (sym (clean is.index is.tested) ∙ is.cause)
 
 -- A text has at most one first fault.
 pub IsFirstFault-one : (text : List ℕ) (one other : GraphFault) → IsFirstFault text one → IsFirstFault text other → one ≡ other

@@ -18,7 +18,8 @@ use Rattle.tfpg_graph.specs.Statements.{Statement, statement_of, statements_of, 
 use Rattle.tfpg_graph.specs.Declares.{graph_said}
 use Rattle.tfpg_graph.specs.Causes.{is_out_of_order, cause_of_said, cause_after}
 use Rattle.tfpg_graph.specs.declared.reading.reader.Part.TheVariants.{Declarations, Ended}
-use Rattle.tfpg_graph.specs.inside.reading.Turns.{ReaderState, ReaderRepresents}
+use Rattle.tfpg_graph.specs.inside.reading.ReaderState.{ReaderState}
+use Rattle.tfpg_graph.specs.inside.reading.Turns.{ReaderRepresents}
 use Rattle.tfpg_graph.proofs.lemmas.reading.WithoutCause.{IsWithoutCause, without_cause}
 use Rattle.tfpg_graph.proofs.lemmas.reading.SaidWords.{said_by_words, skipped_says_nothing}
 use Rattle.tfpg_graph.proofs.lemmas.reading.SpelledSoFar.{SpellsSoFar, AreSpelled, statement_spelled}
@@ -118,20 +119,20 @@ AreCleanAfter before [] = Unit {0}
 AreCleanAfter before (line ∷ lines) = (cause_after before line ≡ None) × AreCleanAfter (before ++ statements_of (line ∷ [])) lines
 
 clean_after : (before : List Statement) (lines : List (List ℕ))
-    → ((place : ℕ) → place < length lines → cause_after (before ++ statements_of (take place lines)) (get_or lines place []) ≡ None)
+    → ((index : ℕ) → index < length lines → cause_after (before ++ statements_of (take index lines)) (get_or lines index []) ≡ None)
     → AreCleanAfter before lines
 clean_after before [] clean = tt
 clean_after before (line ∷ lines) clean = (
   ap (λ said. cause_after said line) (sym (append-nil before)) ∙ clean 0 (omega arith),
   clean_after (before ++ statements_of (line ∷ [])) lines
-      (λ place within. ap (λ said. cause_after said (get_or lines place [])) (more place) ∙ clean (suc place) (omega arith)),
+      (λ index within. ap (λ said. cause_after said (get_or lines index [])) (more index) ∙ clean (suc index) (omega arith)),
 )
   where
-    more : (place : ℕ)
-        → before ++ statements_of (line ∷ []) ++ statements_of (take place lines) ≡ before ++ statements_of (line ∷ take place lines)
-    more place =
-        append_assoc before (statements_of (line ∷ [])) (statements_of (take place lines))
-        ∙ ap (λ said. before ++ said) (sym (filter_map-append statement_of (line ∷ []) (take place lines)))
+    more : (index : ℕ)
+        → before ++ statements_of (line ∷ []) ++ statements_of (take index lines) ≡ before ++ statements_of (line ∷ take index lines)
+    more index =
+        append_assoc before (statements_of (line ∷ [])) (statements_of (take index lines))
+        ∙ ap (λ said. before ++ said) (sym (filter_map-append statement_of (line ∷ []) (take index lines)))
 
 -- lines without a cause are not too long
 lines_short : (before : List Statement) (lines : List (List ℕ)) → AreCleanAfter before lines
@@ -181,8 +182,8 @@ read_whole progress (first ∷ after) stands ended =
       after = after;
       begins = ap (λ line. line ∷ after) is_header;
       clean = clean_after [] after
-          (λ place within. ap (λ said. cause_after said (get_or after place [])) (sym (says_nothing (take place after)))
-          ∙ stands.clean (suc place) (omega arith));
+          (λ index within. ap (λ said. cause_after said (get_or after index [])) (sym (says_nothing (take index after)))
+          ∙ stands.clean (suc index) (omega arith));
       declared = stands.graph ∙ ap graph_said (says_nothing after);
       ended = ap (list_any ends_text) (sym (says_nothing after))
           ∙ ended_by_test (list_any ends_text (statements_of (first ∷ after))) (sym stands.part ∙ ended);

@@ -56,7 +56,7 @@ tmax_of_word-tmax (Some time) small =
     (decimal-not_inf time (omega arith))
     ∙ ap (option_map Some) (number_of-decimal time (omega arith))
 
--- where what stands at a number passes and nothing before it does, this is the first place
+-- where what stands at a number passes and nothing before it does, this is the first index
 pub position-at : {X : Type 0} (p : X → Bool) (xs : List X) (number : ℕ) (d : X) → number < length xs
     → p (get_or xs number d) ≡ true
     → ((earlier : ℕ) → earlier < number → p (get_or xs earlier d) ≡ false) → position p xs ≡ Some number
@@ -69,7 +69,7 @@ position-at p (x ∷ xs) (suc number) d within passes fail =
     (option_map suc
     (position-at p xs number d (omega arith) passes (λ earlier before. fail (suc earlier) (omega arith)) i)))
 
--- among names that differ, each stands first at its own place
+-- among names that differ, each stands first at its own index
 pub position-named : (names : List (List ℕ)) (number : ℕ) (d : List ℕ) → AllPairs (λ a b. a ≢ b) names
     → number < length names
     → position (λ name. bytes_eq name (get_or names number d)) names ≡ Some number

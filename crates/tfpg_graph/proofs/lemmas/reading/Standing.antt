@@ -14,7 +14,8 @@ use Rattle.tfpg_graph.specs.Declares.{kind_of_words, edge_declared, graph_said, 
 use Rattle.tfpg_graph.specs.Causes.{cause_at, is_out_of_order}
 use Rattle.tfpg_graph.specs.declared.reading.reader.Part.{Part}
 use Rattle.tfpg_graph.specs.declared.reading.reader.Part.TheVariants.{Header, Declarations, Ended}
-use Rattle.tfpg_graph.specs.inside.reading.Turns.{ReaderState, nothing_read, is_misplaced, progress_with, cause_or_value, turn_said, turn_of, turn, part_after, HasValue, ReaderRepresents}
+use Rattle.tfpg_graph.specs.inside.reading.ReaderState.{ReaderState}
+use Rattle.tfpg_graph.specs.inside.reading.Turns.{nothing_read, is_misplaced, progress_with, cause_or_value, turn_said, turn_of, turn, part_after, HasValue, ReaderRepresents}
 use Rattle.tfpg_graph.proofs.lemmas.reading.SaidBy.{statement_of-skipped, statement_of-header, statements_of-push, statements_of-silent}
 use Rattle.tfpg_graph.proofs.lemmas.reading.DeclaredBy.{AllHaveValues, is_misplaced-said, graph_said-mode, graph_said-node, graph_said-edge, graph_said-end, values-mode, values-node, values-edge, values-end}
 use Rattle.tfpg_graph.proofs.lemmas.reading.CauseAt.{AllClean, clean-push, cause-skipped}
@@ -23,7 +24,7 @@ use Rattle.tfpg_graph.proofs.lemmas.reading.PartAfter.{part-declarations, part-e
 
 -- no line has none
 all_clean-none : AllClean []
-all_clean-none place within = absurd (omega arith)
+all_clean-none index within = absurd (omega arith)
 
 -- Before the first line nothing is read.
 pub ReaderRepresents-nothing : ReaderRepresents nothing_read []

@@ -13,7 +13,8 @@ use Rattle.tfpg_graph.specs.Valid.{IsValid}
 use Rattle.tfpg_graph.specs.Causes.{cause_at}
 use Rattle.tfpg_graph.specs.Faults.{IsTested, IsClean, IsLineFault, IsWholeFault, IsRefusalOf, IsAnswerOf}
 use Rattle.tfpg_graph.specs.declared.reading.reader.Part.TheVariants.{Ended}
-use Rattle.tfpg_graph.specs.inside.reading.Turns.{ReaderState, turn, ReaderRepresents}
+use Rattle.tfpg_graph.specs.inside.reading.ReaderState.{ReaderState}
+use Rattle.tfpg_graph.specs.inside.reading.Turns.{turn, ReaderRepresents}
 use Rattle.tfpg_graph.specs.inside.reading.Answered.{IsTurnAnswer, refusal_at, IsEndRefusal}
 use Rattle.tfpg_graph.proofs.lemmas.reading.FirstFaults.{IsLineFault-err}
 use Rattle.tfpg_graph.proofs.lemmas.reading.SpelledBy.{Spells-read}
@@ -25,18 +26,18 @@ no_header_there none = cc
 
 -- An empty line has the fault of no line.
 fault-no_line : (fault : GraphFault) → IsLineFault ([] ∷ []) fault → IsLineFault [] fault
-fault-no_line fault is = by is.place is.number is.tested is.cause
+fault-no_line fault is = by is.index is.number is.tested is.cause
   where
-    by : (place : ℕ) → fault.line ≡ place + 1 → IsTested ([] ∷ []) place
-        → cause_at ([] ∷ []) place ≡ Some fault.cause → IsLineFault [] fault
+    by : (index : ℕ) → fault.line ≡ index + 1 → IsTested ([] ∷ []) index
+        → cause_at ([] ∷ []) index ≡ Some fault.cause → IsLineFault [] fault
     by zero number tested cause = record {
-      place = 0;
+      index = 0;
       number = number;
       tested = inl refl;
       cause = cause;
       first = λ earlier within. absurd (omega arith);
     }
-    by (suc place) number tested cause =
+    by (suc index) number tested cause =
         absurd (⊎_elim (λ first. omega (arith, first)) (λ within. omega (arith, within)) tested)
 
 -- The lines are the parts of the body, which is no longer than the text, where the text has a byte.
@@ -118,11 +119,11 @@ module _ (text body : List ℕ) (is : IsBody text body) where
     IsAnswerOf-end (Err refusal) read refused graph spells valid =
         IsAnswerOf-refused graph refusal (IsRefusalOf-end refusal refused) spells valid
 
--- The lines round the one at a place.
-pub lines_at : (lines before : List (List ℕ)) (place : ℕ) (line : List ℕ) → before ≡ take place lines
-    → place < length lines → line ≡ get_or lines place line → lines ≡ before ++ line ∷ drop (place + 1) lines
-lines_at lines before place line are within at =
-    sym (take-append-drop (place + 1) lines)
-    ∙ ap (λ front. front ++ drop (place + 1) lines) (take_more lines place line within)
-    ∙ (λ i. (sym are i ++ sym at i ∷ []) ++ drop (place + 1) lines)
-    ∙ append_assoc before (line ∷ []) (drop (place + 1) lines)
+-- The lines round the one at a index.
+pub lines_at : (lines before : List (List ℕ)) (index : ℕ) (line : List ℕ) → before ≡ take index lines
+    → index < length lines → line ≡ get_or lines index line → lines ≡ before ++ line ∷ drop (index + 1) lines
+lines_at lines before index line are within at =
+    sym (take-append-drop (index + 1) lines)
+    ∙ ap (λ front. front ++ drop (index + 1) lines) (take_more lines index line within)
+    ∙ (λ i. (sym are i ++ sym at i ∷ []) ++ drop (index + 1) lines)
+    ∙ append_assoc before (line ∷ []) (drop (index + 1) lines)

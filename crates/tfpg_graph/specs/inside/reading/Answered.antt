@@ -6,7 +6,7 @@ use Rattle.tfpg_graph.specs.declared.cause.GraphRefusal.TheVariants as text
 use Rattle.tfpg_graph.specs.declared.reading.reader.LineRefusal.{LineRefusal}
 use Rattle.tfpg_graph.specs.declared.reading.reader.LineRefusal.TheVariants as line
 use Rattle.tfpg_graph.specs.Faults.{IsClean, IsWholeFault}
-use Rattle.tfpg_graph.specs.inside.reading.Turns.{ReaderState}
+use Rattle.tfpg_graph.specs.inside.reading.ReaderState.{ReaderState}
 
 -- The reader's answer to a line is that of the line's turn, unless memory ran out.
 abbrev pub IsTurnAnswer : Result ReaderState GraphCause → Result ReaderState LineRefusal → Type 0

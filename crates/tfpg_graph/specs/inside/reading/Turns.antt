@@ -11,12 +11,8 @@ use Rattle.tfpg_graph.specs.inside.Indexes.{nothing_declared, with_node, with_ed
 use Rattle.tfpg_graph.specs.Statements.{Statement, DeclaresMode, DeclaresNode, DeclaresEdge, Ends, statement_of, statements_of, is_skipped, ends_text}
 use Rattle.tfpg_graph.specs.Declares.{kind_of_words, edge_declared, declared_by}
 use Rattle.tfpg_base.specs.Choice.{first_of}
+use Rattle.tfpg_graph.specs.inside.reading.ReaderState.{ReaderState}
 use Rattle.tfpg_graph.specs.Causes.{causes, cause_at}
-
--- how far a text is read
-pub record ReaderState : Type 0 where
-  pub part : Part
-  pub graph : Tfpg
 
 -- before the first line
 abbrev pub nothing_read : ReaderState
@@ -77,7 +73,7 @@ HasValue graph Ends = Unit {0}
 
 -- The lines were read, none of them has a cause, and they declare what is declared.
 pub record ReaderRepresents (progress : ReaderState) (lines : List (List ℕ)) : Type 0 where
-  pub clean : (place : ℕ) → place < length lines → cause_at lines place ≡ None
+  pub clean : (index : ℕ) → index < length lines → cause_at lines index ≡ None
   pub graph : progress.graph ≡ declared_by lines
   pub part : progress.part ≡ part_after lines
   pub values : All (HasValue (declared_by lines)) (statements_of lines)

@@ -20,7 +20,7 @@ next_part c =
 
 -- how many of so many parts say such a thing
 abbrev said_before : In-Some → ℕ → ℕ
-said_before c place = count_by (says (test_of c.args.declaring)) (take place (parts_of c.args.text.now))
+said_before c index = count_by (says (test_of c.args.declaring)) (take index (parts_of c.args.text.now))
 
 -- the count goes one line further
 lines_after : (c : In-Some) → said_before c (length c.loop-line.yielded + 1)

@@ -4,7 +4,7 @@ use Rattle.tfpg_graph.specs.declared.kind.Kind.{Kind}
 use Rattle.tfpg_graph.specs.declared.reading.reader.Part.TheVariants.{Declarations}
 use Rattle.tfpg_graph.specs.Graph.{Tfpg}
 use Rattle.tfpg_graph.specs.inside.Indexes.{with_node}
-use Rattle.tfpg_graph.specs.inside.reading.Turns.{ReaderState}
+use Rattle.tfpg_graph.specs.inside.reading.ReaderState.{ReaderState}
 use Rattle.tfpg_graph.proofs.lemmas.reading.Judged.{cause_or_value-caused, cause_or_value-valued}
 use Rattle.tfpg_graph.proofs.reading.reader.Reader.with_node.Goals as goal
 
