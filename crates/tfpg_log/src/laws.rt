@@ -1,6 +1,6 @@
 //! What the definitions of this crate come to, as functions that do nothing: each says its law in its clause.
 
-ghost use Rattle.std.specs.Prelude.{◌≡◌, ℕ, ◌+◌, ◌≤◌, ◌↔◌, List, [], length, All, IsTrue, Some};
+ghost use Rattle.std.specs.Prelude.{◌≡◌, ℕ, ◌+◌, ◌≤◌, ◌↔◌, List, [], ◌∷◌, ◌++◌, length, All, IsTrue, Some};
 ghost use Rattle.tfpg_base.specs.declared.activation.Activation.{Activation};
 ghost use Rattle.tfpg_base.specs.Trace.{time_of};
 ghost use Rattle.tfpg_graph.specs.declared.edge.Edge.{Edge};
@@ -10,11 +10,12 @@ ghost use Rattle.tfpg_graph.specs.Valid.{IsValid};
 ghost use Rattle.tfpg_log.specs.declared.event.Event.{Event};
 ghost use Rattle.tfpg_log.specs.declared.span.Span.{Span};
 ghost use Rattle.tfpg_log.specs.declared.span.Window.{Window};
-ghost use Rattle.tfpg_log.specs.Log.{Logbook, GoesOn, IsOrdered, now_of, event_at, alarm_of, mode_at, quiet_at};
+ghost use Rattle.tfpg_log.specs.Log.{Logbook, GoesOn, IsOf, IsOrdered, now_of, event_at, alarm_of, mode_at, quiet_at};
 ghost use Rattle.tfpg_log.specs.Rules.{IsActive, HasAge, IsAge};
 ghost use Rattle.tfpg_log.specs.Spans.{span_number, span_at, is_allowed_at, are_allowed_at, window_of, joint_of};
 ghost use Rattle.tfpg_log.specs.Runs.{IsSpanOf, IsWindowRound};
 ghost use Rattle.tfpg_log.specs.Explains.{Explains, Fits};
+ghost use Rattle.tfpg_log.specs.LogOfLines.{log_after, log_of_lines};
 ghost use Rattle.tfpg_log.specs.LogStatements.{LogStatement, SaysLogStatement, log_statement_of};
 
 mod window_laws;
@@ -29,6 +30,14 @@ pub use window_laws::{
 pub fn a_line_is_read_as_it_is_written()
     ensures { (line time : List ℕ) (statement : LogStatement) →
         (log_statement_of line ≡ Some (time, statement)) ↔ SaysLogStatement line time statement }
+{}
+
+/// The log of a list of lines grows by one line at a time. It is of its graph, and its times never fall.
+pub fn a_log_of_lines_is_of_its_graph()
+    ensures grows { (graph : Tfpg) (lines : List (List ℕ)) (line : List ℕ) →
+        log_of_lines graph (lines ++ line ∷ []) ≡ log_after graph (log_of_lines graph lines) line }
+    ensures of { (graph : Tfpg) (lines : List (List ℕ)) → IsOf graph (log_of_lines graph lines) }
+    ensures ordered { (graph : Tfpg) (lines : List (List ℕ)) → IsOrdered (log_of_lines graph lines) }
 {}
 
 /// Nothing outside a set's reach becomes active: a trace that explains a log from a set activates only nodes that the
