@@ -111,7 +111,8 @@ pub fn windows_are_runs_of_spans()
 /// same nodes.
 pub fn a_log_that_goes_on_keeps_the_past()
     ensures event { (earlier later : Logbook) → GoesOn earlier later →
-        (number : ℕ) (event : Event) → event_at earlier number ≡ Some event → event_at later number ≡ Some event }
+        (number : ℕ) (event : Event) → event_at earlier number ≡ Some event →
+        event_at later number ≡ Some event }
     ensures alarm { (earlier later : Logbook) → GoesOn earlier later →
         (node time : ℕ) → alarm_of earlier node ≡ Some time → alarm_of later node ≡ Some time }
     ensures silence { (graph : Tfpg) (earlier later : Logbook) → GoesOn earlier later →
@@ -131,7 +132,8 @@ pub fn a_log_that_goes_on_keeps_the_past()
         (edge : Edge) → window_of later edge number horizon ≡ window_of earlier edge number horizon }
     ensures joint { (earlier later : Logbook) → IsOrdered later → GoesOn earlier later →
         (number horizon : ℕ) → horizon ≤ now_of earlier →
-        (graph : Tfpg) (node : ℕ) → joint_of graph later node number horizon ≡ joint_of graph earlier node number horizon }
+        (graph : Tfpg) (node : ℕ) → joint_of graph later node number horizon
+        ≡ joint_of graph earlier node number horizon }
     ensures age { (earlier later : Logbook) → IsOrdered later → GoesOn earlier later →
         (trace : List Activation) (edge : Edge) (instant age : ℕ) → instant ≤ now_of earlier →
         HasAge later trace edge instant age ↔ HasAge earlier trace edge instant age }
