@@ -28,3 +28,4 @@ pub mod SpanStarts
 pub mod WindowStarts
 pub mod ModesInto
 pub mod WrittenLines
+pub mod LogsOfLines

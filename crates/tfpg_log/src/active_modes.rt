@@ -44,7 +44,8 @@ impl ActiveModes {
 /// The modes in which all edges into the node are active at once. Goes through these edges.
 pub(crate) fn modes_into(graph: &Graph, node: u32) -> ActiveModes
     requires { node < length graph.now.nodes }
-    ensures { (mode : ℕ) → has_mode result mode ≡ list_all (λ edge. is_allowed edge mode) (edges_into graph.now node) }
+    ensures { (mode : ℕ) → has_mode result mode ≡ list_all
+        (λ edge. is_allowed edge mode) (edges_into graph.now node) }
 {
     let mut modes = ActiveModes::Every;
     let incoming = graph.incoming(node);

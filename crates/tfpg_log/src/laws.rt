@@ -1,6 +1,6 @@
 //! What the definitions of this crate come to, as functions that do nothing: each says its law in its clause.
 
-ghost use Rattle.std.specs.Prelude.{◌≡◌, ℕ, ◌+◌, ◌≤◌, ◌↔◌, List, [], length, All, IsTrue, Some};
+ghost use Rattle.std.specs.Prelude.{◌≡◌, ℕ, ◌+◌, ◌≤◌, ◌↔◌, List, [], ◌∷◌, ◌++◌, length, All, IsTrue, Some};
 ghost use Rattle.tfpg_base.specs.declared.activation.Activation.{Activation};
 ghost use Rattle.tfpg_base.specs.Trace.{time_of};
 ghost use Rattle.tfpg_graph.specs.declared.edge.Edge.{Edge};
@@ -10,11 +10,12 @@ ghost use Rattle.tfpg_graph.specs.Valid.{IsValid};
 ghost use Rattle.tfpg_log.specs.declared.event.Event.{Event};
 ghost use Rattle.tfpg_log.specs.declared.span.Span.{Span};
 ghost use Rattle.tfpg_log.specs.declared.span.Window.{Window};
-ghost use Rattle.tfpg_log.specs.Log.{Logbook, GoesOn, IsOrdered, now_of, event_at, alarm_of, mode_at, quiet_at};
+ghost use Rattle.tfpg_log.specs.Log.{Logbook, GoesOn, IsOf, IsOrdered, now_of, event_at, alarm_of, mode_at, quiet_at};
 ghost use Rattle.tfpg_log.specs.Rules.{IsActive, HasAge, IsAge};
 ghost use Rattle.tfpg_log.specs.Spans.{span_number, span_at, is_allowed_at, are_allowed_at, window_of, joint_of};
 ghost use Rattle.tfpg_log.specs.Runs.{IsSpanOf, IsWindowRound};
 ghost use Rattle.tfpg_log.specs.Explains.{Explains, Fits};
+ghost use Rattle.tfpg_log.specs.LogOfLines.{log_after, log_of_lines};
 ghost use Rattle.tfpg_log.specs.LogStatements.{LogStatement, SaysLogStatement, log_statement_of};
 
 mod window_laws;
@@ -29,6 +30,14 @@ pub use window_laws::{
 pub fn a_line_is_read_as_it_is_written()
     ensures { (line time : List ℕ) (statement : LogStatement) →
         (log_statement_of line ≡ Some (time, statement)) ↔ SaysLogStatement line time statement }
+{}
+
+/// The log of a list of lines grows by one line at a time. It is of its graph, and its times never fall.
+pub fn a_log_of_lines_is_of_its_graph()
+    ensures grows { (graph : Tfpg) (lines : List (List ℕ)) (line : List ℕ) →
+        log_of_lines graph (lines ++ line ∷ []) ≡ log_after graph (log_of_lines graph lines) line }
+    ensures of { (graph : Tfpg) (lines : List (List ℕ)) → IsOf graph (log_of_lines graph lines) }
+    ensures ordered { (graph : Tfpg) (lines : List (List ℕ)) → IsOrdered (log_of_lines graph lines) }
 {}
 
 /// Nothing outside a set's reach becomes active: a trace that explains a log from a set activates only nodes that the
@@ -102,7 +111,8 @@ pub fn windows_are_runs_of_spans()
 /// same nodes.
 pub fn a_log_that_goes_on_keeps_the_past()
     ensures event { (earlier later : Logbook) → GoesOn earlier later →
-        (number : ℕ) (event : Event) → event_at earlier number ≡ Some event → event_at later number ≡ Some event }
+        (number : ℕ) (event : Event) → event_at earlier number ≡ Some event →
+        event_at later number ≡ Some event }
     ensures alarm { (earlier later : Logbook) → GoesOn earlier later →
         (node time : ℕ) → alarm_of earlier node ≡ Some time → alarm_of later node ≡ Some time }
     ensures silence { (graph : Tfpg) (earlier later : Logbook) → GoesOn earlier later →
@@ -122,7 +132,8 @@ pub fn a_log_that_goes_on_keeps_the_past()
         (edge : Edge) → window_of later edge number horizon ≡ window_of earlier edge number horizon }
     ensures joint { (earlier later : Logbook) → IsOrdered later → GoesOn earlier later →
         (number horizon : ℕ) → horizon ≤ now_of earlier →
-        (graph : Tfpg) (node : ℕ) → joint_of graph later node number horizon ≡ joint_of graph earlier node number horizon }
+        (graph : Tfpg) (node : ℕ) → joint_of graph later node number horizon
+        ≡ joint_of graph earlier node number horizon }
     ensures age { (earlier later : Logbook) → IsOrdered later → GoesOn earlier later →
         (trace : List Activation) (edge : Edge) (instant age : ℕ) → instant ≤ now_of earlier →
         HasAge later trace edge instant age ↔ HasAge earlier trace edge instant age }

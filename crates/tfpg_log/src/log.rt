@@ -136,7 +136,8 @@ impl Log {
     /// in its mode. Goes through the spans of the window.
     pub fn window_of(&self, graph: &Graph, edge: u32, number: u32, horizon: u64) -> Option<Window>
         requires { edge < length graph.now.edges }
-        ensures { result ≡ option_and_then (λ e. window_of self.now e number horizon) (slice_get graph.now.edges edge) }
+        ensures { result ≡ option_and_then
+            (λ e. window_of self.now e number horizon) (slice_get graph.now.edges edge) }
     {
         let modes = ActiveModes::OfEdge(graph.edge(edge));
         self.window_round(&modes, number, horizon)
@@ -185,7 +186,8 @@ impl Log {
     /// The window, of spans with these modes, round the span of this number up to a horizon.
     fn window_round(&self, modes: &ActiveModes, number: u32, horizon: u64) -> Option<Window>
         ensures { result ≡ option_and_then
-            (λ span. window_round self.now (λ instant. has_mode modes.now (mode_at self.now instant)) span horizon)
+            (λ span. window_round self.now
+            (λ instant. has_mode modes.now (mode_at self.now instant)) span horizon)
             (span_at self.now number horizon) }
     {
         if horizon > self.now() {

@@ -28,7 +28,8 @@ impl Log {
         ensures reply { IfOk result (λ reply. reply ≡ reply_to graph.now self.old line.now) }
         ensures log { IfOk result (λ reply. self.new ≡ log_after_reply self.old reply) }
         ensures refused { (refusal : Refusal) →
-            reply_to graph.now self.old line.now ≡ Offered.Refused refusal → result ≡ Ok (Offered.Refused refusal) }
+            reply_to graph.now self.old line.now ≡ Offered.Refused refusal →
+            result ≡ Ok (Offered.Refused refusal) }
         ensures err { OnErr result (self.new ≡ self.old) }
         ensures of { IsOf graph.now self.new }
     {

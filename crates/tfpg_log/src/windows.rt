@@ -20,7 +20,8 @@ pub(crate) fn window_round(
     horizon: u64,
 ) -> Option<Window>
     ensures { (log : Logbook) → BeginSpans (mode_at log) changes.now → horizon ≤ now_of log →
-        result ≡ option_and_then (λ span. window_round log (λ instant. has_mode modes.now (mode_at log instant)) span horizon)
+        result ≡ option_and_then (λ span. window_round log
+        (λ instant. has_mode modes.now (mode_at log instant)) span horizon)
         (span_at log number horizon) }
 {
     let span = span_in(changes, number as usize, horizon)?;

@@ -20,7 +20,8 @@ pub(crate) fn has_age(
 ) -> bool
     requires edge { edge < length graph.now.edges }
     requires by_now { instant ≤ now_of log.now }
-    ensures { IsTrue result ↔ IsSomeAnd (slice_get graph.now.edges edge) (λ e. HasAge log.now trace.now e instant age) }
+    ensures { IsTrue result ↔ IsSomeAnd (slice_get graph.now.edges edge)
+        (λ e. HasAge log.now trace.now e instant age) }
 {
     let Some(span) = log.span_of(instant) else {
         return false;

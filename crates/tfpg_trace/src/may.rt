@@ -59,7 +59,8 @@ fn all_arrive(graph: &Graph, log: &Log, trace: &Trace, node: u32, time: u64) -> 
 fn arrives(graph: &Graph, log: &Log, trace: &Trace, edge: u32, time: u64) -> bool
     requires edge { edge < length graph.now.edges }
     requires by_now { time ≤ now_of log.now }
-    ensures { IsTrue result ↔ IsSomeAnd (slice_get graph.now.edges edge) (λ e. HasAge log.now trace.now e time e.tmin) }
+    ensures { IsTrue result ↔ IsSomeAnd (slice_get graph.now.edges edge)
+        (λ e. HasAge log.now trace.now e time e.tmin) }
 {
     has_age(graph, log, trace, edge, time, graph.edge(edge).tmin)
 }

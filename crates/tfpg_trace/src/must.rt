@@ -38,7 +38,8 @@ pub(crate) fn first_must_fault(graph: &Graph, log: &Log, trace: &Trace, node: u3
 /// An instant after which the node is active up to now: its own time, or now where it has no time by then.
 fn last_to_try(log: &Log, trace: &Trace, node: u32) -> u64
     ensures by_now { result ≤ now_of log.now }
-    ensures rest { (instant : ℕ) → result < instant → instant ≤ now_of log.now → IsActive trace.now node instant }
+    ensures rest { (instant : ℕ) → result < instant → instant ≤ now_of log.now →
+        IsActive trace.now node instant }
 {
     let now = log.now();
     match trace.at(node) {

@@ -1,0 +1,54 @@
+-- The log of a list of lines is in order and of its graph.
+use Rattle.std.proofs.Common.{◌≡◌, ℕ, Bool, true, false, cond, List, [], ◌∷◌, ◌++◌, refl, arith}
+use Rattle.std.specs.Prelude.{fold}
+use Rattle.std.proofs.lemmas.List.Sums.{fold_push}
+use Rattle.tfpg_graph.specs.Graph.{Tfpg}
+use Rattle.tfpg_log.specs.declared.event.Offered.{Offered}
+use Rattle.tfpg_log.specs.declared.event.Offered.TheVariants.{Accepted, Refused}
+use Rattle.tfpg_log.specs.Log.{Logbook, IsOf, IsOrdered}
+use Rattle.tfpg_log.specs.Accepted.{reply_to}
+use Rattle.tfpg_log.specs.LogOfLines.{new_log, log_after_reply, is_too_long, log_after, log_of_lines}
+use Rattle.tfpg_log.proofs.Accepting.{accepted_may_come, of-with_event}
+use Rattle.tfpg_log.proofs.Order.{ordered-with_event}
+
+-- One more line makes one more step.
+pub log_of_lines-push : (graph : Tfpg) (lines : List (List ℕ)) (line : List ℕ) → log_of_lines graph (lines ++ line ∷ []) ≡ log_after graph (log_of_lines graph lines) line
+log_of_lines-push graph lines line = fold_push (log_after graph) new_log lines line
+
+-- the log is in order, and of the graph
+record IsRight (graph : Tfpg) (log : Logbook) : Type 0 where
+  of_graph : IsOf graph log
+  ordered : IsOrdered log
+
+module _ (graph : Tfpg) where
+  by_reply : (log : Logbook) (line : List ℕ) (reply : Offered) → reply_to graph log line ≡ reply → IsRight graph log → IsRight graph (log_after_reply log reply)
+  by_reply log line (Accepted event) is right =
+      let may = accepted_may_come graph log line event is in
+      record { of_graph = of-with_event graph log event right.of_graph may; ordered = ordered-with_event log event right.ordered may.not_back may.in_range }
+  by_reply log line (Refused refusal) is right = right
+
+  by_length : (long : Bool) (log after : Logbook) → IsRight graph log → IsRight graph after → IsRight graph (cond long log after)
+  by_length true log after right then = right
+  by_length false log after right then = then
+
+  still_right : (log : Logbook) (lines : List (List ℕ)) → IsRight graph log → IsRight graph (fold (log_after graph) log lines)
+  still_right log [] right = right
+  still_right log (line ∷ lines) right =
+      still_right (log_after graph log line) lines
+      (by_length (is_too_long line) log (log_after_reply log (reply_to graph log line)) right (by_reply log line (reply_to graph log line) refl right))
+
+  right_from_new : (lines : List (List ℕ)) → IsRight graph (log_of_lines graph lines)
+  right_from_new lines =
+      still_right new_log lines
+      (record {
+        of_graph = record { own = λ k d within. absurd (omega arith) };
+        ordered = record { in_order = λ i j d before within. absurd (omega arith); in_range = λ k d within. absurd (omega arith) };
+      })
+
+  -- It is of its graph,
+  pub of-log_of_lines : (lines : List (List ℕ)) → IsOf graph (log_of_lines graph lines)
+  of-log_of_lines lines = (right_from_new lines).of_graph
+
+  -- and in order.
+  pub ordered-log_of_lines : (lines : List (List ℕ)) → IsOrdered (log_of_lines graph lines)
+  ordered-log_of_lines lines = (right_from_new lines).ordered
