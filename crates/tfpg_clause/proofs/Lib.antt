@@ -17,3 +17,4 @@ pub mod FactsMet
 pub mod GivesTrace
 pub mod OwnModes
 pub mod PresentLeaf
+pub mod Comparing
