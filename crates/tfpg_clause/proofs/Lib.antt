@@ -16,3 +16,5 @@ pub mod RulesMet
 pub mod FactsMet
 pub mod GivesTrace
 pub mod OwnModes
+pub mod PresentLeaf
+pub mod Comparing
