@@ -11,7 +11,7 @@ use Rattle.tfpg_graph.specs.Graph.{Tfpg, Node, name_at, kind_at}
 pub All-at : {X : Type 0} (P : X → Type 0) (xs : List X) (number : ℕ) (x : X) → All P xs → slice_get xs number ≡ Some x → P x
 All-at P xs number x all at = subst P (get_or_from_slice_get xs number x x at) (all number x (slice_get_within xs number x at))
 
--- the texts of the items before a number, and behind them that of the item at it
+-- the texts of the items before a number, and after them that of the item at it
 pub appended_next : {X : Type 0} (f : X → List ℕ) (xs : List X) (number : ℕ) (x : X) (old mid new : List ℕ) → slice_get xs number ≡ Some x
     → mid ≡ old ++ flat_map f (take number xs) → new ≡ mid ++ f x → new ≡ old ++ flat_map f (take (number + 1) xs)
 appended_next f xs number x old mid new at e h =

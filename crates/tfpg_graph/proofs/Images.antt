@@ -10,7 +10,7 @@ module _ {X Y : Type 0} (f : X → Y) where
   Contains-map (first ∷ others) x member =
       ⊎_elim (λ is. subst (λ (y : Y). Contains (f first ∷ map f others) y) (ap f is)
       (Contains-head (f first) (map f others)))
-      (λ behind. Contains-tail (f first) (map f others) (f x) (Contains-map others x behind))
+      (λ after. Contains-tail (f first) (map f others) (f x) (Contains-map others x after))
       (Contains-cons_cases first others x member)
 
   -- what stands among the images is the image of what stands in the list
@@ -18,5 +18,5 @@ module _ {X Y : Type 0} (f : X → Y) where
   Contains-map_only [] y member = absurd (Contains-nil y member)
   Contains-map_only (first ∷ others) y member =
       ⊎_elim (λ is. (first, Contains-head first others, is))
-      (λ behind. let old = Contains-map_only others y behind in (old.0, Contains-tail first others old.0 old.1, old.2))
+      (λ after. let old = Contains-map_only others y after in (old.0, Contains-tail first others old.0 old.1, old.2))
       (Contains-cons_cases (f first) (map f others) y member)

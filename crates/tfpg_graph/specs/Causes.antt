@@ -1,8 +1,10 @@
 -- What is wrong with one line of a text, by the lines before it. Each cause has its condition, in the order in which they are tested.
 use Rattle.std.specs.Prelude.{ℕ, zero, suc, List, [], ◌∷◌, length, take, Bool, true, false, ◌&&◌, ◌||◌, not, nat_lt, nat_le, if◌then◌else◌, Option, Some, None, is_some, is_none, option_and_then, slice_index_or, codes, bytes_eq}
 use Rattle.std.specs.Option.{option_map_or}
+use Rattle.std.specs.Bool.{then_some}
 use Rattle.std.specs.List.{list_all, list_any}
 use Rattle.std.specs.Str.Parse.{digits_value}
+use Rattle.tfpg_base.specs.Choice.{first_of}
 use Rattle.tfpg_base.specs.Words.{is_name, is_number}
 use Rattle.tfpg_graph.specs.declared.cause.GraphCause.{GraphCause}
 use Rattle.tfpg_graph.specs.declared.cause.GraphCause.TheVariants.{BadHeader, BadLine, BadName, DuplicateName, UnknownName, BadNumber, NumberTooLarge, MinOverMax, EdgeIntoFailure, SelfEdge, DuplicateEdge, NoModes, TooManyNodes, TooManyFailures, TooManyEdges, TooManyModes, TooManyIncoming, AfterEnd}
@@ -10,7 +12,7 @@ use Rattle.tfpg_graph.specs.Graph.{Tfpg, is_kind_at, is_failure, failures, incom
 use Rattle.tfpg_graph.specs.Text.{header}
 use Rattle.tfpg_base.specs.Times.{max_time}
 use Rattle.tfpg_graph.specs.declared.limits.TheConstants.{MAX_NODES, MAX_FAILURES, MAX_EDGES, MAX_INCOMING, MAX_MODES, MAX_RARITY}
-use Rattle.tfpg_graph.specs.Statements.{NodeWords, FailureWords, OrWords, AndWords, Statement, DeclaresMode, DeclaresNode, DeclaresEdge, Ends, said_by, said_by_all, is_passed_over, declares_mode, declares_edge, ends_text}
+use Rattle.tfpg_graph.specs.Statements.{NodeWords, FailureWords, OrWords, AndWords, Statement, DeclaresMode, DeclaresNode, DeclaresEdge, Ends, statement_of, statements_of, is_skipped, declares_mode, declares_edge, ends_text}
 use Rattle.tfpg_graph.specs.Declares.{modes_listed, ends_named, graph_said}
 
 -- the words in the place of a name
@@ -43,7 +45,7 @@ abbrev pub has_twice : List (List ℕ) → Bool
 has_twice [] = false
 has_twice (name ∷ others) = list_any (bytes_eq name) others || has_twice others
 
--- It stands out of its order: a mode behind a node or an edge, a node behind an edge, or anything else before the first mode.
+-- It stands out of its order: a mode after a node or an edge, a node after an edge, or anything else before the first mode.
 abbrev pub is_out_of_order : List Statement → Statement → Bool
 is_out_of_order before (DeclaresMode name) = list_any (λ said. not (declares_mode said)) before
 is_out_of_order before (DeclaresNode name words) = not (list_any declares_mode before) || list_any declares_edge before
@@ -159,50 +161,40 @@ lacks_incoming_room graph (DeclaresNode name words) = false
 lacks_incoming_room graph (DeclaresEdge source target tmin tmax modes) = option_map_or (λ node. nat_le MAX_INCOMING (length (incoming graph node))) (node_named graph target) false
 lacks_incoming_room graph Ends = false
 
--- the cause, where its condition holds
-abbrev pub caused_where : Bool → GraphCause → Option GraphCause
-caused_where holds cause = if holds then Some cause else None
-
--- the first of these that holds
-abbrev pub first_cause : List (Option GraphCause) → Option GraphCause
-first_cause [] = None
-first_cause (Some cause ∷ others) = Some cause
-first_cause (None ∷ others) = first_cause others
-
 -- the causes that a statement can have, in the order in which they are tested
 abbrev pub causes : Bool → Tfpg → Statement → List (Option GraphCause)
 causes bad_line graph said =
-    caused_where bad_line BadLine
-    ∷ caused_where (has_bad_name said) BadName
-    ∷ caused_where (has_duplicate_name graph said) DuplicateName
-    ∷ caused_where (has_unknown_name graph said) UnknownName
-    ∷ caused_where (has_bad_number said) BadNumber
-    ∷ caused_where (has_large_number said) NumberTooLarge
-    ∷ caused_where (has_min_over_max said) MinOverMax
-    ∷ caused_where (enters_failure graph said) EdgeIntoFailure
-    ∷ caused_where (is_self_edge said) SelfEdge
-    ∷ caused_where (is_second_edge graph said) DuplicateEdge
-    ∷ caused_where (names_no_mode said) NoModes
-    ∷ caused_where (lacks_node_room graph said) TooManyNodes
-    ∷ caused_where (lacks_failure_room graph said) TooManyFailures
-    ∷ caused_where (lacks_edge_room graph said) TooManyEdges
-    ∷ caused_where (lacks_mode_room graph said) TooManyModes
-    ∷ caused_where (lacks_incoming_room graph said) TooManyIncoming
+    then_some bad_line BadLine
+    ∷ then_some (has_bad_name said) BadName
+    ∷ then_some (has_duplicate_name graph said) DuplicateName
+    ∷ then_some (has_unknown_name graph said) UnknownName
+    ∷ then_some (has_bad_number said) BadNumber
+    ∷ then_some (has_large_number said) NumberTooLarge
+    ∷ then_some (has_min_over_max said) MinOverMax
+    ∷ then_some (enters_failure graph said) EdgeIntoFailure
+    ∷ then_some (is_self_edge said) SelfEdge
+    ∷ then_some (is_second_edge graph said) DuplicateEdge
+    ∷ then_some (names_no_mode said) NoModes
+    ∷ then_some (lacks_node_room graph said) TooManyNodes
+    ∷ then_some (lacks_failure_room graph said) TooManyFailures
+    ∷ then_some (lacks_edge_room graph said) TooManyEdges
+    ∷ then_some (lacks_mode_room graph said) TooManyModes
+    ∷ then_some (lacks_incoming_room graph said) TooManyIncoming
     ∷ []
 
 -- the cause of a line that says this, or that has no shape
 abbrev pub cause_of_said : List Statement → Option Statement → Option GraphCause
-cause_of_said before None = caused_where (is_bad_line before None) BadLine
-cause_of_said before (Some said) = first_cause (causes (is_bad_line before (Some said)) (graph_said before) said)
+cause_of_said before None = then_some (is_bad_line before None) BadLine
+cause_of_said before (Some said) = first_of (causes (is_bad_line before (Some said)) (graph_said before) said)
 
--- the line stands behind one that ends the text
-abbrev pub is_behind_end : List Statement → Bool
-is_behind_end before = list_any ends_text before
+-- the line stands after one that ends the text
+abbrev pub is_after_end : List Statement → Bool
+is_after_end before = list_any ends_text before
 
--- The cause of a line behind the header, by what the lines before it say. Behind the end every line but one that is passed over is too much.
-abbrev pub cause_behind : List Statement → List ℕ → Option GraphCause
-cause_behind before line =
-    if is_passed_over line then None else (if is_behind_end before then Some AfterEnd else cause_of_said before (said_by line))
+-- The cause of a line after the header, by what the lines before it say. After the end every line but one that is skipped is too much.
+abbrev pub cause_after : List Statement → List ℕ → Option GraphCause
+cause_after before line =
+    if is_skipped line then None else (if is_after_end before then Some AfterEnd else cause_of_said before (statement_of line))
 
 -- the line is the header
 abbrev pub is_header : List ℕ → Bool
@@ -211,4 +203,4 @@ is_header line = bytes_eq line header
 -- The cause of the line at this place, counted from 0. The first line is tested for the header alone.
 abbrev pub cause_at : List (List ℕ) → ℕ → Option GraphCause
 cause_at lines zero = if is_header (slice_index_or lines 0 []) then None else Some BadHeader
-cause_at lines (suc place) = cause_behind (said_by_all (take (suc place) lines)) (slice_index_or lines (suc place) [])
+cause_at lines (suc place) = cause_after (statements_of (take (suc place) lines)) (slice_index_or lines (suc place) [])

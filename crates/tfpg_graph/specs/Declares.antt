@@ -7,7 +7,7 @@ use Rattle.tfpg_graph.specs.declared.kind.Kind.TheVariants.{Failure, Or, And}
 use Rattle.tfpg_graph.specs.declared.edge.Edge.{Edge}
 use Rattle.tfpg_graph.specs.Graph.{Tfpg, Node, node_named, mode_named}
 use Rattle.tfpg_graph.specs.Text.{all_modes}
-use Rattle.tfpg_graph.specs.Statements.{NodeWords, FailureWords, OrWords, AndWords, Statement, DeclaresMode, DeclaresNode, DeclaresEdge, Ends, said_by_all}
+use Rattle.tfpg_graph.specs.Statements.{NodeWords, FailureWords, OrWords, AndWords, Statement, DeclaresMode, DeclaresNode, DeclaresEdge, Ends, statements_of}
 
 -- a lag: none where there is no word for it
 abbrev pub lag_of_word : Option (List ℕ) → Option (Option ℕ)
@@ -82,4 +82,4 @@ graph_said said = record {
 
 -- The graph that lines declare.
 abbrev pub declared_by : List (List ℕ) → Tfpg
-declared_by lines = graph_said (said_by_all lines)
+declared_by lines = graph_said (statements_of lines)

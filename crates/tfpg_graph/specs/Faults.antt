@@ -9,7 +9,7 @@ use Rattle.tfpg_graph.specs.declared.cause.GraphRefusal.{GraphRefusal}
 use Rattle.tfpg_graph.specs.declared.cause.GraphRefusal.TheVariants.{Fault, NoMemory}
 use Rattle.tfpg_graph.specs.Graph.{Tfpg, is_kind_at, is_failure, incoming}
 use Rattle.tfpg_graph.specs.ZeroCycle.{LiesOnZeroCycle}
-use Rattle.tfpg_graph.specs.Statements.{Statement, said_by, said_by_all, declares_node, declares_edge, ends_text}
+use Rattle.tfpg_graph.specs.Statements.{Statement, statement_of, statements_of, declares_node, declares_edge, ends_text}
 use Rattle.tfpg_graph.specs.Declares.{declared_by}
 use Rattle.tfpg_graph.specs.Causes.{cause_at}
 
@@ -31,7 +31,7 @@ pub record IsLineFault (lines : List (List ℕ)) (fault : GraphFault) : Type 0 w
 
 -- whether a line says such a thing
 abbrev pub says : (Statement → Bool) → List ℕ → Bool
-says test line = option_map_or test (said_by line) false
+says test line = option_map_or test (statement_of line) false
 
 -- The line of this number, counted from 1, says such a thing, and so many lines before it do.
 pub record IsLineSaying (test : Statement → Bool) (lines : List (List ℕ)) (count line : ℕ) : Type 0 where
@@ -70,12 +70,12 @@ pub record IsCycleFault (lines : List (List ℕ)) (fault : GraphFault) : Type 0 
   pub first : (earlier : ℕ) → earlier < edge → LiesOnZeroCycle (declared_by lines) earlier → ⊥
   pub line : IsLineSaying declares_edge lines edge fault.line
 
--- the line behind the last, where nothing else is wrong and no line ends the text
+-- the line after the last, where nothing else is wrong and no line ends the text
 pub record IsEndFault (lines : List (List ℕ)) (fault : GraphFault) : Type 0 where
   pub cause : fault.cause ≡ MissingEnd
   pub incoming : HasIncomingBefore (declared_by lines) (length (declared_by lines).nodes)
   pub no_cycle : HasNoZeroCycle (declared_by lines)
-  pub no_end : list_any ends_text (said_by_all lines) ≡ false
+  pub no_end : list_any ends_text (statements_of lines) ≡ false
   pub line : fault.line ≡ length lines + 1
 
 -- what is wrong with a text none of whose lines has a cause
@@ -86,12 +86,18 @@ IsWholeFault lines fault = IsIncomingFault lines fault ⊎ (IsCycleFault lines f
 abbrev pub IsFirstFault : List ℕ → GraphFault → Type 0
 IsFirstFault text fault = IsLineFault (lines_of text) fault ⊎ (IsClean (lines_of text) × IsWholeFault (lines_of text) fault)
 
--- Why a text may be refused: memory was wanting, or this is its first fault.
+-- Why a text may be refused: memory ran out, or this is its first fault.
 abbrev pub IsRefusalOf : List ℕ → GraphRefusal → Type 0
 IsRefusalOf text (Fault fault) = IsFirstFault text fault
 IsRefusalOf text NoMemory = Unit {0}
 
--- The answer to a text that spells this graph: the graph, unless memory was wanting.
+-- The answer to a text that has this first fault: the fault, unless memory ran out.
+abbrev pub IsFaultAnswer : GraphFault → Result Tfpg GraphRefusal → Type 0
+IsFaultAnswer fault (Ok answer) = ⊥
+IsFaultAnswer fault (Err (Fault reported)) = reported ≡ fault
+IsFaultAnswer fault (Err NoMemory) = Unit {0}
+
+-- The answer to a text that spells this graph: the graph, unless memory ran out.
 abbrev pub IsAnswerOf : Tfpg → Result Tfpg GraphRefusal → Type 0
 IsAnswerOf graph (Ok answer) = answer ≡ graph
 IsAnswerOf graph (Err (Fault fault)) = ⊥

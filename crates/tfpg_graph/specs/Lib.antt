@@ -1,25 +1,16 @@
 pub use Rattle.tfpg_base.specs.Words
 pub use Rattle.tfpg_base.specs.Lines
 pub use Rattle.tfpg_base.specs.Set
+-- What the public contracts say.
 pub mod Graph
-pub mod Reach
-pub mod NodeSet
 pub mod Valid
 pub mod ZeroCycle
+pub mod Reach
+pub mod NodeSet
 pub mod Text
 pub mod Statements
 pub mod Declares
 pub mod Causes
 pub mod Faults
--- What the contracts of the crate's own parts cite, and no public contract does.
-pub mod NodeWords
-pub mod Reaching
-pub mod Indexes
-pub mod Turns
-pub mod Answered
-pub mod LineCauses
-pub mod Declaring
-pub mod StatementInside
-pub mod ZeroSearch
-pub mod ZeroEdges
-pub mod Written
+-- What the code and its proofs need besides. No public contract reaches it.
+pub mod inside

@@ -5,7 +5,7 @@ use Rattle.std.specs.List.Sorted.{IsStrictlyIncreasing}
 use Rattle.tfpg_graph.specs.declared.edge.Edge.{Edge}
 use Rattle.tfpg_graph.specs.Graph.{Tfpg, is_kind_at, is_or, is_and, failure_at, edges_into}
 
--- A test on nodes is closed where it passes the failure modes of the set, which has them by their positions, each OR
+-- A test on nodes is closed where it passes the failure modes of the set, given by their positions, each OR
 -- node with a source that it passes, and each AND node all of whose sources it passes.
 pub record IsClosed (graph : Tfpg) (set : List ℕ) (test : ℕ → Bool) : Type 0 where
   pub members : All (λ place. IfSome (failure_at graph place) (λ node. IsTrue (test node))) set

@@ -1,7 +1,7 @@
 -- What a line of a graph's text says by its words alone: no name is looked up, and no number is read.
-use Rattle.std.specs.Prelude.{ℕ, List, [], ◌∷◌, length, Bool, true, false, ◌&&◌, nat_lt, nat_le, ◌==◌, if◌then◌else◌, Option, Some, None, option_map, filter_map, codes, bytes_eq}
+use Rattle.std.specs.Prelude.{◌≡◌, ◌≢◌, ◌≤◌, ℕ, All, Contains, List, [], ◌∷◌, length, Bool, true, false, ◌&&◌, nat_lt, nat_le, ◌==◌, if◌then◌else◌, Option, Some, None, option_map, filter_map, codes, bytes_eq}
 use Rattle.std.specs.List.{list_any}
-use Rattle.tfpg_base.specs.Words.{words_of}
+use Rattle.tfpg_base.specs.Words.{words_of, line_of}
 use Rattle.tfpg_base.specs.Lines.{longest_line}
 use Rattle.tfpg_graph.specs.Text.{is_empty_or_comment}
 
@@ -11,12 +11,40 @@ pub data NodeWords : Type 0 where
   OrWords : (lag : Option (List ℕ)) → NodeWords
   AndWords : (lag : Option (List ℕ)) → NodeWords
 
--- what a line behind the header says
+-- what a line after the header says
 pub data Statement : Type 0 where
   DeclaresMode : (name : List ℕ) → Statement
   DeclaresNode : (name : List ℕ) (words : NodeWords) → Statement
   DeclaresEdge : (source target tmin tmax modes : List ℕ) → Statement
   Ends : Statement
+
+-- the words that a discrepancy's line is written with after its name
+abbrev pub words_of_watch : Option (List ℕ) → List (List ℕ)
+words_of_watch None = codes "hidden" ∷ []
+words_of_watch (Some lag) = codes "watch" ∷ lag ∷ []
+
+-- the words that a node's line is written with
+abbrev pub words_of_node : List ℕ → NodeWords → List (List ℕ)
+words_of_node name (FailureWords rarity) = codes "failure" ∷ name ∷ rarity ∷ []
+words_of_node name (OrWords lag) = codes "or" ∷ name ∷ words_of_watch lag
+words_of_node name (AndWords lag) = codes "and" ∷ name ∷ words_of_watch lag
+
+-- the words that a statement is written with
+abbrev pub words_of_statement : Statement → List (List ℕ)
+words_of_statement (DeclaresMode name) = codes "mode" ∷ name ∷ []
+words_of_statement (DeclaresNode name words) = words_of_node name words
+words_of_statement (DeclaresEdge source target tmin tmax modes) = codes "edge" ∷ source ∷ target ∷ tmin ∷ tmax ∷ modes ∷ []
+words_of_statement Ends = codes "end" ∷ []
+
+-- a word that a line can have: it has a byte, and no space
+abbrev pub IsLineWord : List ℕ → Type 0
+IsLineWord word = (word ≢ []) × (Contains word 32 → ⊥)
+
+-- A line says a statement: it is the words of the statement with a space between each two, and is not too long.
+pub record SaysStatement (line : List ℕ) (said : Statement) : Type 0 where
+  pub words : line ≡ line_of (words_of_statement said)
+  pub each : All IsLineWord (words_of_statement said)
+  pub short : length line ≤ longest_line
 
 -- what a discrepancy's last words say: `hidden`, or `watch` and the word for its lag
 abbrev pub lag_in : List (List ℕ) → Option (Option (List ℕ))
@@ -25,30 +53,30 @@ lag_in (state ∷ []) = if bytes_eq state (codes "hidden") then Some None else N
 lag_in (state ∷ lag ∷ []) = if bytes_eq state (codes "watch") then Some (Some lag) else None
 lag_in (state ∷ lag ∷ more ∷ others) = None
 
--- what the words behind `mode` say
+-- what the words after `mode` say
 abbrev pub mode_in : List (List ℕ) → Option Statement
 mode_in [] = None
 mode_in (name ∷ []) = Some (DeclaresMode name)
 mode_in (name ∷ more ∷ others) = None
 
--- what the words behind `failure` say
+-- what the words after `failure` say
 abbrev pub failure_in : List (List ℕ) → Option Statement
 failure_in [] = None
 failure_in (name ∷ []) = None
 failure_in (name ∷ rarity ∷ []) = Some (DeclaresNode name (FailureWords rarity))
 failure_in (name ∷ rarity ∷ more ∷ others) = None
 
--- what the words behind `or` say
+-- what the words after `or` say
 abbrev pub or_in : List (List ℕ) → Option Statement
 or_in [] = None
 or_in (name ∷ others) = option_map (λ lag. DeclaresNode name (OrWords lag)) (lag_in others)
 
--- what the words behind `and` say
+-- what the words after `and` say
 abbrev pub and_in : List (List ℕ) → Option Statement
 and_in [] = None
 and_in (name ∷ others) = option_map (λ lag. DeclaresNode name (AndWords lag)) (lag_in others)
 
--- what the words behind `edge` say
+-- what the words after `edge` say
 abbrev pub edge_in : List (List ℕ) → Option Statement
 edge_in [] = None
 edge_in (source ∷ []) = None
@@ -58,12 +86,12 @@ edge_in (source ∷ target ∷ tmin ∷ tmax ∷ []) = None
 edge_in (source ∷ target ∷ tmin ∷ tmax ∷ modes ∷ []) = Some (DeclaresEdge source target tmin tmax modes)
 edge_in (source ∷ target ∷ tmin ∷ tmax ∷ modes ∷ more ∷ others) = None
 
--- what the words behind `end` say
+-- what the words after `end` say
 abbrev pub end_in : List (List ℕ) → Option Statement
 end_in [] = Some Ends
 end_in (more ∷ others) = None
 
--- what the words of a line behind the header say, where they have one of the shapes: a keyword, and the words behind it
+-- what the words of a line after the header say, where they have one of the shapes: a keyword, and the words after it
 abbrev pub statement_in : List (List ℕ) → Option Statement
 statement_in [] = None
 statement_in (keyword ∷ others) =
@@ -75,18 +103,18 @@ statement_in (keyword ∷ others) =
     else (if bytes_eq keyword (codes "end") then end_in others else None)))))
 
 -- What a line says: it is not too long, has no empty word, and has one of the shapes.
-abbrev pub said_by : List ℕ → Option Statement
-said_by line =
+abbrev pub statement_of : List ℕ → Option Statement
+statement_of line =
     if nat_lt longest_line (length line) then None
     else (if list_any (λ word. length word == 0) (words_of line) then None else statement_in (words_of line))
 
 -- what lines say, in order; the header, a line that is skipped, and one that has no shape say nothing
-abbrev pub said_by_all : List (List ℕ) → List Statement
-said_by_all lines = filter_map said_by lines
+abbrev pub statements_of : List (List ℕ) → List Statement
+statements_of lines = filter_map statement_of lines
 
--- A line behind the header that is empty or begins with `#` is passed over, unless it is too long.
-abbrev pub is_passed_over : List ℕ → Bool
-is_passed_over line = is_empty_or_comment line && nat_le (length line) longest_line
+-- A line after the header that is empty or begins with `#` is skipped, unless it is too long.
+abbrev pub is_skipped : List ℕ → Bool
+is_skipped line = is_empty_or_comment line && nat_le (length line) longest_line
 
 -- it declares a mode
 abbrev pub declares_mode : Statement → Bool

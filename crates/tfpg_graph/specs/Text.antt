@@ -63,17 +63,17 @@ abbrev pub is_empty_or_comment : List ℕ → Bool
 is_empty_or_comment [] = true
 is_empty_or_comment (first ∷ others) = first == 35
 
--- The lines behind the header that are not skipped: the modes, the nodes, the edges and the end.
+-- The lines after the header that are not skipped: the modes, the nodes, the edges and the end.
 pub record SpellsLines (graph : Tfpg) (lines : List (List ℕ)) : Type 0 where
   pub edge_lines : List (List ℕ)
   pub edges : AllZip (SpellsEdge graph) graph.edges edge_lines
   pub all : lines ≡ map mode_line graph.modes ++ map node_line graph.nodes ++ edge_lines ++ codes "end" ∷ []
 
--- The text spells the graph. Behind the header, empty lines and lines that begin with `#` are skipped; no line is too long.
+-- The text spells the graph. After the header, empty lines and lines that begin with `#` are skipped; no line is too long.
 pub record Spells (text : List ℕ) (graph : Tfpg) : Type 0 where
-  pub behind : List (List ℕ)
-  pub lines : lines_of text ≡ header ∷ behind
-  pub said : SpellsLines graph (filter (λ line. not (is_empty_or_comment line)) behind)
+  pub after : List (List ℕ)
+  pub lines : lines_of text ≡ header ∷ after
+  pub said : SpellsLines graph (filter (λ line. not (is_empty_or_comment line)) after)
   pub short : All (λ line. length line ≤ longest_line) (lines_of text)
 
 -- the word for an edge's modes in the canonical text: a star for all, else the names in the order of the modes

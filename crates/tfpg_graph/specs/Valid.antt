@@ -36,10 +36,10 @@ WalksInNoTime graph from to zero = from ≡ to
 WalksInNoTime graph from to (suc steps) =
     (edge : Edge) × Contains graph.edges edge × (edge.source ≡ from) × (edge.tmin ≡ 0) × WalksInNoTime graph edge.target to steps
 
--- A graph is valid: its nodes and modes have names of the right form, each its own in its space; the numbers are within
--- their limits; each edge is valid, and no two have the same source and the same target; each discrepancy has an edge
--- into it; no cycle may take no time; and there is a mode, and not too many of anything.
-pub record IsValid (graph : Tfpg) : Type 0 where
+-- Nothing is wrong with what there is of a graph: its nodes and modes have names of the right form, each its own in its
+-- space; the numbers are within their limits; each edge is valid, and no two have the same source and the same target; and
+-- there is not too much of anything.
+pub record IsValidSoFar (graph : Tfpg) : Type 0 where
   pub node_names : All (λ node. IsTrue (is_name node.name)) graph.nodes
   pub nodes_differ : AllPairs (λ a b. a.name ≢ b.name) graph.nodes
   pub node_numbers : All (λ node. HasValidNumber node.kind) graph.nodes
@@ -47,11 +47,16 @@ pub record IsValid (graph : Tfpg) : Type 0 where
   pub modes_differ : AllPairs (λ a b. a ≢ b) graph.modes
   pub edges : All (IsValidEdge graph) graph.edges
   pub edges_differ : AllPairs (λ a b. IsSamePair a b → ⊥) graph.edges
-  pub has_incoming : (node : ℕ) → node < length graph.nodes → IsTrue (not (is_kind_at is_failure graph node)) → incoming graph node ≢ []
-  pub no_zero_cycle : (node steps : ℕ) → WalksInNoTime graph node node (suc steps) → ⊥
-  pub has_mode : 0 < length graph.modes
   pub few_nodes : length graph.nodes ≤ MAX_NODES
   pub few_failures : length (failures graph) ≤ MAX_FAILURES
   pub few_edges : length graph.edges ≤ MAX_EDGES
   pub few_modes : length graph.modes ≤ MAX_MODES
   pub few_incoming : (node : ℕ) → length (incoming graph node) ≤ MAX_INCOMING
+
+-- A graph is valid where moreover nothing is missing: each discrepancy has an edge into it, no cycle may take no time,
+-- and there is a mode.
+pub record IsValid (graph : Tfpg) : Type 0 where
+  pub so_far : IsValidSoFar graph
+  pub has_incoming : (node : ℕ) → node < length graph.nodes → IsTrue (not (is_kind_at is_failure graph node)) → incoming graph node ≢ []
+  pub no_zero_cycle : (node steps : ℕ) → WalksInNoTime graph node node (suc steps) → ⊥
+  pub has_mode : 0 < length graph.modes

@@ -1,8 +1,8 @@
 //! What is wrong with the text of a graph.
 
 /// Why a text spells no valid graph, as `docs/formats.md` says exactly. Three causes are of the whole text and come last:
-/// `NoIncoming`, `ZeroCycle` and `MissingEnd`. All others are of a line, and of those that hold of one line the first here
-/// counts, but that an `AfterEnd` comes before the others.
+/// `NoIncoming`, `ZeroCycle` and `MissingEnd`. All others are of a line. Where several hold of one line, the first here
+/// is reported, but that an `AfterEnd` comes before the others.
 #[derive(Clone, Copy, Debug, PartialEq, Eq)]
 pub enum GraphCause {
     /// The first line is not `tfpg 1`, or there is none.
@@ -45,12 +45,12 @@ pub enum GraphCause {
     TooManyIncoming,
     /// No line is `end`.
     MissingEnd,
-    /// The line stands behind `end`, and is not skipped.
+    /// The line stands after `end`, and is not skipped.
     AfterEnd,
 }
 
 /// The first line that has a cause, counted from 1, and the first of its causes; or else the first cause of the whole text,
-/// with its line. A text without lines has its fault at line 1, and one that lacks its end behind its last line.
+/// with its line. A text without lines has its fault at line 1, and one that lacks its end after its last line.
 #[derive(Clone, Copy, Debug, PartialEq, Eq)]
 pub struct GraphFault {
     pub line: u64,
@@ -70,7 +70,7 @@ impl From<tfpg_base::NoMemory> for GraphRefusal {
 
     ghost from_gives = { λ _ refusal. refusal ≡ NoMemory };
 
-    fn from(_wanting: tfpg_base::NoMemory) -> GraphRefusal {
+    fn from(_no_memory: tfpg_base::NoMemory) -> GraphRefusal {
         GraphRefusal::NoMemory
     }
 }

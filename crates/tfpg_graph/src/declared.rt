@@ -32,7 +32,7 @@ impl Model for Declared {
 
     ghost Value = { Tfpg };
 
-    ghost use Rattle.tfpg_graph.specs.Indexes.{graph_of, IsDeclared};
+    ghost use Rattle.tfpg_graph.specs.inside.Indexes.{graph_of, IsDeclared};
 
     ghost view = { graph_of };
 
@@ -40,7 +40,8 @@ impl Model for Declared {
 }
 
 impl Declared {
-    ghost use Rattle.tfpg_graph.specs.Indexes.{nothing_declared, with_node, with_edge, with_mode, IsValidSoFar};
+    ghost use Rattle.tfpg_graph.specs.inside.Indexes.{nothing_declared, with_node, with_edge, with_mode};
+    ghost use Rattle.tfpg_graph.specs.Valid.{IsValidSoFar};
     ghost use Rattle.tfpg_graph.specs.Faults.{HasIncomingBefore, LacksIncoming};
 
     /// Nothing is declared. Takes no memory.
@@ -274,8 +275,10 @@ impl Declared {
 /// Gives the next place to a node that is a failure mode.
 fn give_place(failures: &mut Vec<u32>, node: u32, kind: Kind) -> Result<Option<u32>, NoMemory>
     requires { length failures.old.items < 2 ^ 32 }
-    ensures failures { IfOk result (λ _. failures.new.items ≡ failures.old.items ++ (if is_failure kind then node ∷ [] else [])) }
-    ensures place { IfOk result (λ place. place ≡ (if is_failure kind then Some (length failures.old.items) else None)) }
+    ensures failures { IfOk result (λ _. failures.new.items ≡ failures.old.items ++
+        (if is_failure kind then node ∷ [] else [])) }
+    ensures place { IfOk result (λ place. place ≡
+        (if is_failure kind then Some (length failures.old.items) else None)) }
 {
     match kind {
         Kind::Failure { rarity: _ } => {

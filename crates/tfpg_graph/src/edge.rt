@@ -1,6 +1,8 @@
 //! How a failure propagates from one node to another.
 
-ghost use Rattle.std.specs.Prelude.{◌≡◌};
+ghost use Rattle.std.specs.Prelude.{◌≡◌, ◌<◌, ◌≤◌, ◌-◌, ◌^◌};
+
+use crate::limits::MAX_MODES;
 
 /// A propagation from one node to another.
 #[derive(Clone, Copy, Debug, PartialEq, Eq)]
@@ -28,4 +30,13 @@ impl Edge {
         let modes = self.modes;
         mode < u64::BITS && modes >> mode & 1 == 1
     }
+}
+
+/// The bits of all modes, of which there are `count`.
+pub(crate) fn all_modes(count: u32) -> u64
+    requires some { 0 < count }
+    requires few { count ≤ MAX_MODES }
+    ensures { result ≡ 2 ^ count - 1 }
+{
+    u64::MAX >> (64 - count)
 }

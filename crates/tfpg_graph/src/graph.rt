@@ -28,18 +28,16 @@ impl Model for Graph {
     ghost Value = { Tfpg };
 
     ghost use Rattle.tfpg_graph.specs.Valid.{IsValid};
-    ghost use Rattle.tfpg_graph.specs.ZeroCycle.{HasZeroOrder};
 
     ghost view = { λ graph. graph.declared };
 
-    ghost invariant = { λ graph. IsValid graph.declared × HasZeroOrder graph.declared };
+    ghost invariant = { λ graph. IsValid graph.declared };
 }
 
 impl Graph {
     /// The graph of what is declared, where that is valid.
     pub(crate) fn new(declared: Declared) -> Graph
-        requires valid { IsValid declared }
-        requires order { HasZeroOrder declared }
+        requires { IsValid declared }
         ensures { result ≡ declared }
     {
         Graph { declared }

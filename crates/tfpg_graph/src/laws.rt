@@ -1,15 +1,40 @@
-//! What the definitions of this crate come to, as functions that do nothing: each says its law in its clauses.
+//! The laws of the crate's definitions, as functions that do nothing: each says its law in its clauses.
 
-ghost use Rattle.std.specs.Prelude.{◌≡◌, ℕ, List, Bool, IsTrue, All};
+ghost use Rattle.std.specs.Prelude.{◌≡◌, ◌↔◌, ℕ, List, Bool, IsTrue, All, Some};
+ghost use Rattle.tfpg_graph.specs.declared.cause.GraphFault.{GraphFault};
 ghost use Rattle.tfpg_graph.specs.Graph.{Tfpg};
+ghost use Rattle.tfpg_graph.specs.Valid.{IsValid};
+ghost use Rattle.tfpg_graph.specs.ZeroCycle.{HasZeroOrder};
+ghost use Rattle.tfpg_graph.specs.Text.{Spells};
+ghost use Rattle.tfpg_graph.specs.Statements.{Statement, SaysStatement, statement_of};
+ghost use Rattle.tfpg_graph.specs.Faults.{IsFirstFault};
 ghost use Rattle.tfpg_graph.specs.Reach.{IsClosed, IsReach, is_among};
 
 /// What a set reaches is the least closed set of nodes: it is closed, each closed test passes all of it, and so there
 /// is only one.
 pub fn reach_is_the_least_closed_set()
-    ensures closed { (graph : Tfpg) (set nodes : List ℕ) → IsReach graph set nodes → IsClosed graph set (is_among nodes) }
+    ensures closed { (graph : Tfpg) (set nodes : List ℕ) → IsReach graph set nodes →
+        IsClosed graph set (is_among nodes) }
     ensures least { (graph : Tfpg) (set nodes : List ℕ) → IsReach graph set nodes →
         (test : ℕ → Bool) → IsClosed graph set test → All (λ node. IsTrue (test node)) nodes }
     ensures one { (graph : Tfpg) (set nodes others : List ℕ) →
         IsReach graph set nodes → IsReach graph set others → nodes ≡ others }
+{}
+
+/// In each valid graph the nodes have ranks by which each edge that may take no time goes upwards.
+pub fn a_valid_graph_has_a_zero_order()
+    ensures { (graph : Tfpg) → IsValid graph → HasZeroOrder graph }
+{}
+
+/// A line says exactly the statement whose words it has, with a space between each two.
+pub fn a_line_says_the_statement_whose_words_it_has()
+    ensures { (line : List ℕ) (said : Statement) → (statement_of line ≡ Some said) ↔ SaysStatement line said }
+{}
+
+/// A text has at most one first fault, and one that spells a valid graph has none.
+pub fn a_text_has_at_most_one_first_fault()
+    ensures one { (text : List ℕ) (fault other : GraphFault) →
+        IsFirstFault text fault → IsFirstFault text other → fault ≡ other }
+    ensures none { (text : List ℕ) (graph : Tfpg) → Spells text graph → IsValid graph →
+        (fault : GraphFault) → IsFirstFault text fault → ⊥ }
 {}

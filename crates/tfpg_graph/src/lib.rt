@@ -2,46 +2,39 @@
 //! system modes as edges.
 //!
 //! - [`read`] reads the text of a graph, and [`write`] writes it.
-//! - [`Graph`] is a valid graph with its look-ups.
-//! - [`Kind`] and [`Edge`] are its parts.
-//! - [`NodeSet`] is a set of its nodes, as [`Graph::reach`] gives one.
-//! - [`GraphCause`] says what is wrong with a text that spells no valid graph.
+//! - [`Graph`] is a valid graph with its look-ups. [`Kind`] and [`Edge`] are its parts.
+//! - [`NodeSet`] is a set of its nodes. [`Graph::reach`] returns the nodes that a set of failure modes reaches.
+//! - [`GraphCause`] says what is wrong with a text that spells no valid graph, and [`GraphFault`] in which line.
+//! - [`MAX_NODES`] and the other limits say how much a graph may have of each thing.
+//! - [`laws`] has the laws of the definitions that the contracts cite.
+//!
+//! A failure mode `F` that shows by the alarm `A` at most three milliseconds later:
+//!
+//! ```
+//! let graph = read(rt.alloc(), b"tfpg 1\nmode N\nfailure F 1\nor A watch 0\nedge F A 1 3 *\nend\n")?;
+//! let reached = graph.reach(Set::empty().with(0));
+//! assert_eq!(rt; graph.find(b"A"), Some(1));
+//! assert!(rt; reached.has(1));
+//! ```
 #![tactic(auto)]
 
 mod cause;
 mod declared;
 mod edge;
-mod edge_line;
 mod graph;
 mod kind;
-mod laws;
+pub mod laws;
 mod limits;
-mod line_saying;
-mod listed_modes;
-mod modes_word;
-mod new_edge;
-mod new_mode;
-mod new_node;
-mod node_line;
-mod node_set;
-mod number_word;
-mod reaching;
-mod reader;
+mod reach;
 mod reading;
-mod statement;
-#[cfg(test)]
-mod tests;
 mod writing;
 mod zero_cycle;
-mod zero_search;
-mod zero_steps;
 
 pub use cause::{GraphCause, GraphFault, GraphRefusal};
 pub use edge::Edge;
 pub use graph::Graph;
 pub use kind::Kind;
-pub use laws::reach_is_the_least_closed_set;
 pub use limits::{MAX_EDGES, MAX_FAILURES, MAX_INCOMING, MAX_MODES, MAX_NODES, MAX_RARITY};
-pub use node_set::NodeSet;
+pub use reach::NodeSet;
 pub use reading::read;
 pub use writing::write;

@@ -5,24 +5,36 @@ ghost use Rattle.tfpg_base.specs.Lines.{parts_of, lines_of};
 ghost use Rattle.tfpg_graph.specs.Graph.{Tfpg};
 ghost use Rattle.tfpg_graph.specs.Text.{Spells};
 ghost use Rattle.tfpg_graph.specs.Valid.{IsValid};
-ghost use Rattle.tfpg_graph.specs.Faults.{IsRefusalOf, IsAnswerOf};
+ghost use Rattle.tfpg_graph.specs.Faults.{IsFirstFault, IsRefusalOf, IsAnswerOf, IsFaultAnswer};
+ghost use Rattle.tfpg_graph.specs.declared.cause.GraphFault.{GraphFault};
+
+mod check_edge;
+mod check_mode;
+mod check_node;
+mod find_line;
+mod list_modes;
+mod read_numbers;
+mod reader;
+mod statement;
 
 use crate::cause::GraphRefusal;
 use crate::graph::Graph;
-use crate::reader::Reader;
+use crate::reading::reader::Reader;
 use std::alloc::Global;
 
 /// Reads the text of a graph.
 ///
-/// A text that spells a valid graph is answered with that graph, and every other with its first fault: the first line
-/// that has a cause, with the first of its causes; or else what is wrong with the whole text. Instead of either answer
-/// memory may be wanting. Takes time linear in the text, but for look-ups by name, and for each edge in the square of the
-/// number of modes that it lists, which is at most 64 but in a line that has a fault; and memory for the graph and one line.
+/// Returns the graph that the text spells, where it spells a valid one, and else the first fault of the text: the first
+/// line that has a cause, with the first of its causes; or, where no line has one, what is wrong with the whole text. In
+/// place of either it may run out of memory. Takes time linear in the text, but for look-ups by name, and for each edge
+/// the square of the number of modes that it lists, which is at most 64 but in a line that has a fault. Takes memory for
+/// the graph and one line.
 pub fn read(alloc: Global, text: &[u8]) -> Result<Graph, GraphRefusal>
     ensures spelled { IfOk result (λ graph. Spells text.now graph) }
     ensures valid { IfOk result IsValid }
     ensures refused { IfErr result (IsRefusalOf text.now) }
     ensures exact { (graph : Tfpg) → Spells text.now graph → IsValid graph → IsAnswerOf graph result }
+    ensures faulty { (fault : GraphFault) → IsFirstFault text.now fault → IsFaultAnswer fault result }
 {
     let body = without_last_line_end(text);
     let mut reader = Reader::new(alloc);

@@ -4,16 +4,20 @@ ghost use Rattle.std.specs.Prelude.{◌≡◌, length, flat_map};
 ghost use Rattle.tfpg_base.specs.Append.{Appends};
 ghost use Rattle.tfpg_graph.specs.Text.{canonical_text, Spells};
 ghost use Rattle.tfpg_graph.specs.Valid.{IsValid};
-ghost use Rattle.tfpg_graph.specs.Written.{mode_text, node_text, edge_text};
+ghost use Rattle.tfpg_graph.specs.inside.writing.Written.{mode_text, node_text, edge_text};
 
-use crate::edge_line::put_edge;
+mod write_edge;
+mod write_modes;
+mod write_node;
+
 use crate::graph::Graph;
-use crate::node_line::put_node;
+use crate::writing::write_edge::put_edge;
+use crate::writing::write_node::put_node;
 use tfpg_base::{NoMemory, put_line};
 
 /// Appends the canonical text of the graph: a line for each mode, node and edge in their order, no comment, and a star
-/// for the modes of an edge that is active in all. Where memory is wanting, a part of the text may stand behind the old
-/// bytes. Costs the length of the text, and for each edge one test for each mode.
+/// for the modes of an edge that is active in all. Where memory runs out, the old bytes may be followed by a part of the
+/// text. Costs the length of the text, and for each edge one test for each mode.
 pub fn write(graph: &Graph, into: &mut Vec<u8>) -> Result<(), NoMemory>
     ensures text { Appends result into.old.items into.new.items (canonical_text graph.now) }
 

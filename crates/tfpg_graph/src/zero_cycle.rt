@@ -2,14 +2,17 @@
 
 ghost use Rattle.std.specs.Prelude.{◌≡◌, ℕ, ◌<◌, ◌↔◌, length, All, IsTrue, IfOk, IfNone, IfSome};
 ghost use Rattle.tfpg_graph.specs.Valid.{IsValidEdge};
-ghost use Rattle.tfpg_graph.specs.Indexes.{IsValidSoFar};
+ghost use Rattle.tfpg_graph.specs.Valid.{IsValidSoFar};
 ghost use Rattle.tfpg_graph.specs.ZeroCycle.{LiesOnZeroCycle, HasZeroOrder};
-ghost use Rattle.tfpg_graph.specs.ZeroEdges.{AreZeroGroups, StaysInGroup};
+ghost use Rattle.tfpg_graph.specs.inside.zero_cycle.ZeroEdges.{AreZeroGroups, StaysInGroup};
+
+mod find_groups;
+mod steps;
 
 use crate::declared::Declared;
 use crate::edge::Edge;
-use crate::zero_search::groups;
-use crate::zero_steps::ZeroSteps;
+use crate::zero_cycle::find_groups::groups;
+use crate::zero_cycle::steps::ZeroSteps;
 use std::alloc::Global;
 use tfpg_base::NoMemory;
 
@@ -17,8 +20,8 @@ use tfpg_base::NoMemory;
 ///
 /// An edge lies on such a cycle exactly where it may take no time and its ends lie in one group of nodes that reach
 /// each other in no time. The groups are the strongly connected components of the edges that may take no time. Two
-/// depth-first searches find them, the first along the turned edges (Kosaraju; Sharir 1981), and then the edges are gone
-/// through once. Takes time and memory in the numbers of nodes and edges, and calls as deep as there are
+/// depth-first searches find them, the first along the reversed edges (Kosaraju; Sharir 1981), and then it goes through the
+/// edges once. Takes time and memory in the numbers of nodes and edges, and calls as deep as there are
 /// nodes.
 pub(crate) fn first_on_zero_cycle(
     alloc: Global,
@@ -28,7 +31,8 @@ pub(crate) fn first_on_zero_cycle(
     ensures order { IfOk result (λ number. IfNone number (HasZeroOrder declared.now)) }
     ensures lies { IfOk result (λ number. IfSome number (LiesOnZeroCycle declared.now)) }
     ensures first { IfOk result
-        (λ number. IfSome number (λ n. (earlier : ℕ) → earlier < n → LiesOnZeroCycle declared.now earlier → ⊥)) }
+        (λ number. IfSome number (λ n. (earlier : ℕ) → earlier < n →
+        LiesOnZeroCycle declared.now earlier → ⊥)) }
 {
     let groups = zero_groups(alloc, declared)?;
     Ok(first_in_group(declared, &groups))
@@ -40,8 +44,8 @@ fn zero_groups(alloc: Global, declared: &Declared) -> Result<Vec<Option<usize>>,
     ensures { IfOk result (λ marks. AreZeroGroups declared.now marks.items) }
 {
     let steps = ZeroSteps::of_edges(alloc, declared, false)?;
-    let turned = ZeroSteps::of_edges(alloc, declared, true)?;
-    groups(alloc, declared.node_count(), &steps, &turned)
+    let reversed = ZeroSteps::of_edges(alloc, declared, true)?;
+    groups(alloc, declared.node_count(), &steps, &reversed)
 }
 
 /// The first edge that may take no time and has its ends in one group.
@@ -50,7 +54,8 @@ fn first_in_group(declared: &Declared, groups: &[Option<usize>]) -> Option<u32>
     requires groups { AreZeroGroups declared.now groups.now }
     ensures order { IfNone result (HasZeroOrder declared.now) }
     ensures lies { IfSome result (LiesOnZeroCycle declared.now) }
-    ensures first { IfSome result (λ n. (earlier : ℕ) → earlier < n → LiesOnZeroCycle declared.now earlier → ⊥) }
+    ensures first { IfSome result
+        (λ n. (earlier : ℕ) → earlier < n → LiesOnZeroCycle declared.now earlier → ⊥) }
 {
     for number in 0..declared.edge_count() {
         if stays_in_group(groups, declared.edge(number)) {

@@ -1,27 +1,32 @@
 -- What an accepted event is, and that a log with it is of its graph.
-use Rattle.std.proofs.Common.{◌≡◌, ℕ, ◌<◌, ◌≤◌, Bool, true, false, List, [], ◌∷◌, length, Option, Some, None, refl, sym, subst, arith}
-use Rattle.std.specs.Prelude.{IsTrue, not, nat_lt, nat_le, bytes_eq, option_map, option_and_then}
+use Rattle.std.proofs.Common.{◌≡◌, ℕ, ◌<◌, ◌≤◌, Bool, true, false, List, [], ◌∷◌, ◌++◌, length, Option, Some, None, refl, sym, ap, subst, ◌∙◌, arith}
+use Rattle.std.specs.Prelude.{IsTrue, not, is_none, nat_lt, nat_le, bytes_eq, option_map, option_and_then, unwrap_or}
+use Rattle.std.specs.Bool.{then_some}
+use Rattle.std.specs.Option.{option_map_or}
 use Rattle.std.specs.Str.Parse.{digits_value}
 use Rattle.std.proofs.lemmas.Bool.{ltb-false, leb-false}
 use Rattle.std.proofs.lemmas.List.Elements.{All-push}
 use Rattle.std.proofs.lemmas.List.Quantifiers.{position-Some}
-use Rattle.tfpg_graph.specs.Graph.{Tfpg, node_named, mode_named, is_monitored}
+use Rattle.tfpg_base.specs.Choice.{first_of, unless_refused}
 use Rattle.tfpg_base.specs.Times.{max_time}
+use Rattle.tfpg_graph.specs.Graph.{Tfpg, node_named, mode_named, is_monitored}
 use Rattle.tfpg_log.specs.declared.event.Event.{Event}
 use Rattle.tfpg_log.specs.declared.event.Event.TheVariants as kinds
-use Rattle.tfpg_log.specs.declared.event.Offered.TheVariants.{Accepted}
+use Rattle.tfpg_log.specs.declared.event.Offered.TheVariants.{Accepted, Refused}
+use Rattle.tfpg_log.specs.declared.limits.TheConstants.{MAX_EVENTS}
 use Rattle.tfpg_log.specs.declared.refusal.Refusal.{Refusal}
-use Rattle.tfpg_log.specs.declared.refusal.Refusal.TheVariants.{TimeTooLarge, TimeBack, NotMonitored, SecondAlarm, LogFull}
+use Rattle.tfpg_log.specs.declared.refusal.Refusal.TheVariants.{BadLine, TimeTooLarge, TimeBack, UnknownName, NotMonitored, NotAMode, SecondAlarm, LogFull}
 use Rattle.tfpg_log.specs.Log.{Logbook, now_of, alarm_of, time_of_event, with_event, IsEventOf, IsOf}
-use Rattle.tfpg_log.specs.LogInside.{IsNoSecondAlarm}
-use Rattle.tfpg_log.specs.Accepted.{Said, Alarm, Silent, Sweep, Tick, Mode, said_by, refused_where, first_refusal, refusals, event_of, acceptance_of, reply_to_said, reply_to_shape, reply_to, max_events}
+use Rattle.tfpg_log.specs.LogStatements.{LogStatement, Alarm, Silent, Sweep, Tick, Mode, log_statement_of}
+use Rattle.tfpg_log.specs.Accepted.{time_refusals, statement_refusals, room_refusal, event_of, offered, reply_to_statement, reply_to}
+use Rattle.tfpg_log.specs.inside.LogIndex.{IsNoSecondAlarm}
 
 -- The event may come next: it is of the graph, not before now and not too late, no second alarm, and there is room for it.
 pub record MayCome (graph : Tfpg) (log : Logbook) (event : Event) : Type 0 where
   pub own : IsEventOf graph event
   pub not_back : now_of log ≤ time_of_event event
   pub in_range : time_of_event event ≤ max_time
-  pub room : length log.events < max_events
+  pub room : length log.events < MAX_EVENTS
   pub first : IsNoSecondAlarm log event
 
 -- ---- what the tests say, where none refuses
@@ -31,12 +36,12 @@ abbrev AreNone : List (Option Refusal) → Type 0
 AreNone [] = Unit {0}
 AreNone (test ∷ tests) = (test ≡ None) × AreNone tests
 
-are_none : (tests : List (Option Refusal)) → first_refusal tests ≡ None → AreNone tests
+are_none : (tests : List (Option Refusal)) → first_of tests ≡ None → AreNone tests
 are_none [] e = tt
 are_none (Some refusal ∷ tests) e = absurd cc
 are_none (None ∷ tests) e = (refl, are_none tests e)
 
-not_refused : (holds : Bool) (refusal : Refusal) → refused_where holds refusal ≡ None → holds ≡ false
+not_refused : (holds : Bool) (refusal : Refusal) → then_some holds refusal ≡ None → holds ≡ false
 not_refused true refusal e = absurd cc
 not_refused false refusal e = refl
 
@@ -44,114 +49,85 @@ not_false : (b : Bool) → not b ≡ false → b ≡ true
 not_false true e = refl
 not_false false e = absurd cc
 
-some_event : (event : Option Event) (accepted : Event) → acceptance_of event ≡ Accepted accepted → event ≡ Some accepted
-some_event None accepted e = absurd cc
-some_event (Some event) accepted e = cc
+-- ---- the names in a statement that nothing refuses
 
--- ---- each kind of line
-
--- the node of an accepted alarm
-record IsFirstAlarm (graph : Tfpg) (log : Logbook) (time : ℕ) (event : Event) : Type 0 where
+-- the monitored node of a name
+record IsMonitor (graph : Tfpg) (found : Option ℕ) : Type 0 where
   node : ℕ
-  is : event ≡ kinds.Alarm time node
+  there : found ≡ Some node
   monitored : IsTrue (is_monitored graph node)
-  first : alarm_of log node ≡ None
+
+monitor : (graph : Tfpg) (found : Option ℕ) → then_some (is_none found) UnknownName ≡ None
+    → option_and_then (λ node. then_some (not (is_monitored graph node)) NotMonitored) found ≡ None → IsMonitor graph found
+monitor graph None unknown hidden = absurd cc
+monitor graph (Some node) unknown hidden = record {
+  node = node;
+  there = refl;
+  monitored = not_false (is_monitored graph node) (not_refused (not (is_monitored graph node)) NotMonitored hidden);
+}
 
 no_alarm : (alarm : Option ℕ) → option_map SecondAlarm alarm ≡ None → alarm ≡ None
 no_alarm None e = refl
 no_alarm (Some time) e = absurd cc
 
-first_alarm : (graph : Tfpg) (log : Logbook) (time : ℕ) (event : Event) (found : Option ℕ) → option_map (λ node. kinds.Alarm time node) found ≡ Some event
-    → option_and_then (λ node. refused_where (not (is_monitored graph node)) NotMonitored) found ≡ None
-    → option_map SecondAlarm (option_and_then (alarm_of log) found) ≡ None → IsFirstAlarm graph log time event
-first_alarm graph log time event None e monitored alarm = absurd cc
-first_alarm graph log time event (Some node) e monitored alarm = record {
-  node = node;
-  is = cc;
-  monitored = not_false (is_monitored graph node) (not_refused (not (is_monitored graph node)) NotMonitored monitored);
-  first = no_alarm (alarm_of log node) alarm;
-}
-
--- the node of an accepted silence
-record IsSilence (graph : Tfpg) (time : ℕ) (event : Event) : Type 0 where
-  node : ℕ
-  is : event ≡ kinds.Silent time node
-  monitored : IsTrue (is_monitored graph node)
-
-silence : (graph : Tfpg) (time : ℕ) (event : Event) (found : Option ℕ) → option_map (λ node. kinds.Silent time node) found ≡ Some event
-    → option_and_then (λ node. refused_where (not (is_monitored graph node)) NotMonitored) found ≡ None → IsSilence graph time event
-silence graph time event None e monitored = absurd cc
-silence graph time event (Some node) e monitored = record {
-  node = node;
-  is = cc;
-  monitored = not_false (is_monitored graph node) (not_refused (not (is_monitored graph node)) NotMonitored monitored);
-}
-
--- the mode of an accepted change
-record IsChange (graph : Tfpg) (time : ℕ) (event : Event) : Type 0 where
-  mode : ℕ
-  is : event ≡ kinds.Mode time mode
-  below : mode < length graph.modes
-
-change : (graph : Tfpg) (name : List ℕ) (time : ℕ) (event : Event) (found : Option ℕ) → mode_named graph name ≡ found
-    → option_map (λ mode. kinds.Mode time mode) found ≡ Some event → IsChange graph time event
-change graph name time event None at e = absurd cc
-change graph name time event (Some mode) at e = record {
-  mode = mode;
-  is = cc;
-  below = (position-Some (λ m. bytes_eq m name) graph.modes mode [] at).0;
-}
+there_is : (found : Option ℕ) (refusal : Refusal) → then_some (is_none found) refusal ≡ None → (number : ℕ) × (found ≡ Some number)
+there_is None refusal e = absurd cc
+there_is (Some number) refusal e = (number, refl)
 
 -- ---- an accepted event may come
 
--- an event at the line's time, once no test refuses the line
-comes : (graph : Tfpg) (log : Logbook) (time : List ℕ) (said : Said) (event : Event) → AreNone (refusals graph log time said) → time_of_event event ≡ digits_value 10 time
-    → IsEventOf graph event → IsNoSecondAlarm log event → MayCome graph log event
-comes graph log time said event none at own first =
-    let value : ℕ = digits_value 10 time in
-    let in_range : value ≤ max_time = ltb-false max_time value (not_refused (nat_lt max_time value) TimeTooLarge none.1.0) in
-    let not_back : now_of log ≤ value = ltb-false value (now_of log) (not_refused (nat_lt value (now_of log)) (TimeBack (now_of log)) none.1.1.0) in
-    record {
-      own = own;
-      not_back = omega (arith, at, not_back);
-      in_range = omega (arith, at, in_range);
-      room = leb-false max_events (length log.events) (not_refused (nat_le max_events (length log.events)) LogFull none.1.1.1.1.1.1.1.1.0);
-      first = first;
-    }
+module _ (graph : Tfpg) (log : Logbook) (time : List ℕ) where
+  module _ (statement : LogStatement) (none : AreNone (time_refusals (now_of log) time ++ statement_refusals graph log statement)) where
+    -- an event at that time, once no test refuses the line
+    comes : (event : Event) → time_of_event event ≡ digits_value 10 time → room_refusal log ≡ None → IsEventOf graph event → IsNoSecondAlarm log event → MayCome graph log event
+    comes event at room own first =
+        let in_range : digits_value 10 time ≤ max_time = ltb-false max_time (digits_value 10 time) (not_refused (nat_lt max_time (digits_value 10 time)) TimeTooLarge none.1.0) in
+        let not_back : now_of log ≤ digits_value 10 time =
+        ltb-false (digits_value 10 time) (now_of log) (not_refused (nat_lt (digits_value 10 time) (now_of log)) (TimeBack (now_of log)) none.1.1.0) in
+        record {
+          own = own;
+          not_back = omega (arith, at, not_back);
+          in_range = omega (arith, at, in_range);
+          room = leb-false MAX_EVENTS (length log.events) (not_refused (nat_le MAX_EVENTS (length log.events)) LogFull room);
+          first = first;
+        }
 
-comes_as : (graph : Tfpg) (log : Logbook) (time : List ℕ) (said : Said) (event : Event) → AreNone (refusals graph log time said) → event_of graph (digits_value 10 time) said ≡ Some event
-    → MayCome graph log event
-comes_as graph log time (Alarm name) event none is =
-    let alarm = first_alarm graph log (digits_value 10 time) event (node_named graph name) is none.1.1.1.1.0 none.1.1.1.1.1.1.0 in
-    subst (MayCome graph log) (sym alarm.is) (comes graph log time (Alarm name) (kinds.Alarm (digits_value 10 time) alarm.node) none refl alarm.monitored alarm.first)
-comes_as graph log time (Silent name) event none is =
-    let silent = silence graph (digits_value 10 time) event (node_named graph name) is none.1.1.1.1.0 in
-    subst (MayCome graph log) (sym silent.is) (comes graph log time (Silent name) (kinds.Silent (digits_value 10 time) silent.node) none refl silent.monitored tt)
-comes_as graph log time Sweep event none is =
-    let same : kinds.Sweep (digits_value 10 time) ≡ event = cc in
-    subst (MayCome graph log) same (comes graph log time Sweep (kinds.Sweep (digits_value 10 time)) none refl tt tt)
-comes_as graph log time Tick event none is =
-    let same : kinds.Tick (digits_value 10 time) ≡ event = cc in
-    subst (MayCome graph log) same (comes graph log time Tick (kinds.Tick (digits_value 10 time)) none refl tt tt)
-comes_as graph log time (Mode name) event none is =
-    let changed = change graph name (digits_value 10 time) event (mode_named graph name) refl is in
-    subst (MayCome graph log) (sym changed.is) (comes graph log time (Mode name) (kinds.Mode (digits_value 10 time) changed.mode) none refl changed.below tt)
+  may_come : (statement : LogStatement) → AreNone (time_refusals (now_of log) time ++ statement_refusals graph log statement)
+      → MayCome graph log (event_of graph (digits_value 10 time) statement)
+  may_come (Alarm name) none =
+      let found = monitor graph (node_named graph name) none.1.1.1.0 none.1.1.1.1.0 in
+      let first : alarm_of log found.node ≡ None =
+      no_alarm (alarm_of log found.node) (ap (λ node. option_map SecondAlarm (option_and_then (alarm_of log) node)) (sym found.there) ∙ none.1.1.1.1.1.0) in
+      subst (λ node. MayCome graph log (kinds.Alarm (digits_value 10 time) (unwrap_or node 0))) (sym found.there)
+      (comes (Alarm name) none (kinds.Alarm (digits_value 10 time) found.node) refl none.1.1.1.1.1.1.0 found.monitored first)
+  may_come (Silent name) none =
+      let found = monitor graph (node_named graph name) none.1.1.1.0 none.1.1.1.1.0 in
+      subst (λ node. MayCome graph log (kinds.Silent (digits_value 10 time) (unwrap_or node 0))) (sym found.there)
+      (comes (Silent name) none (kinds.Silent (digits_value 10 time) found.node) refl none.1.1.1.1.1.1.0 found.monitored tt)
+  may_come Sweep none = comes Sweep none (kinds.Sweep (digits_value 10 time)) refl none.1.1.1.0 tt tt
+  may_come Tick none = comes Tick none (kinds.Tick (digits_value 10 time)) refl none.1.1.1.0 tt tt
+  may_come (Mode name) none =
+      let found = there_is (mode_named graph name) NotAMode none.1.1.1.0 in
+      let below : found.0 < length graph.modes = (position-Some (λ m. bytes_eq m name) graph.modes found.0 [] found.1).0 in
+      subst (λ mode. MayCome graph log (kinds.Mode (digits_value 10 time) (unwrap_or mode 0))) (sym found.1)
+      (comes (Mode name) none (kinds.Mode (digits_value 10 time) found.0) refl none.1.1.1.1.0 below tt)
 
-by_tests : (graph : Tfpg) (log : Logbook) (time : List ℕ) (said : Said) (event : Event) (first : Option Refusal) → first_refusal (refusals graph log time said) ≡ first
-    → reply_to_said graph log time said first ≡ Accepted event → MayCome graph log event
-by_tests graph log time said event (Some refusal) at e = absurd cc
-by_tests graph log time said event None at e =
-    comes_as graph log time said event (are_none (refusals graph log time said) at) (some_event (event_of graph (digits_value 10 time) said) event e)
+  by_tests : (statement : LogStatement) (event : Event) (first : Option Refusal) → first_of (time_refusals (now_of log) time ++ statement_refusals graph log statement) ≡ first
+      → offered (unless_refused first (event_of graph (digits_value 10 time) statement)) ≡ Accepted event → MayCome graph log event
+  by_tests statement event (Some refusal) at e = absurd cc
+  by_tests statement event None at e =
+      let same : event_of graph (digits_value 10 time) statement ≡ event = cc in
+      subst (MayCome graph log) same (may_come statement (are_none (time_refusals (now_of log) time ++ statement_refusals graph log statement) at))
 
-by_shape : (graph : Tfpg) (log : Logbook) (shape : Option (List ℕ × Said)) (event : Event) → reply_to_shape graph log shape ≡ Accepted event → MayCome graph log event
-by_shape graph log None event e = absurd cc
-by_shape graph log (Some line) event e = by_tests graph log line.0 line.1 event (first_refusal (refusals graph log line.0 line.1)) refl e
+by_statement : (graph : Tfpg) (log : Logbook) (event : Event) (says : Option (List ℕ × LogStatement))
+    → option_map_or (λ parts. reply_to_statement graph log parts.0 parts.1) says (Refused BadLine) ≡ Accepted event → MayCome graph log event
+by_statement graph log event None e = absurd cc
+by_statement graph log event (Some parts) e =
+    by_tests graph log parts.0 parts.1 event (first_of (time_refusals (now_of log) parts.0 ++ statement_refusals graph log parts.1)) refl e
 
 -- An accepted event may come.
 pub accepted_may_come : (graph : Tfpg) (log : Logbook) (line : List ℕ) (event : Event) → reply_to graph log line ≡ Accepted event → MayCome graph log event
-accepted_may_come graph log line event e = by_shape graph log (said_by line) event e
-
--- ---- the log with it is of the graph
+accepted_may_come graph log line event e = by_statement graph log event (log_statement_of line) e
 
 -- A log with one more event that may come is of the graph.
 pub of-with_event : (graph : Tfpg) (log : Logbook) (event : Event) → IsOf graph log → MayCome graph log event → IsOf graph (with_event log event)

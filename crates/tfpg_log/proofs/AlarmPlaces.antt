@@ -1,4 +1,4 @@
--- The place of a node's alarm among the events: what comes behind it, what stands at it, and what came before an event.
+-- The place of a node's alarm among the events: what comes after it, what stands at it, and what came before an event.
 use Rattle.std.proofs.Common.{◌≡◌, ℕ, zero, suc, ◌<◌, Bool, true, false, cond, eqb, leb, List, [], ◌∷◌, ◌++◌, length, get_or, take, Option, Some, None, refl, sym, ap, ◌∙◌, inl, inr, arith}
 use Rattle.std.specs.Prelude.{option_map, is_none}
 use Rattle.std.proofs.lemmas.Bool.{le-leb}
@@ -6,7 +6,7 @@ use Rattle.std.proofs.lemmas.Bool.Decides.{leb_tells, eqb_tells}
 use Rattle.tfpg_log.specs.declared.event.Event.{Event}
 use Rattle.tfpg_log.specs.declared.event.Event.TheVariants.{Alarm, Silent, Sweep, Tick, Mode}
 use Rattle.tfpg_log.specs.Log.{alarm_among, time_of_event}
-use Rattle.tfpg_log.specs.LogInside.{alarm_place}
+use Rattle.tfpg_log.specs.inside.LogIndex.{alarm_place}
 
 -- ---- one more event
 
@@ -44,7 +44,7 @@ same_node node = elim (eqb_tells node node) [
   | inr other ↦ absurd (other.1 refl)
 ]
 
--- the first alarm of a node stands behind all events so far
+-- the first alarm of a node stands after all events so far
 pub alarm_place_new : (events : List Event) (time node : ℕ) → alarm_among events node ≡ None
     → alarm_place (events ++ Alarm time node ∷ []) node ≡ Some (length events)
 alarm_place_new [] time node none = at_it (eqb node node) None (same_node node)

@@ -72,7 +72,7 @@ caused graph log set trace node time explains at =
     let d : Activation = record { node = node; time = time } in
     let node_is = active.node_is d in
     let in_graph : node < length graph.nodes = omega (arith, explains.trace_of.1 active.place d active.in_range, node_is) in
-    let may = (explains.rules node time in_graph (omega (arith, explains.by_now active.place d active.in_range, active.time_is d))).0 in
+    let may = (explains.rules node in_graph).may time (omega (arith, explains.by_now active.place d active.in_range, active.time_is d)) in
     elim (kinds (kind_at graph node) (has_kind (λ n. n.kind) graph.nodes node in_graph)) [
       | inl failure ↦ inl (subst (IsMember graph set) node_is
           (explains.from_set active.place d active.in_range (subst (λ n. IsTrue (is_kind_at is_failure graph n)) (sym node_is) failure)))

@@ -9,13 +9,13 @@ use Rattle.tfpg_log.specs.declared.event.Event.TheVariants.{Alarm, Silent, Sweep
 use Rattle.tfpg_log.specs.declared.mode_change.ModeChange.{ModeChange}
 use Rattle.tfpg_log.specs.Log.{Logbook, now_of, alarm_among, time_of_event, is_mode_change, mode_after}
 use Rattle.tfpg_base.specs.Times.{max_time}
-use Rattle.tfpg_log.specs.Accepted.{max_events}
-use Rattle.tfpg_log.specs.SpanIndex.{begin_of, BeginSpans, with_change}
-use Rattle.tfpg_log.specs.LogInside.{IsIndexed, AreSameAlarms, alarm_place}
+use Rattle.tfpg_log.specs.declared.limits.TheConstants.{MAX_EVENTS}
+use Rattle.tfpg_log.specs.inside.SpanIndex.{begin_of_span, BeginSpans, with_change}
+use Rattle.tfpg_log.specs.inside.LogIndex.{IsLogIndex, AreSameAlarms, alarm_place}
 use Rattle.tfpg_log.proofs.Events.{now-with_event}
 use Rattle.tfpg_log.proofs.Order.{ordered-with_event}
 use Rattle.tfpg_log.proofs.AlarmPlaces.{alarm_place_quiet, alarm_place_new, alarm_place_other}
-use Rattle.tfpg_log.proofs.ModeChanges.{mode_after-push, mode_before_change, mode_behind_change, changes-push}
+use Rattle.tfpg_log.proofs.ModeChanges.{mode_after-push, mode_before_change, mode_after_change, changes-push}
 use Rattle.tfpg_log.proofs.SpanChanges.{times_rise, spans_with_change, begun_with_change, one_more_change}
 
 abbrev log_of : List Event → Logbook
@@ -31,11 +31,11 @@ same_spans events changes event no_change spans = record {
       mode_after-push 0 events event instant ∙ no_change (mode_after 0 events instant) instant ∙ spans.hold number instant within;
 }
 
-indexed_by : (events : List Event) (alarms longer : List (Option ℕ)) (changes : List ModeChange) (count : ℕ) (event : Event) → IsIndexed events alarms changes count
-    → length events < max_events → now_of (log_of events) ≤ time_of_event event → time_of_event event ≤ max_time → is_mode_change event ≡ false
+indexed_by : (events : List Event) (alarms longer : List (Option ℕ)) (changes : List ModeChange) (count : ℕ) (event : Event) → IsLogIndex events alarms changes count
+    → length events < MAX_EVENTS → now_of (log_of events) ≤ time_of_event event → time_of_event event ≤ max_time → is_mode_change event ≡ false
     → ((held instant : ℕ) → mode_after held (event ∷ []) instant ≡ held)
     → ((node : ℕ) → slice_index_or longer node None ≡ alarm_place (events ++ event ∷ []) node)
-    → IsIndexed (events ++ event ∷ []) longer changes count
+    → IsLogIndex (events ++ event ∷ []) longer changes count
 indexed_by events alarms longer changes count event index room not_back in_range uncounted no_change alarms_are = record {
   few = omega (arith, length_push events event, room);
   alarms_are = alarms_are;
@@ -47,7 +47,7 @@ indexed_by events alarms longer changes count event index room not_back in_range
   ordered = ordered-with_event (log_of events) event index.ordered not_back in_range;
 }
 
-still_placed : (events : List Event) (alarms : List (Option ℕ)) (changes : List ModeChange) (count : ℕ) (event : Event) → IsIndexed events alarms changes count
+still_placed : (events : List Event) (alarms : List (Option ℕ)) (changes : List ModeChange) (count : ℕ) (event : Event) → IsLogIndex events alarms changes count
     → ((node : ℕ) → alarm_place (event ∷ []) node ≡ None) → (node : ℕ) → slice_index_or alarms node None ≡ alarm_place (events ++ event ∷ []) node
 still_placed events alarms changes count event index quiet node = index.alarms_are node ∙ sym (alarm_place_quiet events event node (quiet node))
 
@@ -60,8 +60,8 @@ IsQuiet (Tick time) = Unit {0}
 IsQuiet (Mode time mode) = ⊥
 
 -- A silence, a sweep and a tick leave the index as it is.
-pub indexed_quiet : (events : List Event) (alarms : List (Option ℕ)) (changes : List ModeChange) (count : ℕ) (event : Event) → IsIndexed events alarms changes count
-    → length events < max_events → now_of (record { events = events }) ≤ time_of_event event → time_of_event event ≤ max_time → IsQuiet event → IsIndexed (events ++ event ∷ []) alarms changes count
+pub indexed_quiet : (events : List Event) (alarms : List (Option ℕ)) (changes : List ModeChange) (count : ℕ) (event : Event) → IsLogIndex events alarms changes count
+    → length events < MAX_EVENTS → now_of (record { events = events }) ≤ time_of_event event → time_of_event event ≤ max_time → IsQuiet event → IsLogIndex (events ++ event ∷ []) alarms changes count
 indexed_quiet events alarms changes count (Alarm time node) index room not_back in_range quiet = absurd quiet
 indexed_quiet events alarms changes count (Silent time node) index room not_back in_range quiet =
     indexed_by events alarms alarms changes count (Silent time node) index room not_back in_range refl (λ held instant. refl)
@@ -75,14 +75,14 @@ indexed_quiet events alarms changes count (Tick time) index room not_back in_ran
 indexed_quiet events alarms changes count (Mode time mode) index room not_back in_range quiet = absurd quiet
 
 -- A change of mode may begin a span, and is counted.
-pub indexed_mode : (events : List Event) (alarms : List (Option ℕ)) (changes : List ModeChange) (count time mode : ℕ) → IsIndexed events alarms changes count
-    → length events < max_events → now_of (record { events = events }) ≤ time → time ≤ max_time
-    → IsIndexed (events ++ Mode time mode ∷ []) alarms (with_change changes time mode) (count + 1)
+pub indexed_mode : (events : List Event) (alarms : List (Option ℕ)) (changes : List ModeChange) (count time mode : ℕ) → IsLogIndex events alarms changes count
+    → length events < MAX_EVENTS → now_of (record { events = events }) ≤ time → time ≤ max_time
+    → IsLogIndex (events ++ Mode time mode ∷ []) alarms (with_change changes time mode) (count + 1)
 indexed_mode events alarms changes count time mode index room not_back in_range =
-    let last : begin_of changes (length changes) ≤ time + 1 = omega (arith, index.by_now, not_back) in
+    let last : begin_of_span changes (length changes) ≤ time + 1 = omega (arith, index.by_now, not_back) in
     let spans : BeginSpans (mode_after 0 (events ++ Mode time mode ∷ [])) (with_change changes time mode) =
     spans_with_change (mode_after 0 events) (mode_after 0 (events ++ Mode time mode ∷ [])) changes time mode index.spans last
-    (mode_before_change events time mode) (mode_behind_change events time mode) in
+    (mode_before_change events time mode) (mode_after_change events time mode) in
     record {
       few = omega (arith, length_push events (Mode time mode), room);
       alarms_are = still_placed events alarms changes count (Mode time mode) index (λ other. refl);
@@ -95,9 +95,9 @@ indexed_mode events alarms changes count time mode index room not_back in_range 
     }
 
 -- The first alarm of a node stands at its place.
-pub indexed_alarm : (events : List Event) (alarms longer : List (Option ℕ)) (changes : List ModeChange) (count time alarmed place : ℕ) → IsIndexed events alarms changes count
-    → length events < max_events → now_of (record { events = events }) ≤ time → time ≤ max_time → AreSameAlarms longer alarms → alarmed < length longer → alarm_among events alarmed ≡ None
-    → place ≡ length events → IsIndexed (events ++ Alarm time alarmed ∷ []) (set longer alarmed (Some place)) changes count
+pub indexed_alarm : (events : List Event) (alarms longer : List (Option ℕ)) (changes : List ModeChange) (count time alarmed place : ℕ) → IsLogIndex events alarms changes count
+    → length events < MAX_EVENTS → now_of (record { events = events }) ≤ time → time ≤ max_time → AreSameAlarms longer alarms → alarmed < length longer → alarm_among events alarmed ≡ None
+    → place ≡ length events → IsLogIndex (events ++ Alarm time alarmed ∷ []) (set longer alarmed (Some place)) changes count
 indexed_alarm events alarms longer changes count time alarmed place index room not_back in_range same lt first at =
     indexed_by events alarms (set longer alarmed (Some place)) changes count (Alarm time alarmed) index room not_back in_range refl (λ held instant. refl)
     (λ node. elim (eqb_tells alarmed node) [

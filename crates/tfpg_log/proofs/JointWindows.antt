@@ -94,7 +94,7 @@ module _ (graph : Tfpg) (log : Logbook) (node : ℕ) where
         (allowed_throughout edge member) is.run.in_range meets.0 meets.1 in
         (window.0, window.1, lies.0, lies.1)
 
-    -- It begins with the window of some edge, where it begins behind 0.
+    -- It begins with the window of some edge, where it begins after 0.
     pub begins : 0 < joint.lo
         → (edge : Edge) × Contains (edges_into graph node) edge × (window : Window) × (window_of log edge number horizon ≡ Some window) × (window.lo ≡ joint.lo)
     begins behind =
@@ -116,7 +116,7 @@ module _ (graph : Tfpg) (log : Logbook) (node : ℕ) where
     ends early =
         let is = is_joint number horizon joint e in
         let behind : ℕ = joint.hi + 1 in
-        let fails : are_allowed_at graph log node behind ≡ false = false_from_ne_true (are_allowed_at graph log node behind) (is.run.not_behind behind refl (omega arith)) in
+        let fails : are_allowed_at graph log node behind ≡ false = false_from_ne_true (are_allowed_at graph log node behind) (is.run.not_after behind refl (omega arith)) in
         let some = some_fails (λ edge. is_allowed_at log edge behind) (edges_into graph node) fails in
         let window = of_each some.0 some.1 in
         let run = (is_window log some.0 number horizon window.0 window.1).run in

@@ -27,3 +27,4 @@ pub mod SpanChanges
 pub mod SpanStarts
 pub mod WindowStarts
 pub mod ModesInto
+pub mod WrittenLines

@@ -3,7 +3,7 @@ use Rattle.std.proofs.Common.{◌≡◌, ℕ, Bool, true, false, ◌||◌, eqb, 
 use Rattle.std.specs.List.{list_any}
 use Rattle.std.specs.Borrow.{Bor}
 use Rattle.tfpg_base.specs.Words.{words_of}
-use Rattle.tfpg_log.specs.Accepted.{said_by, shape_of}
+use Rattle.tfpg_log.specs.LogStatements.{log_statement_of, log_statement_in}
 
 list_any-map : {X Y : Type 0} (p : Y → Bool) (f : X → Y) (xs : List X) → list_any p (map f xs) ≡ list_any (λ x. p (f x)) xs
 list_any-map p f [] = refl
@@ -15,9 +15,9 @@ pub has_empty : (line : List ℕ) (words : List (Bor (List ℕ))) → map (λ wo
 has_empty line words are = sym (ap (list_any (λ word. eqb (length word) 0)) are) ∙ list_any-map (λ word. eqb (length word) 0) (λ word. word.now) words
 
 -- a line with an empty word has no shape
-pub said_by-empty : (line : List ℕ) → list_any (λ word. eqb (length word) 0) (words_of line) ≡ true → said_by line ≡ None
-said_by-empty line empty = rw empty refl
+pub log_statement_of-empty : (line : List ℕ) → list_any (λ word. eqb (length word) 0) (words_of line) ≡ true → log_statement_of line ≡ None
+log_statement_of-empty line empty = rw empty refl
 
 -- and else its words decide
-pub said_by-words : (line : List ℕ) → list_any (λ word. eqb (length word) 0) (words_of line) ≡ false → said_by line ≡ shape_of (words_of line)
-said_by-words line none = rw none refl
+pub log_statement_of-words : (line : List ℕ) → list_any (λ word. eqb (length word) 0) (words_of line) ≡ false → log_statement_of line ≡ log_statement_in (words_of line)
+log_statement_of-words line none = rw none refl

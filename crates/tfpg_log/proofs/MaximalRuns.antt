@@ -14,7 +14,7 @@ module _ (Holds : ℕ → Type 0) (horizon : ℕ) where
       | inr upto ↦ upto
     ],
     elim (cases_lt hi high) [
-      | inl behind ↦ absurd (run.not_behind (hi + 1) (omega arith) (omega arith) (holds (hi + 1) (omega arith) (omega arith)))
+      | inl behind ↦ absurd (run.not_after (hi + 1) (omega arith) (omega arith) (holds (hi + 1) (omega arith) (omega arith)))
       | inr upto ↦ upto
     ],
   )

@@ -24,8 +24,8 @@ mode_before_change events time mode instant by =
     mode_after-push 0 events (Mode time mode) instant ∙ cond-false (ltb time instant) mode (mode_after 0 events instant) (le-ltb time instant by)
 
 -- and from then on it is the change's
-pub mode_behind_change : (events : List Event) (time mode instant : ℕ) → time < instant → mode_after 0 (events ++ Mode time mode ∷ []) instant ≡ mode
-mode_behind_change events time mode instant after =
+pub mode_after_change : (events : List Event) (time mode instant : ℕ) → time < instant → mode_after 0 (events ++ Mode time mode ∷ []) instant ≡ mode
+mode_after_change events time mode instant after =
     mode_after-push 0 events (Mode time mode) instant ∙ cond-true (ltb time instant) mode (mode_after 0 events instant) (lt-ltb time instant after)
 
 pub changes-push : (events : List Event) (event : Event) → count_by is_mode_change (events ++ event ∷ []) ≡ count_by is_mode_change events + cond (is_mode_change event) 1 0

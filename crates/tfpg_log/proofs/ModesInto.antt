@@ -9,8 +9,8 @@ use Rattle.std.proofs.lemmas.Nat.Bits.{bit_at-lt, bit_at_and}
 use Rattle.tfpg_graph.specs.declared.edge.Edge.{Edge}
 use Rattle.tfpg_graph.specs.Graph.{Tfpg, numbers_from, incoming, edges_into, is_allowed}
 use Rattle.tfpg_log.specs.declared.active_modes.ActiveModes.{ActiveModes}
-use Rattle.tfpg_log.specs.declared.active_modes.ActiveModes.TheVariants.{Bits}
-use Rattle.tfpg_log.specs.ActiveModes.{has_mode}
+use Rattle.tfpg_log.specs.declared.active_modes.ActiveModes.TheVariants.{OfEdge}
+use Rattle.tfpg_log.specs.inside.ActiveModes.{has_mode}
 
 -- the edge is there and active in the mode
 abbrev pub is_there_allowed : Option Edge → ℕ → Bool
@@ -24,16 +24,18 @@ are_allowed edges numbers mode = list_all (λ number. is_there_allowed (slice_ge
 both_ones : (one other both : ℕ) → one < 2 → other < 2 → both ≡ min one other → eqb both 1 ≡ (eqb one 1 && eqb other 1)
 both_ones one other both small low least = grind (arith, nat_tests)
 
--- a mode is in both sets of bits where each has it
-pub both_bits : (modes : ActiveModes) (own bits : ℕ) → modes ≡ Bits own → (mode : ℕ) → eqb (bit_at (bit_and own bits) mode) 1 ≡ (has_mode modes mode && eqb (bit_at bits mode) 1)
-both_bits modes own bits is mode =
-    both_ones (bit_at own mode) (bit_at bits mode) (bit_at (bit_and own bits) mode) (bit_at-lt own mode) (bit_at-lt bits mode) (bit_at_and own bits mode)
-    ∙ ap (λ m. has_mode m mode && eqb (bit_at bits mode) 1) (sym is)
+-- an edge is active in both modes' common bits where each has it
+pub both_edges : (modes : ActiveModes) (own edge : Edge) → modes ≡ OfEdge own → (mode : ℕ)
+    → eqb (bit_at (bit_and own.modes edge.modes) mode) 1 ≡ (has_mode modes mode && is_allowed edge mode)
+both_edges modes own edge is mode =
+    both_ones (bit_at own.modes mode) (bit_at edge.modes mode) (bit_at (bit_and own.modes edge.modes) mode)
+    (bit_at-lt own.modes mode) (bit_at-lt edge.modes mode) (bit_at_and own.modes edge.modes mode)
+    ∙ ap (λ m. has_mode m mode && is_allowed edge mode) (sym is)
 
 -- one edge more
 pub allowed_more : (edges : List Edge) (numbers : List ℕ) (place : ℕ) (edge : Edge) (modes more : ActiveModes) → place < length numbers
     → slice_get edges (get_or numbers place 0) ≡ Some edge → ((mode : ℕ) → has_mode modes mode ≡ are_allowed edges (take place numbers) mode)
-    → ((mode : ℕ) → has_mode more mode ≡ (has_mode modes mode && eqb (bit_at edge.modes mode) 1))
+    → ((mode : ℕ) → has_mode more mode ≡ (has_mode modes mode && is_allowed edge mode))
     → (mode : ℕ) → has_mode more mode ≡ are_allowed edges (take (place + 1) numbers) mode
 allowed_more edges numbers place edge modes more within at so_far with_it mode =
     with_it mode

@@ -26,42 +26,42 @@ AreFrom instant events = All (λ event. instant ≤ time_of_event event) events
 abbrev last_time : ℕ → List Event → ℕ
 last_time time events = fold (λ last event. time_of_event event) time events
 
-order_behind : (event : Event) (events : List Event) → AreInOrder (event ∷ events) → AreInOrder events
-order_behind event events order = AllPairs-tail (λ earlier later. time_of_event earlier ≤ time_of_event later) event events order
+order_after : (event : Event) (events : List Event) → AreInOrder (event ∷ events) → AreInOrder events
+order_after event events order = AllPairs-tail (λ earlier later. time_of_event earlier ≤ time_of_event later) event events order
 
 from_first : (event : Event) (events : List Event) → AreInOrder (event ∷ events) → AreFrom (time_of_event event) events
 from_first event events order = AllPairs-head (λ earlier later. time_of_event earlier ≤ time_of_event later) event events order
 
-from_behind : (instant : ℕ) (event : Event) (events : List Event) → AreFrom instant (event ∷ events) → AreFrom instant events
-from_behind instant event events from = All-tail (λ e. instant ≤ time_of_event e) event events from
+from_after : (instant : ℕ) (event : Event) (events : List Event) → AreFrom instant (event ∷ events) → AreFrom instant events
+from_after instant event events from = All-tail (λ e. instant ≤ time_of_event e) event events from
 
 -- what is added comes at the last time or later
 added_later : (time : ℕ) (events more : List Event) → AreInOrder (events ++ more) → AreFrom time (events ++ more) → AreFrom (last_time time events) more
 added_later time [] more order from = from
 added_later time (event ∷ events) more order from =
-    added_later (time_of_event event) events more (order_behind event (events ++ more) order) (from_first event (events ++ more) order)
+    added_later (time_of_event event) events more (order_after event (events ++ more) order) (from_first event (events ++ more) order)
 
 -- and the last time does not fall
 last_rises : (time : ℕ) (events : List Event) → AreInOrder events → AreFrom time events → time ≤ last_time time events
 last_rises time [] order from = omega arith
 last_rises time (event ∷ events) order from =
-    omega (arith, from 0 event (omega arith), last_rises (time_of_event event) events (order_behind event events order) (from_first event events order))
+    omega (arith, from 0 event (omega arith), last_rises (time_of_event event) events (order_after event events order) (from_first event events order))
 
 now_rises : (time : ℕ) (events more : List Event) → AreInOrder (events ++ more) → AreFrom time (events ++ more) → last_time time events ≤ last_time time (events ++ more)
 now_rises time [] more order from = last_rises time more order from
 now_rises time (event ∷ events) more order from =
-    now_rises (time_of_event event) events more (order_behind event (events ++ more) order) (from_first event (events ++ more) order)
+    now_rises (time_of_event event) events more (order_after event (events ++ more) order) (from_first event (events ++ more) order)
 
 -- Events that are not before an instant do not bear on its mode.
 unchanged : (held instant : ℕ) (events : List Event) → AreFrom instant events → mode_after held events instant ≡ held
 unchanged held instant [] from = refl
-unchanged held instant (Alarm time node ∷ events) from = unchanged held instant events (from_behind instant (Alarm time node) events from)
-unchanged held instant (Silent time node ∷ events) from = unchanged held instant events (from_behind instant (Silent time node) events from)
-unchanged held instant (Sweep time ∷ events) from = unchanged held instant events (from_behind instant (Sweep time) events from)
-unchanged held instant (Tick time ∷ events) from = unchanged held instant events (from_behind instant (Tick time) events from)
+unchanged held instant (Alarm time node ∷ events) from = unchanged held instant events (from_after instant (Alarm time node) events from)
+unchanged held instant (Silent time node ∷ events) from = unchanged held instant events (from_after instant (Silent time node) events from)
+unchanged held instant (Sweep time ∷ events) from = unchanged held instant events (from_after instant (Sweep time) events from)
+unchanged held instant (Tick time ∷ events) from = unchanged held instant events (from_after instant (Tick time) events from)
 unchanged held instant (Mode time mode ∷ events) from =
     ap (λ (b : Bool). mode_after (cond b mode held) events instant) (le-ltb time instant (from 0 (Mode time mode) (omega arith)))
-    ∙ unchanged held instant events (from_behind instant (Mode time mode) events from)
+    ∙ unchanged held instant events (from_after instant (Mode time mode) events from)
 
 mode_kept : (held instant : ℕ) (events more : List Event) → AreFrom instant more → mode_after held (events ++ more) instant ≡ mode_after held events instant
 mode_kept held instant [] more from = unchanged held instant more from

@@ -102,8 +102,8 @@ module _ (log : Logbook) where
           eqb-false (span_number log instant) number (found.first.none_below instant (omega arith))
           (one_number instant span.lo next (mode ∙ sym found.mode_is) ∙ first_number)
 
-      not_behind : (instant : ℕ) → instant ≡ span.hi + 1 → instant ≤ horizon → mode_at log instant ≡ span.mode → ⊥
-      not_behind instant next upto mode =
+      not_after : (instant : ℕ) → instant ≡ span.hi + 1 → instant ≤ horizon → mode_at log instant ≡ span.mode → ⊥
+      not_after instant next upto mode =
           eqb-false (span_number log instant) number (found.last.none_above instant (omega arith) upto)
           (sym (one_number span.hi instant (sym next) (in_mode span.hi in_order (omega arith) ∙ sym mode)) ∙ last_number)
 
@@ -115,7 +115,7 @@ module _ (log : Logbook) where
           in_range = found.last.within;
           throughout = in_mode;
           not_before = not_before;
-          not_behind = not_behind;
+          not_after = not_after;
         };
         numbered = numbered;
       }

@@ -8,7 +8,7 @@ use Rattle.tfpg_log.specs.declared.span.Span.{Span}
 use Rattle.tfpg_log.specs.Log.{Logbook, now_of, mode_at}
 use Rattle.tfpg_log.specs.Spans.{span_number, span_at}
 use Rattle.tfpg_log.specs.Runs.{IsSpanOf}
-use Rattle.tfpg_log.specs.SpanIndex.{change_at, begin_of, mode_of, end_of, span_in, IsWithin, BeginSpans}
+use Rattle.tfpg_log.specs.inside.SpanIndex.{change_at, begin_of_span, mode_of_span, end_of_span, span_in, IsInSpan, BeginSpans}
 use Rattle.tfpg_log.proofs.SpanChanges.{one_span}
 use Rattle.tfpg_log.proofs.SpanRuns.{is_span, span_is_found}
 
@@ -21,7 +21,7 @@ count_more before here count unlike = grind (arith, nat_tests)
 -- Where so many changes come before an instant and the others do not, it lies in the span of that number.
 pub within_point : (changes : List ModeChange) (number instant : ℕ) → number ≤ length changes
     → IsPartitionPoint (λ (change : ModeChange). ltb change.time instant ≡ true) (λ (change : ModeChange). ltb change.time instant ≡ false) changes number
-    → IsWithin changes number instant
+    → IsInSpan changes number instant
 within_point changes zero instant counted point = record {
   counted = counted;
   begun = omega arith;
@@ -37,33 +37,33 @@ within_point changes (suc place) instant counted point = record {
 module _ (log : Logbook) (changes : List ModeChange) (spans : BeginSpans (mode_at log) changes) where
   -- ---- the number of an instant
 
-  -- the next instant lies in the same span, where the next span begins behind it
-  still_within : (number instant : ℕ) → IsWithin changes number instant → (number < length changes → suc instant < begin_of changes (suc number))
-      → IsWithin changes number (suc instant)
+  -- the next instant lies in the same span, where the next span begins after it
+  still_within : (number instant : ℕ) → IsInSpan changes number instant → (number < length changes → suc instant < begin_of_span changes (suc number))
+      → IsInSpan changes number (suc instant)
   still_within number instant within unended = record { counted = within.counted; begun = omega (arith, within.begun); unended = unended }
 
   -- and else in the next span
-  next_within : (number instant : ℕ) → IsWithin changes number instant → number < length changes → begin_of changes (suc number) ≤ suc instant
-      → IsWithin changes (suc number) (suc instant)
+  next_within : (number instant : ℕ) → IsInSpan changes number instant → number < length changes → begin_of_span changes (suc number) ≤ suc instant
+      → IsInSpan changes (suc number) (suc instant)
   next_within number instant within more begun = record {
     counted = omega arith;
     begun = begun;
     unended = λ further. omega (arith, within.unended more, spans.rise (suc number) further);
   }
 
-  next_number : (number instant : ℕ) → IsWithin changes number instant → IsWithin changes (number + cond (eqb (mode_at log instant) (mode_at log (suc instant))) 0 1) (suc instant)
+  next_number : (number instant : ℕ) → IsInSpan changes number instant → IsInSpan changes (number + cond (eqb (mode_at log instant) (mode_at log (suc instant))) 0 1) (suc instant)
   next_number number instant within =
       let count = number + cond (eqb (mode_at log instant) (mode_at log (suc instant))) 0 1 in
-      let here : mode_at log instant ≡ mode_of changes number = spans.hold number instant within in
-      let kept : (number < length changes → suc instant < begin_of changes (suc number)) → IsWithin changes count (suc instant) = λ unended.
+      let here : mode_at log instant ≡ mode_of_span changes number = spans.hold number instant within in
+      let kept : (number < length changes → suc instant < begin_of_span changes (suc number)) → IsInSpan changes count (suc instant) = λ unended.
       let still = still_within number instant within unended in
-      subst (λ n. IsWithin changes n (suc instant))
+      subst (λ n. IsInSpan changes n (suc instant))
       (sym (count_kept (mode_at log instant) (mode_at log (suc instant)) number (here ∙ sym (spans.hold number (suc instant) still)))) still in
       elim (cases_lt number (length changes)) [
-        | inl more ↦ elim (cases_lt (suc instant) (begin_of changes (suc number))) [
+        | inl more ↦ elim (cases_lt (suc instant) (begin_of_span changes (suc number))) [
           | inl unended ↦ kept (λ lt. unended)
           | inr begun ↦ (let next = next_within number instant within more begun in
-              subst (λ n. IsWithin changes n (suc instant))
+              subst (λ n. IsInSpan changes n (suc instant))
               (sym (count_more (mode_at log instant) (mode_at log (suc instant)) number
               (λ same. spans.differ number more (sym here ∙ same ∙ spans.hold (suc number) (suc instant) next)))) next)
         ]
@@ -71,25 +71,25 @@ module _ (log : Logbook) (changes : List ModeChange) (spans : BeginSpans (mode_a
       ]
 
   -- Each instant lies in the span of its number.
-  pub number_within : (instant : ℕ) → IsWithin changes (span_number log instant) instant
+  pub number_within : (instant : ℕ) → IsInSpan changes (span_number log instant) instant
   number_within zero = record { counted = omega arith; begun = omega arith; unended = λ some. omega arith }
   number_within (suc instant) = next_number (span_number log instant) instant (number_within instant)
 
   -- In whose span it lies, that is its number.
-  pub number_is : (number instant : ℕ) → IsWithin changes number instant → span_number log instant ≡ number
+  pub number_is : (number instant : ℕ) → IsInSpan changes number instant → span_number log instant ≡ number
   number_is number instant within = one_span changes spans.rise (span_number log instant) number instant (number_within instant) within
 
   -- ---- the span of a number
 
   -- the last instant of a span up to a horizon
   pub record IsEnd (number horizon hi : ℕ) : Type 0 where
-    pub from : begin_of changes number ≤ hi
+    pub from : begin_of_span changes number ≤ hi
     pub in_range : hi ≤ horizon
-    pub unended : number < length changes → hi < begin_of changes (suc number)
-    pub next : hi < horizon → (number < length changes) × (begin_of changes (suc number) ≡ suc hi)
+    pub unended : number < length changes → hi < begin_of_span changes (suc number)
+    pub next : hi < horizon → (number < length changes) × (begin_of_span changes (suc number) ≡ suc hi)
 
   end_by_test : (number horizon : ℕ) (more before : Bool) → ltb number (length changes) ≡ more → ltb (change_at changes number).time horizon ≡ before
-      → begin_of changes number ≤ horizon → IsEnd number horizon (cond (more && before) (change_at changes number).time horizon)
+      → begin_of_span changes number ≤ horizon → IsEnd number horizon (cond (more && before) (change_at changes number).time horizon)
   end_by_test number horizon true true some early begun =
       let lt = ltb-true number (length changes) some in record {
         from = omega (arith, spans.rise number lt);
@@ -110,33 +110,33 @@ module _ (log : Logbook) (changes : List ModeChange) (spans : BeginSpans (mode_a
     next = λ below. absurd (omega arith);
   }
 
-  pub is_end : (number horizon : ℕ) → begin_of changes number ≤ horizon → IsEnd number horizon (end_of changes number horizon)
+  pub is_end : (number horizon : ℕ) → begin_of_span changes number ≤ horizon → IsEnd number horizon (end_of_span changes number horizon)
   is_end number horizon begun = end_by_test number horizon (ltb number (length changes)) (ltb (change_at changes number).time horizon) refl refl begun
 
   module _ (number horizon hi : ℕ) (counted : number ≤ length changes) (end : IsEnd number horizon hi) where
     -- each instant from the first to the last lies in the span
-    pub in_span : (instant : ℕ) → begin_of changes number ≤ instant → instant ≤ hi → IsWithin changes number instant
+    pub in_span : (instant : ℕ) → begin_of_span changes number ≤ instant → instant ≤ hi → IsInSpan changes number instant
     in_span instant from upto = record { counted = counted; begun = from; unended = λ more. omega (arith, end.unended more) }
 
-    not_behind : (instant : ℕ) → instant ≡ hi + 1 → instant ≤ horizon → mode_at log instant ≡ mode_of changes number → ⊥
-    not_behind instant behind upto same =
+    not_after : (instant : ℕ) → instant ≡ hi + 1 → instant ≤ horizon → mode_at log instant ≡ mode_of_span changes number → ⊥
+    not_after instant behind upto same =
         let next = end.next (omega arith) in
-        let within : IsWithin changes (suc number) instant =
+        let within : IsInSpan changes (suc number) instant =
         record { counted = omega (arith, next.0); begun = omega (arith, next.1); unended = λ more. omega (arith, next.1, spans.rise (suc number) more) } in
         spans.differ number next.0 (sym same ∙ spans.hold (suc number) instant within)
 
-  not_before : (number instant : ℕ) → number ≤ length changes → instant + 1 ≡ begin_of changes number → mode_at log instant ≡ mode_of changes number → ⊥
+  not_before : (number instant : ℕ) → number ≤ length changes → instant + 1 ≡ begin_of_span changes number → mode_at log instant ≡ mode_of_span changes number → ⊥
   not_before zero instant counted before same = absurd (omega arith)
   not_before (suc number) instant counted before same =
-      let within : IsWithin changes number instant =
+      let within : IsInSpan changes number instant =
       record { counted = omega arith; begun = omega (arith, spans.rise number (omega arith)); unended = λ more. omega arith } in
       spans.differ number (omega arith) (sym (spans.hold number instant within) ∙ same)
 
   -- What begins by the horizon is the span of its number.
-  pub span_there : (number horizon : ℕ) → horizon ≤ now_of log → number ≤ length changes → begin_of changes number ≤ horizon
-      → IsSpanOf log number horizon (record { lo = begin_of changes number; hi = end_of changes number horizon; mode = mode_of changes number })
+  pub span_there : (number horizon : ℕ) → horizon ≤ now_of log → number ≤ length changes → begin_of_span changes number ≤ horizon
+      → IsSpanOf log number horizon (record { lo = begin_of_span changes number; hi = end_of_span changes number horizon; mode = mode_of_span changes number })
   span_there number horizon by_now counted begun =
-      let hi : ℕ = end_of changes number horizon in
+      let hi : ℕ = end_of_span changes number horizon in
       let end = is_end number horizon begun in
       record {
         by_now = by_now;
@@ -145,34 +145,34 @@ module _ (log : Logbook) (changes : List ModeChange) (spans : BeginSpans (mode_a
           in_range = end.in_range;
           throughout = λ instant from upto. spans.hold number instant (in_span number horizon hi counted end instant from upto);
           not_before = λ instant before same. not_before number instant counted before same;
-          not_behind = not_behind number horizon hi counted end;
+          not_after = not_after number horizon hi counted end;
         };
         numbered = λ instant from upto. number_is number instant (in_span number horizon hi counted end instant from upto);
       }
 
   -- The span of a number begins by the horizon.
-  pub begins_by : (number horizon : ℕ) (span : Span) → span_at log number horizon ≡ Some span → (number ≤ length changes) × (begin_of changes number ≤ horizon)
+  pub begins_by : (number horizon : ℕ) (span : Span) → span_at log number horizon ≡ Some span → (number ≤ length changes) × (begin_of_span changes number ≤ horizon)
   begins_by number horizon span there =
       let is = is_span log number horizon span there in
-      let within : IsWithin changes number span.lo = subst (λ n. IsWithin changes n span.lo) (is.numbered span.lo (omega arith) is.run.in_order) (number_within span.lo) in
+      let within : IsInSpan changes number span.lo = subst (λ n. IsInSpan changes n span.lo) (is.numbered span.lo (omega arith) is.run.in_order) (number_within span.lo) in
       (within.counted, omega (arith, within.begun, is.run.in_order, is.run.in_range))
 
-  none_there : (number horizon : ℕ) (found : Option Span) → span_at log number horizon ≡ found → leb number (length changes) && leb (begin_of changes number) horizon ≡ false
+  none_there : (number horizon : ℕ) (found : Option Span) → span_at log number horizon ≡ found → leb number (length changes) && leb (begin_of_span changes number) horizon ≡ false
       → None ≡ found
   none_there number horizon None at late = refl
   none_there number horizon (Some span) at late =
       let by = begins_by number horizon span at in
-      absurd (both_ways (leb number (length changes) && leb (begin_of changes number) horizon) late
-      (and_from (leb number (length changes)) (leb (begin_of changes number) horizon) (le-leb number (length changes) by.0) (le-leb (begin_of changes number) horizon by.1)))
+      absurd (both_ways (leb number (length changes) && leb (begin_of_span changes number) horizon) late
+      (and_from (leb number (length changes)) (leb (begin_of_span changes number) horizon) (le-leb number (length changes) by.0) (le-leb (begin_of_span changes number) horizon by.1)))
 
   -- Up to a horizon that is not after now the changes give the spans.
   pub span_in_is : (number horizon : ℕ) → horizon ≤ now_of log → span_in changes number horizon ≡ span_at log number horizon
-  span_in_is number horizon by_now = elim (cases_Bool (leb number (length changes) && leb (begin_of changes number) horizon)) [
-    | inl early ↦ (let parts = and_parts (leb number (length changes)) (leb (begin_of changes number) horizon) early in
-        let span : Span = record { lo = begin_of changes number; hi = end_of changes number horizon; mode = mode_of changes number } in
-        cond-true (leb number (length changes) && leb (begin_of changes number) horizon) (Some span) None early
+  span_in_is number horizon by_now = elim (cases_Bool (leb number (length changes) && leb (begin_of_span changes number) horizon)) [
+    | inl early ↦ (let parts = and_parts (leb number (length changes)) (leb (begin_of_span changes number) horizon) early in
+        let span : Span = record { lo = begin_of_span changes number; hi = end_of_span changes number horizon; mode = mode_of_span changes number } in
+        cond-true (leb number (length changes) && leb (begin_of_span changes number) horizon) (Some span) None early
         ∙ sym (span_is_found log number horizon span
-        (span_there number horizon by_now (leb-true number (length changes) parts.0) (leb-true (begin_of changes number) horizon parts.1))))
-    | inr late ↦ cond-false (leb number (length changes) && leb (begin_of changes number) horizon) _ None late
+        (span_there number horizon by_now (leb-true number (length changes) parts.0) (leb-true (begin_of_span changes number) horizon parts.1))))
+    | inr late ↦ cond-false (leb number (length changes) && leb (begin_of_span changes number) horizon) _ None late
         ∙ none_there number horizon (span_at log number horizon) refl late
   ]

@@ -10,7 +10,7 @@ use Rattle.tfpg_log.specs.declared.span.Span.{Span}
 use Rattle.tfpg_log.specs.declared.span.Window.{Window}
 use Rattle.tfpg_log.specs.Log.{Logbook, mode_at}
 use Rattle.tfpg_log.specs.Spans.{span_number, span_at, run_start, run_end, window_between, window_round, is_allowed_at, are_allowed_at, window_of, joint_of}
-use Rattle.tfpg_log.specs.Runs.{IsMaximalRun, Meets, LiesIn, IsWindowRound}
+use Rattle.tfpg_log.specs.Runs.{IsMaximalRun, Overlaps, LiesIn, IsWindowRound}
 use Rattle.tfpg_log.proofs.MaximalRuns.{takes_in, one_run}
 use Rattle.tfpg_log.proofs.Trials.{NonePassesUpTo, IsGreatest, greatest_found, greatest_there}
 use Rattle.tfpg_log.proofs.SpanRuns.{is_span, found_span}
@@ -84,8 +84,8 @@ module _ (passes : ℕ → Bool) where
           | inr behind ↦ (starts hi last.here).throughout other (omega (arith, last.start, behind)) upto
         ]
 
-    not_behind : (other : ℕ) → other ≡ hi + 1 → other ≤ horizon → passes other ≡ true → ⊥
-    not_behind other next upto passing =
+    not_after : (other : ℕ) → other ≡ hi + 1 → other ≤ horizon → passes other ≡ true → ⊥
+    not_after other next upto passing =
         let last = reached instant hi end.here in
         let same : other ≡ suc hi = omega arith in
         both_ways (reaches instant (suc hi)) (end.none_above (suc hi) (omega arith) (omega arith))
@@ -98,7 +98,7 @@ module _ (passes : ℕ → Bool) where
       in_range = end.within;
       throughout = throughout;
       not_before = λ other next passing. both_ways (passes other) (first.not_before other next) passing;
-      not_behind = not_behind;
+      not_after = not_after;
     }
 
 -- ---- the window round a span
@@ -149,7 +149,7 @@ module _ (log : Logbook) (passes : ℕ → Bool) (horizon : ℕ) where
   module _ (alike : (one other : ℕ) → mode_at log one ≡ mode_at log other → passes one ≡ passes other) where
     -- A maximal run of passing instants has whole spans.
     pub whole : (window : Window) → IsMaximalRun (λ instant. IsTrue (passes instant)) window.lo window.hi horizon
-        → (number : ℕ) (span : Span) → span_at log number horizon ≡ Some span → Meets span window → LiesIn span window
+        → (number : ℕ) (span : Span) → span_at log number horizon ≡ Some span → Overlaps span window → LiesIn span window
     whole window run number span e meets =
         let is = (is_span log number horizon span e).run in
         let common : ℕ = max window.lo span.lo in
@@ -158,7 +158,7 @@ module _ (log : Logbook) (passes : ℕ → Bool) (horizon : ℕ) where
         takes_in (λ instant. IsTrue (passes instant)) horizon window.lo window.hi span.lo span.hi run
         (λ instant from upto. alike instant common (is.throughout instant from upto ∙ sym mode) ∙ here) is.in_range meets.0 meets.1
 
-    meets_own : (number : ℕ) (span : Span) (window : Window) → span_at log number horizon ≡ Some span → IsFound span window → Meets span window
+    meets_own : (number : ℕ) (span : Span) (window : Window) → span_at log number horizon ≡ Some span → IsFound span window → Overlaps span window
     meets_own number span window e found =
         let run = (is_span log number horizon span e).run in
         (omega (arith, found.start, (starts passes span.lo found.here).upto, run.in_order), (reached passes span.lo window.hi found.end.here).upto)

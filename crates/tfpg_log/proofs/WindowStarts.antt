@@ -8,9 +8,9 @@ use Rattle.tfpg_log.specs.declared.span.Span.{Span}
 use Rattle.tfpg_log.specs.declared.span.Window.{Window}
 use Rattle.tfpg_log.specs.Log.{Logbook, now_of, mode_at}
 use Rattle.tfpg_log.specs.Spans.{span_number, span_at, window_round}
-use Rattle.tfpg_log.specs.Runs.{IsMaximalRun, Meets, IsWindowRound}
-use Rattle.tfpg_log.specs.SpanIndex.{change_at, begin_of, mode_of, end_of, span_in, IsWithin, BeginSpans}
-use Rattle.tfpg_log.specs.ActiveModes.{has_mode, is_active_before, is_active_behind, IsFirst, IsLast}
+use Rattle.tfpg_log.specs.Runs.{IsMaximalRun, Overlaps, IsWindowRound}
+use Rattle.tfpg_log.specs.inside.SpanIndex.{change_at, begin_of_span, mode_of_span, end_of_span, span_in, IsInSpan, BeginSpans}
+use Rattle.tfpg_log.specs.inside.ActiveModes.{has_mode, is_active_before, is_active_after, IsRunStart, IsRunEnd}
 use Rattle.tfpg_log.proofs.SpanChanges.{begins_rise}
 use Rattle.tfpg_log.proofs.SpanRuns.{is_span, found_span}
 use Rattle.tfpg_log.proofs.SpanStarts.{number_within, number_is, IsEnd, is_end, begins_by, span_in_is}
@@ -24,10 +24,10 @@ begin_by_test lo hi mode span true some =
 begin_by_test lo hi mode span false some = absurd cc
 
 -- the span begins where the changes say
-begin_is : (changes : List ModeChange) (number horizon : ℕ) (span : Span) → Some span ≡ span_in changes number horizon → span.lo ≡ begin_of changes number
+begin_is : (changes : List ModeChange) (number horizon : ℕ) (span : Span) → Some span ≡ span_in changes number horizon → span.lo ≡ begin_of_span changes number
 begin_is changes number horizon span some =
-    begin_by_test (begin_of changes number) (end_of changes number horizon) (mode_of changes number) span
-    (leb number (length changes) && leb (begin_of changes number) horizon) some
+    begin_by_test (begin_of_span changes number) (end_of_span changes number horizon) (mode_of_span changes number) span
+    (leb number (length changes) && leb (begin_of_span changes number) horizon) some
 
 module _ (log : Logbook) (changes : List ModeChange) (spans : BeginSpans (mode_at log) changes) (modes : ActiveModes) where
   -- whether the mode of an instant is one of these
@@ -55,37 +55,37 @@ module _ (log : Logbook) (changes : List ModeChange) (spans : BeginSpans (mode_a
       sym (cond-false (passes span.lo) _ None fails)
       ∙ ap (option_and_then (λ s. window_round log (λ instant. has_mode modes (mode_at log instant)) s horizon)) there
 
-  before_first : (first instant : ℕ) → first ≤ length changes → is_active_before modes changes first ≡ false → instant + 1 ≡ begin_of changes first
+  before_first : (first instant : ℕ) → first ≤ length changes → is_active_before modes changes first ≡ false → instant + 1 ≡ begin_of_span changes first
       → passes instant ≡ true → ⊥
   before_first zero instant counted alone before passing = absurd (omega arith)
   before_first (suc first) instant counted alone before passing =
-      let within : IsWithin changes first instant =
+      let within : IsInSpan changes first instant =
       record { counted = omega arith; begun = omega (arith, spans.rise first (omega arith)); unended = λ more. omega arith } in
-      both_ways (has_mode modes (mode_of changes first)) alone (sym (ap (has_mode modes) (spans.hold first instant within)) ∙ passing)
+      both_ways (has_mode modes (mode_of_span changes first)) alone (sym (ap (has_mode modes) (spans.hold first instant within)) ∙ passing)
 
   module _ (number horizon : ℕ) (span : Span) (by_now : horizon ≤ now_of log) (some : Some span ≡ span_in changes number horizon) where
     there : Some span ≡ span_at log number horizon
     there = some ∙ span_in_is log changes spans number horizon by_now
 
-    by : (number ≤ length changes) × (begin_of changes number ≤ horizon)
+    by : (number ≤ length changes) × (begin_of_span changes number ≤ horizon)
     by = begins_by log changes spans number horizon span (sym there)
 
-    module _ (first last : ℕ) (is_first : IsFirst modes changes number first) (is_last : IsLast modes changes number horizon last) where
-      end : IsEnd log changes spans last horizon (end_of changes last horizon)
+    module _ (first last : ℕ) (is_first : IsRunStart modes changes number first) (is_last : IsRunEnd modes changes number horizon last) where
+      end : IsEnd log changes spans last horizon (end_of_span changes last horizon)
       end = is_end log changes spans last horizon is_last.begun
 
-      active : (other : ℕ) → first ≤ other → other ≤ last → has_mode modes (mode_of changes other) ≡ true
+      active : (other : ℕ) → first ≤ other → other ≤ last → has_mode modes (mode_of_span changes other) ≡ true
       active other from upto = elim (cases_lt number other) [
         | inl behind ↦ is_last.throughout other (omega arith) upto
         | inr before ↦ is_first.throughout other from before
       ]
 
       -- the first span begins by the horizon
-      pub first_begins : begin_of changes first ≤ horizon
+      pub first_begins : begin_of_span changes first ≤ horizon
       first_begins = omega (arith, begins_rise changes spans.rise first number is_first.upto by.0, by.1)
 
       -- an instant of the window lies in one of its spans
-      from_first : (instant : ℕ) → begin_of changes first ≤ instant → first ≤ span_number log instant
+      from_first : (instant : ℕ) → begin_of_span changes first ≤ instant → first ≤ span_number log instant
       from_first instant from = let within = number_within log changes spans instant in elim (cases_lt (span_number log instant) first) [
         | inl below ↦ absurd (omega (
           arith,
@@ -95,7 +95,7 @@ module _ (log : Logbook) (changes : List ModeChange) (spans : BeginSpans (mode_a
         | inr upto ↦ upto
       ]
 
-      upto_last : (instant : ℕ) → instant ≤ end_of changes last horizon → span_number log instant ≤ last
+      upto_last : (instant : ℕ) → instant ≤ end_of_span changes last horizon → span_number log instant ≤ last
       upto_last instant upto = let within = number_within log changes spans instant in elim (cases_lt last (span_number log instant)) [
         | inl above ↦ absurd (omega (
           arith,
@@ -106,35 +106,35 @@ module _ (log : Logbook) (changes : List ModeChange) (spans : BeginSpans (mode_a
         | inr by_last ↦ by_last
       ]
 
-      throughout : (instant : ℕ) → begin_of changes first ≤ instant → instant ≤ end_of changes last horizon → passes instant ≡ true
+      throughout : (instant : ℕ) → begin_of_span changes first ≤ instant → instant ≤ end_of_span changes last horizon → passes instant ≡ true
       throughout instant from upto =
           ap (has_mode modes) (spans.hold (span_number log instant) instant (number_within log changes spans instant))
           ∙ active (span_number log instant) (from_first instant from) (upto_last instant upto)
 
-      behind_last : (instant : ℕ) → instant ≡ end_of changes last horizon + 1 → instant ≤ horizon → passes instant ≡ true → ⊥
-      behind_last instant behind upto passing =
+      after_last : (instant : ℕ) → instant ≡ end_of_span changes last horizon + 1 → instant ≤ horizon → passes instant ≡ true → ⊥
+      after_last instant behind upto passing =
           let next = end.next (omega arith) in
-          let within : IsWithin changes (suc last) instant =
+          let within : IsInSpan changes (suc last) instant =
           record { counted = omega (arith, next.0); begun = omega (arith, next.1); unended = λ more. omega (arith, next.1, spans.rise (suc last) more) } in
           let mode : has_mode modes (change_at changes last).mode ≡ true = sym (ap (has_mode modes) (spans.hold (suc last) instant within)) ∙ passing in
-          both_ways (is_active_behind modes changes last horizon) is_last.alone
+          both_ways (is_active_after modes changes last horizon) is_last.alone
           (and_from (ltb last (length changes)) (ltb (change_at changes last).time horizon && has_mode modes (change_at changes last).mode) (lt-ltb last (length changes) next.0)
           (and_from (ltb (change_at changes last).time horizon) (has_mode modes (change_at changes last).mode)
           (lt-ltb (change_at changes last).time horizon (omega (arith, next.1))) mode))
 
-      run : IsMaximalRun (λ instant. IsTrue (passes instant)) (begin_of changes first) (end_of changes last horizon) horizon
+      run : IsMaximalRun (λ instant. IsTrue (passes instant)) (begin_of_span changes first) (end_of_span changes last horizon) horizon
       run = record {
         in_order = omega (arith, begins_rise changes spans.rise first last (omega (arith, is_first.upto, is_last.from)) is_last.counted, end.from);
         in_range = end.in_range;
         throughout = throughout;
         not_before = λ instant before passing. before_first first instant (omega (arith, is_first.upto, by.0)) is_first.alone before passing;
-        not_behind = behind_last;
+        not_after = after_last;
       }
 
-      first_within : IsWithin changes first (begin_of changes first)
+      first_within : IsInSpan changes first (begin_of_span changes first)
       first_within = record { counted = omega (arith, is_first.upto, by.0); begun = omega arith; unended = spans.rise first }
 
-      meets : Meets span (record { first = first; lo = begin_of changes first; hi = end_of changes last horizon })
+      meets : Overlaps span (record { first = first; lo = begin_of_span changes first; hi = end_of_span changes last horizon })
       meets =
           let is = is_span log number horizon span (sym there) in
           let begins = begin_is changes number horizon span some in (
@@ -142,28 +142,28 @@ module _ (log : Logbook) (changes : List ModeChange) (spans : BeginSpans (mode_a
             omega (arith, begins_rise changes spans.rise number last is_last.from is_last.counted, begins, end.from),
           )
 
-      is_window : IsWindowRound log (λ instant. has_mode modes (mode_at log instant)) number horizon (record { first = first; lo = begin_of changes first; hi = end_of changes last horizon })
+      is_window : IsWindowRound log (λ instant. has_mode modes (mode_at log instant)) number horizon (record { first = first; lo = begin_of_span changes first; hi = end_of_span changes last horizon })
       is_window =
-          let found : Window = record { first = first; lo = begin_of changes first; hi = end_of changes last horizon } in
+          let found : Window = record { first = first; lo = begin_of_span changes first; hi = end_of_span changes last horizon } in
           let lies = whole log passes horizon passes_alike found run in
           record {
             run = run;
             whole_spans = lies;
             round = (span, sym there, lies number span (sym there) meets);
-            first_span = sym (number_is log changes spans first (begin_of changes first) first_within);
+            first_span = sym (number_is log changes spans first (begin_of_span changes first) first_within);
           }
 
       -- So the beginning of the first span is not missed.
-      pub no_beginning : None ≡ cond (leb (begin_of changes first) horizon) (Some (begin_of changes first)) None → ⊥
+      pub no_beginning : None ≡ cond (leb (begin_of_span changes first) horizon) (Some (begin_of_span changes first)) None → ⊥
       no_beginning none =
-          let begins = cond-true (leb (begin_of changes first) horizon) (Some (begin_of changes first)) None (le-leb (begin_of changes first) horizon first_begins) in
+          let begins = cond-true (leb (begin_of_span changes first) horizon) (Some (begin_of_span changes first)) None (le-leb (begin_of_span changes first) horizon first_begins) in
           absurd cc
 
       -- What the walk over the spans finds is the window.
-      pub window_walked : (lo hi : ℕ) → Some lo ≡ cond (leb (begin_of changes first) horizon) (Some (begin_of changes first)) None → hi ≡ end_of changes last horizon
+      pub window_walked : (lo hi : ℕ) → Some lo ≡ cond (leb (begin_of_span changes first) horizon) (Some (begin_of_span changes first)) None → hi ≡ end_of_span changes last horizon
           → Some (record { first = first; lo = lo; hi = hi }) ≡ found_round number horizon
       window_walked lo hi begun ended =
-          let begins = cond-true (leb (begin_of changes first) horizon) (Some (begin_of changes first)) None (le-leb (begin_of changes first) horizon first_begins) in
-          let from : lo ≡ begin_of changes first = cc in
-          let found : Window = record { first = first; lo = begin_of changes first; hi = end_of changes last horizon } in
+          let begins = cond-true (leb (begin_of_span changes first) horizon) (Some (begin_of_span changes first)) None (le-leb (begin_of_span changes first) horizon first_begins) in
+          let from : lo ≡ begin_of_span changes first = cc in
+          let found : Window = record { first = first; lo = begin_of_span changes first; hi = end_of_span changes last horizon } in
           (λ i. Some (record { first = first; lo = from i; hi = ended i })) ∙ sym (window_is_found log passes horizon passes_alike number found is_window)

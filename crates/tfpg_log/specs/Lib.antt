@@ -1,18 +1,17 @@
 pub use Rattle.tfpg_base.specs.Trace
 pub use Rattle.tfpg_graph.specs.Graph
 pub use Rattle.tfpg_graph.specs.Reach
+pub use Rattle.tfpg_graph.specs.Statements
 pub use Rattle.tfpg_graph.specs.Valid
-pub use Rattle.tfpg_graph.specs.ZeroCycle
+-- What the contracts say.
 pub mod Log
 pub mod Rules
 pub mod Explains
 pub mod Spans
 pub mod Runs
 pub mod AgeInWindow
+pub mod LogStatements
 pub mod Accepted
 pub mod LogOfLines
-pub mod SpanIndex
-pub mod ActiveModes
-pub mod LogInside
-pub mod LogLine
-pub mod Judged
+-- What the code and its proofs need besides. No public clause reaches it.
+pub mod inside

@@ -46,10 +46,14 @@ pub record KeepsMust (graph : Tfpg) (log : Logbook) (trace : List Activation) (n
   pub or_node : IsTrue (is_kind_at is_or graph node) → (edge : Edge) → Contains (edges_into graph node) edge → IsDue log trace edge instant → IsActive trace node instant
   pub and_node : IsTrue (is_kind_at is_and graph node) → All (λ edge. IsDue log trace edge instant) (edges_into graph node) → IsActive trace node instant
 
--- The propagation rules hold for each node at each instant up to now.
+-- The propagation rules hold for a node at each instant up to now.
+pub record KeepsRulesOf (graph : Tfpg) (log : Logbook) (trace : List Activation) (node : ℕ) : Type 0 where
+  pub may : (instant : ℕ) → instant ≤ now_of log → KeepsMay graph log trace node instant
+  pub must : (instant : ℕ) → instant ≤ now_of log → KeepsMust graph log trace node instant
+
+-- The propagation rules hold for each node of the graph.
 abbrev pub KeepsRules : Tfpg → Logbook → List Activation → Type 0
-KeepsRules graph log trace =
-    (node instant : ℕ) → node < length graph.nodes → instant ≤ now_of log → KeepsMay graph log trace node instant × KeepsMust graph log trace node instant
+KeepsRules graph log trace = (node : ℕ) → node < length graph.nodes → KeepsRulesOf graph log trace node
 
 -- a finite map from nodes of the graph to times
 abbrev pub IsTraceOf : Tfpg → List Activation → Type 0

@@ -12,7 +12,7 @@ pub record IsMaximalRun (Holds : ℕ → Type 0) (lo hi horizon : ℕ) : Type 0 
   pub in_range : hi ≤ horizon
   pub throughout : (instant : ℕ) → lo ≤ instant → instant ≤ hi → Holds instant
   pub not_before : (instant : ℕ) → instant + 1 ≡ lo → Holds instant → ⊥
-  pub not_behind : (instant : ℕ) → instant ≡ hi + 1 → instant ≤ horizon → Holds instant → ⊥
+  pub not_after : (instant : ℕ) → instant ≡ hi + 1 → instant ≤ horizon → Holds instant → ⊥
 
 -- The span is that of a number, up to a horizon that is not after now: a maximal run of instants of one mode, each of
 -- which has the number.
@@ -22,8 +22,8 @@ pub record IsSpanOf (log : Logbook) (number horizon : ℕ) (span : Span) : Type 
   pub numbered : (instant : ℕ) → span.lo ≤ instant → instant ≤ span.hi → span_number log instant ≡ number
 
 -- some instant of the span lies in the window
-abbrev pub Meets : Span → Window → Type 0
-Meets span window = (window.lo ≤ span.hi) × (span.lo ≤ window.hi)
+abbrev pub Overlaps : Span → Window → Type 0
+Overlaps span window = (window.lo ≤ span.hi) × (span.lo ≤ window.hi)
 
 -- each instant of the span does
 abbrev pub LiesIn : Span → Window → Type 0
@@ -34,6 +34,6 @@ LiesIn span window = (window.lo ≤ span.lo) × (span.hi ≤ window.hi)
 pub record IsWindowRound (log : Logbook) (passes : ℕ → Bool) (number horizon : ℕ) (window : Window) : Type 0 where
   pub run : IsMaximalRun (λ instant. IsTrue (passes instant)) window.lo window.hi horizon
   pub whole_spans : (other : ℕ) (span : Span) → span_at log other horizon ≡ Some span
-      → Meets span window → LiesIn span window
+      → Overlaps span window → LiesIn span window
   pub round : (span : Span) × (span_at log number horizon ≡ Some span) × LiesIn span window
   pub first_span : window.first ≡ span_number log window.lo

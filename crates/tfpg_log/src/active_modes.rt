@@ -1,20 +1,19 @@
 //! Sets of modes in which an edge, or each edge into a node, is active.
 
-ghost use Rattle.std.specs.Prelude.{◌≡◌, ◌<◌, ◌&&◌, ◌==◌, ℕ, length};
+ghost use Rattle.std.specs.Prelude.{◌≡◌, ◌<◌, ◌&&◌, ℕ, length};
 ghost use Rattle.std.specs.List.{list_all};
-ghost use Rattle.std.specs.Int.{bit_at};
 ghost use Rattle.tfpg_graph.specs.Graph.{is_allowed, edges_into};
-ghost use Rattle.tfpg_log.specs.ActiveModes.{has_mode};
+ghost use Rattle.tfpg_log.specs.inside.ActiveModes.{has_mode};
 
-use tfpg_graph::Graph;
+use tfpg_graph::{Edge, Graph};
 
 /// The modes in which something is active.
 #[derive(Clone, Copy)]
 pub(crate) enum ActiveModes {
     /// All modes.
     Every,
-    /// Each mode `m` whose bit `m` is set.
-    Bits(u64),
+    /// Those of an edge.
+    OfEdge(Edge),
 }
 
 impl ActiveModes {
@@ -24,26 +23,22 @@ impl ActiveModes {
     {
         match self {
             ActiveModes::Every => true,
-            ActiveModes::Bits(bits) => has_bit(*bits, mode),
+            ActiveModes::OfEdge(edge) => edge.is_allowed(mode),
         }
     }
 
-    /// Those of them whose bit is set.
-    fn and(self, bits: u64) -> ActiveModes
-        ensures { (mode : ℕ) → has_mode result mode ≡ (has_mode self mode && (bit_at bits mode == 1)) }
+    /// Those of them in which the edge is active too: as of an edge that is active in both.
+    fn and(self, edge: Edge) -> ActiveModes
+        ensures { (mode : ℕ) → has_mode result mode ≡ (has_mode self mode && is_allowed edge mode) }
     {
         match self {
-            ActiveModes::Every => ActiveModes::Bits(bits),
-            ActiveModes::Bits(own) => ActiveModes::Bits(own & bits),
+            ActiveModes::Every => ActiveModes::OfEdge(edge),
+            ActiveModes::OfEdge(own) => ActiveModes::OfEdge(Edge {
+                modes: own.modes & edge.modes,
+                ..edge
+            }),
         }
     }
-}
-
-/// Whether the bit of this number is set.
-fn has_bit(bits: u64, number: u32) -> bool
-    ensures { result ≡ (bit_at bits number == 1) }
-{
-    number < 64 && bits >> number & 1 == 1
 }
 
 /// The modes in which all edges into the node are active at once. Goes through these edges.
@@ -54,7 +49,7 @@ pub(crate) fn modes_into(graph: &Graph, node: u32) -> ActiveModes
     let mut modes = ActiveModes::Every;
     let incoming = graph.incoming(node);
     for number in incoming {
-        modes = modes.and(graph.edge(*number).modes);
+        modes = modes.and(graph.edge(*number));
     }
     modes
 }

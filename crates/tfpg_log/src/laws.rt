@@ -7,7 +7,6 @@ ghost use Rattle.tfpg_graph.specs.declared.edge.Edge.{Edge};
 ghost use Rattle.tfpg_graph.specs.Graph.{Tfpg, is_allowed, edges_into};
 ghost use Rattle.tfpg_graph.specs.Reach.{Reaches};
 ghost use Rattle.tfpg_graph.specs.Valid.{IsValid};
-ghost use Rattle.tfpg_graph.specs.ZeroCycle.{HasZeroOrder};
 ghost use Rattle.tfpg_log.specs.declared.event.Event.{Event};
 ghost use Rattle.tfpg_log.specs.declared.span.Span.{Span};
 ghost use Rattle.tfpg_log.specs.declared.span.Window.{Window};
@@ -15,21 +14,38 @@ ghost use Rattle.tfpg_log.specs.Log.{Logbook, GoesOn, IsOrdered, now_of, event_a
 ghost use Rattle.tfpg_log.specs.Rules.{IsActive, HasAge, IsAge};
 ghost use Rattle.tfpg_log.specs.Spans.{span_number, span_at, is_allowed_at, are_allowed_at, window_of, joint_of};
 ghost use Rattle.tfpg_log.specs.Runs.{IsSpanOf, IsWindowRound};
-ghost use Rattle.tfpg_log.specs.Explains.{Explains};
+ghost use Rattle.tfpg_log.specs.Explains.{Explains, Fits};
+ghost use Rattle.tfpg_log.specs.LogStatements.{LogStatement, SaysLogStatement, log_statement_of};
 
-/// Nothing outside a set's reach becomes active: in a valid graph whose nodes can be ranked so that each edge that may
-/// take no time goes upwards, a trace that explains a log from a set activates only nodes that the set reaches.
+mod window_laws;
+
+pub use window_laws::{
+    age_is_first_reached_in_each_window, age_is_the_time_in_the_window,
+    ages_at_once_are_the_time_in_the_joint_window, an_active_edge_has_one_window,
+    joint_window_is_what_all_have_in_common,
+};
+
+/// A line of a log is read as a statement exactly where it is written with the words of that statement.
+pub fn a_line_is_read_as_it_is_written()
+    ensures { (line time : List ℕ) (statement : LogStatement) →
+        (log_statement_of line ≡ Some (time, statement)) ↔ SaysLogStatement line time statement }
+{}
+
+/// Nothing outside a set's reach becomes active: a trace that explains a log from a set activates only nodes that the
+/// set reaches.
 pub fn nothing_outside_reach()
     ensures { (graph : Tfpg) (log : Logbook) (set : List ℕ) (trace : List Activation) →
-        IsValid graph → HasZeroOrder graph → Explains graph log set trace →
+        IsValid graph → Explains graph log set trace →
         All (λ activation. Reaches graph set activation.node) trace }
 {}
 
-/// Without a failure mode nothing becomes active: in a valid graph whose nodes can be ranked so, the one trace that
-/// explains a log from the empty set is the empty trace.
+/// Without a failure mode nothing becomes active: the one trace that explains a log from the empty set is the empty
+/// trace. So the empty set fits a log only where that trace explains it.
 pub fn nothing_without_failures()
-    ensures { (graph : Tfpg) (log : Logbook) (trace : List Activation) →
-        IsValid graph → HasZeroOrder graph → Explains graph log [] trace → trace ≡ [] }
+    ensures trace { (graph : Tfpg) (log : Logbook) (trace : List Activation) →
+        IsValid graph → Explains graph log [] trace → trace ≡ [] }
+    ensures fits { (graph : Tfpg) (log : Logbook) →
+        IsValid graph → Fits graph log [] → Explains graph log [] [] }
 {}
 
 /// An edge has an age exactly where its source is active and the mode of the instant allows the edge. There is then one

@@ -1,33 +1,26 @@
 //! The log of accepted lines, with its look-ups.
 
 ghost use Rattle.std.specs.Prelude.{◌≡◌, ◌≤◌, ◌<◌, ◌-◌, ℕ, length, take, true, false, ◌&&◌, if◌then◌else◌, nat_lt, nat_le, Some, None, is_none, IfOk, OnOk, OnErr, count_by, vec_len, option_and_then, slice_get};
-ghost use Rattle.tfpg_log.specs.declared.refusal.Refusal.{Refusal};
 ghost use Rattle.tfpg_log.specs.Log.{IsOf, IsOrdered, now_of, event_at, alarm_of, alarm_among, mode_at, quiet_at, with_event, time_of_event, is_mode_change};
 ghost use Rattle.tfpg_log.specs.Spans.{span_number, span_at, window_round, window_of, joint_of};
-ghost use Rattle.tfpg_log.specs.ActiveModes.{has_mode};
-ghost use Rattle.tfpg_log.specs.Accepted.{max_events, max_mode_changes, reply_to};
-ghost use Rattle.tfpg_log.specs.LogOfLines.{new_log, log_after_reply};
-ghost use Rattle.tfpg_log.specs.LogInside.{alarm_place, AreSameAlarms, IsNoSecondAlarm};
+ghost use Rattle.tfpg_log.specs.inside.ActiveModes.{has_mode};
+ghost use Rattle.tfpg_log.specs.declared.limits.TheConstants.{MAX_EVENTS, MAX_MODE_CHANGES};
+ghost use Rattle.tfpg_log.specs.LogOfLines.{new_log};
+ghost use Rattle.tfpg_log.specs.inside.LogIndex.{alarm_place, AreSameAlarms, IsNoSecondAlarm};
 ghost use Rattle.tfpg_base.specs.Times.{max_time};
 ghost use Rattle.tfpg_graph.specs.Graph.{Tfpg, is_monitored};
 
 use crate::active_modes::{ActiveModes, modes_into};
-use crate::event::{Event, Offered};
+use crate::event::Event;
+use crate::limits::{MAX_EVENTS, MAX_MODE_CHANGES};
 use crate::mode_change::ModeChange;
-use crate::reply::{has_monitor, reply};
 use crate::span::{Span, Window};
-use crate::spans::{mode_of, number_of, span_in, take_change};
+use crate::spans::{mode_of_span, number_of, span_in, take_change};
 use crate::windows::window_round;
 use std::alloc::Global;
 use std::marker::Model;
 use tfpg_base::NoMemory;
 use tfpg_graph::Graph;
-
-/// How many events a log takes.
-const MAX_EVENTS: usize = 16_384;
-
-/// How many of them may be changes of mode.
-const MAX_MODE_CHANGES: u32 = 1_024;
 
 /// The events that were accepted so far, numbered from 1, and with them the time. A new log is of every graph.
 ///
@@ -50,11 +43,11 @@ impl Model for Log {
 
     ghost Value = { Logbook };
 
-    ghost use Rattle.tfpg_log.specs.LogInside.{IsIndexed};
+    ghost use Rattle.tfpg_log.specs.inside.LogIndex.{IsLogIndex};
 
     ghost view = { λ log. record { events = log.events.items } };
 
-    ghost invariant = { λ log. IsIndexed log.events.items log.alarms.items log.changes.items log.change_count };
+    ghost invariant = { λ log. IsLogIndex log.events.items log.alarms.items log.changes.items log.change_count };
 }
 
 impl Log {
@@ -113,7 +106,7 @@ impl Log {
     pub fn mode_at(&self, instant: u64) -> u32
         ensures { result ≡ mode_at self.now instant }
     {
-        mode_of(&self.changes, number_of(&self.changes, instant))
+        mode_of_span(&self.changes, number_of(&self.changes, instant))
     }
 
     /// The number of the span of an instant, in milliseconds: how many times the mode changed from one instant to the
@@ -145,7 +138,7 @@ impl Log {
         requires { edge < length graph.now.edges }
         ensures { result ≡ option_and_then (λ e. window_of self.now e number horizon) (slice_get graph.now.edges edge) }
     {
-        let modes = ActiveModes::Bits(graph.edge(edge).modes);
+        let modes = ActiveModes::OfEdge(graph.edge(edge));
         self.window_round(&modes, number, horizon)
     }
 
@@ -189,29 +182,6 @@ impl Log {
         })
     }
 
-    /// What becomes of the line: it is accepted, and then its event is the last, or it is refused, and then the log stays
-    /// as it was, as it does where there is no memory for the event. A refused line takes no memory. Takes time in the
-    /// length of the line, which may have any length, and at most one look-up by name, however long the log is: now and
-    /// then a list grows and is moved, which evens out over the calls, and an alarm may lengthen the index up to its node.
-    pub fn offer(&mut self, graph: &Graph, line: &[u8]) -> Result<Offered, NoMemory>
-        requires { IsOf graph.now self.old }
-        ensures reply { IfOk result (λ reply. reply ≡ reply_to graph.now self.old line.now) }
-        ensures log { IfOk result (λ reply. self.new ≡ log_after_reply self.old reply) }
-        ensures refused { (refusal : Refusal) →
-            reply_to graph.now self.old line.now ≡ Offered.Refused refusal → result ≡ Ok (Offered.Refused refusal) }
-        ensures err { OnErr result (self.new ≡ self.old) }
-        ensures of { IsOf graph.now self.new }
-    {
-        let offered = reply(graph, self, line);
-        match offered {
-            Offered::Accepted(event) => {
-                self.accept(event)?;
-                Ok(offered)
-            }
-            Offered::Refused(_) => Ok(offered),
-        }
-    }
-
     /// The window, of spans with these modes, round the span of this number up to a horizon.
     fn window_round(&self, modes: &ActiveModes, number: u32, horizon: u64) -> Option<Window>
         ensures { result ≡ option_and_then
@@ -226,14 +196,14 @@ impl Log {
 
     /// Whether it takes no further event.
     pub(crate) fn is_full(&self) -> bool
-        ensures { result ≡ nat_le max_events (length self.now.events) }
+        ensures { result ≡ nat_le MAX_EVENTS (length self.now.events) }
     {
-        self.events.len() >= MAX_EVENTS
+        self.len() >= MAX_EVENTS
     }
 
     /// Whether it takes no further change of mode.
     pub(crate) fn has_all_mode_changes(&self) -> bool
-        ensures { result ≡ nat_le max_mode_changes (count_by is_mode_change self.now.events) }
+        ensures { result ≡ nat_le MAX_MODE_CHANGES (count_by is_mode_change self.now.events) }
     {
         self.change_count >= MAX_MODE_CHANGES
     }
@@ -274,8 +244,8 @@ impl Log {
     }
 
     /// Takes the event as its last. Where there is no memory for it, the log stays as it was.
-    fn accept(&mut self, event: Event) -> Result<(), NoMemory>
-        requires room { length self.old.events < max_events }
+    pub(crate) fn accept(&mut self, event: Event) -> Result<(), NoMemory>
+        requires room { length self.old.events < MAX_EVENTS }
         requires not_back { now_of self.old ≤ time_of_event event }
         requires in_range { time_of_event event ≤ max_time }
         requires first { IsNoSecondAlarm self.old event }
@@ -294,7 +264,7 @@ impl Log {
 
     /// Takes a node's first alarm.
     fn accept_alarm(&mut self, time: u64, node: u32) -> Result<(), NoMemory>
-        requires room { length self.old.events < max_events }
+        requires room { length self.old.events < MAX_EVENTS }
         requires not_back { now_of self.old ≤ time }
         requires in_range { time ≤ max_time }
         requires first { alarm_of self.old node ≡ None }
@@ -310,7 +280,7 @@ impl Log {
 
     /// Takes a change of mode.
     fn accept_mode_change(&mut self, time: u64, mode: u32) -> Result<(), NoMemory>
-        requires room { length self.old.events < max_events }
+        requires room { length self.old.events < MAX_EVENTS }
         requires not_back { now_of self.old ≤ time }
         requires in_range { time ≤ max_time }
         ensures ok { OnOk result (self.new ≡ with_event self.old (Event.Mode time mode)) }
@@ -333,6 +303,13 @@ fn lengthen(alarms: &mut Vec<Option<u32>>, len: usize) -> Result<(), NoMemory>
         alarms.resize(len, None)?;
     }
     Ok(())
+}
+
+/// Whether this is a node that has a monitor. The number may be any.
+fn has_monitor(graph: &Graph, node: u32) -> bool
+    ensures { result ≡ is_monitored graph.now node }
+{
+    node < graph.node_count() && graph.kind(node).is_monitored()
 }
 
 /// The time, where the test holds.

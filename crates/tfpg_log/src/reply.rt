@@ -1,21 +1,50 @@
 //! What becomes of a line that is offered to a log: the event that is accepted, or the first refusal that holds.
 
-ghost use Rattle.std.specs.Prelude.{◌≡◌, ◌<◌, ℕ, length, Some, IsTrue, MatchResult};
+ghost use Rattle.std.specs.Prelude.{◌≡◌, Some, Ok, IfOk, OnErr, IsTrue, MatchResult};
 ghost use Rattle.std.specs.Str.Parse.{digits_value};
+ghost use Rattle.tfpg_base.specs.Choice.{first_of, unless_refused};
 ghost use Rattle.tfpg_graph.specs.Graph.{node_named, is_monitored};
-ghost use Rattle.tfpg_log.specs.Accepted.{Alarm, Silent, Mode, first_refusal, reply_to};
-ghost use Rattle.tfpg_log.specs.LogLine.{said_of};
-ghost use Rattle.tfpg_log.specs.Judged.{judged, judged_event, offered_by, time_refusals, monitor_refusals, room_refusal};
+ghost use Rattle.tfpg_log.specs.declared.refusal.Refusal.{Refusal};
+ghost use Rattle.tfpg_log.specs.Log.{IsOf};
+ghost use Rattle.tfpg_log.specs.LogStatements.{Alarm, Silent, Mode};
+ghost use Rattle.tfpg_log.specs.Accepted.{time_refusals, monitor_refusals, room_refusal, statement_refusals, event_of, offered, reply_to};
+ghost use Rattle.tfpg_log.specs.LogOfLines.{log_after_reply};
+ghost use Rattle.tfpg_log.specs.inside.LogLine.{log_statement_seen};
 
 use crate::event::{Event, Offered};
 use crate::log::Log;
-use crate::log_line::{Said, read_line};
+use crate::log_line::{Statement, read_line};
 use crate::refusal::Refusal;
-use tfpg_base::{MAX_TIME, Number, read_number};
-use tfpg_graph::{Graph, Kind};
+use tfpg_base::{MAX_TIME, NoMemory, Number, read_number};
+use tfpg_graph::Graph;
+
+impl Log {
+    /// What becomes of the line: it is accepted, and then its event is the last, or it is refused, and then the log stays
+    /// as it was, as it does where memory runs out. A refused line takes no memory. Takes time in the length of the line,
+    /// which may have any length, and at most one look-up by name, however long the log is: now and then a list grows and
+    /// is moved, which evens out over the calls, and an alarm may lengthen the index up to its node.
+    pub fn offer(&mut self, graph: &Graph, line: &[u8]) -> Result<Offered, NoMemory>
+        requires { IsOf graph.now self.old }
+        ensures reply { IfOk result (λ reply. reply ≡ reply_to graph.now self.old line.now) }
+        ensures log { IfOk result (λ reply. self.new ≡ log_after_reply self.old reply) }
+        ensures refused { (refusal : Refusal) →
+            reply_to graph.now self.old line.now ≡ Offered.Refused refusal → result ≡ Ok (Offered.Refused refusal) }
+        ensures err { OnErr result (self.new ≡ self.old) }
+        ensures of { IsOf graph.now self.new }
+    {
+        let offered = reply(graph, self, line);
+        match offered {
+            Offered::Accepted(event) => {
+                self.accept(event)?;
+                Ok(offered)
+            }
+            Offered::Refused(_) => Ok(offered),
+        }
+    }
+}
 
 /// What becomes of the line. Takes time in its length, and at most one look-up by name.
-pub(crate) fn reply(graph: &Graph, log: &Log, line: &[u8]) -> Offered
+fn reply(graph: &Graph, log: &Log, line: &[u8]) -> Offered
     ensures { result ≡ reply_to graph.now log.now line.now }
 {
     match judge(graph, log, line) {
@@ -26,18 +55,18 @@ pub(crate) fn reply(graph: &Graph, log: &Log, line: &[u8]) -> Offered
 
 /// The event of the line, or the first refusal that holds.
 fn judge(graph: &Graph, log: &Log, line: &[u8]) -> Result<Event, Refusal>
-    ensures { offered_by result ≡ reply_to graph.now log.now line.now }
+    ensures { offered result ≡ reply_to graph.now log.now line.now }
 {
     let Some(line) = read_line(line) else {
         return Err(Refusal::BadLine);
     };
     let time = read_time(line.time, log.now())?;
-    judge_said(graph, log, time, line.said)
+    judge_statement(graph, log, time, line.statement)
 }
 
 /// The time that the word spells, where it is not too large and not before now.
 fn read_time(word: &[u8], now: u64) -> Result<u64, Refusal>
-    ensures { result ≡ judged (first_refusal (time_refusals now word.now)) (Some (digits_value 10 word.now)) }
+    ensures { result ≡ unless_refused (first_of (time_refusals now word.now)) (digits_value 10 word.now) }
 {
     match read_number(word, MAX_TIME) {
         Number::NotANumber => Err(Refusal::BadNumber),
@@ -48,21 +77,28 @@ fn read_time(word: &[u8], now: u64) -> Result<u64, Refusal>
 }
 
 /// The event of what a line says at this time.
-fn judge_said(graph: &Graph, log: &Log, time: u64, said: Said<'_>) -> Result<Event, Refusal>
-    ensures { result ≡ judged_event graph.now log.now time (said_of said.entry) }
+fn judge_statement(
+    graph: &Graph,
+    log: &Log,
+    time: u64,
+    statement: Statement<'_>,
+) -> Result<Event, Refusal>
+    ensures { result ≡ unless_refused
+        (first_of (statement_refusals graph.now log.now (log_statement_seen statement.entry)))
+        (event_of graph.now time (log_statement_seen statement.entry)) }
 {
-    match said {
-        Said::Alarm(name) => judge_alarm(graph, log, time, name),
-        Said::Silent(name) => judge_silence(graph, log, time, name),
-        Said::Sweep => judge_room(log, Event::Sweep { time }),
-        Said::Tick => judge_room(log, Event::Tick { time }),
-        Said::Mode(name) => judge_mode(graph, log, time, name),
+    match statement {
+        Statement::Alarm(name) => judge_alarm(graph, log, time, name),
+        Statement::Silent(name) => judge_silence(graph, log, time, name),
+        Statement::Sweep => judge_room(log, Event::Sweep { time }),
+        Statement::Tick => judge_room(log, Event::Tick { time }),
+        Statement::Mode(name) => judge_mode(graph, log, time, name),
     }
 }
 
 /// The event, where there is room for it.
 fn judge_room(log: &Log, event: Event) -> Result<Event, Refusal>
-    ensures { result ≡ judged (room_refusal log.now) (Some event) }
+    ensures { result ≡ unless_refused (room_refusal log.now) event }
 {
     if log.is_full() {
         return Err(Refusal::LogFull);
@@ -71,7 +107,8 @@ fn judge_room(log: &Log, event: Event) -> Result<Event, Refusal>
 }
 
 fn judge_alarm(graph: &Graph, log: &Log, time: u64, name: &[u8]) -> Result<Event, Refusal>
-    ensures { result ≡ judged_event graph.now log.now time (Alarm name.now) }
+    ensures { result ≡ unless_refused
+        (first_of (statement_refusals graph.now log.now (Alarm name.now))) (event_of graph.now time (Alarm name.now)) }
 {
     let node = find_monitor(graph, name)?;
     match log.alarm_of(node) {
@@ -81,7 +118,8 @@ fn judge_alarm(graph: &Graph, log: &Log, time: u64, name: &[u8]) -> Result<Event
 }
 
 fn judge_silence(graph: &Graph, log: &Log, time: u64, name: &[u8]) -> Result<Event, Refusal>
-    ensures { result ≡ judged_event graph.now log.now time (Silent name.now) }
+    ensures { result ≡ unless_refused
+        (first_of (statement_refusals graph.now log.now (Silent name.now))) (event_of graph.now time (Silent name.now)) }
 {
     let node = find_monitor(graph, name)?;
     match log.alarm_of(node) {
@@ -91,7 +129,8 @@ fn judge_silence(graph: &Graph, log: &Log, time: u64, name: &[u8]) -> Result<Eve
 }
 
 fn judge_mode(graph: &Graph, log: &Log, time: u64, name: &[u8]) -> Result<Event, Refusal>
-    ensures { result ≡ judged_event graph.now log.now time (Mode name.now) }
+    ensures { result ≡ unless_refused
+        (first_of (statement_refusals graph.now log.now (Mode name.now))) (event_of graph.now time (Mode name.now)) }
 {
     let Some(mode) = graph.find_mode(name) else {
         return Err(Refusal::NotAMode);
@@ -107,32 +146,13 @@ fn judge_mode(graph: &Graph, log: &Log, time: u64, name: &[u8]) -> Result<Event,
 fn find_monitor(graph: &Graph, name: &[u8]) -> Result<u32, Refusal>
     ensures { MatchResult result
         (λ node. (node_named graph.now name.now ≡ Some node) × IsTrue (is_monitored graph.now node))
-        (λ refusal. first_refusal (monitor_refusals graph.now name.now) ≡ Some refusal) }
+        (λ refusal. first_of (monitor_refusals graph.now name.now) ≡ Some refusal) }
 {
     let Some(node) = graph.find(name) else {
         return Err(Refusal::UnknownName);
     };
-    if !is_monitored(graph, node) {
+    if !graph.kind(node).is_monitored() {
         return Err(Refusal::NotMonitored);
     }
     Ok(node)
-}
-
-/// Whether this is a node that has a monitor. The number may be any.
-pub(crate) fn has_monitor(graph: &Graph, node: u32) -> bool
-    ensures { result ≡ is_monitored graph.now node }
-{
-    node < graph.node_count() && is_monitored(graph, node)
-}
-
-/// Whether the node has a monitor.
-fn is_monitored(graph: &Graph, node: u32) -> bool
-    requires { node < length graph.now.nodes }
-    ensures { result ≡ is_monitored graph.now node }
-{
-    match graph.kind(node) {
-        Kind::Failure { rarity: _ } => false,
-        Kind::Or { lag } => lag.is_some(),
-        Kind::And { lag } => lag.is_some(),
-    }
 }

@@ -7,7 +7,7 @@
 ghost use Rattle.std.specs.Prelude.{◌≡◌, ◌+◌, ◌≤◌, ◌<◌, ◌==◌, nat_le, length, if◌then◌else◌, Some, None, IsOk, OnOk, vec_len, vec_capacity};
 ghost use Rattle.std.specs.List.Sorted.{IsNonDecreasingBy};
 ghost use Rattle.tfpg_log.specs.declared.mode_change.ModeChange.{ModeChange};
-ghost use Rattle.tfpg_log.specs.SpanIndex.{begin_of, mode_of, end_of, span_in, IsWithin, kept_at, with_change};
+ghost use Rattle.tfpg_log.specs.inside.SpanIndex.{begin_of_span, mode_of_span, end_of_span, span_in, IsInSpan, kept_at, with_change};
 
 use crate::mode_change::ModeChange;
 use crate::span::Span;
@@ -16,15 +16,15 @@ use tfpg_base::NoMemory;
 /// The number of the span of the instant. Takes time in the logarithm of the number of changes.
 pub(crate) fn number_of(changes: &[ModeChange], instant: u64) -> usize
     requires { IsNonDecreasingBy (λ (change : ModeChange). change.time) changes.now }
-    ensures { IsWithin changes.now result instant }
+    ensures { IsInSpan changes.now result instant }
 {
     changes.partition_point(|change| change.time < instant)
 }
 
 /// The mode of the span.
-pub(crate) fn mode_of(changes: &[ModeChange], number: usize) -> u32
+pub(crate) fn mode_of_span(changes: &[ModeChange], number: usize) -> u32
     requires { number ≤ length changes.now }
-    ensures { result ≡ mode_of changes.now number }
+    ensures { result ≡ mode_of_span changes.now number }
 {
     if number == 0 {
         return 0;
@@ -40,15 +40,15 @@ pub(crate) fn span_in(changes: &[ModeChange], number: usize, horizon: u64) -> Op
         return None;
     }
     let lo = begin_by(changes, number, horizon)?;
-    let hi = end_of(changes, number, horizon);
-    let mode = mode_of(changes, number);
+    let hi = end_of_span(changes, number, horizon);
+    let mode = mode_of_span(changes, number);
     Some(Span { lo, hi, mode })
 }
 
 /// The first instant of the span, where it is by the horizon.
 pub(crate) fn begin_by(changes: &[ModeChange], number: usize, horizon: u64) -> Option<u64>
     requires { number ≤ length changes.now }
-    ensures { result ≡ (if nat_le (begin_of changes.now number) horizon then Some (begin_of changes.now number) else None) }
+    ensures { result ≡ (if nat_le (begin_of_span changes.now number) horizon then Some (begin_of_span changes.now number) else None) }
 {
     if number == 0 {
         return Some(0);
@@ -58,8 +58,8 @@ pub(crate) fn begin_by(changes: &[ModeChange], number: usize, horizon: u64) -> O
 }
 
 /// The last instant, up to the horizon, of a span that begins by it.
-pub(crate) fn end_of(changes: &[ModeChange], number: usize, horizon: u64) -> u64
-    ensures { result ≡ end_of changes.now number horizon }
+pub(crate) fn end_of_span(changes: &[ModeChange], number: usize, horizon: u64) -> u64
+    ensures { result ≡ end_of_span changes.now number horizon }
 {
     if number < changes.len() && changes[number].time < horizon {
         return changes[number].time;
@@ -67,7 +67,7 @@ pub(crate) fn end_of(changes: &[ModeChange], number: usize, horizon: u64) -> u64
     horizon
 }
 
-/// Takes one more change, of a time that no earlier change is behind. Where there is room for it, this does not fail.
+/// Takes one more change, of a time that no earlier change is after. Where there is room for it, this does not fail.
 pub(crate) fn take_change(
     changes: &mut Vec<ModeChange>,
     time: u64,
@@ -77,7 +77,7 @@ pub(crate) fn take_change(
     ensures changes { OnOk result (changes.new.items ≡ with_change changes.old.items time mode) }
 {
     drop_change_at(changes, time);
-    if mode_of(changes, changes.len()) != mode {
+    if mode_of_span(changes, changes.len()) != mode {
         changes.push(ModeChange { time, mode })?;
     }
     Ok(())
@@ -96,7 +96,7 @@ fn drop_change_at(changes: &mut Vec<ModeChange>, time: u64)
 
 /// Whether the last change is of this time.
 fn is_last_at(changes: &[ModeChange], time: u64) -> bool
-    ensures { result ≡ (begin_of changes.now (length changes.now) == time + 1) }
+    ensures { result ≡ (begin_of_span changes.now (length changes.now) == time + 1) }
 {
     let count = changes.len();
     count > 0 && changes[count - 1].time == time

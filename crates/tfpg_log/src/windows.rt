@@ -3,13 +3,13 @@
 ghost use Rattle.std.specs.Prelude.{◌≡◌, ◌≤◌, IsTrue, length, option_and_then};
 ghost use Rattle.tfpg_log.specs.Log.{Logbook, now_of, mode_at};
 ghost use Rattle.tfpg_log.specs.Spans.{span_at, window_round};
-ghost use Rattle.tfpg_log.specs.SpanIndex.{begin_of, mode_of, BeginSpans};
-ghost use Rattle.tfpg_log.specs.ActiveModes.{has_mode, is_active_before, is_active_behind, IsFirst, IsLast};
+ghost use Rattle.tfpg_log.specs.inside.SpanIndex.{begin_of_span, mode_of_span, BeginSpans};
+ghost use Rattle.tfpg_log.specs.inside.ActiveModes.{has_mode, is_active_before, is_active_after, IsRunStart, IsRunEnd};
 
 use crate::active_modes::ActiveModes;
 use crate::mode_change::ModeChange;
 use crate::span::Window;
-use crate::spans::{begin_by, end_of, mode_of, span_in};
+use crate::spans::{begin_by, end_of_span, mode_of_span, span_in};
 
 /// The window round the span of this number, up to a horizon. There is none where no such span begins by the horizon, or
 /// where its mode is none of these. Goes through the spans of the window.
@@ -30,7 +30,7 @@ pub(crate) fn window_round(
     let first = first_of(changes, modes, number as usize);
     let last = last_of(changes, modes, number as usize, horizon);
     let lo = begin_by(changes, first, horizon)?;
-    let hi = end_of(changes, last, horizon);
+    let hi = end_of_span(changes, last, horizon);
     Some(Window {
         first: first as u32,
         lo,
@@ -41,8 +41,8 @@ pub(crate) fn window_round(
 /// The first span of the run up to the span of this number.
 fn first_of(changes: &[ModeChange], modes: &ActiveModes, number: usize) -> usize
     requires counted { number ≤ length changes.now }
-    requires active { IsTrue (has_mode modes.now (mode_of changes.now number)) }
-    ensures { IsFirst modes.now changes.now number result }
+    requires active { IsTrue (has_mode modes.now (mode_of_span changes.now number)) }
+    ensures { IsRunStart modes.now changes.now number result }
 {
     let mut first = number;
     while is_active_before(changes, modes, first) {
@@ -54,12 +54,12 @@ fn first_of(changes: &[ModeChange], modes: &ActiveModes, number: usize) -> usize
 /// The last span of the run from the span of this number on, among those that begin by the horizon.
 fn last_of(changes: &[ModeChange], modes: &ActiveModes, number: usize, horizon: u64) -> usize
     requires counted { number ≤ length changes.now }
-    requires begun { begin_of changes.now number ≤ horizon }
-    requires active { IsTrue (has_mode modes.now (mode_of changes.now number)) }
-    ensures { IsLast modes.now changes.now number horizon result }
+    requires begun { begin_of_span changes.now number ≤ horizon }
+    requires active { IsTrue (has_mode modes.now (mode_of_span changes.now number)) }
+    ensures { IsRunEnd modes.now changes.now number horizon result }
 {
     let mut last = number;
-    while is_active_behind(changes, modes, last, horizon) {
+    while is_active_after(changes, modes, last, horizon) {
         last += 1;
     }
     last
@@ -70,17 +70,12 @@ fn is_active_before(changes: &[ModeChange], modes: &ActiveModes, number: usize) 
     requires { number ≤ length changes.now }
     ensures { result ≡ is_active_before modes.now changes.now number }
 {
-    number > 0 && modes.has(mode_of(changes, number - 1))
+    number > 0 && modes.has(mode_of_span(changes, number - 1))
 }
 
-/// Whether a span behind that of this number begins by the horizon, and its mode is one of these.
-fn is_active_behind(
-    changes: &[ModeChange],
-    modes: &ActiveModes,
-    number: usize,
-    horizon: u64,
-) -> bool
-    ensures { result ≡ is_active_behind modes.now changes.now number horizon }
+/// Whether a span after that of this number begins by the horizon, and its mode is one of these.
+fn is_active_after(changes: &[ModeChange], modes: &ActiveModes, number: usize, horizon: u64) -> bool
+    ensures { result ≡ is_active_after modes.now changes.now number horizon }
 {
     number < changes.len() && changes[number].time < horizon && modes.has(changes[number].mode)
 }

@@ -1,7 +1,7 @@
 -- Where, in a run of instants, one or all of several things begin to hold, to stay.
 use Rattle.std.proofs.Common.{◌≡◌, ℕ, ◌+◌, ◌<◌, ◌≤◌, Option, Some, None, inl, inr, subst, arith, max}
 use Rattle.std.proofs.lemmas.Bool.{cases_lt}
-use Rattle.tfpg_trace.specs.Due.{Begins, earlier}
+use Rattle.tfpg_trace.specs.inside.Due.{Begins, earlier}
 
 -- What holds of the same instants of a run begins to hold there at the same one.
 pub carried : (P Q : ℕ → Type 0) (lo hi : ℕ) (found : Option ℕ) → ((instant : ℕ) → lo ≤ instant → instant ≤ hi → P instant → Q instant)

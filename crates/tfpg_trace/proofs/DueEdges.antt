@@ -11,8 +11,8 @@ use Rattle.tfpg_log.specs.Log.{Logbook, now_of}
 use Rattle.tfpg_log.specs.Rules.{IsDue}
 use Rattle.tfpg_log.specs.Spans.{span_number, span_at, is_allowed_at}
 use Rattle.tfpg_log.proofs.Ages.{age_since_start}
-use Rattle.tfpg_trace.specs.Due.{Begins, IsDueBy}
-use Rattle.tfpg_trace.specs.Gaps.{IsGap, behind_gap}
+use Rattle.tfpg_trace.specs.inside.Due.{Begins, IsDueBy}
+use Rattle.tfpg_trace.specs.inside.Gaps.{IsGap, after_gap}
 use Rattle.tfpg_trace.proofs.Beginnings.{carried}
 use Rattle.tfpg_trace.proofs.SpanOrder.{number_rises, inside, numbered, by_now, in_mode}
 
@@ -87,9 +87,9 @@ module _ (graph : Tfpg) (log : Logbook) (trace : List Activation) (item number :
           | inr short ↦ absurd (shut (own_due.2.allowed gap (omega (arith, short, same)) earlier))
         ]
 
-    -- It is due so long after the later of two, the instant behind its gap and the time of its source.
+    -- It is due so long after the later of two, the instant after its gap and the time of its source.
     pub behind : (gap : Option ℕ) (start delay : ℕ) (found : Option ℕ) → IsGap log edge number gap → edge.tmax ≡ Some delay
-        → time_of trace edge.source ≡ Some start → Begins (λ instant. behind_gap gap start + delay ≤ instant) span.lo span.hi found
+        → time_of trace edge.source ≡ Some start → Begins (λ instant. after_gap gap start + delay ≤ instant) span.lo span.hi found
         → Begins (IsDueBy graph log trace item) span.lo span.hi found
     behind None start delay found is_gap tmax source begins =
         carried (λ instant. start + delay ≤ instant) (IsDueBy graph log trace item) span.lo span.hi found

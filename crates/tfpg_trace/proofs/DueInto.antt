@@ -9,7 +9,7 @@ use Rattle.tfpg_graph.specs.Graph.{Tfpg, numbers_from, incoming, edges_into}
 use Rattle.tfpg_graph.proofs.Numbered.{All-below-numbers_from}
 use Rattle.tfpg_log.specs.Log.{Logbook}
 use Rattle.tfpg_log.specs.Rules.{IsDue}
-use Rattle.tfpg_trace.specs.Due.{Begins, IsDueBy, SomeDue, AllDue}
+use Rattle.tfpg_trace.specs.inside.Due.{Begins, IsDueBy, SomeDue, AllDue}
 use Rattle.tfpg_trace.proofs.Beginnings.{carried, OneOf, EachOf}
 
 module _ {X : Type 0} (p : X → Bool) (Q : ℕ → Type 0) (P : X → Type 0) where

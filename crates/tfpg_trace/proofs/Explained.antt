@@ -30,7 +30,7 @@ both_passed true (Some alarm) pass = absurd (false≢true pass)
 both_passed false alarm pass = absurd (false≢true pass)
 
 -- an event that is shown is shown of each node of which it is a silence
-shows_quiet : (graph : Tfpg) (trace : List Activation) (before : List Event) (event : Event) (node time : ℕ) → Shows graph trace before event
+pub shows_quiet : (graph : Tfpg) (trace : List Activation) (before : List Event) (event : Event) (node time : ℕ) → Shows graph trace before event
     → quiet_time graph before event node ≡ Some time → ShowsSilence trace node time
 shows_quiet graph trace before (Alarm own alarmed) node time shows is = cc
 shows_quiet graph trace before (Silent own silent) node time shows is =
@@ -61,7 +61,7 @@ module _ (graph : Tfpg) (log : Logbook) (set : List ℕ) (trace : List Activatio
         (λ outside.
         own.from_set activation.node activation.time (All-contains (λ a. a.node < length graph.nodes) trace activation nodes member)
         (record { at = time_there trace rising activation member; failure = failure; outside = outside })));
-    rules = λ node instant in_graph by_now. let kept = rules node in_graph in (kept.may instant by_now, kept.must instant by_now);
+    rules = rules;
     shows = shows;
   }
 
@@ -77,9 +77,9 @@ module _ (graph : Tfpg) (log : Logbook) (set : List ℕ) (trace : List Activatio
       (All-contains (λ a. IsTrue (is_kind_at is_failure graph a.node) → IsMember graph set a.node) trace (record { node = node; time = time }) explains.from_set
       (activation_there trace node time fault.stranger.at) fault.stranger.failure))
   only_yes (verdict.May node time) fault explains =
-      absurd (fault.breaks.broken (explains.rules node time fault.in_graph fault.breaks.by_now).0)
+      absurd (fault.breaks.broken ((explains.rules node fault.in_graph).may time fault.breaks.by_now))
   only_yes (verdict.Must node time) fault explains =
-      absurd (fault.breaks.broken (explains.rules node time fault.in_graph fault.breaks.by_now).1)
+      absurd (fault.breaks.broken ((explains.rules node fault.in_graph).must time fault.breaks.by_now))
   only_yes (verdict.Alarm node time) fault explains = absurd (fault.not_shown (explains.shows fault.place (Alarm time node) fault.event))
   only_yes (verdict.Silence node time) fault explains =
       absurd (fault.not_shown (shows_quiet graph trace (take fault.place log.events) fault.event node time (explains.shows fault.place fault.event fault.at) fault.silent))

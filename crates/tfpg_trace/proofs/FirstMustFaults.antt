@@ -6,8 +6,9 @@ use Rattle.tfpg_graph.specs.Graph.{Tfpg}
 use Rattle.tfpg_log.specs.Log.{Logbook, now_of}
 use Rattle.tfpg_log.specs.Rules.{IsActive, KeepsMust}
 use Rattle.tfpg_log.specs.Spans.{span_number}
-use Rattle.tfpg_trace.specs.Broken.{FirstBreaksMust, IsFirstMustFault}
-use Rattle.tfpg_trace.specs.FirstFaultIn.{FirstBreaksIn, IsFirstFaultIn}
+use Rattle.tfpg_trace.specs.Broken.{FirstBreaksMust}
+use Rattle.tfpg_trace.specs.inside.FirstFaultIn.{IsFirstMustFault}
+use Rattle.tfpg_trace.specs.inside.FirstFaultIn.{FirstBreaksIn, IsFirstFaultIn}
 use Rattle.tfpg_trace.proofs.SpanOrder.{number_rises}
 use Rattle.tfpg_trace.proofs.MustFaults.{keeps_active}
 
@@ -42,7 +43,7 @@ module _ (log : Logbook) where
           ];
     }
 
-    -- Where no span up to an instant has one, and the node is active behind it, there is none.
+    -- Where no span up to an instant has one, and the node is active after it, there is none.
     pub none_at_all : (horizon last end : ℕ) → horizon ≤ now_of log → Some last ≡ cond (leb horizon (now_of log)) (Some (span_number log horizon)) None
         → ((instant : ℕ) → horizon < instant → instant ≤ now_of log → IsActive trace node instant) → last < end → KeepsMustBefore end
         → IsFirstMustFault graph log trace node None

@@ -3,7 +3,8 @@ use Rattle.std.proofs.Common.{◌≡◌, ℕ, ◌+◌, ◌<◌, ◌⊎◌, inl, 
 use Rattle.tfpg_base.specs.declared.activation.Activation.{Activation}
 use Rattle.tfpg_graph.specs.Graph.{Tfpg}
 use Rattle.tfpg_log.specs.Log.{Logbook}
-use Rattle.tfpg_trace.specs.Broken.{KeepsRulesOf, KeepRulesBefore}
+use Rattle.tfpg_log.specs.Rules.{KeepsRulesOf}
+use Rattle.tfpg_trace.specs.Broken.{KeepRulesBefore}
 use Rattle.tfpg_trace.specs.FirstFault.{NoneBefore}
 
 -- a node below the next end is below this one, or stands there

@@ -9,7 +9,7 @@ use Rattle.tfpg_graph.specs.Graph.{Tfpg, incoming, is_allowed}
 use Rattle.tfpg_log.specs.declared.span.Span.{Span}
 use Rattle.tfpg_log.specs.Log.{Logbook, now_of}
 use Rattle.tfpg_log.specs.Spans.{span_number, span_at, is_allowed_at}
-use Rattle.tfpg_trace.specs.Gaps.{IsGap, IsGapOf, AreGaps, gap_after}
+use Rattle.tfpg_trace.specs.inside.Gaps.{IsGap, IsGapOf, AreGaps, gap_after}
 use Rattle.tfpg_trace.proofs.SpanOrder.{number_rises, none_inside, inside, numbered, in_mode, in_order}
 
 -- the gap at a place is that of the edge there

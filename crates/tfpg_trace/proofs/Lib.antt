@@ -15,3 +15,4 @@ pub mod DueInto
 pub mod MustFaults
 pub mod FirstMustFaults
 pub mod GapsOver
+pub mod OneVerdict

@@ -10,8 +10,8 @@ use Rattle.tfpg_log.specs.declared.span.Span.{Span}
 use Rattle.tfpg_log.specs.Log.{Logbook, now_of}
 use Rattle.tfpg_log.specs.Rules.{IsActive, KeepsMust}
 use Rattle.tfpg_log.specs.Spans.{span_at}
-use Rattle.tfpg_trace.specs.Due.{Begins, SomeDue, AllDue, MustBeActive}
-use Rattle.tfpg_trace.specs.FirstFaultIn.{IsFirstFaultIn}
+use Rattle.tfpg_trace.specs.inside.Due.{Begins, SomeDue, AllDue, MustBeActive}
+use Rattle.tfpg_trace.specs.inside.FirstFaultIn.{IsFirstFaultIn}
 use Rattle.tfpg_trace.proofs.Beginnings.{carried}
 use Rattle.tfpg_trace.proofs.SpanOrder.{none_inside, inside, numbered, by_now}
 

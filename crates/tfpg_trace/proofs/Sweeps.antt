@@ -11,8 +11,8 @@ use Rattle.tfpg_log.specs.declared.event.Event.TheVariants.{Sweep}
 use Rattle.tfpg_log.specs.Log.{Logbook, event_at, alarm_among, quiet_time, quiet_at}
 use Rattle.tfpg_log.specs.Explains.{Shows}
 use Rattle.tfpg_trace.specs.FirstFault.{NoneBefore}
-use Rattle.tfpg_trace.specs.Strays.{IsFirstNode}
-use Rattle.tfpg_trace.specs.Shown.{IsNotQuiet, IsSilenceNotShown}
+use Rattle.tfpg_trace.specs.inside.Strays.{IsFirstNode}
+use Rattle.tfpg_trace.specs.inside.Shown.{IsNotQuiet, IsSilenceNotShown}
 
 -- a monitored node is one of the graph
 pub monitored_within : (graph : Tfpg) (node : ℕ) → IsTrue (is_monitored graph node) → node < length graph.nodes
@@ -32,7 +32,7 @@ both_pass time true (Some alarm) passes none = absurd (false≢true (sym none))
 both_pass time false alarm passes none = absurd (false≢true passes)
 
 module _ (graph : Tfpg) (log : Logbook) (trace : List Activation) (number : ℕ) where
-  -- the silence of an event, behind those before it
+  -- the silence of an event, after those before it
   quiet_by_event : (event : Event) (node : ℕ) → event_at log number ≡ Some event → quiet_at graph log number node ≡ quiet_time graph (take (number - 1) log.events) event node
   quiet_by_event event node at = ap (option_and_then (λ said. quiet_time graph (take (number - 1) log.events) said node)) at
 

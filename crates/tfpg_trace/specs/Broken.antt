@@ -1,15 +1,10 @@
 -- Where a trace breaks the rules first.
-use Rattle.std.specs.Prelude.{◌≡◌, ℕ, ◌<◌, ◌≤◌, List, Option, Some, None}
+use Rattle.std.specs.Prelude.{◌≡◌, ℕ, ◌<◌, ◌≤◌, List, Some}
 use Rattle.tfpg_base.specs.declared.activation.Activation.{Activation}
 use Rattle.tfpg_base.specs.Trace.{time_of}
 use Rattle.tfpg_graph.specs.Graph.{Tfpg}
 use Rattle.tfpg_log.specs.Log.{Logbook, now_of}
-use Rattle.tfpg_log.specs.Rules.{KeepsMay, KeepsMust}
-
--- At no instant up to now the node breaks a rule.
-pub record KeepsRulesOf (graph : Tfpg) (log : Logbook) (trace : List Activation) (node : ℕ) : Type 0 where
-  pub may : (instant : ℕ) → instant ≤ now_of log → KeepsMay graph log trace node instant
-  pub must : (instant : ℕ) → instant ≤ now_of log → KeepsMust graph log trace node instant
+use Rattle.tfpg_log.specs.Rules.{KeepsMay, KeepsMust, KeepsRulesOf}
 
 -- No node before this one breaks a rule.
 abbrev pub KeepRulesBefore : Tfpg → Logbook → List Activation → ℕ → Type 0
@@ -26,8 +21,3 @@ pub record FirstBreaksMust (graph : Tfpg) (log : Logbook) (trace : List Activati
   pub by_now : instant ≤ now_of log
   pub broken : KeepsMust graph log trace node instant → ⊥
   pub first : (earlier : ℕ) → earlier < instant → KeepsMust graph log trace node earlier
-
--- the first instant at which the node breaks the must rule, where there is one up to now
-abbrev pub IsFirstMustFault : Tfpg → Logbook → List Activation → ℕ → Option ℕ → Type 0
-IsFirstMustFault graph log trace node None = (instant : ℕ) → instant ≤ now_of log → KeepsMust graph log trace node instant
-IsFirstMustFault graph log trace node (Some instant) = FirstBreaksMust graph log trace node instant

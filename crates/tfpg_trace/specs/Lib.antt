@@ -2,11 +2,10 @@ pub use Rattle.tfpg_log.specs.Explains
 pub use Rattle.tfpg_log.specs.Rules
 pub use Rattle.tfpg_log.specs.Log
 pub use Rattle.tfpg_graph.specs.Graph
+
+-- What the contracts say.
 pub mod Broken
 pub mod FirstFault
-pub mod Strays
-pub mod Shown
-pub mod RuleFaults
-pub mod Due
-pub mod Gaps
-pub mod FirstFaultIn
+
+-- What the code and its proofs need besides. No public clause reaches it.
+pub mod inside

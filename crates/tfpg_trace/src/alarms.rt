@@ -1,35 +1,22 @@
 //! Whether a trace shows an alarm.
 
 ghost use Rattle.std.specs.Prelude.{◌≡◌, ◌+◌, ◌<◌, ◌≤◌, ◌↔◌, length, IsTrue};
-ghost use Rattle.tfpg_graph.specs.Graph.{lag_at};
 ghost use Rattle.tfpg_log.specs.Explains.{ShowsAlarm};
 
 use tfpg_base::Trace;
-use tfpg_graph::{Graph, Kind};
+use tfpg_graph::Graph;
 
 /// Whether the node became active at most its lag before the alarm, and not after it.
 pub(crate) fn shows_alarm(graph: &Graph, trace: &Trace, node: u32, time: u64) -> bool
     requires { node < length graph.now.nodes }
     ensures { IsTrue result ↔ ShowsAlarm graph.now trace.now node time }
 {
-    let Some(lag) = lag_of(graph, node) else {
+    let Some(lag) = graph.kind(node).lag() else {
         return false;
     };
     match trace.at(node) {
         Some(active) => is_within_lag(active, lag, time),
         None => false,
-    }
-}
-
-/// The lag of the node, in milliseconds, where it is monitored.
-fn lag_of(graph: &Graph, node: u32) -> Option<u64>
-    requires { node < length graph.now.nodes }
-    ensures { result ≡ lag_at graph.now node }
-{
-    match graph.kind(node) {
-        Kind::Failure { rarity: _ } => None,
-        Kind::Or { lag } => lag,
-        Kind::And { lag } => lag,
     }
 }
 

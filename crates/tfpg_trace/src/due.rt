@@ -1,15 +1,14 @@
 //! When a discrepancy must be active, span by span. In one span an edge that is due stays due, so the first instant at
-//! which it is says all. How long it was active when the span begins is told by its gap: the last instant before the
-//! span at which it was not.
+//! which it is due says from when on it is. How long it was active when the span begins follows from its gap: the last
+//! instant before the span at which it was not.
 
 ghost use Rattle.std.specs.Prelude.{◌≡◌, ◌<◌, ◌≤◌, ◌+◌, ℕ, length, Option, Some, None, min};
 ghost use Rattle.tfpg_graph.specs.Graph.{incoming};
 ghost use Rattle.tfpg_log.specs.Log.{Logbook, now_of};
 ghost use Rattle.tfpg_log.specs.Spans.{span_at};
-ghost use Rattle.tfpg_trace.specs.Due.{Begins, IsDueBy, SomeDue, AllDue, MustBeActive, earlier};
-ghost use Rattle.tfpg_trace.specs.Gaps.{IsGapOf, AreGaps, behind_gap};
+ghost use Rattle.tfpg_trace.specs.inside.Due.{Begins, IsDueBy, SomeDue, AllDue, MustBeActive, earlier};
+ghost use Rattle.tfpg_trace.specs.inside.Gaps.{IsGapOf, AreGaps, after_gap};
 
-use crate::gaps::has_mode;
 use tfpg_base::Trace;
 use tfpg_graph::{Graph, Kind};
 use tfpg_log::Span;
@@ -82,7 +81,7 @@ fn due_by_all(
     Some(first)
 }
 
-/// The first instant of the span at which the edge is due: its greatest delay after the later of two, the instant behind
+/// The first instant of the span at which the edge is due: its greatest delay after the later of two, the instant after
 /// its gap and the time of its source.
 fn due_by_edge(graph: &Graph, trace: &Trace, edge: u32, span: Span, gap: Option<u64>) -> Option<u64>
     requires { edge < length graph.now.edges }
@@ -91,17 +90,17 @@ fn due_by_edge(graph: &Graph, trace: &Trace, edge: u32, span: Span, gap: Option<
         Begins (IsDueBy graph.now log trace.now edge) span.lo span.hi result }
 {
     let propagation = graph.edge(edge);
-    if !has_mode(propagation.modes, span.mode) {
+    if !propagation.is_allowed(span.mode) {
         return None;
     }
     let delay = propagation.tmax?;
     let start = trace.at(propagation.source)?;
-    first_behind(gap, start, delay, span)
+    first_after_gap(gap, start, delay, span)
 }
 
-/// The first instant of the span that is so long after the later of two, the instant behind the gap and the start.
-fn first_behind(gap: Option<u64>, start: u64, delay: u64, span: Span) -> Option<u64>
-    ensures { Begins (λ instant. behind_gap gap start + delay ≤ instant) span.lo span.hi result }
+/// The first instant of the span that is so long after the later of two, the instant after the gap and the start.
+fn first_after_gap(gap: Option<u64>, start: u64, delay: u64, span: Span) -> Option<u64>
+    ensures { Begins (λ instant. after_gap gap start + delay ≤ instant) span.lo span.hi result }
 {
     match gap {
         Some(gap) => first_after(start.max(gap.checked_add(1)?), delay, span),

@@ -1,10 +1,9 @@
 //! The gaps of the edges into a node: of each edge, by its place among them, the last instant so far at which it was not
 //! active, where there is one.
 
-ghost use Rattle.std.specs.Prelude.{◌≡◌, ◌<◌, ◌≤◌, ◌==◌, ℕ, length, slice_index_or, None};
-ghost use Rattle.std.specs.Int.{bit_at};
+ghost use Rattle.std.specs.Prelude.{◌≡◌, ◌<◌, ◌≤◌, ℕ, length, slice_index_or, None};
 ghost use Rattle.tfpg_graph.specs.Graph.{incoming};
-ghost use Rattle.tfpg_trace.specs.Gaps.{gap_after};
+ghost use Rattle.tfpg_trace.specs.inside.Gaps.{gap_after};
 
 use tfpg_graph::Graph;
 use tfpg_log::Span;
@@ -29,16 +28,9 @@ fn gap_after(graph: &Graph, edge: u32, span: Span, gap: Option<u64>) -> Option<u
     requires { edge < length graph.now.edges }
     ensures { result ≡ gap_after graph.now span edge gap }
 {
-    if has_mode(graph.edge(edge).modes, span.mode) {
+    if graph.edge(edge).is_allowed(span.mode) {
         gap
     } else {
         Some(span.hi)
     }
-}
-
-/// Whether the set has the mode: its bit is set.
-pub(crate) fn has_mode(modes: u64, mode: u32) -> bool
-    ensures { result ≡ (bit_at modes mode == 1) }
-{
-    mode < 64 && modes >> mode & 1 == 1
 }

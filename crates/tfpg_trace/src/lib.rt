@@ -11,14 +11,13 @@ mod alarms;
 mod due;
 mod gaps;
 mod judge;
+pub mod laws;
 mod may;
 mod must;
 mod rules;
 mod shows;
 mod silences;
 mod strays;
-#[cfg(test)]
-mod tests;
 mod verdict;
 
 pub use judge::explains;

@@ -5,19 +5,16 @@ ghost use Rattle.tfpg_graph.specs.Graph.{incoming};
 ghost use Rattle.tfpg_log.specs.Log.{Logbook, now_of};
 ghost use Rattle.tfpg_log.specs.Rules.{IsActive};
 ghost use Rattle.tfpg_log.specs.Spans.{span_at};
-ghost use Rattle.tfpg_trace.specs.Broken.{IsFirstMustFault};
-ghost use Rattle.tfpg_trace.specs.Gaps.{AreGaps};
-ghost use Rattle.tfpg_trace.specs.FirstFaultIn.{IsFirstFaultIn};
+ghost use Rattle.tfpg_trace.specs.inside.FirstFaultIn.{IsFirstMustFault};
+ghost use Rattle.tfpg_trace.specs.inside.Gaps.{AreGaps};
+ghost use Rattle.tfpg_trace.specs.inside.FirstFaultIn.{IsFirstFaultIn};
 
 use crate::due::due_in_span;
 use crate::gaps::pass_span;
 use crate::silences::is_active;
 use tfpg_base::Trace;
-use tfpg_graph::Graph;
+use tfpg_graph::{Graph, MAX_INCOMING};
 use tfpg_log::{Log, Span};
-
-/// How many edges go into one node at most.
-const MAX_INCOMING: usize = 32;
 
 /// The first instant up to now, in milliseconds, at which the node breaks the must rule, where there is one. Takes no
 /// memory. Goes once through the spans up to the node's own time, or up to now where it has none, and in each through the
@@ -38,7 +35,7 @@ pub(crate) fn first_must_fault(graph: &Graph, log: &Log, trace: &Trace, node: u3
     None
 }
 
-/// An instant behind which the node is active up to now: its own time, or now where it has no time by then.
+/// An instant after which the node is active up to now: its own time, or now where it has no time by then.
 fn last_to_try(log: &Log, trace: &Trace, node: u32) -> u64
     ensures by_now { result ≤ now_of log.now }
     ensures rest { (instant : ℕ) → result < instant → instant ≤ now_of log.now → IsActive trace.now node instant }
@@ -92,68 +89,4 @@ fn fault_in_span(
         return None;
     }
     Some(due)
-}
-
-#[cfg(test)]
-mod tests {
-    use super::*;
-    use std::alloc::Global;
-    use std::test::Fail;
-    use tfpg_graph::read;
-
-    /// Two failure modes, an AND node and an OR node, in two modes.
-    const GRAPH: &[u8] =
-        b"tfpg 1\nmode N\nmode D\nfailure F 1\nfailure G 1\nand C watch 0\nor E hidden\nedge F C 0 10 *\nedge G C 0 5 D\nedge F E 0 10 N\nedge G E 0 inf *\nend\n";
-
-    /// Mode N from 0, D from 6, N from 21 and D from 41 on, up to 60.
-    const LINES: [&[u8]; 4] = [b"5 mode D", b"20 mode N", b"40 mode D", b"60 tick"];
-
-    /// Times of F, G and of a node, the number of that node, and where it breaks the must rule first.
-    const FAULTS: [(u64, u64, u64, u32, Option<u64>); 14] = [
-        (0, 0, 99, 2, Some(11)),
-        (0, 0, 12, 2, Some(11)),
-        (0, 0, 11, 2, None),
-        (0, 18, 99, 2, Some(46)),
-        (0, 15, 99, 2, Some(20)),
-        (0, 18, 46, 2, None),
-        (40, 0, 99, 2, Some(50)),
-        (51, 0, 99, 2, None),
-        (18446744073709551615, 0, 99, 2, None),
-        (0, 0, 99, 3, Some(31)),
-        (25, 0, 36, 3, Some(35)),
-        (25, 0, 35, 3, None),
-        (31, 0, 99, 3, None),
-        (61, 0, 99, 3, None),
-    ];
-
-    /// The log of the lines.
-    fn log_of(alloc: Global, graph: &Graph) -> Result<Log, Fail> {
-        let mut log = Log::new(alloc);
-        for line in &LINES {
-            log.offer(graph, *line)?;
-        }
-        Ok(log)
-    }
-
-    /// The node's first fault, where it is a node.
-    fn fault_of(graph: &Graph, log: &Log, trace: &Trace, node: u32) -> Option<u64> {
-        if node >= graph.node_count() {
-            return None;
-        }
-        first_must_fault(graph, log, trace, node)
-    }
-
-    #[test]
-    fn finds_the_first_instant_at_which_a_node_is_late(rt: HostRuntime) -> Result<(), Fail> {
-        let graph = read(rt.alloc(), GRAPH)?;
-        let log = log_of(rt.alloc(), &graph)?;
-        for (first, second, time, node, expected) in &FAULTS {
-            let mut trace = Trace::new(rt.alloc());
-            trace.set(0, *first)?;
-            trace.set(1, *second)?;
-            trace.set(*node, *time)?;
-            assert_eq!(rt; fault_of(&graph, &log, &trace, *node), *expected);
-        }
-        Ok(())
-    }
 }

@@ -2,9 +2,9 @@
 
 ghost use Rattle.std.specs.Prelude.{◌≡◌, ◌<◌, ◌≤◌, ◌↔◌, ℕ, length, IsTrue, MatchOption};
 ghost use Rattle.tfpg_log.specs.Log.{now_of};
-ghost use Rattle.tfpg_log.specs.Rules.{KeepsMay};
-ghost use Rattle.tfpg_trace.specs.Broken.{KeepsRulesOf, KeepRulesBefore, BreaksMay};
-ghost use Rattle.tfpg_trace.specs.RuleFaults.{IsBroken, IsFirstBroken};
+ghost use Rattle.tfpg_log.specs.Rules.{KeepsMay, KeepsRulesOf};
+ghost use Rattle.tfpg_trace.specs.Broken.{KeepRulesBefore, BreaksMay};
+ghost use Rattle.tfpg_trace.specs.inside.RuleFaults.{IsBroken, IsFirstBroken};
 
 use crate::Verdict;
 use crate::may::keeps_may;

@@ -3,7 +3,7 @@
 ghost use Rattle.std.specs.Prelude.{◌≡◌, ◌-◌, ◌≤◌, length, take, Some, MatchOption};
 ghost use Rattle.tfpg_log.specs.Log.{IsOf, IsEventOf, event_at};
 ghost use Rattle.tfpg_log.specs.Explains.{Shows, ShowsAll};
-ghost use Rattle.tfpg_trace.specs.Shown.{IsNotShown, IsFirstNotShown};
+ghost use Rattle.tfpg_trace.specs.inside.Shown.{IsNotShown, IsFirstNotShown};
 
 use crate::Verdict;
 use crate::alarms::shows_alarm;

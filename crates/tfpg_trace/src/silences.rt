@@ -3,8 +3,8 @@
 ghost use Rattle.std.specs.Prelude.{◌≡◌, ◌↔◌, ℕ, length, IsTrue, MatchOption};
 ghost use Rattle.tfpg_log.specs.Rules.{IsActive};
 ghost use Rattle.tfpg_trace.specs.FirstFault.{NoneBefore};
-ghost use Rattle.tfpg_trace.specs.Strays.{IsFirstNode};
-ghost use Rattle.tfpg_trace.specs.Shown.{IsNotQuiet};
+ghost use Rattle.tfpg_trace.specs.inside.Strays.{IsFirstNode};
+ghost use Rattle.tfpg_trace.specs.inside.Shown.{IsNotQuiet};
 
 use tfpg_base::Trace;
 use tfpg_graph::Graph;

@@ -3,7 +3,7 @@
 
 ghost use Rattle.std.specs.Prelude.{◌≡◌, ◌<◌, ℕ, ◌↔◌, length, IsTrue, MatchOption};
 ghost use Rattle.tfpg_trace.specs.FirstFault.{NoneBefore, IsLate, IsStranger};
-ghost use Rattle.tfpg_trace.specs.Strays.{IsOutside, IsFirstNode};
+ghost use Rattle.tfpg_trace.specs.inside.Strays.{IsOutside, IsFirstNode};
 
 use tfpg_base::{Set, Trace};
 use tfpg_graph::Graph;

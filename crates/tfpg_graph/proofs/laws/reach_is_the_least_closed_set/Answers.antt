@@ -1,4 +1,4 @@
-use Rattle.tfpg_graph.proofs.Reaches.{reach_is_closed, reach_is_least, reach_is_one}
+use Rattle.tfpg_graph.proofs.lemmas.reach.Reaches.{reach_is_closed, reach_is_least, reach_is_one}
 use Rattle.tfpg_graph.proofs.laws.reach_is_the_least_closed_set.Goals as goal
 
 pub returns : goal.returns

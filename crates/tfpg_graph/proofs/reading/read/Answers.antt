@@ -1,14 +1,15 @@
-use Rattle.std.proofs.Common.{rules, tests, ◌≡◌, ◌+◌, ◌==◌, ◌∷◌, ◌++◌, ◌∙◌, sym, ap, subst, map, length, drop, List, ℕ}
+use Rattle.std.proofs.Common.{rules, tests, Err, ◌≡◌, ◌+◌, ◌==◌, ◌∷◌, ◌++◌, ◌∙◌, sym, ap, subst, map, length, drop, List, ℕ}
 use Rattle.std.proofs.lemmas.List.{length-map, length_push, map_push}
 use Rattle.std.proofs.lemmas.Iterator.Consumers.{YieldsList-so_far, YieldsList-turn, YieldsList-end}
 use Rattle.std.proofs.lemmas.Iterator.Splits.{YieldsList-from_slice_split}
 use Rattle.tfpg_base.specs.Lines.{parts_of}
 use Rattle.tfpg_graph.specs.Faults.{IsRefusalOf}
-use Rattle.tfpg_graph.specs.Turns.{StandsFor}
-use Rattle.tfpg_graph.specs.Answered.{refusal_at}
-use Rattle.tfpg_graph.proofs.Standing.{StandsFor-ok}
-use Rattle.tfpg_graph.proofs.Ending.{some_part}
-use Rattle.tfpg_graph.proofs.WholeText.{IsBody, lines_at, IsRefusalOf-line, IsAnswerOf-refused, IfOk-spelled, IfErr-refused, IsAnswerOf-end}
+use Rattle.tfpg_graph.specs.inside.reading.Turns.{ReaderRepresents}
+use Rattle.tfpg_graph.specs.inside.reading.Answered.{refusal_at}
+use Rattle.tfpg_graph.proofs.lemmas.reading.Standing.{ReaderRepresents-ok}
+use Rattle.tfpg_graph.proofs.lemmas.reading.Ending.{some_part}
+use Rattle.tfpg_graph.proofs.lemmas.reading.WholeText.{IsBody, lines_at, IsRefusalOf-line, IsAnswerOf-refused, IfOk-spelled, IfErr-refused, IsAnswerOf-end}
+use Rattle.tfpg_graph.proofs.lemmas.reading.OneFault.{IsFaultAnswer-from}
 use Rattle.tfpg_graph.proofs.reading.read.Goals as goal
 use Rattle.tfpg_graph.proofs.reading.read.Goals.{After-next, In-Some, In-None}
 
@@ -19,7 +20,7 @@ is_body c = record {
   front = c.without_last_line_end-body.ensures.front;
 }
 
--- this line stands behind those so far
+-- this line stands after those so far
 parts_round : (c : In-Some) → parts_of c.without_last_line_end-body.result.now
     ≡ map (λ line. line.now) c.loop-line.yielded
     ++ c.in-Some.line.now ∷ drop (length c.loop-line.yielded + 1) (parts_of c.without_last_line_end-body.result.now)
@@ -41,20 +42,20 @@ all_parts c =
     (search rules) (search rules) (λ x b q k. search (rules, tests)) in
     YieldsList-end all c.loop-line.yielded _ c.loop-line.yielded_by _ _ c.in-None.is c.next.ensures.steps
 
--- what is read stands for them
-stands : (c : In-None) → StandsFor c.loop-line.reader (parts_of c.without_last_line_end-body.result.now)
-stands c = subst (StandsFor c.loop-line.reader) (all_parts c).0 c.loop-line.invariant.stands
+-- what is read represents them
+stands : (c : In-None) → ReaderRepresents c.loop-line.reader (parts_of c.without_last_line_end-body.result.now)
+stands c = subst (ReaderRepresents c.loop-line.reader) (all_parts c).0 c.loop-line.invariant.stands
 
 pub returns-in-Err-clause-refused : goal.returns-in-Err-clause-refused
 returns-in-Err-clause-refused c =
     let at = goal.at.returns-in-Err-clause-refused c in
     let body = c.without_last_line_end-body.result.now in
     let before : List (List ℕ) = map (λ line. line.now) c.loop-line.yielded in
-    let behind : List (List ℕ) = drop (length c.loop-line.yielded + 1) (parts_of body) in
+    let after : List (List ℕ) = drop (length c.loop-line.yielded + 1) (parts_of body) in
     let counted : c.loop-line.line_count ≡ length before =
     c.loop-line.invariant.counted ∙ sym (length-map c.loop-line.yielded (λ line. line.now)) in
     subst (IsRefusalOf c.args.text.now) (sym (c.at.ensures ∙ ap (λ n. refusal_at c.in-Err.refusal (n + 1)) counted))
-    (IsRefusalOf-line c.args.text.now body (is_body at.After-next) c.loop-line.reader before behind c.in-Some.line.now
+    (IsRefusalOf-line c.args.text.now body (is_body at.After-next) c.loop-line.reader before after c.in-Some.line.now
     c.in-Err.refusal c.loop-line.invariant.stands c.in-Err.ensures (parts_round at.In-Some))
 
 pub returns-in-Err-clause-exact : goal.returns-in-Err-clause-exact
@@ -63,12 +64,16 @@ returns-in-Err-clause-exact c = λ graph spells valid.
     IsAnswerOf-refused c.args.text.now c.without_last_line_end-body.result.now (is_body at.After-next) graph
     c.at.result (returns-in-Err-clause-refused c) spells valid
 
+pub returns-in-Err-clause-faulty : goal.returns-in-Err-clause-faulty
+returns-in-Err-clause-faulty c =
+    IsFaultAnswer-from c.args.text.now (Err c.at.result) tt tt (returns-in-Err-clause-refused c)
+
 pub loop-line-preserved : goal.loop-line-preserved
 loop-line-preserved c =
     let before : List (List ℕ) = map (λ line. line.now) c.loop-line.yielded in
     record {
-      stands = subst (StandsFor c.in-Ok.next) (sym (map_push (λ line. line.now) c.loop-line.yielded c.in-Some.line))
-          (StandsFor-ok c.loop-line.reader c.in-Ok.next before c.in-Some.line.now c.loop-line.invariant.stands
+      stands = subst (ReaderRepresents c.in-Ok.next) (sym (map_push (λ line. line.now) c.loop-line.yielded c.in-Some.line))
+          (ReaderRepresents-ok c.loop-line.reader c.in-Ok.next before c.in-Some.line.now c.loop-line.invariant.stands
           c.in-Ok.ensures);
       counted = ap (λ n. n + 1) c.loop-line.invariant.counted ∙ sym (length_push c.loop-line.yielded c.in-Some.line);
     }
@@ -99,3 +104,8 @@ returns-clause-exact c =
     let at = goal.at.returns-clause-exact c in
     IsAnswerOf-end c.args.text.now body (is_body at.After-next) c.loop-line.reader (stands at.In-None) (some_part body)
     c.end.result c.end.ensures.graph c.end.ensures.fault
+
+pub returns-clause-faulty : goal.returns-clause-faulty
+returns-clause-faulty c =
+    IsFaultAnswer-from c.args.text.now c.end.result (returns-clause-spelled c) c.end.ensures.valid
+    (returns-clause-refused c)

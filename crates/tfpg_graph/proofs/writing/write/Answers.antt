@@ -1,7 +1,7 @@
 use Rattle.std.proofs.Common.{sym, subst}
 use Rattle.tfpg_base.specs.Append.{Appends}
-use Rattle.tfpg_graph.proofs.Spelled.{Spells-canonical}
-use Rattle.tfpg_graph.proofs.TextPieces.{Appends-after_four, canonical_text-pieces}
+use Rattle.tfpg_graph.proofs.lemmas.writing.Spelled.{Spells-canonical}
+use Rattle.tfpg_graph.proofs.lemmas.writing.TextPieces.{Appends-after_four, canonical_text-pieces}
 use Rattle.tfpg_graph.proofs.writing.write.Goals as goal
 
 pub returns-in_err-put_line-clause-spelled : goal.returns-in_err-put_line-clause-spelled

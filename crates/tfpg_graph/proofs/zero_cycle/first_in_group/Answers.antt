@@ -1,5 +1,5 @@
 use Rattle.std.proofs.Common.{arith}
-use Rattle.tfpg_graph.proofs.ZeroCycles.{LiesOnZeroCycle-stays, none_lies_before, HasZeroOrder-groups}
+use Rattle.tfpg_graph.proofs.lemmas.zero_cycle.ZeroCycles.{LiesOnZeroCycle-stays, none_lies_before, HasZeroOrder-groups}
 use Rattle.tfpg_graph.proofs.zero_cycle.first_in_group.Goals as goal
 
 pub returns-then-stays_in_group-clause-lies : goal.returns-then-stays_in_group-clause-lies

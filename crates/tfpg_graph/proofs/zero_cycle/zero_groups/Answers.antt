@@ -1,15 +1,15 @@
 use Rattle.std.proofs.Common.{length}
 use Rattle.std.proofs.lemmas.Result.{IfOk-weaker}
-use Rattle.tfpg_graph.specs.ZeroSearch.{AreGroups}
-use Rattle.tfpg_graph.specs.ZeroEdges.{AreZeroGroups}
-use Rattle.tfpg_graph.proofs.ZeroEdgeSteps.{AreTurned-edges, AreZeroGroups-steps}
+use Rattle.tfpg_graph.specs.inside.zero_cycle.ZeroSearch.{AreGroups}
+use Rattle.tfpg_graph.specs.inside.zero_cycle.ZeroEdges.{AreZeroGroups}
+use Rattle.tfpg_graph.proofs.lemmas.zero_cycle.ZeroEdgeSteps.{AreReversed-edges, AreZeroGroups-steps}
 use Rattle.tfpg_graph.proofs.zero_cycle.zero_groups.Goals as goal
 
-pub groups-requires-clause-turned : goal.groups-requires-clause-turned
-groups-requires-clause-turned c =
+pub groups-requires-clause-reversed : goal.groups-requires-clause-reversed
+groups-requires-clause-reversed c =
     let graph = c.args.declared.now in
-    AreTurned-edges (length graph.nodes) graph.edges c.in_ok-steps.steps c.in_ok-turned.turned c.in_ok-steps.ensures
-    c.in_ok-turned.ensures
+    AreReversed-edges (length graph.nodes) graph.edges c.in_ok-steps.steps c.in_ok-reversed.reversed c.in_ok-steps.ensures
+    c.in_ok-reversed.ensures
 
 pub returns : goal.returns
 returns c =

@@ -1,5 +1,5 @@
 use Rattle.std.proofs.Common.{◌≡◌, ℕ, take}
-use Rattle.tfpg_log.specs.ActiveModes.{has_mode}
+use Rattle.tfpg_log.specs.inside.ActiveModes.{has_mode}
 use Rattle.tfpg_log.proofs.ModesInto.{are_allowed}
 use Rattle.tfpg_log.proofs.active_modes.modes_into.Given as goal
 

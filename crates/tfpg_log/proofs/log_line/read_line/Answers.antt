@@ -1,15 +1,15 @@
 use Rattle.std.proofs.Common.{sym, ap, ◌∙◌}
-use Rattle.tfpg_log.specs.Accepted.{shape_of}
-use Rattle.tfpg_log.proofs.LogLines.{has_empty, said_by-empty, said_by-words}
+use Rattle.tfpg_log.specs.LogStatements.{log_statement_in}
+use Rattle.tfpg_log.proofs.LogLines.{has_empty, log_statement_of-empty, log_statement_of-words}
 use Rattle.tfpg_log.proofs.log_line.read_line.Goals as goal
 
 pub returns-then-has_empty_word : goal.returns-then-has_empty_word
 returns-then-has_empty_word c =
     let are = c.as_slice-words.ensures ∙ c.in_ok-words.ensures in
-    sym (said_by-empty c.args.line.now (has_empty c.args.line.now c.as_slice-words.result.now are ∙ sym c.has_empty_word.ensures ∙ c.if-has_empty_word.true))
+    sym (log_statement_of-empty c.args.line.now (has_empty c.args.line.now c.as_slice-words.result.now are ∙ sym c.has_empty_word.ensures ∙ c.if-has_empty_word.true))
 
 pub returns : goal.returns
 returns c =
     let are = c.as_slice-words.ensures ∙ c.in_ok-words.ensures in
-    c.line_of.ensures ∙ ap shape_of are
-    ∙ sym (said_by-words c.args.line.now (has_empty c.args.line.now c.as_slice-words.result.now are ∙ sym c.has_empty_word.ensures ∙ c.if-has_empty_word.false))
+    c.line_of.ensures ∙ ap log_statement_in are
+    ∙ sym (log_statement_of-words c.args.line.now (has_empty c.args.line.now c.as_slice-words.result.now are ∙ sym c.has_empty_word.ensures ∙ c.if-has_empty_word.false))

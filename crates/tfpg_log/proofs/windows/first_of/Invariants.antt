@@ -1,5 +1,5 @@
 use Rattle.std.proofs.Common.{◌≤◌}
-use Rattle.tfpg_log.specs.ActiveModes.{AreActive}
+use Rattle.tfpg_log.specs.inside.ActiveModes.{AreActive}
 use Rattle.tfpg_log.proofs.windows.first_of.Given as goal
 
 abbrev pub invariant-loop-first : goal.invariant-loop-first

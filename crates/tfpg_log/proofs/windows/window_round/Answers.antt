@@ -1,5 +1,5 @@
 use Rattle.std.proofs.Common.{◌≡◌, false, ◌∙◌}
-use Rattle.tfpg_log.specs.ActiveModes.{has_mode}
+use Rattle.tfpg_log.specs.inside.ActiveModes.{has_mode}
 use Rattle.tfpg_log.proofs.WindowStarts.{none_without_span, none_in_other_mode, no_beginning, window_walked}
 use Rattle.tfpg_log.proofs.windows.window_round.Goals as goal
 
@@ -21,5 +21,5 @@ returns-in_err-lo c log spans by_now =
 pub returns : goal.returns
 returns c log spans by_now =
     window_walked log c.args.changes.now spans c.args.modes.now c.args.number c.args.horizon c.in_ok-span.span by_now c.in_ok-span.ensures
-    c.first_of-first.result c.last_of-last.result c.first_of-first.ensures c.last_of-last.ensures c.in_ok-lo.lo c.end_of-hi.result
-    c.in_ok-lo.ensures c.end_of-hi.ensures
+    c.first_of-first.result c.last_of-last.result c.first_of-first.ensures c.last_of-last.ensures c.in_ok-lo.lo c.end_of_span-hi.result
+    c.in_ok-lo.ensures c.end_of_span-hi.ensures

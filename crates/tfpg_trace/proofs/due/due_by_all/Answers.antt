@@ -1,5 +1,5 @@
 use Rattle.std.proofs.Common.{◌+◌, Some, None, length, sym, subst, arith}
-use Rattle.tfpg_trace.specs.Due.{Begins, AllDue}
+use Rattle.tfpg_trace.specs.inside.Due.{Begins, AllDue}
 use Rattle.tfpg_trace.proofs.Beginnings.{EachOf, each_of_none, begins_each_more, never_each}
 use Rattle.tfpg_trace.proofs.SpanOrder.{in_order}
 use Rattle.tfpg_trace.proofs.DueInto.{DueAt, in_graph, all_by_places}
@@ -13,17 +13,17 @@ loop-place-init c log number here gaps =
 
 pub due_by_edge-requires : goal.due_by_edge-requires
 due_by_edge-requires c =
-    in_graph c.args.graph.now c.args.node c.loop-place.place c.incoming-incoming.result.now c.incoming-incoming.ensures c.loop-place-test.true
+    in_graph c.args.graph.now c.args.node c.loop-place.place c.incoming-incoming.result.now c.incoming-incoming.ensures.edges c.loop-place-test.true
 
 pub returns-in_err-due : goal.returns-in_err-due
 returns-in_err-due c log number here gaps =
     let numbers = c.incoming-incoming.result.now in
     let Due = DueAt c.args.graph.now log c.args.trace.now numbers in
     let gap = gap_at c.args.graph.now log c.args.node number c.loop-place.place numbers c.args.gaps.now _
-    c.incoming-incoming.ensures c.loop-place-test.true c.requires.room gaps in
+    c.incoming-incoming.ensures.edges c.loop-place-test.true c.requires.room gaps in
     let never : Begins (AllDue c.args.graph.now log c.args.trace.now c.args.node) c.args.span.lo c.args.span.hi None =
     all_by_places c.args.graph.now log c.args.trace.now c.args.node c.args.span.lo c.args.span.hi (length numbers) numbers None
-    c.incoming-incoming.ensures (omega arith)
+    c.incoming-incoming.ensures.edges (omega arith)
     (never_each Due c.args.span.lo c.args.span.hi (length numbers) c.loop-place.place c.loop-place-test.true (c.in_err-due.ensures log number here gap)) in
     subst (Begins (AllDue c.args.graph.now log c.args.trace.now c.args.node) c.args.span.lo c.args.span.hi) (sym c.from_residual.ensures) never
 
@@ -31,7 +31,7 @@ pub loop-place-preserved : goal.loop-place-preserved
 loop-place-preserved c log number here gaps =
     let Due = DueAt c.args.graph.now log c.args.trace.now c.incoming-incoming.result.now in
     let gap = gap_at c.args.graph.now log c.args.node number c.loop-place.place c.incoming-incoming.result.now c.args.gaps.now _
-    c.incoming-incoming.ensures c.loop-place-test.true c.requires.room gaps in
+    c.incoming-incoming.ensures.edges c.loop-place-test.true c.requires.room gaps in
     subst (λ first. Begins (EachOf Due (c.loop-place.place + 1)) c.args.span.lo c.args.span.hi (Some first)) (sym c.max-first.ensures)
     (begins_each_more Due c.args.span.lo c.args.span.hi c.loop-place.place c.loop-place.first c.in_ok-due.due
     (c.loop-place.invariant log number here gaps) (c.in_ok-due.ensures log number here gap))
@@ -39,4 +39,4 @@ loop-place-preserved c log number here gaps =
 pub returns : goal.returns
 returns c log number here gaps =
     all_by_places c.args.graph.now log c.args.trace.now c.args.node c.args.span.lo c.args.span.hi c.loop-place.place
-    c.incoming-incoming.result.now (Some c.loop-place.first) c.incoming-incoming.ensures (omega arith) (c.loop-place.invariant log number here gaps)
+    c.incoming-incoming.result.now (Some c.loop-place.first) c.incoming-incoming.ensures.edges (omega arith) (c.loop-place.invariant log number here gaps)

@@ -1,8 +1,8 @@
 use Rattle.std.proofs.Common.{◌≡◌, ℕ, Some}
 use Rattle.tfpg_log.specs.Log.{Logbook, now_of}
 use Rattle.tfpg_log.specs.Spans.{span_at}
-use Rattle.tfpg_trace.specs.Due.{Begins}
-use Rattle.tfpg_trace.specs.Gaps.{AreGaps}
+use Rattle.tfpg_trace.specs.inside.Due.{Begins}
+use Rattle.tfpg_trace.specs.inside.Gaps.{AreGaps}
 use Rattle.tfpg_trace.proofs.Beginnings.{EachOf}
 use Rattle.tfpg_trace.proofs.DueInto.{DueAt}
 use Rattle.tfpg_trace.proofs.due.due_by_all.Given as goal

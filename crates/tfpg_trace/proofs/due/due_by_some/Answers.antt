@@ -1,5 +1,5 @@
 use Rattle.std.proofs.Common.{◌+◌, sym, subst, arith}
-use Rattle.tfpg_trace.specs.Due.{Begins}
+use Rattle.tfpg_trace.specs.inside.Due.{Begins}
 use Rattle.tfpg_trace.proofs.Beginnings.{OneOf, begins_one_more}
 use Rattle.tfpg_trace.proofs.DueInto.{DueAt, in_graph, some_by_places}
 use Rattle.tfpg_trace.proofs.GapsOver.{gap_at}
@@ -7,13 +7,13 @@ use Rattle.tfpg_trace.proofs.due.due_by_some.Goals as goal
 
 pub due_by_edge-requires : goal.due_by_edge-requires
 due_by_edge-requires c =
-    in_graph c.args.graph.now c.args.node c.loop-place.place c.incoming-incoming.result.now c.incoming-incoming.ensures c.loop-place-test.true
+    in_graph c.args.graph.now c.args.node c.loop-place.place c.incoming-incoming.result.now c.incoming-incoming.ensures.edges c.loop-place-test.true
 
 pub loop-place-preserved : goal.loop-place-preserved
 loop-place-preserved c log number here gaps =
     let Due = DueAt c.args.graph.now log c.args.trace.now c.incoming-incoming.result.now in
     let gap = gap_at c.args.graph.now log c.args.node number c.loop-place.place c.incoming-incoming.result.now c.args.gaps.now _
-    c.incoming-incoming.ensures c.loop-place-test.true c.requires.room gaps in
+    c.incoming-incoming.ensures.edges c.loop-place-test.true c.requires.room gaps in
     subst (Begins (OneOf Due (c.loop-place.place + 1)) c.args.span.lo c.args.span.hi) (sym c.earlier-first.ensures)
     (begins_one_more Due c.args.span.lo c.args.span.hi c.loop-place.place c.loop-place.first c.due_by_edge.result
     (c.loop-place.invariant log number here gaps) (c.due_by_edge.ensures log number here gap))
@@ -21,4 +21,4 @@ loop-place-preserved c log number here gaps =
 pub returns : goal.returns
 returns c log number here gaps =
     some_by_places c.args.graph.now log c.args.trace.now c.args.node c.args.span.lo c.args.span.hi c.loop-place.place
-    c.incoming-incoming.result.now c.loop-place.first c.incoming-incoming.ensures (omega arith) (c.loop-place.invariant log number here gaps)
+    c.incoming-incoming.result.now c.loop-place.first c.incoming-incoming.ensures.edges (omega arith) (c.loop-place.invariant log number here gaps)

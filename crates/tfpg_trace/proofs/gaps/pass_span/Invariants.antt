@@ -1,5 +1,5 @@
 use Rattle.std.proofs.Common.{◌≡◌, ℕ, ◌<◌, ◌≤◌, None, get_or, length}
-use Rattle.tfpg_trace.specs.Gaps.{gap_after}
+use Rattle.tfpg_trace.specs.inside.Gaps.{gap_after}
 use Rattle.tfpg_trace.proofs.gaps.pass_span.Given as goal
 
 abbrev pub invariant-loop-place : goal.invariant-loop-place

@@ -7,7 +7,7 @@ use Rattle.tfpg_trace.proofs.may.all_arrive.Goals as goal
 pub arrives-requires-clause-edge : goal.arrives-requires-clause-edge
 arrives-requires-clause-edge c =
     number_within (λ edge. nat_eq edge.target c.args.node) c.args.graph.now.edges (λ e. HasAge c.args.log.now c.args.trace.now e c.args.time e.tmin)
-    c.incoming-incoming.result.now c.incoming-incoming.ensures c.loop-number.number-index c.loop-number-test.true
+    c.incoming-incoming.result.now c.incoming-incoming.ensures.edges c.loop-number.number-index c.loop-number-test.true
 
 pub returns-then-not-arrives : goal.returns-then-not-arrives
 returns-then-not-arrives c = (
@@ -15,7 +15,7 @@ returns-then-not-arrives c = (
   λ all.
       absurd
       (not_all_at_place (λ edge. nat_eq edge.target c.args.node) c.args.graph.now.edges (λ e. HasAge c.args.log.now c.args.trace.now e c.args.time e.tmin)
-      c.incoming-incoming.result.now c.incoming-incoming.ensures c.loop-number.number-index c.loop-number-test.true
+      c.incoming-incoming.result.now c.incoming-incoming.ensures.edges c.loop-number.number-index c.loop-number-test.true
       (λ arrived. false≢true (sym c.if-not-arrives.true ∙ c.arrives.ensures.1 arrived)) all),
 )
 
@@ -23,6 +23,6 @@ pub returns : goal.returns
 returns c = (
   λ yes.
       all_at_places (λ edge. nat_eq edge.target c.args.node) c.args.graph.now.edges (λ e. HasAge c.args.log.now c.args.trace.now e c.args.time e.tmin)
-      c.incoming-incoming.result.now c.incoming-incoming.ensures c.loop-number.number-index c.loop-number-test.false c.loop-number.invariant,
+      c.incoming-incoming.result.now c.incoming-incoming.ensures.edges c.loop-number.number-index c.loop-number-test.false c.loop-number.invariant,
   λ all. refl,
 )

@@ -9,13 +9,13 @@ use Rattle.tfpg_trace.proofs.may.some_arrives.Goals as goal
 pub arrives-requires-clause-edge : goal.arrives-requires-clause-edge
 arrives-requires-clause-edge c =
     number_within (λ edge. nat_eq edge.target c.args.node) c.args.graph.now.edges (λ e. HasAge c.args.log.now c.args.trace.now e c.args.time e.tmin)
-    c.incoming-incoming.result.now c.incoming-incoming.ensures c.loop-number.number-index c.loop-number-test.true
+    c.incoming-incoming.result.now c.incoming-incoming.ensures.edges c.loop-number.number-index c.loop-number-test.true
 
 pub returns-then-arrives : goal.returns-then-arrives
 returns-then-arrives c = (
   λ yes.
       some_at_place (λ edge. nat_eq edge.target c.args.node) c.args.graph.now.edges (λ e. HasAge c.args.log.now c.args.trace.now e c.args.time e.tmin)
-      c.incoming-incoming.result.now c.incoming-incoming.ensures c.loop-number.number-index c.loop-number-test.true (c.arrives.ensures.0 c.if-arrives.true),
+      c.incoming-incoming.result.now c.incoming-incoming.ensures.edges c.loop-number.number-index c.loop-number-test.true (c.arrives.ensures.0 c.if-arrives.true),
   λ some. refl,
 )
 
@@ -31,5 +31,5 @@ returns c = (
   λ some.
       absurd
       (none_at_places (λ edge. nat_eq edge.target c.args.node) c.args.graph.now.edges (λ e. HasAge c.args.log.now c.args.trace.now e c.args.time e.tmin)
-      c.incoming-incoming.result.now c.incoming-incoming.ensures c.loop-number.number-index c.loop-number-test.false c.loop-number.invariant some),
+      c.incoming-incoming.result.now c.incoming-incoming.ensures.edges c.loop-number.number-index c.loop-number-test.false c.loop-number.invariant some),
 )

@@ -1,5 +1,5 @@
 use Rattle.std.proofs.Common.{Some, None, sym, subst}
-use Rattle.tfpg_trace.specs.FirstFaultIn.{IsFirstFaultIn}
+use Rattle.tfpg_trace.specs.inside.FirstFaultIn.{IsFirstFaultIn}
 use Rattle.tfpg_trace.proofs.MustFaults.{told, without_span}
 use Rattle.tfpg_trace.proofs.GapsOver.{gaps_over, gaps_kept}
 use Rattle.tfpg_trace.proofs.must.fault_at.Goals as goal

@@ -1,6 +1,6 @@
 use Rattle.std.proofs.Common.{sym, subst}
 use Rattle.std.proofs.lemmas.Bool.{both_ways}
-use Rattle.tfpg_trace.specs.FirstFaultIn.{IsFirstFaultIn}
+use Rattle.tfpg_trace.specs.inside.FirstFaultIn.{IsFirstFaultIn}
 use Rattle.tfpg_trace.proofs.MustFaults.{never_due, in_time, first_fault}
 use Rattle.tfpg_trace.proofs.must.fault_in_span.Goals as goal
 

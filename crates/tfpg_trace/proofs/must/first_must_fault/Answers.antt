@@ -6,7 +6,7 @@ use Rattle.tfpg_trace.proofs.must.first_must_fault.Goals as goal
 
 pub loop-number-init : goal.loop-number-init
 loop-number-init c =
-    let few : length (incoming c.args.graph.now c.args.node) ≤ 32 = c.node_count-nodes.ensures.valid.few_incoming c.args.node in
+    let few : length (incoming c.args.graph.now c.args.node) ≤ 32 = c.node_count-nodes.ensures.valid.so_far.few_incoming c.args.node in
     record {
       keeps = λ instant within before. absurd (omega (arith, before));
       gaps = no_gaps c.args.graph.now c.args.log.now c.args.node 32 few;

@@ -1,5 +1,5 @@
 use Rattle.std.proofs.Common.{◌≡◌, length}
-use Rattle.tfpg_trace.specs.Gaps.{AreGaps}
+use Rattle.tfpg_trace.specs.inside.Gaps.{AreGaps}
 use Rattle.tfpg_trace.proofs.FirstMustFaults.{KeepsMustBefore}
 use Rattle.tfpg_trace.proofs.must.first_must_fault.Given as goal
 

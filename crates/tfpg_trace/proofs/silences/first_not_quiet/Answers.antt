@@ -1,4 +1,4 @@
-use Rattle.tfpg_trace.specs.Shown.{IsNotQuiet}
+use Rattle.tfpg_trace.specs.inside.Shown.{IsNotQuiet}
 use Rattle.tfpg_trace.proofs.FirstNodes.{NoneBefore-more}
 use Rattle.tfpg_trace.proofs.silences.first_not_quiet.Goals as goal
 

@@ -1,5 +1,5 @@
 use Rattle.tfpg_trace.specs.FirstFault.{NoneBefore}
-use Rattle.tfpg_trace.specs.Shown.{IsNotQuiet}
+use Rattle.tfpg_trace.specs.inside.Shown.{IsNotQuiet}
 use Rattle.tfpg_trace.proofs.silences.first_not_quiet.Given as goal
 
 abbrev pub invariant-loop-node : goal.invariant-loop-node

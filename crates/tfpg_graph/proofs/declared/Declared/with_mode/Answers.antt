@@ -1,7 +1,7 @@
 use Rattle.std.proofs.Common.{rules, ◌≡◌, ap, ◌∙◌, map, ◌++◌, ◌∷◌, []}
-use Rattle.tfpg_graph.specs.Indexes.{with_mode}
-use Rattle.tfpg_graph.proofs.Inserts.{modes-insert}
-use Rattle.tfpg_graph.proofs.MoreDeclared.{IsDeclared-seen, IsDeclared-seen_as, IsIndexed-with_mode, IsValidSoFar-with_mode}
+use Rattle.tfpg_graph.specs.inside.Indexes.{with_mode}
+use Rattle.tfpg_graph.proofs.lemmas.declared.Inserts.{modes-insert}
+use Rattle.tfpg_graph.proofs.lemmas.declared.MoreDeclared.{IsDeclared-seen, IsDeclared-seen_as, HasIndexes-with_mode, IsValidSoFar-with_mode}
 use Rattle.tfpg_graph.proofs.declared.Declared.with_mode.Goals as goal
 use Rattle.tfpg_graph.proofs.declared.Declared.with_mode.Goals.{In_ok-insert}
 
@@ -18,5 +18,5 @@ returns c = λ i. record { nodes = (c.declared.view_is i).nodes; edges = (c.decl
 pub invariant_of-declared : goal.invariant_of-declared
 invariant_of-declared c =
     let before = IsDeclared-seen_as c.declared.inside c.args.self c.declared.view_is c.declared.invariant in
-    IsDeclared-seen _ (with_mode c.args.self c.args.name.now) (returns c) (IsIndexed-with_mode c.args.self c.args.name.now _ _ _ before.0)
+    IsDeclared-seen _ (with_mode c.args.self c.args.name.now) (returns c) (HasIndexes-with_mode c.args.self c.args.name.now _ _ _ before.0)
     (IsValidSoFar-with_mode c.args.self c.args.name.now c.requires.before_edges c.requires.name c.requires.new c.requires.room before.1)

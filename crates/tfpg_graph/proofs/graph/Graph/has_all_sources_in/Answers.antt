@@ -1,6 +1,6 @@
 use Rattle.std.proofs.Common.{refl, sym, ◌∙◌}
 use Rattle.std.proofs.lemmas.Bool.{false≢true}
-use Rattle.tfpg_graph.proofs.Sources.{number_within, source_lacks, source_more, all_sources_at_end}
+use Rattle.tfpg_graph.proofs.lemmas.reach.Sources.{number_within, source_lacks, source_more, all_sources_at_end}
 use Rattle.tfpg_graph.proofs.graph.Graph.has_all_sources_in.Goals as goal
 
 pub edge-requires : goal.edge-requires

@@ -1,6 +1,6 @@
 use Rattle.std.proofs.Common.{refl, sym, ◌∙◌}
 use Rattle.std.proofs.lemmas.Bool.{false≢true}
-use Rattle.tfpg_graph.proofs.Sources.{number_within, source_found, no_source_more, no_source_at_end}
+use Rattle.tfpg_graph.proofs.lemmas.reach.Sources.{number_within, source_found, no_source_more, no_source_at_end}
 use Rattle.tfpg_graph.proofs.graph.Graph.has_source_in.Goals as goal
 
 pub edge-requires : goal.edge-requires

@@ -1,5 +1,5 @@
 use Rattle.std.proofs.Common.{All, take}
-use Rattle.tfpg_graph.proofs.Sources.{HasNoSourceIn}
+use Rattle.tfpg_graph.proofs.lemmas.reach.Sources.{HasNoSourceIn}
 use Rattle.tfpg_graph.proofs.graph.Graph.has_source_in.Given as goal
 
 abbrev pub invariant-loop-number : goal.invariant-loop-number

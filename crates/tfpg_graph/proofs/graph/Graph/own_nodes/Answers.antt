@@ -1,6 +1,6 @@
 use Rattle.std.proofs.Common.{sym, ◌∙◌, arith}
 use Rattle.std.proofs.lemmas.Bool.{false≢true}
-use Rattle.tfpg_graph.proofs.Reaches.{AreReachedBefore-none, AreReachedBefore-to, AreReachedBefore-without, AreReachedBefore-all, own_small}
+use Rattle.tfpg_graph.proofs.lemmas.reach.Reaches.{AreReachedBefore-none, AreReachedBefore-to, AreReachedBefore-without, AreReachedBefore-all, own_small}
 use Rattle.tfpg_graph.proofs.graph.Graph.own_nodes.Goals as goal
 use Rattle.tfpg_graph.proofs.graph.Graph.own_nodes.Goals.{then-has, else-has}
 

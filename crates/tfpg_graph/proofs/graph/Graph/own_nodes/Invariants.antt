@@ -1,4 +1,4 @@
-use Rattle.tfpg_graph.proofs.Reaches.{AreReachedBefore}
+use Rattle.tfpg_graph.proofs.lemmas.reach.Reaches.{AreReachedBefore}
 use Rattle.tfpg_graph.proofs.graph.Graph.own_nodes.Given as goal
 
 abbrev pub invariant-loop-place : goal.invariant-loop-place

@@ -1,6 +1,6 @@
 use Rattle.std.proofs.Common.{arith}
-use Rattle.tfpg_graph.proofs.NodeSets.{IsNodeSet-few}
-use Rattle.tfpg_graph.proofs.Reaches.{AreReached-widened, IsReach-full}
+use Rattle.tfpg_graph.proofs.lemmas.reach.NodeSets.{IsNodeSet-few}
+use Rattle.tfpg_graph.proofs.lemmas.reach.Reaches.{AreReached-widened, IsReach-full}
 use Rattle.tfpg_graph.proofs.graph.Graph.reach.Goals as goal
 
 pub loop-reached-preserved : goal.loop-reached-preserved

@@ -1,5 +1,5 @@
 use Rattle.std.proofs.Common.{◌-◌, length}
-use Rattle.tfpg_graph.specs.Reaching.{AreReached}
+use Rattle.tfpg_graph.specs.inside.reach.Reaching.{AreReached}
 use Rattle.tfpg_graph.proofs.graph.Graph.reach.Given as goal
 
 abbrev pub invariant-loop-reached : goal.invariant-loop-reached

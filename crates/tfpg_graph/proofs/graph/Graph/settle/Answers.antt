@@ -1,6 +1,6 @@
 use Rattle.std.proofs.Common.{sym, ◌∙◌}
 use Rattle.std.proofs.lemmas.Bool.{false≢true}
-use Rattle.tfpg_graph.proofs.Reaches.{Widens-to}
+use Rattle.tfpg_graph.proofs.lemmas.reach.Reaches.{Widens-to}
 use Rattle.tfpg_graph.proofs.graph.Graph.settle.Goals as goal
 
 pub returns-clause-widens : goal.returns-clause-widens

@@ -1,4 +1,4 @@
-use Rattle.tfpg_graph.proofs.Reaches.{Widens-along}
+use Rattle.tfpg_graph.proofs.lemmas.reach.Reaches.{Widens-along}
 use Rattle.tfpg_graph.proofs.graph.Graph.sweep_down.Goals as goal
 
 pub loop-node-preserved : goal.loop-node-preserved

@@ -1,4 +1,4 @@
-use Rattle.tfpg_graph.specs.Reaching.{Widens}
+use Rattle.tfpg_graph.specs.inside.reach.Reaching.{Widens}
 use Rattle.tfpg_graph.proofs.graph.Graph.sweep_down.Given as goal
 
 abbrev pub invariant-loop-node : goal.invariant-loop-node

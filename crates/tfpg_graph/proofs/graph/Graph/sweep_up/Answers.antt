@@ -1,6 +1,6 @@
 use Rattle.std.proofs.Common.{sym, ◌∙◌, ap, length, arith}
 use Rattle.std.proofs.lemmas.Bool.{false≢true}
-use Rattle.tfpg_graph.proofs.Reaches.{Widens-along, IsFullBefore-more}
+use Rattle.tfpg_graph.proofs.lemmas.reach.Reaches.{Widens-along, IsFullBefore-more}
 use Rattle.tfpg_graph.proofs.graph.Graph.sweep_up.Goals as goal
 use Rattle.tfpg_graph.proofs.graph.Graph.sweep_up.Goals.{then-settle, else-settle}
 

@@ -1,5 +1,5 @@
 use Rattle.std.proofs.Common.{◌≡◌, ◌<◌, true, false, length}
-use Rattle.tfpg_graph.specs.Reaching.{IsFullBefore, Widens}
+use Rattle.tfpg_graph.specs.inside.reach.Reaching.{IsFullBefore, Widens}
 use Rattle.tfpg_graph.proofs.graph.Graph.sweep_up.Given as goal
 
 abbrev pub invariant-loop-node : goal.invariant-loop-node

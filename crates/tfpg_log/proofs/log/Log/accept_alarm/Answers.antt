@@ -1,5 +1,5 @@
 use Rattle.std.proofs.Common.{◌<◌, ◌≤◌, ◌∙◌, length, arith, ap, sym}
-use Rattle.tfpg_log.specs.Accepted.{max_events}
+use Rattle.tfpg_log.specs.declared.limits.TheConstants.{MAX_EVENTS}
 use Rattle.tfpg_log.specs.Log.{Logbook, alarm_of, now_of}
 use Rattle.tfpg_log.proofs.Indexes.{indexed_alarm}
 use Rattle.tfpg_log.proofs.log.Log.accept_alarm.Goals as goal
@@ -7,7 +7,7 @@ use Rattle.tfpg_log.proofs.log.Log.accept_alarm.Goals as goal
 pub invariant_of-self-2 : goal.invariant_of-self-2
 invariant_of-self-2 c =
     let length_is = ap (λ (log : Logbook). length log.events) c.self.view_is in
-    let room : length c.self.inside.events.items < max_events = omega (arith, length_is, c.requires.room) in
+    let room : length c.self.inside.events.items < MAX_EVENTS = omega (arith, length_is, c.requires.room) in
     let not_back : now_of (record { events = c.self.inside.events.items }) ≤ c.args.time = omega (arith, ap now_of c.self.view_is, c.requires.not_back) in
     let first = ap (λ (log : Logbook). alarm_of log c.args.node) c.self.view_is ∙ c.requires.first in
     rw c.in_ok-push.ensures.items (indexed_alarm c.self.inside.events.items c.self.inside.alarms.items c.lengthen.new.alarms.items c.self.inside.changes.items c.self.inside.change_count c.args.time c.args.node

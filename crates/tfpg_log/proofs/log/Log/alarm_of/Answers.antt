@@ -1,6 +1,6 @@
 use Rattle.std.proofs.Common.{Some, length, sym, ap, ◌∙◌, arith}
 use Rattle.tfpg_log.specs.Log.{Logbook, alarm_of}
-use Rattle.tfpg_log.specs.LogInside.{alarm_place}
+use Rattle.tfpg_log.specs.inside.LogIndex.{alarm_place}
 use Rattle.tfpg_log.proofs.AlarmPlaces.{place_within, alarm_there, alarm_absent}
 use Rattle.tfpg_log.proofs.log.Log.alarm_of.Goals as goal
 

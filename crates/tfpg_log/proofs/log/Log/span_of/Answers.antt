@@ -3,14 +3,14 @@ use Rattle.std.proofs.lemmas.Bool.{le-leb, cond-true}
 use Rattle.tfpg_log.specs.declared.mode_change.ModeChange.{ModeChange}
 use Rattle.tfpg_log.specs.Log.{Logbook, now_of}
 use Rattle.tfpg_log.specs.Spans.{span_number}
-use Rattle.tfpg_log.specs.SpanIndex.{IsWithin}
+use Rattle.tfpg_log.specs.inside.SpanIndex.{IsInSpan}
 use Rattle.tfpg_log.proofs.SpanStarts.{number_is}
 use Rattle.tfpg_log.proofs.log.Log.span_of.Goals as goal
 
 pub returns : goal.returns
 returns c =
     let log : Logbook = record { events = c.self.inside.events.items } in
-    let within = subst (λ (changes : List ModeChange). IsWithin changes c.number_of.result c.args.instant) c.deref.ensures.value c.number_of.ensures in
+    let within = subst (λ (changes : List ModeChange). IsInSpan changes c.number_of.result c.args.instant) c.deref.ensures.value c.number_of.ensures in
     let number : span_number c.args.self.now c.args.instant ≡ c.number_of.result =
     sym (ap (λ (l : Logbook). span_number l c.args.instant) c.self.view_is)
     ∙ number_is log c.self.inside.changes.items c.self.invariant.spans c.number_of.result c.args.instant within in

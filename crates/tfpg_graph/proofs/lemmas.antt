@@ -1,0 +1,6 @@
+-- The lemmas of each part of the crate, in a folder named like that of the source.
+pub mod declared
+pub mod reading
+pub mod writing
+pub mod reach
+pub mod zero_cycle

@@ -1,0 +1,5 @@
+pub mod Named
+pub mod Leaving
+pub mod Inserts
+pub mod MoreDeclared
+pub mod Copied

@@ -1,0 +1,34 @@
+-- The edge from one node to another, sought among the edges into the other.
+use Rattle.std.proofs.Common.{◌≡◌, ℕ, ◌+◌, ◌<◌, ◌==◌, Bool, true, false, cond, List, length, get_or, drop, find, Option, Some, None, slice_get, refl, ap, ◌∙◌, zero-add}
+use Rattle.std.specs.Option.{option_map, option_map_or}
+use Rattle.std.proofs.lemmas.List.{at_drop_more}
+use Rattle.tfpg_graph.specs.declared.edge.Edge.{Edge}
+use Rattle.tfpg_graph.specs.Graph.{Tfpg, incoming, edge_from_to}
+use Rattle.tfpg_graph.proofs.Numbered.{find-numbers_from}
+
+-- whether the edge of this number leaves this node
+abbrev pub is_leaving : Tfpg → ℕ → ℕ → Bool
+is_leaving graph source number = option_map_or (λ edge. edge.source == source) (slice_get graph.edges number) false
+
+pub is_leaving-edge : (graph : Tfpg) (source number : ℕ) (edge : Edge) → slice_get graph.edges number ≡ Some edge → is_leaving graph source number ≡ (edge.source == source)
+is_leaving-edge graph source number edge at = ap (λ o. option_map_or (λ e. e.source == source) o false) at
+
+option_map-zero : (o : Option ℕ) → option_map (λ i. 0 + i) o ≡ o
+option_map-zero None = refl
+option_map-zero (Some i) = ap Some (zero-add i)
+
+-- the first edge into the one node that leaves the other is the first edge between the two
+pub find-leaving : (graph : Tfpg) (source target : ℕ) → find (is_leaving graph source) (incoming graph target) ≡ edge_from_to graph source target
+find-leaving graph source target =
+    find-numbers_from (λ edge. edge.target == target) (λ edge. edge.source == source) (is_leaving graph source) 0 graph.edges
+    (λ i edge at. ap (is_leaving graph source) (zero-add i) ∙ is_leaving-edge graph source i edge at)
+    ∙ option_map-zero (edge_from_to graph source target)
+
+module _ (test : ℕ → Bool) (xs : List ℕ) (i : ℕ) (within : i < length xs) where
+  -- what fails is skipped
+  pub find-past : test (get_or xs i 0) ≡ false → find test (drop i xs) ≡ find test (drop (i + 1) xs)
+  find-past fails = at_drop_more (find test) xs i 0 within ∙ ap (λ b. cond b (Some (get_or xs i 0)) (find test (drop (i + 1) xs))) fails
+
+  -- what passes is found
+  pub find-here : test (get_or xs i 0) ≡ true → find test (drop i xs) ≡ Some (get_or xs i 0)
+  find-here passes = at_drop_more (find test) xs i 0 within ∙ ap (λ b. cond b (Some (get_or xs i 0)) (find test (drop (i + 1) xs))) passes

@@ -1,0 +1,3 @@
+pub mod NodeSets
+pub mod Sources
+pub mod Reaches

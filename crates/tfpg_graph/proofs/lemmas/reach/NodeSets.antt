@@ -1,0 +1,317 @@
+-- Which nodes words keep.
+use Rattle.std.proofs.Common.{◌≡◌, ◌≢◌, ℕ, suc, zero, ◌+◌, ◌*◌, ◌/◌, ◌%◌, ◌<◌, ◌≤◌, ◌^◌, lit<, List, [], ◌∷◌, ◌++◌, length, map, get_or, set, bit_and, bit_or, nat_eq, eqb, ltb, ◌↔◌, ⊎_elim, IsTrue, refl, arith, sym, ◌∙◌, ap, subst}
+use Rattle.std.specs.List.{Contains}
+use Rattle.std.proofs.lemmas.Bool.{cases_eq, cond_both, eqb-true}
+use Rattle.std.proofs.lemmas.List.{length-set, get_or-set_same, get_or-set_other}
+use Rattle.std.proofs.lemmas.List.Elements.{All-nil, All-set, All-get_or, All-contains, Contains-append_left, Contains-append_right, Contains-append_cases}
+use Rattle.std.proofs.lemmas.List.Kept.{AllPairs-from_increasing}
+use Rattle.std.proofs.lemmas.Nat.{or_lt, mod_below}
+use Rattle.tfpg_base.specs.Set.{with_member}
+use Rattle.tfpg_base.specs.SetBits.{members_of}
+use Rattle.tfpg_base.proofs.Elements.{AllPairs-head, AllPairs-tail, AllPairs-cons, All-from_members, Contains-head, Contains-tail, Contains-nil}
+use Rattle.tfpg_base.proofs.Sets.{Rises, same_from_members, Contains-with_member, with_member-keeps, with_member-only, Rises-with_member, IsSet-members_of, members_of-is, members_of-zero, members_of-set, bit_tells_member}
+use Rattle.tfpg_graph.specs.NodeSet.{IsNodeSet}
+use Rattle.tfpg_graph.specs.inside.reach.NodeWords.{nodes_from, nodes_of, AreWords}
+use Rattle.tfpg_graph.proofs.Images.{Contains-map, Contains-map_only}
+
+-- ---- lists
+
+-- a rising list further up rises
+Rises-shifted : (by : ℕ) (xs : List ℕ) → Rises xs → Rises (map (λ x. by + x) xs)
+Rises-shifted by [] rising = rising
+Rises-shifted by (first ∷ others) rising =
+    AllPairs-cons ◌<◌ (by + first) (map (λ x. by + x) others)
+    (All-from_members (λ later. by + first < later) (map (λ x. by + x) others)
+    (λ later member. let old = Contains-map_only (λ x. by + x) others later member in
+    omega (arith, old.2, All-contains (λ y. first < y) others old.0 (AllPairs-head ◌<◌ first others rising) old.1)))
+    (Rises-shifted by others (AllPairs-tail ◌<◌ first others rising))
+
+-- two rising lists, the one before the other, rise
+Rises-append : (xs ys : List ℕ) → Rises xs → Rises ys → ((x y : ℕ) → Contains xs x → Contains ys y → x < y)
+    → Rises (xs ++ ys)
+Rises-append [] ys rises_x rises_y before = rises_y
+Rises-append (first ∷ others) ys rises_x rises_y before =
+    AllPairs-cons ◌<◌ first (others ++ ys)
+    (All-from_members (λ later. first < later) (others ++ ys)
+    (λ later member. ⊎_elim
+    (λ own. All-contains (λ y. first < y) others later (AllPairs-head ◌<◌ first others rises_x) own)
+    (λ other. before first later (Contains-head first others) other)
+    (Contains-append_cases others ys later member)))
+    (Rises-append others ys (AllPairs-tail ◌<◌ first others rises_x) rises_y
+    (λ x y in_x in_y. before x y (Contains-tail first others x in_x) in_y))
+
+-- what rises between two bounds is no longer than there is room
+rises_within : (xs : List ℕ) (low high : ℕ) → Rises xs → low ≤ high → ((x : ℕ) → Contains xs x → (low ≤ x) × (x < high))
+    → low + length xs ≤ high
+rises_within [] low high rising room within = omega arith
+rises_within (first ∷ others) low high rising room within =
+    let here = within first (Contains-head first others) in
+    let rest = rises_within others (suc first) high (AllPairs-tail ◌<◌ first others rising) (omega (arith, here.1))
+    (λ x member. (
+      omega (
+        arith,
+        All-contains (λ y. first < y) others x
+            (AllPairs-head ◌<◌ first others rising) member,
+      ),
+      (within x (Contains-tail first others x member)).1,
+    )) in
+    omega (arith, here.0, rest)
+
+-- A set of nodes has at most 512.
+pub IsNodeSet-few : (nodes : List ℕ) → IsNodeSet nodes → length nodes ≤ 512
+IsNodeSet-few nodes set =
+    let few = rises_within nodes 0 512 (AllPairs-from_increasing nodes set.rising) (omega arith)
+    (λ x member. (omega arith, All-contains (λ node. node < 512) nodes x set.small member)) in
+    omega (arith, few)
+
+-- the set without a node is a set of nodes
+pub IsNodeSet-nil : IsNodeSet []
+IsNodeSet-nil = record { rising = λ k within. absurd (omega arith); small = All-nil (λ node. node < 512) }
+
+-- a set of nodes with a node more is one
+pub IsNodeSet-with : (node : ℕ) (nodes : List ℕ) → node < 512 → IsNodeSet nodes → IsNodeSet (with_member node nodes)
+IsNodeSet-with node nodes small set = record {
+  rising = λ k within. Rises-with_member node nodes (AllPairs-from_increasing nodes set.rising) k (k + 1) 0
+      (omega arith) within;
+  small = All-from_members (λ n. n < 512) (with_member node nodes)
+      (λ other member. ⊎_elim (λ is. omega (arith, small, is))
+      (λ old. All-contains (λ n. n < 512) nodes other set.small old) (with_member-only node nodes other member));
+}
+
+-- a node that is new makes a set longer by one
+pub length-with_member : (node : ℕ) (nodes : List ℕ) → (Contains nodes node → ⊥)
+    → length (with_member node nodes) ≡ suc (length nodes)
+length-with_member node [] new = refl
+length-with_member node (first ∷ others) new =
+    cond_both (ltb node first) _ _ (λ more. length more ≡ suc (suc (length others))) (λ less. refl)
+    (λ not_less. cond_both (eqb node first) _ _ (λ more. length more ≡ suc (suc (length others)))
+    (λ equal. absurd (new (subst (λ (n : ℕ). Contains (first ∷ others) n) (sym (eqb-true node first equal))
+    (Contains-head first others))))
+    (λ unequal. ap suc (length-with_member node others (λ member. new (Contains-tail first others node member)))))
+
+-- ---- the nodes that words keep
+
+-- where words keep a node: in which word, and at which place
+record KeptAt (first : ℕ) (words : List ℕ) (node : ℕ) : Type 0 where
+  word : ℕ
+  place : ℕ
+  within : word < length words
+  small : place < 64
+  is : node ≡ first + (64 * word + place)
+  member : Contains (members_of (get_or words word 0)) place
+
+-- what words keep stands at a place in a word
+nodes_from-only : (first : ℕ) (words : List ℕ) (node : ℕ) → Contains (nodes_from first words) node
+    → KeptAt first words node
+unfolding nodes_from
+nodes_from-only first [] node kept = absurd (Contains-nil node kept)
+nodes_from-only first (word ∷ words) node kept =
+    ⊎_elim (λ here. let old = Contains-map_only (λ place. first + place) (members_of word) node here in
+    record {
+      word = 0;
+      place = old.0;
+      within = omega arith;
+      small = ((members_of-is word old.0).0 old.1).0;
+      is = omega (arith, old.2);
+      member = old.1;
+    })
+    (λ later. let old = nodes_from-only (first + 64) words node later in
+    record {
+      word = suc old.word;
+      place = old.place;
+      within = omega (arith, old.within);
+      small = old.small;
+      is = omega (arith, old.is);
+      member = old.member;
+    })
+    (Contains-append_cases (map (λ place. first + place) (members_of word)) (nodes_from (first + 64) words) node kept)
+
+-- what stands at a place in a word is kept
+nodes_from-all : (first : ℕ) (words : List ℕ) (word place node : ℕ) → word < length words
+    → Contains (members_of (get_or words word 0)) place → node ≡ first + (64 * word + place)
+    → Contains (nodes_from first words) node
+unfolding nodes_from
+nodes_from-all first [] word place node within member is = absurd (omega arith)
+nodes_from-all first (w ∷ words) zero place node within member is =
+    let here : node ≡ first + place = omega arith in
+    Contains-append_left (map (λ p. first + p) (members_of w)) (nodes_from (first + 64) words) node
+    (rw here (Contains-map (λ p. first + p) (members_of w) place member))
+nodes_from-all first (w ∷ words) (suc word) place node within member is =
+    Contains-append_right (map (λ p. first + p) (members_of w)) (nodes_from (first + 64) words) node
+    (nodes_from-all (first + 64) words word place node (omega arith) member (omega arith))
+
+-- the nodes that words keep rise
+Rises-nodes_from : (first : ℕ) (words : List ℕ) → Rises (nodes_from first words)
+unfolding nodes_from
+Rises-nodes_from first [] = λ i j d before within. absurd (omega arith)
+Rises-nodes_from first (word ∷ words) =
+    Rises-append (map (λ place. first + place) (members_of word)) (nodes_from (first + 64) words)
+    (Rises-shifted first (members_of word) (IsSet-members_of word).rising) (Rises-nodes_from (first + 64) words)
+    (λ x y in_x in_y. let low = Contains-map_only (λ place. first + place) (members_of word) x in_x in
+    let high = nodes_from-only (first + 64) words y in_y in
+    omega (arith, low.2, ((members_of-is word low.0).0 low.1).0, high.is))
+
+-- what eight words keep is a set of nodes
+IsNodeSet-nodes_of : (words : List ℕ) → length words ≡ 8 → IsNodeSet (nodes_of words)
+IsNodeSet-nodes_of words count = record {
+  rising = λ k within. Rises-nodes_from 0 words k (k + 1) 0 (omega arith) within;
+  small = All-from_members (λ node. node < 512) (nodes_of words)
+      (λ node kept. let at = nodes_from-only 0 words node kept in omega (arith, at.is, at.small, at.within, count));
+}
+
+-- the members of the word in which a node stands
+abbrev word_of : List ℕ → ℕ → List ℕ
+word_of words node = members_of (get_or words (node / 64) 0)
+
+-- a node stands in the word of its number
+node_in_word : (words : List ℕ) (node : ℕ) → Contains (nodes_of words) node → Contains (word_of words node) (node % 64)
+node_in_word words node kept =
+    let at = nodes_from-only 0 words node kept in
+    let word : node / 64 ≡ at.word = omega (arith, at.is, at.small) in
+    let place : node % 64 ≡ at.place = omega (arith, at.is, at.small) in
+    rw (word, place) at.member
+
+-- and that is one of the words
+word_within : (words : List ℕ) (node : ℕ) → Contains (nodes_of words) node → node / 64 < length words
+word_within words node kept = let at = nodes_from-only 0 words node kept in omega (arith, at.is, at.small, at.within)
+
+-- what stands in the word of its number is kept
+node_from_word : (words : List ℕ) (node : ℕ) → node / 64 < length words → Contains (word_of words node) (node % 64)
+    → Contains (nodes_of words) node
+node_from_word words node within member = nodes_from-all 0 words (node / 64) (node % 64) node within member (omega arith)
+
+-- ---- a node more
+
+-- one word with one more bit
+abbrev with_bit : ℕ → ℕ → ℕ
+with_bit word place = bit_or word (1 * 2 ^ place % 2 ^ 64)
+
+-- the words with the bit of one more node
+abbrev pub with_node_bit : List ℕ → ℕ → List ℕ
+with_node_bit words node = set words (node / 64) (with_bit (get_or words (node / 64) 0) (node % 64))
+
+length-with_node_bit : (words : List ℕ) (node : ℕ) → length (with_node_bit words node) ≡ length words
+length-with_node_bit words node = length-set words (node / 64) (with_bit (get_or words (node / 64) 0) (node % 64))
+
+-- what stands in a list stands in an equal one
+Contains-same : (xs ys : List ℕ) (x : ℕ) → xs ≡ ys → Contains xs x → Contains ys x
+Contains-same xs ys x same = subst (λ (zs : List ℕ). Contains zs x) same
+
+module _ (words : List ℕ) (node other : ℕ) (within : node / 64 < length words) where
+  -- the word of the node has one member more
+  word_of-same : other / 64 ≡ node / 64
+      → word_of (with_node_bit words node) other ≡ with_member (node % 64) (word_of words other)
+  word_of-same same =
+      ap (λ k. members_of (get_or (with_node_bit words node) k 0)) same
+      ∙ ap members_of (get_or-set_same words (node / 64) (with_bit (get_or words (node / 64) 0) (node % 64)) 0 within)
+      ∙ members_of-set (get_or words (node / 64) 0) (node % 64) (omega arith)
+      ∙ ap (λ k. with_member (node % 64) (members_of (get_or words k 0))) (sym same)
+
+  -- the other words stay
+  word_of-other : other / 64 ≢ node / 64 → word_of (with_node_bit words node) other ≡ word_of words other
+  word_of-other differs =
+      ap members_of (get_or-set_other words (node / 64) (other / 64)
+      (with_bit (get_or words (node / 64) 0) (node % 64)) 0 differs)
+
+  -- what is kept then is the node, or was kept
+  with_node_bit-only : Contains (nodes_of (with_node_bit words node)) other
+      → Contains (with_member node (nodes_of words)) other
+  with_node_bit-only kept =
+      let more = with_node_bit words node in
+      let member = node_in_word more other kept in
+      let inside : other / 64 < length words = omega (arith, word_within more other kept, length-with_node_bit words node) in
+      let stays = λ (old : Contains (word_of words other) (other % 64)).
+      with_member-keeps node (nodes_of words) other (node_from_word words other inside old) in
+      ⊎_elim
+      (λ same. ⊎_elim
+      (λ is. let whole : node ≡ other = omega (arith, same, is) in
+      subst (λ (n : ℕ). Contains (with_member node (nodes_of words)) n) whole
+      (Contains-with_member node (nodes_of words)))
+      stays
+      (with_member-only (node % 64) (word_of words other) (other % 64)
+      (Contains-same (word_of more other) (with_member (node % 64) (word_of words other)) (other % 64)
+      (word_of-same same) member)))
+      (λ differs. stays (Contains-same (word_of more other) (word_of words other) (other % 64)
+      (word_of-other differs) member))
+      (cases_eq (other / 64) (node / 64))
+
+  -- the node is kept then, and all that was
+  with_node_bit-all : Contains (with_member node (nodes_of words)) other
+      → Contains (nodes_of (with_node_bit words node)) other
+  with_node_bit-all member =
+      let more = with_node_bit words node in
+      let long = length-with_node_bit words node in
+      let new_word = with_member (node % 64) (word_of words other) in
+      let in_same = λ (same : other / 64 ≡ node / 64) (there : Contains new_word (other % 64)).
+      node_from_word more other (omega (arith, long, same, within))
+      (Contains-same new_word (word_of more other) (other % 64) (sym (word_of-same same)) there) in
+      ⊎_elim
+      (λ is. let place : node % 64 ≡ other % 64 = omega (arith, is) in
+      in_same (omega (arith, is)) (subst (λ (p : ℕ). Contains new_word p) place
+      (Contains-with_member (node % 64) (word_of words other))))
+      (λ old. let there = node_in_word words other old in
+      ⊎_elim
+      (λ same. in_same same (with_member-keeps (node % 64) (word_of words other) (other % 64) there))
+      (λ differs. node_from_word more other (omega (arith, long, word_within words other old))
+      (Contains-same (word_of words other) (word_of more other) (other % 64) (sym (word_of-other differs)) there))
+      (cases_eq (other / 64) (node / 64)))
+      (with_member-only node (nodes_of words) other member)
+
+-- To set the bit of a node is to have one node more.
+nodes_of-set : (words : List ℕ) (node : ℕ) → node / 64 < length words
+    → nodes_of (with_node_bit words node) ≡ with_member node (nodes_of words)
+nodes_of-set words node within =
+    same_from_members (nodes_of (with_node_bit words node)) (with_member node (nodes_of words))
+    (Rises-nodes_from 0 (with_node_bit words node)) (Rises-with_member node (nodes_of words) (Rises-nodes_from 0 words))
+    (λ other. with_node_bit-only words node other within) (λ other. with_node_bit-all words node other within)
+
+-- ---- what the operations on words say of the nodes
+
+-- words without a bit keep no node
+pub nodes_of-zero : nodes_of (0 ∷ 0 ∷ 0 ∷ 0 ∷ 0 ∷ 0 ∷ 0 ∷ 0 ∷ []) ≡ []
+unfolding nodes_from
+nodes_of-zero = simp members_of-zero
+
+module _ (words nodes : List ℕ) (are : AreWords words) (view : nodes_of words ≡ nodes) where
+  -- what eight words keep is a set of nodes
+  pub IsNodeSet-from_words : IsNodeSet nodes
+  IsNodeSet-from_words = rw (← view) (IsNodeSet-nodes_of words are.count)
+
+  -- the bit of a node tells whether it is kept
+  pub bit_tells_node : (node : ℕ) → node < 512
+      → IsTrue (nat_eq (bit_and (get_or words (node / 64) 0 / 2 ^ (node % 64)) 1) 1) ↔ Contains nodes node
+  bit_tells_node node small =
+      let tells = bit_tells_member (get_or words (node / 64) 0) (node % 64) (word_of words node) refl (omega arith) in
+      let within : node / 64 < length words = omega (arith, are.count) in
+      rw (← view) (λ yes. node_from_word words node within (tells.0 yes), λ kept. tells.1 (node_in_word words node kept))
+
+  -- no node from 512 on is kept
+  pub beyond_no_node : (node : ℕ) → 512 ≤ node → Contains nodes node → ⊥
+  beyond_no_node node beyond member = omega (
+    arith,
+    beyond,
+    All-contains
+        (λ n. n < 512) nodes node IsNodeSet-from_words.small member,
+  )
+
+  -- the words with the bit of a node keep the set with that node
+  pub with_bit_keeps_node : (node : ℕ) → node < 512 → nodes_of (with_node_bit words node) ≡ with_member node nodes
+  with_bit_keeps_node node small = nodes_of-set words node (omega (arith, are.count)) ∙ ap (with_member node) view
+
+  -- which is a set of nodes
+  pub IsNodeSet-with_bit : (node : ℕ) → node < 512 → IsNodeSet (nodes_of (with_node_bit words node))
+  IsNodeSet-with_bit node small = IsNodeSet-nodes_of (with_node_bit words node)
+      (length-with_node_bit words node ∙ are.count)
+
+-- words stay words when a bit is set
+pub AreWords-with_bit : (words : List ℕ) (node : ℕ) → node < 512 → AreWords words → AreWords (with_node_bit words node)
+AreWords-with_bit words node small are = record {
+  count = length-with_node_bit words node ∙ are.count;
+  small =
+      let word = get_or words (node / 64) 0 in
+      let within : node / 64 < length words = omega (arith, are.count) in
+      let bit_small = mod_below (1 * 2 ^ (node % 64)) (2 ^ 64) (lit< tt) in
+      All-set (λ w. w < 2 ^ 64) words (node / 64) (with_bit word (node % 64))
+      (or_lt 64 word (1 * 2 ^ (node % 64) % 2 ^ 64) (All-get_or (λ w. w < 2 ^ 64) words
+      (node / 64) 0 within are.small) bit_small) are.small;
+}

@@ -1,0 +1,66 @@
+-- The cause of a line depends on it and on the lines before it alone.
+use Rattle.std.proofs.Common.{◌≡◌, ℕ, zero, suc, ◌<◌, ◌≤◌, ⊎_elim, true, false, cond, List, [], ◌∷◌, ◌++◌, length, Option, Some, None, refl, ap, sym, ◌∙◌, arith, append_assoc}
+use Rattle.std.specs.List.{list_any}
+use Rattle.std.specs.Str.{bytes_eq}
+use Rattle.std.proofs.lemmas.Bool.{cases_eq}
+use Rattle.std.proofs.lemmas.List.{get_or_append_left, take-append-le, take_at, get_or_at, length_push}
+use Rattle.tfpg_graph.specs.declared.cause.GraphCause.TheVariants.{BadHeader, AfterEnd}
+use Rattle.tfpg_graph.specs.Text.{header}
+use Rattle.tfpg_graph.specs.Statements.{Statement, statement_of, statements_of, is_skipped, ends_text}
+use Rattle.tfpg_graph.specs.Causes.{cause_of_said, cause_after, cause_at}
+
+-- the cause of a line by those before it is none that stands after
+pub cause_at-append : (lines more : List (List ℕ)) (place : ℕ) → place < length lines
+    → cause_at (lines ++ more) place ≡ cause_at lines place
+cause_at-append lines more zero within = ap (λ line. cond (bytes_eq line header) None (Some BadHeader)) (get_or_append_left lines more [] 0 within)
+cause_at-append lines more (suc place) within =
+    λ i. cause_after (statements_of (take-append-le (suc place) lines more (omega arith) i)) (get_or_append_left lines more [] (suc place) within i)
+
+-- A line among those up to it, with others after it.
+pub cause_at-after : (before after : List (List ℕ)) (line : List ℕ) (place : ℕ) → place ≤ length before
+    → cause_at (before ++ line ∷ after) place ≡ cause_at (before ++ line ∷ []) place
+cause_at-after before after line place within =
+    ap (λ lines. cause_at lines place) (sym (append_assoc before (line ∷ []) after))
+    ∙ cause_at-append (before ++ line ∷ []) after place (omega (arith, length_push before line))
+
+-- The cause of a line after others.
+pub cause_at-last : (lines : List (List ℕ)) (line : List ℕ) → 0 < length lines
+    → cause_at (lines ++ line ∷ []) (length lines) ≡ cause_after (statements_of lines) line
+cause_at-last [] line some = absurd (omega arith)
+cause_at-last (first ∷ others) line some =
+    let all = length (first ∷ others) in
+    λ i. cause_after (statements_of (take_at (first ∷ others) (line ∷ []) all refl i)) (get_or_at (first ∷ others) line [] [] all refl i)
+
+-- No line has a cause.
+abbrev pub AllClean : List (List ℕ) → Type 0
+AllClean lines = (place : ℕ) → place < length lines → cause_at lines place ≡ None
+
+-- One line more without a cause.
+pub clean-push : (lines : List (List ℕ)) (line : List ℕ) → AllClean lines
+    → cause_at (lines ++ line ∷ []) (length lines) ≡ None → AllClean (lines ++ line ∷ [])
+clean-push lines line clean last place within = ⊎_elim
+    (λ at. ap (cause_at (lines ++ line ∷ [])) at ∙ last)
+    (λ apart. let before : place < length lines = omega (arith, length_push lines line) in cause_at-append lines (line ∷ []) place before ∙ clean place before)
+    (cases_eq place (length lines))
+
+module _ (lines : List (List ℕ)) (line : List ℕ) (some : 0 < length lines) where
+  -- The cause of a line that is skipped.
+  pub cause-skipped : is_skipped line ≡ true → cause_at (lines ++ line ∷ []) (length lines) ≡ None
+  cause-skipped passed =
+      cause_at-last lines line some
+      ∙ ap (λ b. cond b None (cond (list_any ends_text (statements_of lines)) (Some AfterEnd) (cause_of_said (statements_of lines) (statement_of line)))) passed
+
+  -- That of any other line after the end.
+  pub cause-ended : list_any ends_text (statements_of lines) ≡ true → is_skipped line ≡ false
+      → cause_at (lines ++ line ∷ []) (length lines) ≡ Some AfterEnd
+  cause-ended ended read =
+      cause_at-last lines line some
+      ∙ (λ i. cond (read i) None (cond (ended i) (Some AfterEnd) (cause_of_said (statements_of lines) (statement_of line))))
+
+  -- That of any other line before the end.
+  pub cause-unended : (said : Option Statement) → list_any ends_text (statements_of lines) ≡ false
+      → is_skipped line ≡ false → statement_of line ≡ said
+      → cause_at (lines ++ line ∷ []) (length lines) ≡ cause_of_said (statements_of lines) said
+  cause-unended said unended read says =
+      cause_at-last lines line some
+      ∙ (λ i. cond (read i) None (cond (unended i) (Some AfterEnd) (cause_of_said (statements_of lines) (says i))))

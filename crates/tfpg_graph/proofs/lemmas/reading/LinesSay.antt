@@ -1,0 +1,173 @@
+-- What the lines that spell a graph say.
+use Rattle.std.proofs.Common.{◌≡◌, ℕ, ◌<◌, ◌≤◌, ◌^◌, ◌==◌, true, false, not, cond, List, [], ◌∷◌, ◌++◌, length, IsTrue, Option, Some, None, IfSome, codes, refl, ap, ◌∙◌, arith}
+use Rattle.std.specs.Prelude.{decimal}
+use Rattle.std.specs.Option.{option_map}
+use Rattle.std.specs.List.{AllByRecursion, list_any, list_all, join_with_byte, slice_split}
+use Rattle.std.proofs.lemmas.Bool.{and_parts, not-true, eq-eqb, ne_eqb, le-ltb, false≢true, or_from}
+use Rattle.std.proofs.lemmas.List.Elements.{All-nil, All-cons, All-append}
+use Rattle.std.proofs.lemmas.List.Splits.{slice_split_none, slice_split_at}
+use Rattle.tfpg_base.specs.Words.{line_of, is_name, is_number}
+use Rattle.tfpg_base.specs.Lines.{longest_line}
+use Rattle.tfpg_base.proofs.Numbers.{is_number-decimal}
+use Rattle.tfpg_base.proofs.Separators.{Lacks, name_lacks, decimal_lacks}
+use Rattle.tfpg_graph.specs.declared.kind.Kind.{Kind}
+use Rattle.tfpg_graph.specs.declared.kind.Kind.TheVariants.{Failure, Or, And}
+use Rattle.tfpg_graph.specs.Text.{mode_line, node_words, tmax_word}
+use Rattle.tfpg_base.specs.Times.{max_time}
+use Rattle.tfpg_graph.specs.Valid.{HasValidNumber}
+use Rattle.tfpg_graph.specs.Statements.{NodeWords, FailureWords, OrWords, AndWords, Statement, DeclaresMode, DeclaresNode, DeclaresEdge, Ends, statement_in, statement_of}
+use Rattle.tfpg_graph.proofs.lemmas.writing.LineLengths.{short_mode, short_node}
+
+-- Words none of which has the byte, joined by it, are split into the same words.
+pub slice_split-join : (byte : ℕ) (words : List (List ℕ)) → 0 < length words → AllByRecursion (Lacks byte) words
+    → slice_split (λ other. other == byte) (join_with_byte byte words) ≡ words
+slice_split-join byte [] some lack = absurd (omega arith)
+slice_split-join byte (word ∷ []) some lack = slice_split_none (λ other. other == byte) word lack.0
+slice_split-join byte (word ∷ second ∷ others) some lack =
+    slice_split_at (λ other. other == byte) word byte (join_with_byte byte (second ∷ others)) lack.0
+    (eq-eqb byte byte refl)
+    ∙ ap (λ words. word ∷ words) (slice_split-join byte (second ∷ others) (omega arith) lack.1)
+
+-- a word of a line: it is not empty, and has no space
+pub record IsWord (word : List ℕ) : Type 0 where
+  pub some : (length word == 0) ≡ false
+  pub lacks : Lacks 32 word
+
+no_empty_word : (words : List (List ℕ)) → AllByRecursion IsWord words
+    → list_any (λ word. length word == 0) words ≡ false
+no_empty_word [] are = refl
+no_empty_word (word ∷ words) are = or_from _ _ are.0.some (no_empty_word words are.1)
+
+no_space : (words : List (List ℕ)) → AllByRecursion IsWord words → AllByRecursion (Lacks 32) words
+no_space [] are = tt
+no_space (word ∷ words) are = (are.0.lacks, no_space words are.1)
+
+-- A line of words that is short says what the words say.
+pub short_line_says : (words : List (List ℕ)) → 0 < length words → AllByRecursion IsWord words
+    → length (line_of words) ≤ longest_line → statement_of (line_of words) ≡ statement_in words
+short_line_says words some are short =
+    (λ i. cond (le-ltb longest_line (length (line_of words)) short i) None
+    (said (slice_split-join 32 words some (no_space words are) i)))
+    ∙ ap (λ b. cond b None (statement_in words)) (no_empty_word words are)
+  where
+    said : List (List ℕ) → Option Statement
+    said parts = cond (list_any (λ word. length word == 0) parts) None (statement_in parts)
+
+lacks_checked : (byte : ℕ) (word : List ℕ) → list_all (λ other. not (other == byte)) word ≡ true → Lacks byte word
+lacks_checked byte [] all = All-nil (λ other. (other == byte) ≡ false)
+lacks_checked byte (first ∷ others) all =
+    let parts = and_parts (not (first == byte)) (list_all (λ other. not (other == byte)) others) all in
+    All-cons (λ other. (other == byte) ≡ false) first others (not-true (first == byte) parts.0)
+    (lacks_checked byte others parts.1)
+
+keyword : (word : List ℕ) → (length word == 0) ≡ false → list_all (λ other. not (other == 32)) word ≡ true → IsWord word
+keyword word some all = record { some = some; lacks = lacks_checked 32 word all }
+
+pub some_name : (name : List ℕ) → is_name name ≡ true → (length name == 0) ≡ false
+some_name [] named = absurd (false≢true named)
+some_name (first ∷ others) named = ne_eqb (length (first ∷ others)) 0 (λ e. omega (arith, e))
+
+pub IsWord-name : (name : List ℕ) → is_name name ≡ true → IsWord name
+IsWord-name name named = record { some = some_name name named; lacks = name_lacks 32 name refl named }
+
+some_number : (word : List ℕ) → is_number word ≡ true → (length word == 0) ≡ false
+some_number [] number = absurd (false≢true number)
+some_number (first ∷ others) number = ne_eqb (length (first ∷ others)) 0 (λ e. omega (arith, e))
+
+IsWord-decimal : (number : ℕ) → number < 2 ^ 64 → IsWord (decimal number)
+IsWord-decimal number small =
+    record { some = some_number (decimal number) (is_number-decimal number small); lacks = decimal_lacks 32 number refl small }
+
+-- the words that say what a node is
+abbrev pub words_of_kind : Kind → NodeWords
+words_of_kind (Failure rarity) = FailureWords (decimal rarity)
+words_of_kind (Or lag) = OrWords (option_map decimal lag)
+words_of_kind (And lag) = AndWords (option_map decimal lag)
+
+-- The line of a mode says that it declares the mode.
+pub statement_of-mode : (name : List ℕ) → IsTrue (is_name name) → statement_of (mode_line name) ≡ Some (DeclaresMode name)
+statement_of-mode name named =
+    short_line_says (codes "mode" ∷ name ∷ []) (omega arith)
+    (keyword (codes "mode") refl refl, (IsWord-name name named, tt)) (short_mode name named)
+
+-- The line of a node says that it declares the node.
+pub statement_of-node : (name : List ℕ) (kind : Kind) → IsTrue (is_name name) → HasValidNumber kind
+    → statement_of (line_of (node_words name kind)) ≡ Some (DeclaresNode name (words_of_kind kind))
+statement_of-node name (Failure rarity) named small =
+    short_line_says (node_words name (Failure rarity)) (omega arith)
+    (keyword (codes "failure") refl refl, (IsWord-name name named, (IsWord-decimal rarity (omega arith), tt)))
+    (short_node name (Failure rarity) named small)
+statement_of-node name (Or None) named small =
+    short_line_says (node_words name (Or None)) (omega arith)
+    (keyword (codes "or") refl refl, (IsWord-name name named, (keyword (codes "hidden") refl refl, tt)))
+    (short_node name (Or None) named small)
+statement_of-node name (Or (Some lag)) named small =
+    short_line_says (node_words name (Or (Some lag))) (omega arith) (
+      keyword (codes "or") refl refl,
+      (
+        IsWord-name name named,
+        (keyword (codes "watch") refl refl, (IsWord-decimal lag (omega arith), tt)),
+      ),
+    ) (short_node name (Or
+    (Some lag)) named small)
+statement_of-node name (And None) named small =
+    short_line_says (node_words name (And None)) (omega arith)
+    (keyword (codes "and") refl refl, (IsWord-name name named, (keyword (codes "hidden") refl refl, tt)))
+    (short_node name (And None) named small)
+statement_of-node name (And (Some lag)) named small =
+    short_line_says (node_words name (And (Some lag))) (omega arith) (
+      keyword (codes "and") refl refl,
+      (
+        IsWord-name name named,
+        (keyword (codes "watch") refl refl, (IsWord-decimal lag (omega arith), tt)),
+      ),
+    ) (short_node name (And
+    (Some lag)) named small)
+
+IsWord-tmax : (tmax : Option ℕ) → IfSome tmax (λ time. time ≤ max_time) → IsWord (tmax_word tmax)
+IsWord-tmax None small = keyword (codes "inf") refl refl
+IsWord-tmax (Some time) small = IsWord-decimal time (omega arith)
+
+-- The line of an edge says that it declares the edge.
+pub statement_of-edge : (source target : List ℕ) (tmin : ℕ) (tmax : Option ℕ) (modes : List ℕ) → IsTrue (is_name source)
+    → IsTrue (is_name target) → tmin ≤ max_time
+    → IfSome tmax (λ time. time ≤ max_time) → IsWord modes
+    → length (line_of (codes "edge" ∷ source ∷ target ∷ decimal tmin ∷ tmax_word tmax ∷ modes ∷ [])) ≤ longest_line
+    → statement_of (line_of (codes "edge" ∷ source ∷ target ∷ decimal tmin ∷ tmax_word tmax ∷ modes ∷ []))
+    ≡ Some (DeclaresEdge source target (decimal tmin) (tmax_word tmax) modes)
+statement_of-edge source target tmin tmax modes from to least most word short =
+    short_line_says (codes "edge" ∷ source ∷ target ∷ decimal tmin ∷ tmax_word tmax ∷ modes ∷ []) (omega arith) (
+      keyword (codes "edge") refl refl,
+      (
+        IsWord-name source from,
+        (IsWord-name target to, (IsWord-decimal tmin (omega arith), (IsWord-tmax tmax most, (word, tt)))),
+      ),
+    )
+    short
+
+-- The last line says that the text ends.
+pub statement_of-end : statement_of (codes "end") ≡ Some Ends
+statement_of-end = refl
+
+some_append : (name others : List ℕ) → is_name name ≡ true → (length (name ++ others) == 0) ≡ false
+some_append [] others named = absurd (false≢true named)
+some_append (first ∷ name) others named = ne_eqb (length (first ∷ (name ++ others))) 0 (λ e. omega (arith, e))
+
+-- a star is a word
+pub IsWord-star : IsWord (codes "*")
+IsWord-star = keyword (codes "*") refl refl
+
+-- Names with commas between are a word.
+pub IsWord-names : (names : List (List ℕ)) → 0 < length names → AllByRecursion (λ name. IsTrue (is_name name)) names
+    → IsWord (join_with_byte 44 names)
+IsWord-names [] some named = absurd (omega arith)
+IsWord-names (name ∷ []) some named = IsWord-name name named.0
+IsWord-names (name ∷ second ∷ others) some named =
+    let rest = IsWord-names (second ∷ others) (omega arith) named.1 in
+    record {
+      some = some_append name (44 ∷ join_with_byte 44 (second ∷ others)) named.0;
+      lacks =
+          All-append (λ other. (other == 32) ≡ false) name (44 ∷ join_with_byte 44 (second ∷ others))
+          (name_lacks 32 name refl named.0)
+          (All-cons (λ other. (other == 32) ≡ false) 44 (join_with_byte 44 (second ∷ others)) refl rest.lacks);
+    }

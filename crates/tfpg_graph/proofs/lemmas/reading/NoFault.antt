@@ -1,0 +1,288 @@
+-- A text that spells a valid graph has no fault.
+use Rattle.std.proofs.Common.{◌≡◌, ℕ, suc, zero, ◌<◌, ◌≤◌, ◌==◌, ◌&&◌, Bool, true, false, cond, not, nat_lt, nat_le, List, [], ◌∷◌, ◌++◌, length, map, get_or, take, filter, slice_get, All, Option, Some, None, codes, refl, ap, sym, ◌∙◌, subst, arith, append_assoc, ⊎_elim}
+use Rattle.std.specs.List.{AllZip, Contains, list_any, filter_map, cons_option, onto_first}
+use Rattle.std.proofs.lemmas.Bool.{eqb-true, le-leb, or_right, false≢true}
+use Rattle.std.proofs.lemmas.List.{append-nil}
+use Rattle.std.proofs.lemmas.List.Elements.{All-head, All-tail, All-same, All-filter, filter_map-append}
+use Rattle.std.proofs.lemmas.List.Folds.{list_any-append}
+use Rattle.std.proofs.lemmas.Option.{none-some, slice_get_within, get_or_from_slice_get}
+use Rattle.tfpg_base.specs.Words.{words_of}
+use Rattle.tfpg_base.specs.Lines.{lines_of, longest_line}
+use Rattle.tfpg_graph.specs.declared.cause.GraphCause.TheVariants.{AfterEnd}
+use Rattle.tfpg_graph.specs.declared.cause.GraphFault.{GraphFault}
+use Rattle.tfpg_graph.specs.declared.edge.Edge.{Edge}
+use Rattle.tfpg_graph.specs.Graph.{Tfpg}
+use Rattle.tfpg_graph.specs.Text.{header, mode_line, node_line, SpellsEdge, is_empty_or_comment, Spells}
+use Rattle.tfpg_graph.specs.Valid.{IsValid, IsValidEdge}
+use Rattle.tfpg_graph.specs.ZeroCycle.{LiesOnZeroCycle}
+use Rattle.tfpg_graph.specs.Statements.{Statement, DeclaresMode, Ends, statement_in, statement_of, statements_of, ends_text}
+use Rattle.tfpg_graph.specs.Declares.{mode_declared, node_declared, edge_declared, graph_said, declared_by}
+use Rattle.tfpg_graph.specs.Causes.{cause_of_said, cause_after}
+use Rattle.tfpg_graph.specs.Faults.{LacksIncoming, IsClean, IsLineFault, IsIncomingFault, IsCycleFault, IsEndFault, IsWholeFault, IsFirstFault}
+use Rattle.tfpg_graph.proofs.lemmas.reading.LinesSay.{statement_of-mode, statement_of-node, statement_of-end}
+use Rattle.tfpg_graph.proofs.lemmas.reading.SpelledEdges.{edge_said, statement_of-edge_line}
+use Rattle.tfpg_graph.proofs.lemmas.reading.SaidSoFar.{All-left, All-right, node_said, said_so_far}
+use Rattle.tfpg_graph.proofs.lemmas.reading.CleanRuns.{Runs, IsEdgeSaid, edges_declared, Runs-whole}
+
+-- ---- lines that are skipped
+
+none_both : {X : Type 0} (b : Bool) → cond {A = Option X} b None None ≡ None
+none_both true = refl
+none_both false = refl
+
+silent_parts : (is_long : Bool) (parts : List (List ℕ))
+    → cond is_long None (cond (list_any (λ word. length word == 0) (onto_first 35 parts)) None (statement_in (onto_first 35 parts))) ≡ None
+silent_parts true parts = refl
+silent_parts false [] = refl
+silent_parts false (part ∷ parts) = none_both (list_any (λ word. length word == 0) ((35 ∷ part) ∷ parts))
+
+-- A line that is skipped says nothing.
+pub statement_of-skipped : (line : List ℕ) → is_empty_or_comment line ≡ true → statement_of line ≡ None
+statement_of-skipped [] skipped = refl
+statement_of-skipped (first ∷ others) skipped =
+    subst (λ byte. statement_of (byte ∷ others) ≡ None) (sym (eqb-true first 35 skipped))
+    (silent_parts (nat_lt longest_line (length (35 ∷ others))) (words_of others))
+
+-- ---- lines that say what runs without a cause
+
+-- the line says this
+abbrev pub Says : List ℕ → Statement → Type 0
+Says line said = statement_of line ≡ Some said
+
+-- the lines that are not skipped
+abbrev kept : List (List ℕ) → List (List ℕ)
+kept lines = filter (λ line. not (is_empty_or_comment line)) lines
+
+-- with the line, where it is not skipped
+abbrev kept_with : Bool → List ℕ → List (List ℕ) → List (List ℕ)
+kept_with skipped line lines = cond (not skipped) (line ∷ kept lines) (kept lines)
+
+-- Lines say what those of them say that are not skipped.
+pub statements_of-kept : (lines : List (List ℕ)) (said : List Statement) → AllZip Says (kept lines) said
+    → statements_of lines ≡ said
+statements_of-kept [] [] says = refl
+statements_of-kept [] (s ∷ said) says = absurd says
+statements_of-kept (line ∷ lines) said says =
+    by (λ others says. statements_of-kept lines others says) (is_empty_or_comment line) refl said says
+  where
+    by : ((others : List Statement) → AllZip Says (kept lines) others → statements_of lines ≡ others)
+        → (skipped : Bool) → is_empty_or_comment line ≡ skipped → (said : List Statement)
+        → AllZip Says (kept_with skipped line lines) said → cons_option (statement_of line) (statements_of lines) ≡ said
+    by rest true skipped said says =
+        ap (λ s. cons_option s (statements_of lines)) (statement_of-skipped line skipped) ∙ rest said says
+    by rest false skipped [] says = absurd says
+    by rest false skipped (s ∷ said) says = λ i. cons_option (says.0 i) (rest said says.1 i)
+
+-- Where what they say runs without a cause after other statements, no line has a cause.
+pub clean_after : (lines : List (List ℕ)) (before said : List Statement)
+    → All (λ line. length line ≤ longest_line) lines → AllZip Says (kept lines) said → Runs before said
+    → (place : ℕ) → place < length lines
+    → cause_after (before ++ statements_of (take place lines)) (get_or lines place []) ≡ None
+clean_after [] before said short says runs place within = absurd (omega arith)
+clean_after (line ∷ lines) before said short says runs place within =
+    by (λ before others says runs place within. clean_after lines before others
+    (All-tail (λ l. length l ≤ longest_line) line lines short) says runs place within)
+    (is_empty_or_comment line) refl said says runs place within
+  where
+    fits : nat_le (length line) longest_line ≡ true
+    fits = le-leb (length line) longest_line (All-head (λ l. length l ≤ longest_line) line lines short)
+
+    by : ((before others : List Statement) → AllZip Says (kept lines) others → Runs before others → (place : ℕ)
+        → place < length lines
+        → cause_after (before ++ statements_of (take place lines)) (get_or lines place []) ≡ None)
+        → (skipped : Bool) → is_empty_or_comment line ≡ skipped → (said : List Statement)
+        → AllZip Says (kept_with skipped line lines) said → Runs before said
+        → (place : ℕ) → place < length (line ∷ lines)
+        → cause_after (before ++ statements_of (take place (line ∷ lines))) (get_or (line ∷ lines) place []) ≡ None
+    by rest true skipped said says runs zero within = λ i.
+        cond (skipped i && fits i) None
+        (cond (list_any ends_text (before ++ [])) (Some AfterEnd) (cause_of_said (before ++ []) (statement_of line)))
+    by rest true skipped said says runs (suc place) within =
+        ap (λ s. cause_after (before ++ cons_option s (statements_of (take place lines))) (get_or lines place []))
+        (statement_of-skipped line skipped)
+        ∙ rest before said says runs place (omega arith)
+    by rest false skipped [] says runs place within = absurd says
+    by rest false skipped (s ∷ said) says runs zero within =
+        ap (λ b. cause_after b line) (append-nil before)
+        ∙ (λ i. cond (skipped i && nat_le (length line) longest_line) None
+        (cond (runs.0 i) (Some AfterEnd) (cause_of_said before (says.0 i))))
+        ∙ runs.1
+    by rest false skipped (s ∷ said) says runs (suc place) within =
+        ap (λ o. cause_after (before ++ cons_option o (statements_of (take place lines))) (get_or lines place [])) says.0
+        ∙ ap (λ all. cause_after all (get_or lines place []))
+        (sym (append_assoc before (s ∷ []) (statements_of (take place lines))))
+        ∙ rest (before ++ s ∷ []) said says.1 runs.2 place (omega arith)
+
+-- ---- the lines that spell a graph
+
+AllZip-append : {X Y : Type 0} (R : X → Y → Type 0) (xs : List X) (ys : List Y) (more : List X) (others : List Y)
+    → AllZip R xs ys → AllZip R more others → AllZip R (xs ++ more) (ys ++ others)
+AllZip-append R [] [] more others one other = other
+AllZip-append R [] (y ∷ ys) more others one other = absurd one
+AllZip-append R (x ∷ xs) [] more others one other = absurd one
+AllZip-append R (x ∷ xs) (y ∷ ys) more others one other = (one.0, AllZip-append R xs ys more others one.1 other)
+
+AllZip-maps : {X Y Z : Type 0} (R : X → Y → Type 0) (f : Z → X) (g : Z → Y) (zs : List Z) → All (λ z. R (f z) (g z)) zs
+    → AllZip R (map f zs) (map g zs)
+AllZip-maps R f g [] all = tt
+AllZip-maps R f g (z ∷ zs) all =
+    (All-head (λ y. R (f y) (g y)) z zs all, AllZip-maps R f g zs (All-tail (λ y. R (f y) (g y)) z zs all))
+
+-- the line is not too long
+abbrev IsShort : List ℕ → Type 0
+IsShort line = length line ≤ longest_line
+
+module _ (graph : Tfpg) (valid : IsValid graph) where
+  -- lines that spell edges and are short say what declares the edges
+  edges_said : (edges : List Edge) (lines : List (List ℕ)) → AllZip (SpellsEdge graph) edges lines
+      → All (IsValidEdge graph) edges → All IsShort lines
+      → (said : List Statement) × AllZip (IsEdgeSaid graph) edges said × AllZip Says lines said
+  edges_said [] [] spelled are short = ([], tt, tt)
+  edges_said [] (line ∷ lines) spelled are short = absurd spelled
+  edges_said (edge ∷ edges) [] spelled are short = absurd spelled
+  edges_said (edge ∷ edges) (line ∷ lines) spelled are short =
+      let others = edges_said edges lines spelled.1 (All-tail (IsValidEdge graph) edge edges are)
+      (All-tail IsShort line lines short) in
+      let is : IsValidEdge graph edge = All-head (IsValidEdge graph) edge edges are in
+      let word = spelled.0.0 in (
+        edge_said graph edge word ∷ others.0,
+        (record { valid = is; modes_word = word; spells = spelled.0.1; is = refl }, others.1),
+        (
+          ap statement_of spelled.0.2
+              ∙ statement_of-edge_line graph valid edge is word spelled.0.1
+              (subst IsShort spelled.0.2 (All-head IsShort line lines short)),
+          others.2,
+        ),
+      )
+
+  -- all lines that spell the graph say what declares it
+  says_whole : (lines : List (List ℕ)) (said : List Statement) → AllZip Says lines said
+      → AllZip Says (map mode_line graph.modes ++ map node_line graph.nodes ++ lines ++ codes "end" ∷ [])
+      (said_so_far graph.modes graph.nodes said ++ Ends ∷ [])
+  says_whole lines said says =
+      AllZip-append Says (map mode_line graph.modes ++ map node_line graph.nodes ++ lines)
+      (said_so_far graph.modes graph.nodes said) (codes "end" ∷ []) (Ends ∷ [])
+      (AllZip-append Says (map mode_line graph.modes ++ map node_line graph.nodes)
+      (map DeclaresMode graph.modes ++ map node_said graph.nodes) lines said
+      (AllZip-append Says (map mode_line graph.modes) (map DeclaresMode graph.modes) (map node_line graph.nodes)
+      (map node_said graph.nodes)
+      (AllZip-maps Says mode_line DeclaresMode graph.modes
+      (λ k d within. statement_of-mode (get_or graph.modes k d) (valid.so_far.mode_names k d within)))
+      (AllZip-maps Says node_line node_said graph.nodes
+      (λ k d within. statement_of-node (get_or graph.nodes k d).name (get_or graph.nodes k d).kind
+      (valid.so_far.node_names k d within) (valid.so_far.node_numbers k d within))))
+      says)
+      (statement_of-end, tt)
+
+  -- the end declares nothing
+  filter_map-end : {X : Type 0} (f : Statement → Option X) (said : List Statement) → f Ends ≡ None
+      → filter_map f (said ++ Ends ∷ []) ≡ filter_map f said
+  filter_map-end f said none =
+      filter_map-append f said (Ends ∷ []) ∙ ap (λ o. filter_map f said ++ cons_option o []) none
+      ∙ append-nil (filter_map f said)
+
+  graph_said-end : (said : List Statement) → graph_said (said ++ Ends ∷ []) ≡ graph_said said
+  graph_said-end said =
+      (λ i. record {
+        nodes = filter_map-end node_declared said refl i;
+        edges =
+            filter_map (edge_declared
+            (record { nodes = filter_map-end node_declared said refl i; edges = []; modes = filter_map-end mode_declared said refl i })) (said ++ Ends ∷ []);
+        modes = filter_map-end mode_declared said refl i;
+      })
+      ∙ ap (λ edges. record { nodes = filter_map node_declared said; edges = edges; modes = filter_map mode_declared said })
+      (filter_map-end
+      (edge_declared
+      (record { nodes = filter_map node_declared said; edges = []; modes = filter_map mode_declared said })) said refl)
+
+-- what is to be shown of the lines
+abbrev IsCleanText : Tfpg → List (List ℕ) → Type 0
+IsCleanText graph lines = IsClean lines × (declared_by lines ≡ graph) × (list_any ends_text (statements_of lines) ≡ true)
+
+module _ (graph : Tfpg) (valid : IsValid graph) (after : List (List ℕ)) (short : All IsShort after)
+    (said : List Statement) (are : AllZip (IsEdgeSaid graph) graph.edges said)
+    (says : AllZip Says (kept after) (said_so_far graph.modes graph.nodes said ++ Ends ∷ [])) where
+  clean : IsClean (header ∷ after)
+  clean zero tested = refl
+  clean (suc place) tested =
+      clean_after after [] (said_so_far graph.modes graph.nodes said ++ Ends ∷ []) short says
+      (Runs-whole graph valid said are) place
+      (⊎_elim (λ first. absurd (omega (arith, first))) (λ within. omega (arith, within)) tested)
+
+  all_said : statements_of (header ∷ after) ≡ said_so_far graph.modes graph.nodes said ++ Ends ∷ []
+  all_said = statements_of-kept after (said_so_far graph.modes graph.nodes said ++ Ends ∷ []) says
+
+  clean_text : IsCleanText graph (header ∷ after)
+  clean_text = (
+    clean,
+    ap graph_said all_said ∙ graph_said-end graph valid (said_so_far graph.modes graph.nodes said)
+        ∙ edges_declared graph valid graph.edges said are,
+    ap (list_any ends_text) all_said ∙ list_any-append ends_text (said_so_far graph.modes graph.nodes said) (Ends ∷ [])
+        ∙ or_right (list_any ends_text (said_so_far graph.modes graph.nodes said)) true refl,
+  )
+
+module _ (text : List ℕ) (graph : Tfpg) (spells : Spells text graph) (valid : IsValid graph) where
+  short_after : All IsShort spells.after
+  short_after =
+      All-tail IsShort header spells.after
+      (All-same IsShort (header ∷ spells.after) (lines_of text) (sym spells.lines) spells.short)
+
+  short_edges : All IsShort spells.said.edge_lines
+  short_edges =
+      let modes_and_nodes = map mode_line graph.modes ++ map node_line graph.nodes in
+      All-right IsShort modes_and_nodes spells.said.edge_lines
+      (All-left IsShort (modes_and_nodes ++ spells.said.edge_lines) (codes "end" ∷ [])
+      (All-same IsShort (modes_and_nodes ++ spells.said.edge_lines ++ codes "end" ∷ []) (kept spells.after)
+      (sym spells.said.all)
+      (All-filter (λ line. not (is_empty_or_comment line)) IsShort spells.after short_after)))
+
+  -- A text that spells a valid graph has no line with a cause, declares this graph, and has an end.
+  pub Spells-clean : IsClean (lines_of text) × (declared_by (lines_of text) ≡ graph)
+      × (list_any ends_text (statements_of (lines_of text)) ≡ true)
+  Spells-clean =
+      let edges = edges_said graph valid graph.edges spells.said.edge_lines spells.said.edges valid.so_far.edges short_edges in
+      subst (IsCleanText graph) (sym spells.lines)
+      (clean_text graph valid spells.after short_after edges.0 edges.1
+      (subst (λ lines. AllZip Says lines (said_so_far graph.modes graph.nodes edges.0 ++ Ends ∷ []))
+      (sym spells.said.all) (says_whole graph valid spells.said.edge_lines edges.0 edges.2)))
+
+-- ---- no fault
+
+-- what stands at a number is among all
+Contains-from_slice_get : {X : Type 0} (xs : List X) (number : ℕ) (x : X) → slice_get xs number ≡ Some x → Contains xs x
+Contains-from_slice_get xs number x at = (number, slice_get_within xs number x at, get_or_from_slice_get xs number x x at)
+
+-- no edge of a valid graph lies on a cycle that takes no time
+pub IsValid-no_zero_cycle : (graph : Tfpg) → IsValid graph → (number : ℕ) → LiesOnZeroCycle graph number → ⊥
+IsValid-no_zero_cycle graph valid number lies =
+    valid.no_zero_cycle lies.edge.source lies.steps
+    (lies.edge, Contains-from_slice_get graph.edges number lies.edge lies.numbered, refl, lies.no_time, lies.back)
+
+module _ (lines : List (List ℕ)) (graph : Tfpg) (valid : IsValid graph) (fault : GraphFault) where
+  no_line_fault : IsClean lines → IsLineFault lines fault → ⊥
+  no_line_fault clean is = none-some fault.cause (sym (clean is.place is.tested) ∙ is.cause)
+
+  no_incoming_fault : declared_by lines ≡ graph → IsIncomingFault lines fault → ⊥
+  no_incoming_fault declared is =
+      let lacks = subst (λ g. LacksIncoming g is.node) declared is.lacks in
+      valid.has_incoming is.node lacks.0 lacks.1 lacks.2
+
+  no_cycle_fault : declared_by lines ≡ graph → IsCycleFault lines fault → ⊥
+  no_cycle_fault declared is =
+      IsValid-no_zero_cycle graph valid is.edge (subst (λ g. LiesOnZeroCycle g is.edge) declared is.lies)
+
+  no_end_fault : list_any ends_text (statements_of lines) ≡ true → IsEndFault lines fault → ⊥
+  no_end_fault ended is = false≢true (sym is.no_end ∙ ended)
+
+  no_whole_fault : declared_by lines ≡ graph → list_any ends_text (statements_of lines) ≡ true → IsWholeFault lines fault
+      → ⊥
+  no_whole_fault declared ended =
+      ⊎_elim (no_incoming_fault declared) (⊎_elim (no_cycle_fault declared) (no_end_fault ended))
+
+-- A text that spells a valid graph has no fault.
+pub Spells-no_fault : (text : List ℕ) (graph : Tfpg) → Spells text graph → IsValid graph → (fault : GraphFault)
+    → IsFirstFault text fault → ⊥
+Spells-no_fault text graph spells valid fault =
+    let is = Spells-clean text graph spells valid in
+    ⊎_elim (no_line_fault (lines_of text) graph valid fault is.0)
+    (λ whole_fault. no_whole_fault (lines_of text) graph valid fault is.1 is.2 whole_fault.1)

@@ -1,0 +1,124 @@
+-- A text has at most one first fault.
+use Rattle.std.proofs.Common.{◌≡◌, ◌⊎◌, ℕ, ◌+◌, ◌<◌, ◌≤◌, Bool, true, cond, ⊎_elim, inl, inr, List, [], length, get_or, take, Some, None, Result, Ok, Err, IfOk, IfErr, count_by, ap, sym, ◌∙◌, subst, arith}
+use Rattle.std.proofs.lemmas.Bool.{cases_lt}
+use Rattle.std.proofs.lemmas.List.{take-take}
+use Rattle.std.proofs.lemmas.List.Sums.{count_by_more_yes, sum_by-take-le}
+use Rattle.tfpg_graph.specs.declared.cause.GraphFault.{GraphFault}
+use Rattle.tfpg_graph.specs.declared.cause.GraphRefusal.{GraphRefusal}
+use Rattle.tfpg_graph.specs.declared.cause.GraphRefusal.TheVariants.{Fault, NoMemory}
+use Rattle.tfpg_graph.specs.Graph.{Tfpg}
+use Rattle.tfpg_graph.specs.Text.{Spells}
+use Rattle.tfpg_graph.specs.Valid.{IsValid}
+use Rattle.tfpg_graph.specs.Statements.{Statement}
+use Rattle.tfpg_graph.specs.Declares.{declared_by}
+use Rattle.tfpg_graph.specs.Causes.{cause_at}
+use Rattle.tfpg_graph.specs.Faults.{IsClean, IsLineFault, IsLineSaying, IsIncomingFault, IsCycleFault, IsEndFault, IsWholeFault, IsFirstFault, IsRefusalOf, IsFaultAnswer, LacksIncoming, HasIncomingBefore, says}
+use Rattle.tfpg_base.specs.Lines.{lines_of}
+use Rattle.tfpg_graph.proofs.lemmas.reading.NoFault.{Spells-no_fault}
+
+-- of two numbers one is less, or they are the same
+same_or_less : (a b : ℕ) → (a < b) ⊎ ((b < a) ⊎ (a ≡ b))
+same_or_less a b = by (cases_lt a b) (cases_lt b a)
+  where
+    by : (a < b) ⊎ (b ≤ a) → (b < a) ⊎ (a ≤ b) → (a < b) ⊎ ((b < a) ⊎ (a ≡ b))
+    by (inl less) other = inl less
+    by (inr most) (inl more) = inr (inl more)
+    by (inr most) (inr least) = inr (inr (omega arith))
+
+-- a cause is not none
+some_not_none : {X : Type 0} (x : X) → None ≡ Some x → ⊥
+some_not_none x same = cc
+
+-- numbers of which neither is less are the same
+same_unless_less : (a b : ℕ) → (a < b → ⊥) → (b < a → ⊥) → a ≡ b
+same_unless_less a b not_less not_more =
+    ⊎_elim (λ less. absurd (not_less less)) (⊎_elim (λ more. absurd (not_more more)) (λ same. same)) (same_or_less a b)
+
+-- two faults with the same line and the same cause are the same
+same_fault : (a b : GraphFault) → a.line ≡ b.line → a.cause ≡ b.cause → a ≡ b
+same_fault a b line cause = λ i. record { line = line i; cause = cause i }
+
+-- An item that passes is not counted before its place, and is after it.
+counted_after : {X : Type 0} (test : X → Bool) (xs : List X) (default : X) (place later : ℕ) → place < later → later ≤ length xs
+    → test (get_or xs place default) ≡ true → count_by test (take place xs) < count_by test (take later xs)
+counted_after test xs default place later before within passes =
+    let more = count_by_more_yes test xs place default (omega arith) passes in
+    let fewer = sum_by-take-le (λ y. cond (test y) 1 0) (take later xs) (place + 1) in
+    let front = take-take (place + 1) later xs (omega arith) in
+    let counted : count_by test (take (place + 1) xs) ≤ count_by test (take later xs) =
+    subst (λ ys. count_by test ys ≤ count_by test (take later xs)) front fewer in
+    omega (arith, more, counted)
+
+module _ (test : Statement → Bool) (lines : List (List ℕ)) (count : ℕ) where
+  -- One line says such a thing after so many that do.
+  one_line : (line other : ℕ) → IsLineSaying test lines count line → IsLineSaying test lines count other → line ≡ other
+  one_line line other is so =
+      is.number ∙ ap (λ n. n + 1) (same_unless_less is.place so.place
+      (λ less. let more = counted_after (says test) lines [] is.place so.place less (omega (arith, so.within)) is.here in
+      omega (arith, more, is.before, so.before))
+      (λ less. let more = counted_after (says test) lines [] so.place is.place less (omega (arith, is.within)) so.here in
+      omega (arith, more, is.before, so.before)))
+      ∙ sym so.number
+
+module _ (lines : List (List ℕ)) (one other : GraphFault) where
+  line_faults : IsLineFault lines one → IsLineFault lines other → one ≡ other
+  line_faults is so =
+      let place : is.place ≡ so.place = same_unless_less is.place so.place
+      (λ less. some_not_none one.cause (sym (so.first is.place less) ∙ is.cause))
+      (λ less. some_not_none other.cause (sym (is.first so.place less) ∙ so.cause)) in
+      let cause : Some one.cause ≡ Some other.cause = sym is.cause ∙ ap (cause_at lines) place ∙ so.cause in
+      same_fault one other (is.number ∙ ap (λ n. n + 1) place ∙ sym so.number) (cc)
+
+  incoming_faults : IsIncomingFault lines one → IsIncomingFault lines other → one ≡ other
+  incoming_faults is so =
+      let node : is.node ≡ so.node = same_unless_less is.node so.node
+      (λ less. so.first is.node less is.lacks.1 is.lacks.2) (λ less. is.first so.node less so.lacks.1 so.lacks.2) in
+      same_fault one other
+      (one_line _ lines so.node one.line other.line (subst (λ n. IsLineSaying _ lines n one.line) node is.line) so.line)
+      (is.cause ∙ sym so.cause)
+
+  cycle_faults : IsCycleFault lines one → IsCycleFault lines other → one ≡ other
+  cycle_faults is so =
+      let edge : is.edge ≡ so.edge = same_unless_less is.edge so.edge
+      (λ less. so.first is.edge less is.lies) (λ less. is.first so.edge less so.lies) in
+      same_fault one other
+      (one_line _ lines so.edge one.line other.line (subst (λ n. IsLineSaying _ lines n one.line) edge is.line) so.line)
+      (is.cause ∙ sym so.cause)
+
+  end_faults : IsEndFault lines one → IsEndFault lines other → one ≡ other
+  end_faults is so = same_fault one other (is.line ∙ sym so.line) (is.cause ∙ sym so.cause)
+
+module _ (lines : List (List ℕ)) where
+  -- where each discrepancy has an edge into it, none lacks one
+  none_lacks : (node : ℕ) → LacksIncoming (declared_by lines) node
+      → HasIncomingBefore (declared_by lines) (length (declared_by lines).nodes) → ⊥
+  none_lacks node lacks all = all node lacks.0 lacks.1 lacks.2
+
+  whole_faults : (one other : GraphFault) → IsWholeFault lines one → IsWholeFault lines other → one ≡ other
+  whole_faults one other (inl is) (inl so) = incoming_faults lines one other is so
+  whole_faults one other (inl is) (inr (inl so)) = absurd (none_lacks is.node is.lacks so.incoming)
+  whole_faults one other (inl is) (inr (inr so)) = absurd (none_lacks is.node is.lacks so.incoming)
+  whole_faults one other (inr (inl is)) (inl so) = absurd (none_lacks so.node so.lacks is.incoming)
+  whole_faults one other (inr (inl is)) (inr (inl so)) = cycle_faults lines one other is so
+  whole_faults one other (inr (inl is)) (inr (inr so)) = absurd (so.no_cycle is.edge is.lies)
+  whole_faults one other (inr (inr is)) (inl so) = absurd (none_lacks so.node so.lacks is.incoming)
+  whole_faults one other (inr (inr is)) (inr (inl so)) = absurd (is.no_cycle so.edge so.lies)
+  whole_faults one other (inr (inr is)) (inr (inr so)) = end_faults lines one other is so
+
+  -- where no line has a cause, no line has a fault
+  clean_or_fault : (fault : GraphFault) → IsClean lines → IsLineFault lines fault → ⊥
+  clean_or_fault fault clean is = some_not_none fault.cause (sym (clean is.place is.tested) ∙ is.cause)
+
+-- A text has at most one first fault.
+pub IsFirstFault-one : (text : List ℕ) (one other : GraphFault) → IsFirstFault text one → IsFirstFault text other → one ≡ other
+IsFirstFault-one text one other (inl is) (inl so) = line_faults (lines_of text) one other is so
+IsFirstFault-one text one other (inl is) (inr so) = absurd (clean_or_fault (lines_of text) one so.0 is)
+IsFirstFault-one text one other (inr is) (inl so) = absurd (clean_or_fault (lines_of text) other is.0 so)
+IsFirstFault-one text one other (inr is) (inr so) = whole_faults (lines_of text) one other is.1 so.1
+
+-- What is answered to a text with a first fault, where each answer has its cause.
+pub IsFaultAnswer-from : (text : List ℕ) (result : Result Tfpg GraphRefusal) → IfOk result (Spells text) → IfOk result IsValid
+    → IfErr result (IsRefusalOf text) → (fault : GraphFault) → IsFirstFault text fault → IsFaultAnswer fault result
+IsFaultAnswer-from text (Ok graph) spelled valid refused fault is = Spells-no_fault text graph spelled valid fault is
+IsFaultAnswer-from text (Err (Fault reported)) spelled valid refused fault is = IsFirstFault-one text reported fault refused is
+IsFaultAnswer-from text (Err NoMemory) spelled valid refused fault is = tt

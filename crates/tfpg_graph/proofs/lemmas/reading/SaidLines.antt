@@ -1,0 +1,105 @@
+-- A line says exactly the statement whose words it has.
+use Rattle.std.proofs.Common.{◌≡◌, ◌≢◌, ℕ, ◌<◌, ◌≤◌, ◌==◌, ◌↔◌, Bool, true, false, cond, List, [], ◌∷◌, length, All, Contains, Option, Some, None, refl, ap, sym, ◌∙◌, subst, arith}
+use Rattle.std.specs.List.{AllByRecursion, list_any, onto_first}
+use Rattle.std.proofs.lemmas.Bool.{or_parts, ne_eqb, eq-eqb, false≢true}
+use Rattle.std.proofs.lemmas.List.Elements.{All-nil, All-cons, All-head, All-tail, All-contains}
+use Rattle.tfpg_base.specs.Words.{words_of}
+use Rattle.tfpg_base.specs.Lines.{longest_line}
+use Rattle.tfpg_base.proofs.Elements.{All-from_members}
+use Rattle.tfpg_base.proofs.Separators.{Lacks}
+use Rattle.tfpg_graph.specs.Statements.{NodeWords, FailureWords, OrWords, AndWords, Statement, DeclaresMode, DeclaresNode, DeclaresEdge, Ends, words_of_watch, words_of_node, words_of_statement, IsLineWord, SaysStatement, lag_in, statement_in, statement_of}
+use Rattle.tfpg_graph.proofs.lemmas.reading.SaidWords.{cond_second, statement_in_words, said_by_words}
+use Rattle.tfpg_graph.proofs.lemmas.reading.LinesSay.{IsWord, short_line_says}
+
+-- no part of a line round its spaces has a space
+parts_lack : (line : List ℕ) → AllByRecursion (Lacks 32) (words_of line)
+parts_lack [] = (All-nil (λ other. (other == 32) ≡ false), tt)
+parts_lack (byte ∷ line) = by (byte == 32) refl (words_of line) (parts_lack line)
+  where
+    by : (test : Bool) → (byte == 32) ≡ test → (parts : List (List ℕ)) → AllByRecursion (Lacks 32) parts
+        → AllByRecursion (Lacks 32) (cond test ([] ∷ parts) (onto_first byte parts))
+    by true is parts rest = (All-nil (λ other. (other == 32) ≡ false), rest)
+    by false is [] rest = (All-cons (λ other. (other == 32) ≡ false) byte [] is (All-nil (λ other. (other == 32) ≡ false)), tt)
+    by false is (part ∷ parts) rest = (All-cons (λ other. (other == 32) ≡ false) byte part is rest.0, rest.1)
+
+-- where no word is empty, each has a byte
+has_byte : (word : List ℕ) → (length word == 0) ≡ false → word ≢ []
+has_byte word some is = false≢true (sym some ∙ eq-eqb (length word) 0 (ap length is))
+
+no_space : (word : List ℕ) → Lacks 32 word → Contains word 32 → ⊥
+no_space word lacks has =
+    false≢true (sym (All-contains (λ other. (other == 32) ≡ false) word 32 lacks has) ∙ eq-eqb 32 32 refl)
+
+-- words of which none is empty, and none has a space
+line_words : (words : List (List ℕ)) → list_any (λ word. length word == 0) words ≡ false → AllByRecursion (Lacks 32) words
+    → All IsLineWord words
+line_words [] none lack = All-nil IsLineWord
+line_words (word ∷ words) none lack =
+    let parts = or_parts (length word == 0) (list_any (λ other. length other == 0) words) none in
+    All-cons IsLineWord word words (has_byte word parts.0, no_space word lack.0) (line_words words parts.1 lack.1)
+
+-- and back
+is_word : (word : List ℕ) → IsLineWord word → IsWord word
+is_word word is = record {
+  some = ne_eqb (length word) 0 (λ empty. is.0 (nothing word empty));
+  lacks = All-from_members (λ other. (other == 32) ≡ false) word
+      (λ byte member. ne_eqb byte 32 (λ space. is.1 (subst (λ (other : ℕ). Contains word other) space member)));
+}
+  where
+    nothing : (bytes : List ℕ) → length bytes ≡ 0 → bytes ≡ []
+    nothing [] empty = refl
+    nothing (first ∷ others) empty = absurd (omega arith)
+
+are_words : (words : List (List ℕ)) → All IsLineWord words → AllByRecursion IsWord words
+are_words [] are = tt
+are_words (word ∷ words) are = (is_word word (All-head IsLineWord word words are), are_words words (All-tail IsLineWord word words are))
+
+-- the words of a statement say it
+lag_in-words : (lag : Option (List ℕ)) → lag_in (words_of_watch lag) ≡ Some lag
+lag_in-words None = refl
+lag_in-words (Some lag) = refl
+
+statement_in-node : (name : List ℕ) (words : NodeWords) → statement_in (words_of_node name words) ≡ Some (DeclaresNode name words)
+statement_in-node name (FailureWords rarity) = refl
+statement_in-node name (OrWords None) = refl
+statement_in-node name (OrWords (Some lag)) = refl
+statement_in-node name (AndWords None) = refl
+statement_in-node name (AndWords (Some lag)) = refl
+
+statement_in-words : (said : Statement) → statement_in (words_of_statement said) ≡ Some said
+statement_in-words (DeclaresMode name) = refl
+statement_in-words (DeclaresNode name words) = statement_in-node name words
+statement_in-words (DeclaresEdge source target tmin tmax modes) = refl
+statement_in-words Ends = refl
+
+some_words : (said : Statement) → 0 < length (words_of_statement said)
+some_words (DeclaresMode name) = omega arith
+some_words (DeclaresNode name (FailureWords rarity)) = omega arith
+some_words (DeclaresNode name (OrWords lag)) = omega arith
+some_words (DeclaresNode name (AndWords lag)) = omega arith
+some_words (DeclaresEdge source target tmin tmax modes) = omega arith
+some_words Ends = omega arith
+
+-- A line that says something is the words of it.
+pub SaysStatement-said : (line : List ℕ) (said : Statement) → statement_of line ≡ Some said → SaysStatement line said
+SaysStatement-said line said some =
+    let whole = said_by_words line said some in
+    let short = cond_second _ _ said some in
+    let shaped = cond_second _ _ said short.1 in
+    record {
+      words = whole.1;
+      each = subst (All IsLineWord) (statement_in_words (words_of line) said shaped.1)
+          (line_words (words_of line) shaped.0 (parts_lack line));
+      short = whole.0;
+    }
+
+-- A line that is the words of a statement says it.
+pub statement_of-says : (line : List ℕ) (said : Statement) → SaysStatement line said → statement_of line ≡ Some said
+statement_of-says line said says =
+    let words = words_of_statement said in
+    ap statement_of says.words
+    ∙ short_line_says words (some_words said) (are_words words says.each) (subst (λ (l : List ℕ). length l ≤ longest_line) says.words says.short)
+    ∙ statement_in-words said
+
+pub says_both_ways : (line : List ℕ) (said : Statement) → (statement_of line ≡ Some said) ↔ SaysStatement line said
+says_both_ways line said = (SaysStatement-said line said, statement_of-says line said)

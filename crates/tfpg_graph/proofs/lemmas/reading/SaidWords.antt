@@ -1,0 +1,126 @@
+-- A line that says something has the words of what it says.
+use Rattle.std.proofs.Common.{◌≡◌, ℕ, ◌≤◌, Bool, true, false, cond, List, [], ◌∷◌, length, Option, Some, None, codes, refl, ap, sym, ◌∙◌}
+use Rattle.std.specs.Str.{bytes_eq}
+use Rattle.std.specs.List.{onto_first}
+use Rattle.std.specs.Option.{option_map}
+use Rattle.std.proofs.lemmas.Bool.{ltb-false, eqb-true}
+use Rattle.std.proofs.lemmas.Option.{cond_some}
+use Rattle.std.proofs.lemmas.Slice.Eq.{bytes_eq-Decides}
+use Rattle.tfpg_base.specs.Words.{line_of, words_of}
+use Rattle.tfpg_base.specs.Lines.{longest_line}
+use Rattle.tfpg_base.proofs.Separators.{join_with_byte-words_of}
+use Rattle.tfpg_graph.specs.Text.{is_empty_or_comment}
+use Rattle.tfpg_graph.specs.Statements.{FailureWords, OrWords, AndWords, Statement, DeclaresMode, DeclaresNode, DeclaresEdge, Ends, words_of_watch, words_of_statement, lag_in, mode_in, failure_in, or_in, and_in, edge_in, end_in, statement_in, statement_of}
+
+-- ---- laws of choices
+
+-- a value in a mapped option is the image of one
+pub option_map_some : {X Y : Type 0} (f : X → Y) (o : Option X) (y : Y) → option_map f o ≡ Some y
+    → (x : X) × (o ≡ Some x) × (f x ≡ y)
+option_map_some f None y some = absurd cc
+option_map_some f (Some x) y some = (x, refl, cc)
+
+-- where the first way gives nothing, a value comes from the second
+pub cond_second : {X : Type 0} (b : Bool) (o : Option X) (x : X) → cond b None o ≡ Some x → (b ≡ false) × (o ≡ Some x)
+cond_second true o x some = absurd cc
+cond_second false o x some = (refl, some)
+
+-- a choice by the first word: where the word is the key, its way gives the value, and else the other way
+keyword_chosen : (word key : List ℕ) (others : List (List ℕ)) (here other : Option Statement) (said : Statement)
+    → cond (bytes_eq word key) here other ≡ Some said → (here ≡ Some said → key ∷ others ≡ words_of_statement said)
+    → (other ≡ Some said → word ∷ others ≡ words_of_statement said) → word ∷ others ≡ words_of_statement said
+keyword_chosen word key others here other said some keyed elsewhere = by (bytes_eq word key) refl some
+  where
+    by : (b : Bool) → bytes_eq word key ≡ b → cond b here other ≡ Some said → word ∷ others ≡ words_of_statement said
+    by true same some = ap (λ first. first ∷ others) ((bytes_eq-Decides word key).0 same) ∙ keyed some
+    by false differ some = elsewhere some
+
+-- ---- the words of each shape
+
+lag_in_words : (words : List (List ℕ)) (lag : Option (List ℕ)) → lag_in words ≡ Some lag → words ≡ words_of_watch lag
+lag_in_words [] lag some = absurd cc
+lag_in_words (state ∷ []) lag some =
+    let is = cond_some (bytes_eq state (codes "hidden")) None lag some in
+    ap (λ word. word ∷ []) ((bytes_eq-Decides state (codes "hidden")).0 is.0) ∙ ap words_of_watch is.1
+lag_in_words (state ∷ word ∷ []) lag some =
+    let is = cond_some (bytes_eq state (codes "watch")) (Some word) lag some in
+    ap (λ first. first ∷ word ∷ []) ((bytes_eq-Decides state (codes "watch")).0 is.0) ∙ ap words_of_watch is.1
+lag_in_words (state ∷ word ∷ more ∷ others) lag some = absurd cc
+
+mode_in_words : (words : List (List ℕ)) (said : Statement) → mode_in words ≡ Some said → codes "mode" ∷ words ≡ words_of_statement said
+mode_in_words [] said some = absurd cc
+mode_in_words (name ∷ []) said some = let is : DeclaresMode name ≡ said = cc in ap words_of_statement is
+mode_in_words (name ∷ more ∷ others) said some = absurd cc
+
+failure_in_words : (words : List (List ℕ)) (said : Statement) → failure_in words ≡ Some said
+    → codes "failure" ∷ words ≡ words_of_statement said
+failure_in_words [] said some = absurd cc
+failure_in_words (name ∷ []) said some = absurd cc
+failure_in_words (name ∷ rarity ∷ []) said some = let is : DeclaresNode name (FailureWords rarity) ≡ said = cc in ap words_of_statement is
+failure_in_words (name ∷ rarity ∷ more ∷ others) said some = absurd cc
+
+or_in_words : (words : List (List ℕ)) (said : Statement) → or_in words ≡ Some said → codes "or" ∷ words ≡ words_of_statement said
+or_in_words [] said some = absurd cc
+or_in_words (name ∷ others) said some =
+    let is = option_map_some (λ lag. DeclaresNode name (OrWords lag)) (lag_in others) said some in
+    ap (λ words. codes "or" ∷ name ∷ words) (lag_in_words others is.0 is.1) ∙ ap words_of_statement is.2
+
+and_in_words : (words : List (List ℕ)) (said : Statement) → and_in words ≡ Some said → codes "and" ∷ words ≡ words_of_statement said
+and_in_words [] said some = absurd cc
+and_in_words (name ∷ others) said some =
+    let is = option_map_some (λ lag. DeclaresNode name (AndWords lag)) (lag_in others) said some in
+    ap (λ words. codes "and" ∷ name ∷ words) (lag_in_words others is.0 is.1) ∙ ap words_of_statement is.2
+
+edge_in_words : (words : List (List ℕ)) (said : Statement) → edge_in words ≡ Some said → codes "edge" ∷ words ≡ words_of_statement said
+edge_in_words [] said some = absurd cc
+edge_in_words (source ∷ []) said some = absurd cc
+edge_in_words (source ∷ target ∷ []) said some = absurd cc
+edge_in_words (source ∷ target ∷ tmin ∷ []) said some = absurd cc
+edge_in_words (source ∷ target ∷ tmin ∷ tmax ∷ []) said some = absurd cc
+edge_in_words (source ∷ target ∷ tmin ∷ tmax ∷ modes ∷ []) said some =
+    let is : DeclaresEdge source target tmin tmax modes ≡ said = cc in ap words_of_statement is
+edge_in_words (source ∷ target ∷ tmin ∷ tmax ∷ modes ∷ more ∷ others) said some = absurd cc
+
+end_in_words : (words : List (List ℕ)) (said : Statement) → end_in words ≡ Some said → codes "end" ∷ words ≡ words_of_statement said
+end_in_words [] said some = let is : Ends ≡ said = cc in ap words_of_statement is
+end_in_words (more ∷ others) said some = absurd cc
+
+-- words of a shape are the words of what they say
+pub statement_in_words : (words : List (List ℕ)) (said : Statement) → statement_in words ≡ Some said → words ≡ words_of_statement said
+statement_in_words [] said some = absurd cc
+statement_in_words (keyword ∷ others) said some =
+    keyword_chosen keyword (codes "mode") others (mode_in others) _ said some (mode_in_words others said)
+    (λ some. keyword_chosen keyword (codes "failure") others (failure_in others) _ said some (failure_in_words others said)
+    (λ some. keyword_chosen keyword (codes "or") others (or_in others) _ said some (or_in_words others said)
+    (λ some. keyword_chosen keyword (codes "and") others (and_in others) _ said some (and_in_words others said)
+    (λ some. keyword_chosen keyword (codes "edge") others (edge_in others) _ said some (edge_in_words others said)
+    (λ some. keyword_chosen keyword (codes "end") others (end_in others) None said some (end_in_words others said)
+    (λ none. absurd cc))))))
+
+-- A line that says something is not too long, and is the words of what it says.
+pub said_by_words : (line : List ℕ) (said : Statement) → statement_of line ≡ Some said
+    → (length line ≤ longest_line) × (line ≡ line_of (words_of_statement said))
+said_by_words line said some =
+    let short = cond_second _ _ said some in
+    let shaped = cond_second _ _ said short.1 in
+    let words = statement_in_words (words_of line) said shaped.1 in
+    (ltb-false longest_line (length line) short.0, sym (join_with_byte-words_of line) ∙ ap line_of words)
+
+-- ---- lines that are skipped
+
+-- no keyword begins with a number sign
+no_keyword : (parts : List (List ℕ)) → statement_in (onto_first 35 parts) ≡ None
+no_keyword [] = refl
+no_keyword (part ∷ parts) = refl
+
+-- where both ways give nothing, a choice does
+cond_neither : {X : Type 0} (b : Bool) (o : Option X) → o ≡ None → cond b None o ≡ None
+cond_neither true o none = refl
+cond_neither false o none = none
+
+-- A line that is skipped says nothing.
+pub skipped_says_nothing : (line : List ℕ) → is_empty_or_comment line ≡ true → statement_of line ≡ None
+skipped_says_nothing [] skipped = refl
+skipped_says_nothing (first ∷ others) skipped =
+    let sign : first ≡ 35 = eqb-true first 35 skipped in
+    cond_neither _ _ (cond_neither _ _ (ap (λ byte. statement_in (words_of (byte ∷ others))) sign ∙ no_keyword (words_of others)))

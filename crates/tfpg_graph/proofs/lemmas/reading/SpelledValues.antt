@@ -1,0 +1,187 @@
+-- The values that the words of a spelled graph have.
+use Rattle.std.proofs.Common.{◌≡◌, ◌≢◌, ℕ, suc, zero, ◌<◌, ◌≤◌, ◌^◌, ◌||◌, Bool, true, false, cond, List, [], ◌∷◌, ◌++◌, length, map, get_or, All, AllPairs, IsTrue, Option, Some, None, IfSome, is_none, slice_get, position, codes, refl, ap, sym, ◌∙◌, subst, arith}
+use Rattle.std.specs.Prelude.{decimal}
+use Rattle.std.specs.Option.{option_map}
+use Rattle.std.specs.List.{AllByRecursion, list_any, filter_map, cons_option, join_with_byte}
+use Rattle.std.specs.Str.{bytes_eq}
+use Rattle.std.proofs.lemmas.Bool.{false≢true, false_from_ne_true, and_parts, or_from, cond-false}
+use Rattle.std.proofs.lemmas.List.{append-nil}
+use Rattle.std.proofs.lemmas.List.Elements.{All-head, All-tail}
+use Rattle.std.proofs.lemmas.Option.{slice_get-get_or}
+use Rattle.std.proofs.lemmas.Slice.Eq.{bytes_eq-Decides}
+use Rattle.tfpg_base.specs.Words.{is_name, is_number, is_letter, number_of}
+use Rattle.tfpg_base.proofs.Numbers.{is_number-decimal, number_of-decimal}
+use Rattle.tfpg_base.proofs.Separators.{Lacks, name_lacks}
+use Rattle.tfpg_base.proofs.Elements.{AllPairs-head, AllPairs-tail}
+use Rattle.tfpg_graph.specs.declared.kind.Kind.{Kind}
+use Rattle.tfpg_graph.specs.declared.kind.Kind.TheVariants.{Failure, Or, And}
+use Rattle.tfpg_graph.specs.Text.{tmax_word}
+use Rattle.tfpg_base.specs.Times.{max_time}
+use Rattle.tfpg_graph.specs.Valid.{HasValidNumber}
+use Rattle.tfpg_graph.specs.Declares.{kind_of_words, lag_of_word, tmax_of_word, modes_listed}
+use Rattle.tfpg_graph.specs.Causes.{has_twice}
+use Rattle.tfpg_graph.proofs.Positions.{position-cons}
+use Rattle.tfpg_graph.proofs.lemmas.reading.LinesSay.{words_of_kind, slice_split-join}
+
+-- bytes that differ are not equal
+pub bytes_eq-differ : (xs ys : List ℕ) → xs ≢ ys → bytes_eq xs ys ≡ false
+bytes_eq-differ xs ys differ = false_from_ne_true (bytes_eq xs ys) (λ equal. differ ((bytes_eq-Decides xs ys).0 equal))
+
+-- and bytes are equal to themselves
+pub bytes_eq-same : (xs : List ℕ) → bytes_eq xs xs ≡ true
+bytes_eq-same xs = (bytes_eq-Decides xs xs).1 refl
+
+lag_read : (lag : Option ℕ) → IfSome lag (λ l. l ≤ max_time) → lag_of_word (option_map decimal lag) ≡ Some lag
+lag_read None small = refl
+lag_read (Some lag) small = ap (option_map Some) (number_of-decimal lag (omega arith))
+
+-- The words that say what a node is are read as it.
+pub kind_of_words-kind : (kind : Kind) → HasValidNumber kind → kind_of_words (words_of_kind kind) ≡ Some kind
+kind_of_words-kind (Failure rarity) small = ap (option_map Failure) (number_of-decimal rarity (omega arith))
+kind_of_words-kind (Or lag) small = ap (option_map Or) (lag_read lag small)
+kind_of_words-kind (And lag) small = ap (option_map And) (lag_read lag small)
+
+-- no number is spelled as `inf`
+pub decimal-not_inf : (number : ℕ) → number < 2 ^ 64 → bytes_eq (decimal number) (codes "inf") ≡ false
+decimal-not_inf number small =
+    bytes_eq-differ (decimal number) (codes "inf")
+    (λ same. false≢true (sym (ap is_number same) ∙ is_number-decimal number small))
+
+-- The word for a greatest delay is read as it.
+pub tmax_of_word-tmax : (tmax : Option ℕ) → IfSome tmax (λ time. time ≤ max_time)
+    → tmax_of_word (tmax_word tmax) ≡ Some tmax
+tmax_of_word-tmax None small = refl
+tmax_of_word-tmax (Some time) small =
+    cond-false (bytes_eq (decimal time) (codes "inf")) (Some None) (option_map Some (number_of (decimal time)))
+    (decimal-not_inf time (omega arith))
+    ∙ ap (option_map Some) (number_of-decimal time (omega arith))
+
+-- where what stands at a number passes and nothing before it does, this is the first place
+pub position-at : {X : Type 0} (p : X → Bool) (xs : List X) (number : ℕ) (d : X) → number < length xs
+    → p (get_or xs number d) ≡ true
+    → ((earlier : ℕ) → earlier < number → p (get_or xs earlier d) ≡ false) → position p xs ≡ Some number
+position-at p [] number d within passes fail = absurd (omega arith)
+position-at p (x ∷ xs) zero d within passes fail =
+    position-cons p x xs ∙ ap (λ b. cond b (Some 0) (option_map suc (position p xs))) passes
+position-at p (x ∷ xs) (suc number) d within passes fail =
+    position-cons p x xs
+    ∙ (λ i. cond (fail 0 (omega arith) i) (Some 0)
+    (option_map suc
+    (position-at p xs number d (omega arith) passes (λ earlier before. fail (suc earlier) (omega arith)) i)))
+
+-- among names that differ, each stands first at its own place
+pub position-named : (names : List (List ℕ)) (number : ℕ) (d : List ℕ) → AllPairs (λ a b. a ≢ b) names
+    → number < length names
+    → position (λ name. bytes_eq name (get_or names number d)) names ≡ Some number
+position-named names number d differ within =
+    position-at (λ name. bytes_eq name (get_or names number d)) names number d within
+    (bytes_eq-same (get_or names number d))
+    (λ earlier before. bytes_eq-differ (get_or names earlier d) (get_or names number d)
+    (differ earlier number d before within))
+
+-- the names of these numbers
+abbrev pub names_at : List (List ℕ) → List ℕ → List (List ℕ)
+names_at names numbers = map (λ number. get_or names number []) numbers
+
+-- the names of numbers, all of which are below the count of names
+pub filter_map-names : (names : List (List ℕ)) (numbers : List ℕ) → All (λ number. number < length names) numbers
+    → filter_map (slice_get names) numbers ≡ names_at names numbers
+filter_map-names names [] below = refl
+filter_map-names names (number ∷ numbers) below =
+    λ i. cons_option (slice_get-get_or names number [] (All-head (λ n. n < length names) number numbers below) i)
+    (filter_map-names names numbers (All-tail (λ n. n < length names) number numbers below) i)
+
+module _ (names : List (List ℕ)) (differ : AllPairs (λ a b. a ≢ b) names) where
+  -- the numbers of names that have these numbers
+  pub filter_map-numbers : (numbers : List ℕ) → All (λ number. number < length names) numbers
+      → filter_map (λ name. position (λ other. bytes_eq other name) names) (names_at names numbers) ≡ numbers
+  filter_map-numbers [] below = refl
+  filter_map-numbers (number ∷ numbers) below =
+      λ i. cons_option
+      (position-named names number [] differ (All-head (λ n. n < length names) number numbers below) i)
+      (filter_map-numbers numbers (All-tail (λ n. n < length names) number numbers below) i)
+
+  -- each of them is found
+  pub all_named : (numbers : List ℕ) → All (λ number. number < length names) numbers
+      → list_any (λ name. is_none (position (λ other. bytes_eq other name) names)) (names_at names numbers) ≡ false
+  all_named [] below = refl
+  all_named (number ∷ numbers) below =
+      or_from _ _ (ap is_none
+      (position-named names number [] differ
+      (All-head (λ n. n < length names) number numbers below))) (all_named numbers (All-tail
+      (λ n. n < length names) number numbers below))
+
+  -- two numbers that differ have two names
+  names_differ : (a b : ℕ) → a < length names → b < length names → a ≢ b → get_or names a [] ≢ get_or names b []
+  names_differ a b in_a in_b other same =
+      other (cc (
+        ap
+            (λ name. position
+            (λ n. bytes_eq n name) names) same,
+        position-named names a [] differ in_a,
+        position-named names b [] differ in_b,
+      ))
+
+  named_once : (number : ℕ) (numbers : List ℕ) → number < length names → All (λ n. n < length names) numbers
+      → All (λ n. number ≢ n) numbers
+      → list_any (bytes_eq (get_or names number [])) (names_at names numbers) ≡ false
+  named_once number [] within below others = refl
+  named_once number (n ∷ numbers) within below others =
+      or_from _ _ (bytes_eq-differ _ _
+      (names_differ number n within (All-head (λ m. m < length names) n numbers below)
+      (All-head (λ m. number ≢ m) n numbers others)))
+      (named_once number numbers within (All-tail (λ m. m < length names) n numbers below)
+      (All-tail (λ m. number ≢ m) n numbers others))
+
+  -- names of numbers that differ stand once
+  pub has_twice-names : (numbers : List ℕ) → All (λ number. number < length names) numbers
+      → AllPairs (λ a b. a ≢ b) numbers → has_twice (names_at names numbers) ≡ false
+  has_twice-names [] below apart = refl
+  has_twice-names (number ∷ numbers) below apart =
+      or_from _ _
+      (named_once number numbers (All-head (λ n. n < length names) number numbers below)
+      (All-tail (λ n. n < length names) number numbers below) (AllPairs-head (λ a b. a ≢ b) number numbers apart))
+      (has_twice-names numbers (All-tail (λ n. n < length names) number numbers below)
+      (AllPairs-tail (λ a b. a ≢ b) number numbers apart))
+
+-- these are names where all are
+pub all_names : (names : List (List ℕ)) (numbers : List ℕ) → All (λ name. IsTrue (is_name name)) names
+    → All (λ number. number < length names) numbers
+    → AllByRecursion (λ name. IsTrue (is_name name)) (names_at names numbers)
+all_names names [] named below = tt
+all_names names (number ∷ numbers) named below = (
+  named number [] (All-head (λ n. n < length names) number numbers below),
+  all_names names numbers named
+      (All-tail (λ n. n < length names) number numbers below),
+)
+
+letter_first : (name others : List ℕ) → is_name name ≡ true → is_letter (get_or (name ++ others) 0 0) ≡ true
+letter_first [] others named = absurd (false≢true named)
+letter_first (first ∷ name) others named = (and_parts (is_letter first) _ named).0
+
+-- names with commas between begin with a letter
+join_letter : (names : List (List ℕ)) → 0 < length names → AllByRecursion (λ name. IsTrue (is_name name)) names
+    → is_letter (get_or (join_with_byte 44 names) 0 0) ≡ true
+join_letter [] some named = absurd (omega arith)
+join_letter (name ∷ []) some named =
+    subst (λ word. is_letter (get_or word 0 0) ≡ true) (append-nil name) (letter_first name [] named.0)
+join_letter (name ∷ second ∷ others) some named = letter_first name (44 ∷ join_with_byte 44 (second ∷ others)) named.0
+
+module _ (names : List (List ℕ)) (some : 0 < length names)
+    (named : AllByRecursion (λ name. IsTrue (is_name name)) names) where
+  -- they are no word that does not begin with one
+  pub join-not : (word : List ℕ) → is_letter (get_or word 0 0) ≡ false → bytes_eq (join_with_byte 44 names) word ≡ false
+  join-not word fails =
+      bytes_eq-differ (join_with_byte 44 names) word
+      (λ same. false≢true (sym fails ∙ sym (ap (λ w. is_letter (get_or w 0 0)) same) ∙ join_letter names some named))
+
+  no_comma : (others : List (List ℕ)) → AllByRecursion (λ name. IsTrue (is_name name)) others
+      → AllByRecursion (Lacks 44) others
+  no_comma [] are = tt
+  no_comma (name ∷ others) are = (name_lacks 44 name refl are.0, no_comma others are.1)
+
+  -- the names in the word that joins them are these
+  pub modes_listed-join : modes_listed (join_with_byte 44 names) ≡ names
+  modes_listed-join =
+      (λ i. cond (join-not (codes "*") refl i || join-not (codes "-") refl i) []
+      (slice_split-join 44 names some (no_comma names named) i))

@@ -1,0 +1,6 @@
+pub mod LineLengths
+pub mod ModeBits
+pub mod ModeNames
+pub mod TextPieces
+pub mod CleanLines
+pub mod Spelled

@@ -1,0 +1,92 @@
+-- No line of a canonical text is too long.
+use Rattle.std.proofs.Common.{ℕ, suc, zero, ◌*◌, ◌≤◌, ◌==◌, List, [], ◌∷◌, ◌++◌, length, slice_get, All, IsTrue, Option, Some, None, IfSome, unwrap_or, codes, arith}
+use Rattle.std.specs.Prelude.{decimal}
+use Rattle.std.specs.Option.{option_map}
+use Rattle.std.specs.List.{list_all, join_with_byte}
+use Rattle.std.proofs.lemmas.Bool.{and_parts, leb-true, false≢true, cond_both}
+use Rattle.std.proofs.lemmas.Fmt.{length-decimal-le}
+use Rattle.std.proofs.lemmas.List.{length-append}
+use Rattle.std.proofs.lemmas.List.Elements.{All-head, All-tail}
+use Rattle.tfpg_base.specs.Words.{is_name, is_letter, is_name_byte}
+use Rattle.tfpg_base.specs.Lines.{longest_line}
+use Rattle.tfpg_graph.specs.declared.kind.Kind.{Kind}
+use Rattle.tfpg_graph.specs.declared.kind.Kind.TheVariants.{Failure, Or, And}
+use Rattle.tfpg_graph.specs.declared.edge.Edge.{Edge}
+use Rattle.tfpg_graph.specs.Graph.{Tfpg, Node, name_at}
+use Rattle.tfpg_base.specs.Words.{line_of}
+use Rattle.tfpg_graph.specs.Text.{mode_line, node_words, watch_words, tmax_word, edge_line, modes_word, all_modes}
+use Rattle.tfpg_base.specs.Times.{max_time}
+use Rattle.tfpg_graph.specs.Valid.{HasValidNumber, IsValidEdge}
+use Rattle.tfpg_graph.specs.inside.writing.Written.{modes_before, mode_names_before}
+use Rattle.tfpg_graph.proofs.lemmas.writing.ModeBits.{modes_before-few}
+use Rattle.tfpg_graph.proofs.lemmas.writing.ModeNames.{All-named, length-named}
+
+name_short : (name : List ℕ) → IsTrue (is_name name) → length name ≤ 32
+name_short [] named = absurd (false≢true named)
+name_short (first ∷ others) named =
+    let parts = and_parts (is_letter first) _ named in
+    let fits = leb-true (length others) 31 (and_parts (list_all is_name_byte others) _ parts.1).1 in
+    omega (arith, fits)
+
+number_short : (number : ℕ) → number ≤ max_time → length (decimal number) ≤ 13
+number_short number small = length-decimal-le 13 number (omega arith) (omega arith) (omega arith)
+
+pub short_mode : (name : List ℕ) → IsTrue (is_name name) → length (mode_line name) ≤ longest_line
+short_mode name named = omega (arith, name_short name named)
+
+short_watch : (name : List ℕ) (lag : Option ℕ) → length name ≤ 32 → IfSome lag (λ l. l ≤ max_time) → length (line_of (name ∷ watch_words lag)) ≤ 100
+short_watch name None named small = omega (arith, length-append name (32 ∷ codes "hidden"))
+short_watch name (Some lag) named small = omega (arith, length-append name (32 ∷ codes "watch" ++ 32 ∷ decimal lag), number_short lag small)
+
+pub short_node : (name : List ℕ) (kind : Kind) → IsTrue (is_name name) → HasValidNumber kind → length (line_of (node_words name kind)) ≤ longest_line
+short_node name (Failure rarity) named small = omega (arith, name_short name named, length-append name (32 ∷ decimal rarity), number_short rarity (omega arith))
+short_node name (Or lag) named small = omega (arith, short_watch name lag (name_short name named) small)
+short_node name (And lag) named small = omega (arith, short_watch name lag (name_short name named) small)
+
+short_name_in : (nodes : List Node) (node : ℕ) → All (λ n. IsTrue (is_name n.name)) nodes → length (unwrap_or (option_map (λ n. n.name) (slice_get nodes node)) []) ≤ 32
+short_name_in [] node named = omega arith
+short_name_in (first ∷ others) zero named = name_short first.name (All-head (λ n. IsTrue (is_name n.name)) first others named)
+short_name_in (first ∷ others) (suc node) named = short_name_in others node (All-tail (λ n. IsTrue (is_name n.name)) first others named)
+
+short_tmax : (tmax : Option ℕ) (tmin : ℕ) → IfSome tmax (λ time. (tmin ≤ time) × (time ≤ max_time)) → length (tmax_word tmax) ≤ 13
+short_tmax None tmin small = omega arith
+short_tmax (Some tmax) tmin small = number_short tmax small.1
+
+-- names with a byte between each two
+length-joined : (separator : ℕ) (names : List (List ℕ)) → All (λ name. length name ≤ 32) names → length (join_with_byte separator names) ≤ 33 * length names
+length-joined separator [] short = omega arith
+length-joined separator (name ∷ []) short = omega (arith, All-head (λ n. length n ≤ 32) name [] short)
+length-joined separator (name ∷ next ∷ names) short =
+    omega (
+      arith,
+      length-append name (separator ∷ join_with_byte separator (next ∷ names)),
+      All-head (λ n. length n ≤ 32) name (next ∷ names) short,
+      length-joined separator (next ∷ names) (All-tail (λ n. length n ≤ 32) name (next ∷ names) short),
+    )
+
+pub short_modes : (graph : Tfpg) (bits : ℕ) → All (λ mode. IsTrue (is_name mode)) graph.modes → length graph.modes ≤ 64 → length (modes_word graph bits) ≤ 2112
+short_modes graph bits named few =
+    let end : ℕ = length graph.modes in
+    let names : List (List ℕ) = mode_names_before graph bits end in
+    let short : All (λ name. length name ≤ 32) names = All-named (λ name. length name ≤ 32) graph.modes (λ k d within. name_short _ (named k d within)) (modes_before bits end) in
+    cond_both (bits == all_modes graph) (codes "*") (join_with_byte 44 names) (λ word. length word ≤ 2112)
+    (λ all. omega arith)
+    (λ some. omega (arith, few, length-joined 44 names short, length-named graph.modes (modes_before bits end), modes_before-few bits end))
+
+pub short_edge : (graph : Tfpg) (edge : Edge) (word : List ℕ) → All (λ n. IsTrue (is_name n.name)) graph.nodes → IsValidEdge graph edge → length word ≤ 2112
+    → length (edge_line graph edge word) ≤ longest_line
+short_edge graph edge word named valid short =
+    let source = unwrap_or (name_at graph edge.source) [] in
+    let target = unwrap_or (name_at graph edge.target) [] in
+    let tail = tmax_word edge.tmax ++ 32 ∷ word in
+    omega (
+      arith,
+      length-append source (32 ∷ (target ++ 32 ∷ (decimal edge.tmin ++ 32 ∷ tail))),
+      short_name_in graph.nodes edge.source named,
+      length-append target (32 ∷ (decimal edge.tmin ++ 32 ∷ tail)),
+      short_name_in graph.nodes edge.target named,
+      length-append (decimal edge.tmin) (32 ∷ tail),
+      number_short edge.tmin valid.least,
+      length-append (tmax_word edge.tmax) (32 ∷ word),
+      short_tmax edge.tmax edge.tmin valid.most,
+    )

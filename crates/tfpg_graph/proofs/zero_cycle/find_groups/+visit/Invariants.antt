@@ -1,0 +1,16 @@
+-- The node has its mark, and those before the next have been searched.
+use Rattle.std.proofs.Common.{ℕ, ◌<◌, get_or}
+use Rattle.tfpg_graph.specs.inside.zero_cycle.ZeroSearch.{unmarked_count, HasGrown, IsMarked}
+use Rattle.tfpg_graph.proofs.zero_cycle.find_groups.+visit.Given as goal
+
+abbrev pub decreases-visit : goal.decreases-visit
+decreases-visit l = unmarked_count l.search.now.marks.items
+
+abbrev pub invariant-loop-next : goal.invariant-loop-next
+invariant-loop-next l = record {
+  grown : HasGrown l.steps l.node l.mark l.fn.search.marks.items l.fn.search.order.items l.search.marks.items
+      l.search.order.items;
+  marked : IsMarked l.search.marks.items l.node;
+  followed : (place : ℕ) → place < l.next-index → IsMarked l.search.marks.items (get_or l.next-items place 0);
+  fewer : unmarked_count l.search.marks.items < unmarked_count l.fn.search.marks.items;
+}

@@ -1,7 +1,0 @@
-use Rattle.std.proofs.Common.{◌-◌, length}
-use Rattle.tfpg_graph.specs.ZeroSearch.{IsGroupedFrom}
-use Rattle.tfpg_graph.proofs.zero_search.groups.Given as goal
-
-abbrev pub invariant-loop-turn : goal.invariant-loop-turn
-invariant-loop-turn l = IsGroupedFrom l.steps l.turned l.order.items l.search.marks.items l.search.order.items
-    (length l.order.items - l.turn)

@@ -1,8 +1,0 @@
-use Rattle.std.proofs.Common.{ℕ, List, sym, subst}
-use Rattle.tfpg_graph.specs.ZeroSearch.{AreWithin}
-use Rattle.tfpg_graph.proofs.StepRows.{AreWithin-none}
-use Rattle.tfpg_graph.proofs.zero_steps.ZeroSteps.none.Goals as goal
-
-pub invariant_of-result : goal.invariant_of-result
-invariant_of-result c = subst (λ (rows : List (List ℕ)). AreWithin rows) (sym c.loop.invariant)
-    (AreWithin-none c.loop.counter)

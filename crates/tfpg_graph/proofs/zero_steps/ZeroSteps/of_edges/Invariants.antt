@@ -1,6 +1,0 @@
-use Rattle.std.proofs.Common.{length, take}
-use Rattle.tfpg_graph.specs.ZeroEdges.{AreZeroSteps}
-use Rattle.tfpg_graph.proofs.zero_steps.ZeroSteps.of_edges.Given as goal
-
-abbrev pub invariant-loop-number : goal.invariant-loop-number
-invariant-loop-number l = AreZeroSteps (length l.declared.nodes) (take l.number l.declared.edges) l.turned l.steps

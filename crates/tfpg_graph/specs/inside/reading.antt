@@ -1,0 +1,4 @@
+pub mod Turns
+pub mod Answered
+pub mod StatementSeen
+pub mod LineCauses

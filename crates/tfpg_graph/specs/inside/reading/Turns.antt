@@ -1,0 +1,83 @@
+-- How a reader goes from line to line, by what is declared so far. What a line means for a text is said in Causes.
+use Rattle.std.specs.Prelude.{◌≡◌, ℕ, ◌<◌, List, [], ◌∷◌, length, All, Bool, ◌||◌, nat_lt, ◌==◌, if◌then◌else◌, Option, Some, None, option_map, Result, Ok, Err, IsTrue, is_some, bytes_eq}
+use Rattle.std.specs.List.{list_any}
+use Rattle.tfpg_graph.specs.declared.cause.GraphCause.{GraphCause}
+use Rattle.tfpg_graph.specs.declared.cause.GraphCause.TheVariants.{BadHeader, BadLine, AfterEnd}
+use Rattle.tfpg_graph.specs.declared.reading.reader.Part.{Part}
+use Rattle.tfpg_graph.specs.declared.reading.reader.Part.TheVariants.{Header, Declarations, Ended}
+use Rattle.tfpg_graph.specs.Graph.{Tfpg}
+use Rattle.tfpg_graph.specs.Text.{header}
+use Rattle.tfpg_graph.specs.inside.Indexes.{nothing_declared, with_node, with_edge, with_mode}
+use Rattle.tfpg_graph.specs.Statements.{Statement, DeclaresMode, DeclaresNode, DeclaresEdge, Ends, statement_of, statements_of, is_skipped, ends_text}
+use Rattle.tfpg_graph.specs.Declares.{kind_of_words, edge_declared, declared_by}
+use Rattle.tfpg_base.specs.Choice.{first_of}
+use Rattle.tfpg_graph.specs.Causes.{causes, cause_at}
+
+-- how far a text is read
+pub record ReaderState : Type 0 where
+  pub part : Part
+  pub graph : Tfpg
+
+-- before the first line
+abbrev pub nothing_read : ReaderState
+nothing_read = record { part = Header; graph = nothing_declared }
+
+-- A statement is out of its order, as what is declared shows.
+abbrev pub is_misplaced : Tfpg → Statement → Bool
+is_misplaced graph (DeclaresMode name) = nat_lt 0 (length graph.nodes) || nat_lt 0 (length graph.edges)
+is_misplaced graph (DeclaresNode name words) = (length graph.modes == 0) || nat_lt 0 (length graph.edges)
+is_misplaced graph (DeclaresEdge source target tmin tmax modes) = length graph.modes == 0
+is_misplaced graph Ends = length graph.modes == 0
+
+-- the progress with what a statement declares
+abbrev pub progress_with : Tfpg → Statement → Option ReaderState
+progress_with graph (DeclaresMode name) = Some (record { part = Declarations; graph = with_mode graph name })
+progress_with graph (DeclaresNode name words) = option_map (λ kind. record { part = Declarations; graph = with_node graph name kind }) (kind_of_words words)
+progress_with graph (DeclaresEdge source target tmin tmax modes) =
+    option_map (λ edge. record { part = Declarations; graph = with_edge graph edge }) (edge_declared graph (DeclaresEdge source target tmin tmax modes))
+progress_with graph Ends = Some (record { part = Ended; graph = graph })
+
+-- The cause, or else the value. What has no cause has a value.
+abbrev pub cause_or_value : {X : Type 0} → Option GraphCause → Option X → Result X GraphCause
+cause_or_value (Some cause) value = Err cause
+cause_or_value None (Some value) = Ok value
+cause_or_value None None = Err BadLine
+
+-- What is read has its first cause, or else has none and is this value.
+abbrev pub ReadAs : {X : Type 0} → Option GraphCause → Option X → Result X GraphCause → Type 0
+ReadAs first value (Ok x) = (first ≡ None) × (value ≡ Some x)
+ReadAs first value (Err cause) = first ≡ Some cause
+
+-- a statement is taken where it has no cause
+abbrev pub turn_said : Tfpg → Option Statement → Result ReaderState GraphCause
+turn_said graph None = Err BadLine
+turn_said graph (Some said) = cause_or_value (first_of (causes (is_misplaced graph said) graph said)) (progress_with graph said)
+
+-- a line of each part
+abbrev pub turn_of : Part → Tfpg → List ℕ → Result ReaderState GraphCause
+turn_of Header graph line = if bytes_eq line header then Ok (record { part = Declarations; graph = graph }) else Err BadHeader
+turn_of Declarations graph line = if is_skipped line then Ok (record { part = Declarations; graph = graph }) else turn_said graph (statement_of line)
+turn_of Ended graph line = if is_skipped line then Ok (record { part = Ended; graph = graph }) else Err AfterEnd
+
+-- One line.
+abbrev pub turn : ReaderState → List ℕ → Result ReaderState GraphCause
+turn progress line = turn_of progress.part progress.graph line
+
+-- which lines may come after these
+abbrev pub part_after : List (List ℕ) → Part
+part_after [] = Header
+part_after (first ∷ others) = if list_any ends_text (statements_of (first ∷ others)) then Ended else Declarations
+
+-- what a statement declares has a value
+abbrev pub HasValue : Tfpg → Statement → Type 0
+HasValue graph (DeclaresMode name) = Unit {0}
+HasValue graph (DeclaresNode name words) = IsTrue (is_some (kind_of_words words))
+HasValue graph (DeclaresEdge source target tmin tmax modes) = IsTrue (is_some (edge_declared graph (DeclaresEdge source target tmin tmax modes)))
+HasValue graph Ends = Unit {0}
+
+-- The lines were read, none of them has a cause, and they declare what is declared.
+pub record ReaderRepresents (progress : ReaderState) (lines : List (List ℕ)) : Type 0 where
+  pub clean : (place : ℕ) → place < length lines → cause_at lines place ≡ None
+  pub graph : progress.graph ≡ declared_by lines
+  pub part : progress.part ≡ part_after lines
+  pub values : All (HasValue (declared_by lines)) (statements_of lines)

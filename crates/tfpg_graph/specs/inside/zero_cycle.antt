@@ -1,0 +1,2 @@
+pub mod ZeroSearch
+pub mod ZeroEdges

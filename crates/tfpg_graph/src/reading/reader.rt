@@ -1,0 +1,258 @@
+//! The reader of a graph's text, line by line.
+
+ghost use Rattle.std.specs.Prelude.{◌≡◌, ◌≤◌, ◌^◌, length, Some, IfOk, IfErr};
+ghost use Rattle.tfpg_base.specs.Lines.{parts_of};
+ghost use Rattle.tfpg_graph.specs.Valid.{IsValid};
+ghost use Rattle.tfpg_graph.specs.declared.reading.reader.LineRefusal.TheVariants as line_refusal;
+ghost use Rattle.tfpg_graph.specs.Statements.{DeclaresMode, DeclaresNode, Ends};
+ghost use Rattle.tfpg_graph.specs.inside.reading.StatementSeen.{statement_seen, node_words_of, edge_said};
+ghost use Rattle.tfpg_graph.specs.inside.reading.Turns.{ReaderRepresents, turn, turn_said};
+ghost use Rattle.tfpg_graph.specs.inside.reading.Answered.{IsTurnAnswer, IsEndRefusal, refusal_at};
+
+use crate::cause::{GraphCause, GraphFault, GraphRefusal};
+use crate::declared::Declared;
+use crate::graph::Graph;
+use crate::reading::check_edge::read_edge;
+use crate::reading::check_mode::mode_cause;
+use crate::reading::check_node::read_node;
+use crate::reading::find_line::{Declaring, line_declaring};
+use crate::reading::list_modes::listed_modes;
+use crate::reading::statement::{EdgeWords, NodeWords, Statement, is_skipped, statement_of};
+use crate::zero_cycle::first_on_zero_cycle;
+use std::alloc::Global;
+use std::marker::Model;
+use tfpg_base::NoMemory;
+
+/// Which lines may come next.
+#[derive(Clone, Copy)]
+pub(crate) enum Part {
+    /// The header.
+    Header,
+    /// A line that declares something, or the end.
+    Declarations,
+    /// Only lines that are skipped.
+    Ended,
+}
+
+/// Why a line was not taken.
+#[derive(Clone, Copy)]
+pub(crate) enum LineRefusal {
+    Cause(GraphCause),
+    NoMemory,
+}
+
+impl From<NoMemory> for LineRefusal {
+    ghost use Rattle.std.specs.Prelude.{◌≡◌};
+    ghost use Rattle.tfpg_graph.specs.declared.reading.reader.LineRefusal.TheVariants as line_refusal;
+
+    ghost from_gives = { λ _ refusal. refusal ≡ line_refusal.NoMemory };
+
+    fn from(_no_memory: NoMemory) -> LineRefusal {
+        LineRefusal::NoMemory
+    }
+}
+
+impl From<GraphCause> for LineRefusal {
+    ghost use Rattle.std.specs.Prelude.{◌≡◌};
+    ghost use Rattle.tfpg_graph.specs.declared.reading.reader.LineRefusal.TheVariants as line_refusal;
+
+    ghost from_gives = { λ cause refusal. refusal ≡ line_refusal.Cause cause };
+
+    fn from(cause: GraphCause) -> LineRefusal {
+        LineRefusal::Cause(cause)
+    }
+}
+
+impl LineRefusal {
+    /// The refusal of the text, where this is that of its line of this number.
+    pub(crate) fn at(self, line: u64) -> GraphRefusal
+        ensures { result ≡ refusal_at self line }
+    {
+        match self {
+            LineRefusal::Cause(cause) => GraphRefusal::Fault(GraphFault { line, cause }),
+            LineRefusal::NoMemory => GraphRefusal::NoMemory,
+        }
+    }
+}
+
+fn fault(line: u64, cause: GraphCause) -> GraphRefusal
+    ensures { result ≡ refusal_at (line_refusal.Cause cause) line }
+{
+    GraphRefusal::Fault(GraphFault { line, cause })
+}
+
+/// What the lines so far have declared, and which lines may come next.
+#[derive(Drop)]
+pub(crate) struct Reader {
+    part: Part,
+    declared: Declared,
+}
+
+impl Model for Reader {
+    ghost use Rattle.tfpg_graph.specs.inside.reading.Turns.{ReaderState};
+
+    ghost Value = { ReaderState };
+
+    ghost view = { λ reader. record { part = reader.part; graph = reader.declared } };
+}
+
+impl Reader {
+    ghost use Rattle.tfpg_graph.specs.inside.reading.Turns.{nothing_read};
+
+    /// Nothing is read yet. Takes no memory.
+    pub(crate) fn new(alloc: Global) -> Reader
+        ensures { result ≡ nothing_read }
+    {
+        Reader {
+            part: Part::Header,
+            declared: Declared::new(alloc),
+        }
+    }
+
+    /// Reads one more line. Takes time in the length of the line, but for look-ups by name, and for an edge in the square of
+    /// the number of modes that it lists, which is at most 64 but in a line that has a fault.
+    pub(crate) fn take(self, alloc: Global, line: &[u8]) -> Result<Reader, LineRefusal>
+        ensures { IsTurnAnswer (turn self line.now) result }
+    {
+        match self.part {
+            Part::Header => self.take_header(line),
+            Part::Declarations => self.take_declaration(alloc, line),
+            Part::Ended => self.take_after_end(line),
+        }
+    }
+
+    /// The graph of a text whose lines are all read, of which there are so many. Takes time in the number of nodes and
+    /// edges, and where there is a fault, a walk through the text.
+    pub(crate) fn end(
+        self,
+        alloc: Global,
+        text: &[u8],
+        line_count: u64,
+    ) -> Result<Graph, GraphRefusal>
+        requires stands { ReaderRepresents self (parts_of text.now) }
+        requires count { line_count ≡ length (parts_of text.now) }
+        requires few { line_count ≤ 2 ^ 63 }
+        ensures graph { IfOk result (λ graph. (graph ≡ self.graph) × (self.part ≡ Part.Ended)) }
+        ensures valid { IfOk result IsValid }
+        ensures fault { IfErr result (IsEndRefusal (parts_of text.now)) }
+    {
+        let Reader { part, declared } = self;
+        if let Some(node) = declared.without_incoming() {
+            return Err(fault(
+                line_declaring(text, Declaring::Node, node),
+                GraphCause::NoIncoming,
+            ));
+        }
+        if let Some(edge) = first_on_zero_cycle(alloc, &declared)? {
+            return Err(fault(
+                line_declaring(text, Declaring::Edge, edge),
+                GraphCause::ZeroCycle,
+            ));
+        }
+        match part {
+            Part::Ended => Ok(Graph::new(declared)),
+            _ => Err(fault(line_count + 1, GraphCause::MissingEnd)),
+        }
+    }
+
+    fn take_header(self, line: &[u8]) -> Result<Reader, LineRefusal>
+        requires { self.part ≡ Part.Header }
+        ensures { IsTurnAnswer (turn self line.now) result }
+    {
+        if line != b"tfpg 1".as_slice() {
+            return Err(LineRefusal::Cause(GraphCause::BadHeader));
+        }
+        Ok(Reader {
+            part: Part::Declarations,
+            declared: self.declared,
+        })
+    }
+
+    fn take_after_end(self, line: &[u8]) -> Result<Reader, LineRefusal>
+        requires { self.part ≡ Part.Ended }
+        ensures { IsTurnAnswer (turn self line.now) result }
+    {
+        if !is_skipped(line) {
+            return Err(LineRefusal::Cause(GraphCause::AfterEnd));
+        }
+        Ok(self)
+    }
+
+    fn take_declaration(self, alloc: Global, line: &[u8]) -> Result<Reader, LineRefusal>
+        requires { self.part ≡ Part.Declarations }
+        ensures { IsTurnAnswer (turn self line.now) result }
+    {
+        if is_skipped(line) {
+            return Ok(self);
+        }
+        match statement_of(line) {
+            None => Err(LineRefusal::Cause(GraphCause::BadLine)),
+            Some(statement) => self.with_statement(alloc, statement),
+        }
+    }
+
+    fn with_statement(self, alloc: Global, statement: Statement<'_>) -> Result<Reader, LineRefusal>
+        ensures { IsTurnAnswer (turn_said self.graph (Some (statement_seen statement.entry))) result }
+    {
+        match statement {
+            Statement::Mode { name } => self.with_mode(alloc, name),
+            Statement::Node { name, words } => self.with_node(alloc, name, words),
+            Statement::Edge(words) => self.with_edge(alloc, words),
+            Statement::End => self.with_end(),
+        }
+    }
+
+    fn with_mode(self, alloc: Global, name: &[u8]) -> Result<Reader, LineRefusal>
+        ensures { IsTurnAnswer (turn_said self.graph (Some (DeclaresMode name.now))) result }
+    {
+        if let Some(cause) = mode_cause(&self.declared, name) {
+            return Err(LineRefusal::Cause(cause));
+        }
+        let declared = self.declared.with_mode(alloc, name)?;
+        Ok(Reader {
+            part: Part::Declarations,
+            declared,
+        })
+    }
+
+    fn with_node(
+        self,
+        alloc: Global,
+        name: &[u8],
+        words: NodeWords<'_>,
+    ) -> Result<Reader, LineRefusal>
+        ensures { IsTurnAnswer (turn_said self.graph
+            (Some (DeclaresNode name.now (node_words_of words.entry)))) result }
+    {
+        let kind = read_node(&self.declared, name, words)?;
+        let declared = self.declared.with_node(alloc, name, kind)?;
+        Ok(Reader {
+            part: Part::Declarations,
+            declared,
+        })
+    }
+
+    fn with_edge(self, alloc: Global, words: EdgeWords<'_>) -> Result<Reader, LineRefusal>
+        ensures { IsTurnAnswer (turn_said self.graph (Some (edge_said words.entry))) result }
+    {
+        let modes = listed_modes(alloc, words.modes)?;
+        let edge = read_edge(&self.declared, words, modes.as_slice())?;
+        let declared = self.declared.with_edge(edge)?;
+        Ok(Reader {
+            part: Part::Declarations,
+            declared,
+        })
+    }
+
+    fn with_end(self) -> Result<Reader, LineRefusal>
+        ensures { IsTurnAnswer (turn_said self.graph (Some Ends)) result }
+    {
+        if self.declared.mode_count() == 0 {
+            return Err(LineRefusal::Cause(GraphCause::BadLine));
+        }
+        Ok(Reader {
+            part: Part::Ended,
+            declared: self.declared,
+        })
+    }
+}

@@ -1,0 +1,46 @@
+//! The line of a node, as it is written.
+
+ghost use Rattle.std.specs.Prelude.{◌≡◌, ◌∷◌};
+ghost use Rattle.tfpg_base.specs.Append.{Appends};
+ghost use Rattle.tfpg_base.specs.TextLine.{text_line};
+ghost use Rattle.tfpg_graph.specs.Text.{node_words, watch_words};
+
+use crate::kind::Kind;
+use itoa::Buffer;
+use tfpg_base::{NoMemory, put_line};
+
+/// Appends the line of a node.
+pub(crate) fn put_node(name: &[u8], kind: Kind, into: &mut Vec<u8>) -> Result<(), NoMemory>
+    ensures { Appends result into.old.items into.new.items (text_line (node_words name.now kind)) }
+{
+    match kind {
+        Kind::Failure { rarity } => {
+            let mut digits = Buffer::new();
+            put_line(into, &[b"failure", name, digits.format(rarity).as_bytes()])
+        }
+        Kind::Or { lag } => put_discrepancy(b"or", name, lag, into),
+        Kind::And { lag } => put_discrepancy(b"and", name, lag, into),
+    }
+}
+
+/// Appends the line of a discrepancy of this keyword.
+fn put_discrepancy(
+    keyword: &[u8],
+    name: &[u8],
+    lag: Option<u64>,
+    into: &mut Vec<u8>,
+) -> Result<(), NoMemory>
+    ensures { Appends result into.old.items into.new.items
+        (text_line (keyword.now ∷ name.now ∷ watch_words lag)) }
+{
+    match lag {
+        Some(lag) => {
+            let mut digits = Buffer::new();
+            put_line(
+                into,
+                &[keyword, name, b"watch", digits.format(lag).as_bytes()],
+            )
+        }
+        None => put_line(into, &[keyword, name, b"hidden"]),
+    }
+}

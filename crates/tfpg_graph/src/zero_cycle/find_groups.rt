@@ -1,0 +1,95 @@
+//! The groups of nodes that reach each other, which are the strongly connected components, by two depth-first searches.
+
+ghost use Rattle.std.specs.Prelude.{◌≡◌, ◌<◌, [], None, length, replicate, IfOk, OnOk};
+ghost use Rattle.tfpg_graph.specs.inside.zero_cycle.ZeroSearch.{IsSearched, HasVisited, IsFinishingOrder, AreReversed, AreGroups};
+
+use crate::zero_cycle::steps::ZeroSteps;
+use std::alloc::Global;
+use tfpg_base::NoMemory;
+
+/// What a search has found so far.
+#[derive(Drop)]
+struct Search {
+    /// For each node its mark, where the search has come to it.
+    marks: Vec<Option<usize>>,
+    /// The nodes that the search is done with, in the order in which it was done with them.
+    order: Vec<u32>,
+}
+
+impl Search {
+    /// The search has not begun.
+    fn new(alloc: Global, count: u32) -> Result<Search, NoMemory>
+        ensures marks { IfOk result (λ search. search.marks.items ≡ replicate count None) }
+        ensures order { IfOk result (λ search. search.order.items ≡ []) }
+    {
+        Ok(Search {
+            marks: vec![in alloc; None; count as usize]?,
+            order: Vec::new(alloc),
+        })
+    }
+}
+
+/// Searches depth-first: gives a mark to the node and all that it reaches over nodes without one, and is done with each of
+/// these when it is done with those that it reaches. It calls itself as deep as there are nodes.
+fn visit(steps: &ZeroSteps, node: u32, mark: usize, search: &mut Search) -> Result<(), NoMemory>
+    requires node { node < length steps.now }
+    requires count { length search.old.marks.items ≡ length steps.now }
+    requires searched { IsSearched steps.now search.old.marks.items search.old.order.items }
+    ensures { OnOk result
+        (HasVisited steps.now node mark search.old.marks.items search.old.order.items search.new.marks.items
+        search.new.order.items) }
+{
+    if search.marks[node as usize].is_some() {
+        return Ok(());
+    }
+    search.marks[node as usize] = Some(mark);
+    for next in steps.row(node) {
+        visit(steps, *next, mark, search)?;
+    }
+    search.order.push(node)?;
+    Ok(())
+}
+
+/// The nodes in the order in which searches from each of them are done with them.
+fn finishing_order(alloc: Global, count: u32, steps: &ZeroSteps) -> Result<Vec<u32>, NoMemory>
+    requires { count ≡ length steps.now }
+    ensures { IfOk result (λ order. IsFinishingOrder steps.now order.items) }
+{
+    let mut search = Search::new(alloc, count)?;
+    for node in 0..count {
+        visit(steps, node, 0, &mut search)?;
+    }
+    let Search {
+        marks: _marks,
+        order,
+    } = search;
+    Ok(order)
+}
+
+/// A mark for each node, so that nodes with one mark reach each other and no step goes to a lesser mark.
+///
+/// The first search goes along the reversed steps. The second takes the nodes from last to first in the order of the
+/// first, and gives each group the place of its first node in that order (Kosaraju; Sharir 1981). Takes time in
+/// the numbers of nodes and steps, and memory for a mark and a place for each node.
+pub(crate) fn groups(
+    alloc: Global,
+    count: u32,
+    steps: &ZeroSteps,
+    reversed: &ZeroSteps,
+) -> Result<Vec<Option<usize>>, NoMemory>
+    requires count { count ≡ length steps.now }
+    requires reversed { AreReversed steps.now reversed.now }
+    ensures { IfOk result (λ marks. AreGroups steps.now marks.items) }
+{
+    let order = finishing_order(alloc, count, reversed)?;
+    let mut search = Search::new(alloc, count)?;
+    for turn in 0..order.len() {
+        let place = order.len() - 1 - turn;
+        visit(steps, order[place], place, &mut search)?;
+    }
+    let Search {
+        marks,
+        order: _order,
+    } = search;
+    Ok(marks)
+}

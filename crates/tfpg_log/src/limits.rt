@@ -1,0 +1,7 @@
+//! How much a log takes of each thing.
+
+/// How many events a log takes at most.
+pub const MAX_EVENTS: u32 = 16_384;
+
+/// How many of its events are changes of mode at most.
+pub const MAX_MODE_CHANGES: u32 = 1_024;
