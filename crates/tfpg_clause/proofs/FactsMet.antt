@@ -14,7 +14,7 @@ use Rattle.tfpg_base.proofs.Elements.{AllPairs-head, AllPairs-tail}
 use Rattle.tfpg_graph.specs.Graph.{Tfpg, Node, lag_at, lag_of, is_monitored}
 use Rattle.tfpg_graph.specs.Reach.{IsReach, Reaches, is_among}
 use Rattle.tfpg_graph.specs.ZeroCycle.{HasZeroOrder}
-use Rattle.tfpg_graph.proofs.Reaches.{among-from_Contains, Contains-from_among}
+use Rattle.tfpg_graph.proofs.lemmas.reach.Reaches.{among-from_Contains, Contains-from_among}
 use Rattle.tfpg_log.specs.declared.event.Event.{Event}
 use Rattle.tfpg_log.specs.declared.event.Event.TheVariants.{Alarm, Silent, Sweep, Tick, Mode}
 use Rattle.tfpg_log.specs.Log.{Logbook, now_of, time_of_event, alarm_among, quiet_time, quiet_at, IsOf, IsEventOf, IsOrdered}

@@ -34,7 +34,7 @@ rarity_small graph node rarity valid is = by (slice_get graph.nodes node) refl i
     by : (found : Option Node) → slice_get graph.nodes node ≡ found → option_map (λ n. n.kind) found ≡ Some (Failure rarity) → rarity ≤ 1000000
     by None at kind = cc
     by (Some found) at kind =
-        subst HasValidNumber (same_Some found.kind (Failure rarity) kind) (All-at (λ n. HasValidNumber n.kind) graph.nodes node found valid.node_numbers at)
+        subst HasValidNumber (same_Some found.kind (Failure rarity) kind) (All-at (λ n. HasValidNumber n.kind) graph.nodes node found valid.so_far.node_numbers at)
 
 -- one value more in a sum
 pub sum_by-push : (f : ℕ → ℕ) (xs : List ℕ) (x : ℕ) → sum_by f (xs ++ x ∷ []) ≡ sum_by f xs + f x

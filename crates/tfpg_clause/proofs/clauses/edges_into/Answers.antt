@@ -6,5 +6,5 @@ use Rattle.tfpg_clause.proofs.clauses.edges_into.Goals as goal
 
 pub returns-clause-edges : goal.returns-clause-edges
 returns-clause-edges c =
-    All-same (λ number. number < length c.args.graph.now.edges) c.incoming.result.now (incoming c.args.graph.now c.args.node) c.incoming.ensures
+    All-same (λ number. number < length c.args.graph.now.edges) c.incoming.result.now (incoming c.args.graph.now c.args.node) c.incoming.ensures.edges
     (All-below-numbers_from (λ edge. nat_eq edge.target c.args.node) c.args.graph.now.edges)

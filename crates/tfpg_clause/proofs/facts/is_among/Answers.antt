@@ -1,6 +1,6 @@
 use Rattle.std.proofs.lemmas.Bool.Decides.{same_from_decides}
 use Rattle.std.specs.Prelude.{Contains}
-use Rattle.tfpg_graph.proofs.Reaches.{among-from_Contains, Contains-from_among}
+use Rattle.tfpg_graph.proofs.lemmas.reach.Reaches.{among-from_Contains, Contains-from_among}
 use Rattle.tfpg_graph.specs.Reach.{is_among}
 use Rattle.tfpg_clause.proofs.facts.is_among.Goals as goal
 
