@@ -1,5 +1,5 @@
 -- How the turns of a search for a line's end add up to what a call finds.
-use Rattle.std.proofs.Common.{◌≡◌, inl, inr, ℕ, ◌+◌, ◌-◌, ◌<◌, ◌≤◌, Bool, true, false, cond, leb, List, [], ◌∷◌, ◌++◌, length, take, drop, Option, Some, None, Result, Ok, Err, refl, ap, ◌∙◌, sym, subst, arith, append_assoc, append-nil, length-append}
+use Rattle.std.proofs.Common.{◌≡◌, inl, inr, ℕ, ◌+◌, ◌-◌, ◌<◌, ◌≤◌, Bool, true, false, cond, leb, List, [], ◌∷◌, ◌++◌, length, take, drop, Some, None, Result, Ok, Err, refl, ap, ◌∙◌, sym, subst, arith, append_assoc, append-nil, length-append}
 use Rattle.std.proofs.lemmas.Bool.{leb-true, leb-false, lt-leb, le-leb}
 use Rattle.std.proofs.lemmas.List.Elements.{All-append}
 use Rattle.std.proofs.lemmas.List.{nil_from_length, drop_at, take_all}
@@ -9,8 +9,8 @@ use Rattle.tfpg_base.specs.declared.line.Line.TheVariants as line
 use Rattle.tfpg_base.specs.declared.line.LineFault.{LineFault}
 use Rattle.tfpg_base.specs.declared.line.LineFault.TheVariants as fault
 use Rattle.tfpg_base.specs.Outside.{SourceState, Takes, IsAtEnd}
-use Rattle.tfpg_base.specs.Lines.{Buffered, Reading, LinesRepresent, Continues, HasNoLineEnd, ends_line, longest_line, max_bytes, buffer_size, CountsReadFault}
-use Rattle.tfpg_base.specs.LineSearch.{IsAtLineEnd, kind_of, lent_of, IsGiven, IsEnded, GivesLast, Found, Took, Pieces, Refilled, IsRefilled, Searched}
+use Rattle.tfpg_base.specs.Lines.{Buffered, Reading, LinesRepresent, Continues, HasNoLineEnd, ends_line, longest_line, max_bytes, buffer_size}
+use Rattle.tfpg_base.specs.inside.LineSearch.{IsAtLineEnd, kind_of, lent_of, IsGiven, IsEnded, GivesLast, Found, Took, Pieces, Refilled, IsRefilled, Searched}
 use Rattle.tfpg_base.proofs.Taking.{Takes-nothing, Takes-append}
 use Rattle.tfpg_base.proofs.Histories.{Continues-found}
 

@@ -9,9 +9,9 @@ use Rattle.std.proofs.Math.Nat.{add_comm, mod-one, mod-lt, mod-eq_of_lt}
 use Rattle.std.proofs.Math.Pow.{mod-pow-add, pow_pos}
 use Rattle.std.proofs.lemmas.Nat.{ones_le_self, zero_from_ones, ones_cat}
 use Rattle.std.proofs.lemmas.Nat.Bits.{bit_at-lt, shr_and_one, bit_at_and, bit_at_set_same, bit_at_set_other, bit_at_above, same_from_bits}
-use Rattle.tfpg_base.proofs.Elements.{AllPairs-head, AllPairs-tail, AllPairs-cons, All-from_members, Contains-head, Contains-tail, Contains-cons_cases, Contains-nil}
+use Rattle.tfpg_base.proofs.lists.Elements.{AllPairs-head, AllPairs-tail, AllPairs-cons, All-from_members, Contains-head, Contains-tail, Contains-cons_cases, Contains-nil}
 use Rattle.tfpg_base.specs.Set.{with_member, IsPart, IsSet}
-use Rattle.tfpg_base.specs.SetBits.{ones_below, members_of, bits_of, bits_of, bits_of-members_of}
+use Rattle.tfpg_base.specs.inside.SetBits.{ones_below, members_of, bits_of, bits_of, bits_of-members_of}
 
 -- the members rise strictly
 abbrev pub Rises : List ℕ → Type 0

@@ -5,7 +5,7 @@
 
 ghost use Rattle.std.specs.Prelude.{◌≡◌, ◌<◌, ◌≤◌, ◌+◌, [], ℕ, List, take, drop, length, slice_range, IfOk, IfNone, IfSome};
 ghost use Rattle.tfpg_base.specs.Lines.{Reading, new_reading, LinesRepresent, Continues, HasNoLineEnd};
-ghost use Rattle.tfpg_base.specs.LineSearch.{IsAtLineEnd, kind_of, lent_of};
+ghost use Rattle.tfpg_base.specs.inside.LineSearch.{IsAtLineEnd, kind_of, lent_of};
 
 mod refill;
 mod search;
@@ -49,7 +49,7 @@ impl Model for Lines {
 
     ghost Value = { Buffered };
 
-    ghost use Rattle.tfpg_base.specs.LinesInside.{buffered_of, IsInPlace};
+    ghost use Rattle.tfpg_base.specs.inside.Buffer.{buffered_of, IsInPlace};
 
     ghost view = { buffered_of };
 

@@ -17,7 +17,7 @@ pub struct Set {
 impl Model for Set {
     ghost use Rattle.std.specs.Prelude.{ℕ, List, ◌<◌, ◌^◌};
     ghost use Rattle.std.proofs.Common.{ap};
-    ghost use Rattle.tfpg_base.specs.SetBits.{members_of, bits_of, bits_of-members_of};
+    ghost use Rattle.tfpg_base.specs.inside.SetBits.{members_of, bits_of, bits_of-members_of};
 
     ghost Value = { List ℕ };
 

@@ -3,7 +3,7 @@
 ghost use Rattle.std.specs.Prelude.{◌≡◌, ◌<◌, ◌≤◌, ◌+◌, ◌-◌, take, length, slice_range, vec_len, IfOk, OnErr, Ok};
 ghost use Rattle.tfpg_base.specs.Outside.{Rose, Takes, IsAtEnd};
 ghost use Rattle.tfpg_base.specs.Lines.{longest_line, max_bytes, CountsReadFault};
-ghost use Rattle.tfpg_base.specs.LineSearch.{Refilled};
+ghost use Rattle.tfpg_base.specs.inside.LineSearch.{Refilled};
 
 use super::{Lines, Places, ROOM};
 use crate::{Failed, LineFault, Source};

@@ -2,7 +2,7 @@
 
 ghost use Rattle.std.specs.Prelude.{◌≡◌, ◌<◌, ◌≤◌, ◌+◌, [], drop, length, None, Some, Ok};
 ghost use Rattle.tfpg_base.specs.Lines.{HasNoLineEnd, longest_line, max_bytes, CountsReadFault};
-ghost use Rattle.tfpg_base.specs.LineSearch.{GivesLast, Searched};
+ghost use Rattle.tfpg_base.specs.inside.LineSearch.{GivesLast, Searched};
 
 use super::{Lines, Places, line_end};
 use crate::{LONGEST_LINE, Line, LineFault, Source};
