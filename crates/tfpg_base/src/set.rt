@@ -52,7 +52,7 @@ impl Set {
         Set { bits: 0 }
     }
 
-    /// The members as bits: bit `p` stands for position `p`.
+    /// The members as bits: bit `p` is position `p`.
     pub fn bits(self) -> u64
         ensures worth { result ≡ sum_by (λ place. 2 ^ place) self }
         ensures set { IsSet self }

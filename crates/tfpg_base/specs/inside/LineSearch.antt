@@ -99,7 +99,7 @@ Refilled old before after (Err fault.ReadFault) now =
 Refilled old before after (Err fault.TooMuchInput) now =
     (last : ℕ) × Took old now before after (last ∷ []) × (now.taken ≡ max_bytes + 1) × IsEnded old.number (Err fault.TooMuchInput) now
 
--- bytes were taken until one of the answers came
+-- bytes were taken until a line, the end or a fault was found
 abbrev pub Searched : Buffered → SourceState → SourceState → Result Line LineFault → Buffered → Type 0
 Searched old before after result now =
     (more : List ℕ) × Took old now before after more × Pieces old more × Found (old.waiting ++ more) old.number (IsAtEnd after) result now
