@@ -6,11 +6,11 @@ use Rattle.std.specs.List.{flat_map}
 use Rattle.tfpg_base.specs.declared.no_memory.NoMemory.{NoMemory}
 use Rattle.tfpg_base.specs.Append.{Appends}
 
--- what the second call leaves, where memory was wanting in it
+-- what the second call leaves, where it ran out of memory
 pub kept_after : (old mid new text : List ℕ) → mid ≡ old ++ text → (rest : List ℕ) × (new ≡ mid ++ rest) → (rest : List ℕ) × (new ≡ old ++ rest)
 kept_after old mid new text e h = (text ++ h.0, h.1 ∙ ap (λ (t : List ℕ). t ++ h.0) e ∙ append_assoc old text h.0)
 
--- what the first call leaves, where memory was wanting in it
+-- what the first call leaves, where it ran out of memory
 pub kept_same : (old new : List ℕ) → new ≡ old → (rest : List ℕ) × (new ≡ old ++ rest)
 kept_same old new e = ([], e ∙ sym (append-nil old))
 
@@ -18,21 +18,21 @@ kept_same old new e = ([], e ∙ sym (append-nil old))
 pub appended_after : (old mid new a b : List ℕ) → mid ≡ old ++ a → new ≡ mid ++ b → new ≡ old ++ (a ++ b)
 appended_after old mid new a b e h = h ∙ ap (λ (t : List ℕ). t ++ b) e ∙ append_assoc old a b
 
--- an error is one where memory was wanting
+-- an error is one where memory ran out
 pub Appends-err : (result : Result (Unit {0}) NoMemory) (old new text : List ℕ) → IsErr result → (rest : List ℕ) × (new ≡ old ++ rest) → Appends result old new text
 Appends-err (Ok done) old new text e h = absurd cc
-Appends-err (Err wanting) old new text e h = h
+Appends-err (Err short) old new text e h = h
 
--- an error of a call behind a text that was appended
+-- an error of a call after a text that was appended
 pub Appends-err_after : (result : Result (Unit {0}) NoMemory) (old mid new a text : List ℕ) → IsErr result → mid ≡ old ++ a → (rest : List ℕ) × (new ≡ mid ++ rest) → Appends result old new text
 Appends-err_after result old mid new a text e h k = Appends-err result old new text e (kept_after old mid new a h k)
 
--- a last call behind a text that was appended, whose answer is handed on
+-- a last call after a text that was appended, whose result is returned
 pub Appends-after : (result : Result (Unit {0}) NoMemory) (old mid new a b : List ℕ) → mid ≡ old ++ a → Appends result mid new b → Appends result old new (a ++ b)
 Appends-after (Ok done) old mid new a b e h = appended_after old mid new a b e h
-Appends-after (Err wanting) old mid new a b e h = kept_after old mid new a e h
+Appends-after (Err short) old mid new a b e h = kept_after old mid new a e h
 
--- the texts of the items before a place, and behind them that of the item there
+-- the texts of the items before a place, and after them that of the item there
 pub appended_more : {X : Type 0} (f : X → List ℕ) (xs : List X) (place : ℕ) (d : X) (old mid new : List ℕ) → place < length xs
     → mid ≡ old ++ flat_map f (take place xs) → new ≡ mid ++ f (get_or xs place d) → new ≡ old ++ flat_map f (take (place + 1) xs)
 appended_more f xs place d old mid new lt e h =

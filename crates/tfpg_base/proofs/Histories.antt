@@ -10,10 +10,10 @@ use Rattle.tfpg_base.specs.declared.line.LineFault.{LineFault}
 use Rattle.tfpg_base.specs.declared.line.LineFault.TheVariants as fault
 use Rattle.tfpg_base.specs.Outside.{SourceState, IsAtEnd}
 use Rattle.tfpg_base.specs.Lines.{Reading, Buffered, HasNoLineEnd, LinesRepresent, IsGoingOn, IsNext, ReturnsNext, ComesInPieces, TakesAsNeeded, CountsReadFault, Continues, with_bytes, with_line, ended_by, ended_behind, next_whole, whole_lines, lines_of, with_line_end, max_bytes}
-use Rattle.tfpg_base.specs.LineSearch.{BeginsWith, IsLastLine, IsGiven, IsEnded, Found, Took, Pieces, Searched}
+use Rattle.tfpg_base.specs.inside.LineSearch.{BeginsWith, IsLastLine, IsGiven, IsEnded, Found, Took, Pieces, Searched}
 use Rattle.tfpg_base.proofs.LinesOf.{whole_lines-behind, lines_of-behind, whole_lines-line, lines_of-line, whole_lines-none, lines_of-none}
 
--- the element behind a front
+-- the element after a front
 slice_get-behind : (front : List (List ℕ)) (x : List ℕ) (xs : List (List ℕ)) → slice_get (front ++ x ∷ xs) (length front) ≡ Some x
 slice_get-behind [] x xs = refl
 slice_get-behind (y ∷ front) x xs = slice_get-behind front x xs
@@ -28,9 +28,9 @@ lines_of-one : (bytes : List ℕ) → HasNoLineEnd bytes → 0 < length bytes �
 lines_of-one [] h some = absurd (omega arith)
 lines_of-one (byte ∷ bytes) h some = lines_of-none (byte ∷ bytes) h
 
--- A history with its lines given, the bytes behind them, and no more bytes taken than it may.
+-- A history with its lines given, the bytes after them, and no more bytes taken than it may.
 module _ (reading : Reading) (bytes : List ℕ) (split : reading.taken ≡ flat_map with_line_end reading.given ++ bytes) (clean : All HasNoLineEnd reading.given) where
-  -- the lines are those given and those of the bytes behind them
+  -- the lines are those given and those of the bytes after them
   lines_of-taken : lines_of reading.taken ≡ reading.given ++ lines_of bytes
   lines_of-taken = ap lines_of split ∙ lines_of-behind reading.given bytes clean
 
@@ -69,11 +69,11 @@ module _ (reading : Reading) (bytes : List ℕ) (split : reading.taken ≡ flat_
   lines_of-last : (first : List ℕ) → HasNoLineEnd first → 0 < length first → bytes ≡ first → lines_of reading.taken ≡ reading.given ++ first ∷ []
   lines_of-last first h some e = lines_of-taken ∙ ap (λ b. reading.given ++ lines_of b) e ∙ ap (λ lines. reading.given ++ lines) (lines_of-one first h some)
 
--- behind a whole line nothing has ended
+-- after a whole line nothing has ended
 not_ended : (next : Option (List ℕ)) (first : List ℕ) (answer : Result Line LineFault) → next ≡ Some first → ended_behind next ≡ Some answer → ⊥
 not_ended next first answer is e = let none : ended_behind next ≡ None = ap ended_behind is in cc
 
--- behind a last line the end is
+-- after a last line the end comes
 ended_by_last : (next : Option (List ℕ)) → next ≡ None → ended_behind next ≡ None → ⊥
 ended_by_last next is e = let some : ended_behind next ≡ Some (Ok line.End) = ap ended_behind is in cc
 
@@ -93,7 +93,7 @@ take_but_one most taken front last is count =
 is_none : (next : Option (List ℕ)) → next ≡ None → IsSome next → ⊥
 is_none next e some = let f : IsSome {T = List ℕ} None = subst IsSome e some in cc
 
--- What is known of the reader behind a call, but for what it answers.
+-- What is known of the reader after a call, but for what it returns.
 record Stands (reading : Reading) (lines : ℕ) (now : Buffered) : Type 0 where
   lines_given : lines ≡ length reading.given
   counted : now.taken ≡ length reading.taken
@@ -146,11 +146,11 @@ module _ (reading : Reading) (bytes : List ℕ) (lines : ℕ) (now : Buffered) (
         all_given = λ _. lines_of-last reading bytes split clean first is.line ends.some ends.whole;
       }
 
-  -- the reader stands for the history with the line that it gave
+  -- the reader represents the history with the line that it gave
   LinesRepresent-given : (first : List ℕ) → IsGiven bytes first lines source_ended now → LinesRepresent now (with_line reading first)
   LinesRepresent-given first is = elim is.ends [ inl ends ↦ LinesRepresent-begins first is ends | inr ends ↦ LinesRepresent-last first is ends ]
 
-  -- the reader stands for the history that the answer ends
+  -- the reader represents the history that the answer ends
   LinesRepresent-ended : (answer : Result Line LineFault) → IsEnded lines answer now → (Some answer ≡ Some (Ok line.End) → lines_of reading.taken ≡ reading.given) → LinesRepresent now (ended_by reading answer)
   LinesRepresent-ended answer is all = record {
     number = is.number ∙ stands.lines_given;

@@ -6,7 +6,7 @@ use Rattle.std.proofs.lemmas.List.{take_more, take_all, length-take, length-map,
 use Rattle.tfpg_base.specs.Words.{line_of}
 use Rattle.tfpg_base.specs.TextLine.{separated}
 
--- a part behind others stands behind a separator
+-- a part after others comes after a separator
 pub join-push_later : (c : ℕ) (first : List ℕ) (others : List (List ℕ)) (part : List ℕ)
     → join_with_byte c (first ∷ (others ++ part ∷ [])) ≡ join_with_byte c (first ∷ others) ++ (c ∷ part)
 join-push_later c first [] part = refl
@@ -15,7 +15,7 @@ join-push_later c first (second ∷ others) part =
     let regroup : (first ++ (c ∷ join_with_byte c (second ∷ others))) ++ (c ∷ part) ≡ first ++ (c ∷ (join_with_byte c (second ∷ others) ++ (c ∷ part))) = append_assoc first (c ∷ join_with_byte c (second ∷ others)) (c ∷ part) in
     step ∙ sym regroup
 
--- one part more stands behind the others, with a separator between
+-- one part more comes after the others, with a separator between
 pub join-push : (c : ℕ) (parts : List (List ℕ)) (part : List ℕ) → join_with_byte c (parts ++ part ∷ []) ≡ join_with_byte c parts ++ separated c (eqb (length parts) 0) part
 join-push c [] part = refl
 join-push c (first ∷ others) part =

@@ -1,6 +1,9 @@
+-- On lists, options and choices among them.
+pub mod lists
+pub use Rattle.tfpg_base.proofs.lists.Elements
+-- On the notions of this crate.
 pub mod Appended
 pub mod Joined
-pub mod Elements
 pub mod Numbers
 pub mod Separators
 pub mod Sets
@@ -8,6 +11,7 @@ pub mod Traces
 pub mod Taking
 pub mod LinesOf
 pub mod ReadingOn
+-- On what its code does.
 mod Histories
 mod Searches
 mod Ranges

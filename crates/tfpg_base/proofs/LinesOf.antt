@@ -1,4 +1,4 @@
--- Laws of the lines of bytes: what a line at the front changes, and what stands behind lines with their line ends.
+-- Laws of the lines of bytes: what a line at the front changes, and what follows lines with their line ends.
 use Rattle.std.proofs.Common.{◌≡◌, ℕ, suc, ◌-◌, ◌<◌, Bool, true, false, List, [], ◌∷◌, ◌++◌, length, take, get_or, refl, ap, ◌∙◌, sym, subst, arith, append_assoc, append-nil}
 use Rattle.std.specs.List.{All, flat_map}
 use Rattle.std.proofs.lemmas.Bool.{eqb-true}
@@ -31,7 +31,7 @@ parts_of-line line rest h = slice_split_at ends_line line 10 rest h refl
 pub whole_lines-line : (line rest : List ℕ) → HasNoLineEnd line → whole_lines (line ++ 10 ∷ rest) ≡ line ∷ whole_lines rest
 whole_lines-line line rest h = rw (parts_of-line line rest h) (take_but_last line (parts_of rest) (parts_of_some rest))
 
--- the last part lies behind it
+-- the last part comes after it
 last_part-line : (line rest : List ℕ) → HasNoLineEnd line → last_part (line ++ 10 ∷ rest) ≡ last_part rest
 last_part-line line rest h = rw (parts_of-line line rest h) (last_behind line (parts_of rest) (parts_of_some rest))
 
@@ -47,11 +47,11 @@ whole_lines-none bytes h = rw (slice_split_none ends_line bytes h) refl
 pub lines_of-none : (bytes : List ℕ) → HasNoLineEnd bytes → lines_of bytes ≡ line_of_part bytes
 lines_of-none bytes h = rw (slice_split_none ends_line bytes h) refl
 
--- what stands behind a line end stands behind the line with it
+-- what follows a line end follows the line with it
 regrouped : (line front rest : List ℕ) → with_line_end line ++ front ++ rest ≡ line ++ 10 ∷ (front ++ rest)
 regrouped line front rest = append_assoc (line ++ 10 ∷ []) front rest ∙ append_assoc line (10 ∷ []) (front ++ rest)
 
--- behind lines with their line ends stand the whole lines of the rest
+-- after lines with their line ends come the whole lines of the rest
 pub whole_lines-behind : (given : List (List ℕ)) (rest : List ℕ) → All HasNoLineEnd given → whole_lines (flat_map with_line_end given ++ rest) ≡ given ++ whole_lines rest
 whole_lines-behind [] rest h = refl
 whole_lines-behind (line ∷ given) rest h =
@@ -59,7 +59,7 @@ whole_lines-behind (line ∷ given) rest h =
     ∙ whole_lines-line line (flat_map with_line_end given ++ rest) (All-head HasNoLineEnd line given h)
     ∙ ap (λ lines. line ∷ lines) (whole_lines-behind given rest (All-tail HasNoLineEnd line given h))
 
--- behind lines with their line ends stand the lines of the rest
+-- after lines with their line ends come the lines of the rest
 pub lines_of-behind : (given : List (List ℕ)) (rest : List ℕ) → All HasNoLineEnd given → lines_of (flat_map with_line_end given ++ rest) ≡ given ++ lines_of rest
 lines_of-behind [] rest h = refl
 lines_of-behind (line ∷ given) rest h =
@@ -67,7 +67,7 @@ lines_of-behind (line ∷ given) rest h =
     ∙ lines_of-line line (flat_map with_line_end given ++ rest) (All-head HasNoLineEnd line given h)
     ∙ ap (λ lines. line ∷ lines) (lines_of-behind given rest (All-tail HasNoLineEnd line given h))
 
--- behind lines with their line ends stands the last part of the rest
+-- after lines with their line ends comes the last part of the rest
 pub last_part-behind : (given : List (List ℕ)) (rest : List ℕ) → All HasNoLineEnd given → last_part (flat_map with_line_end given ++ rest) ≡ last_part rest
 last_part-behind [] rest h = refl
 last_part-behind (line ∷ given) rest h =

@@ -11,11 +11,11 @@ length-slice_range xs start end = simp (length-take, length-drop) (omega arith)
 
 -- The part of the elements from the one place to before the other is these elements.
 module _ (xs : List ℕ) (start end : ℕ) (part : List ℕ) (is : slice_range xs start end ≡ part) where
-  -- the end lies behind each element
+  -- the end comes after each element
   pub end-above : (n : ℕ) → n < length part → start + (n + 1) ≤ end
   end-above n h = omega (arith, length-slice_range xs start end, ap length is)
 
-  -- the part behind an element
+  -- the part after an element
   pub slice_range-behind : (n : ℕ) → n < length part → slice_range xs (start + (n + 1)) end ≡ drop (n + 1) part
   slice_range-behind n h =
       let within = end-above n h in
@@ -32,7 +32,7 @@ module _ (xs : List ℕ) (start end : ℕ) (part : List ℕ) (is : slice_range x
       let e : start + n - start ≡ n = omega arith in
       ap (λ m. take m (drop start xs)) e ∙ sym (take-take n (end - start) (drop start xs) (omega arith)) ∙ ap (take n) is
 
--- The part and the elements that were written behind it, where what lies before its end has stayed.
+-- The part and the elements that were written after it, where what lies before its end has stayed.
 pub slice_range-longer : (ys xs : List ℕ) (start end count : ℕ) → start ≤ end → end ≤ length xs → take end xs ≡ take end ys → slice_range xs start (end + count) ≡ slice_range ys start end ++ slice_range xs end (end + count)
 slice_range-longer ys xs start end count order within same =
     let e : end + count - end ≡ count = omega arith in

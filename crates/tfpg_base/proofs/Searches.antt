@@ -1,5 +1,5 @@
 -- How the turns of a search for a line's end add up to what a call finds.
-use Rattle.std.proofs.Common.{◌≡◌, inl, inr, ℕ, ◌+◌, ◌-◌, ◌<◌, ◌≤◌, Bool, true, false, cond, leb, List, [], ◌∷◌, ◌++◌, length, take, drop, Option, Some, None, Result, Ok, Err, refl, ap, ◌∙◌, sym, subst, arith, append_assoc, append-nil, length-append}
+use Rattle.std.proofs.Common.{◌≡◌, inl, inr, ℕ, ◌+◌, ◌-◌, ◌<◌, ◌≤◌, Bool, true, false, cond, leb, List, [], ◌∷◌, ◌++◌, length, take, drop, Some, None, Result, Ok, Err, refl, ap, ◌∙◌, sym, subst, arith, append_assoc, append-nil, length-append}
 use Rattle.std.proofs.lemmas.Bool.{leb-true, leb-false, lt-leb, le-leb}
 use Rattle.std.proofs.lemmas.List.Elements.{All-append}
 use Rattle.std.proofs.lemmas.List.{nil_from_length, drop_at, take_all}
@@ -9,8 +9,8 @@ use Rattle.tfpg_base.specs.declared.line.Line.TheVariants as line
 use Rattle.tfpg_base.specs.declared.line.LineFault.{LineFault}
 use Rattle.tfpg_base.specs.declared.line.LineFault.TheVariants as fault
 use Rattle.tfpg_base.specs.Outside.{SourceState, Takes, IsAtEnd}
-use Rattle.tfpg_base.specs.Lines.{Buffered, Reading, LinesRepresent, Continues, HasNoLineEnd, ends_line, longest_line, max_bytes, buffer_size, CountsReadFault}
-use Rattle.tfpg_base.specs.LineSearch.{IsAtLineEnd, kind_of, lent_of, IsGiven, IsEnded, GivesLast, Found, Took, Pieces, Refilled, IsRefilled, Searched}
+use Rattle.tfpg_base.specs.Lines.{Buffered, Reading, LinesRepresent, Continues, HasNoLineEnd, ends_line, longest_line, max_bytes, buffer_size}
+use Rattle.tfpg_base.specs.inside.LineSearch.{IsAtLineEnd, kind_of, lent_of, IsGiven, IsEnded, GivesLast, Found, Took, Pieces, Refilled, IsRefilled, Searched}
 use Rattle.tfpg_base.proofs.Taking.{Takes-nothing, Takes-append}
 use Rattle.tfpg_base.proofs.Histories.{Continues-found}
 
@@ -113,7 +113,7 @@ module _ (old : Buffered) (before mid : SourceState) (taken : ℕ) where
                 text,
           )
 
-      -- the source ended behind a line without a line end
+      -- the source ended after a line without a line end
       pub Searched-last : length more ≡ 0 → 0 < length (old.waiting ++ so_far.more) → IsAtEnd after → now.taken ≤ max_bytes → now.ended ≡ Some (Ok line.End) → now.number ≡ old.number + 1 → now.text ≡ lent_of (old.waiting ++ so_far.more) → Searched old before after (Ok (kind_of (old.waiting ++ so_far.more))) now
       Searched-last none some source_ended few ended number text =
           let first : List ℕ = old.waiting ++ so_far.more in (
@@ -148,7 +148,7 @@ module _ (old : Buffered) (before mid : SourceState) (taken : ℕ) where
           subst (λ kind. Searched old before after (Ok kind) now) (kind_of-long first longer)
           (Searched-whole front is clean few going number (text ∙ sym (lent_of-long first longer)))
 
-      -- the source ended behind a line that is too long
+      -- the source ended after a line that is too long
       pub Searched-long_last : longest_line < length old.waiting → length more ≡ 0 → IsAtEnd after → now.taken ≤ max_bytes → now.ended ≡ Some (Ok line.End) → now.number ≡ old.number + 1 → now.text ≡ [] → Searched old before after (Ok line.TooLong) now
       Searched-long_last long none source_ended few ended number text =
           let first : List ℕ = old.waiting ++ so_far.more in
@@ -156,7 +156,7 @@ module _ (old : Buffered) (before mid : SourceState) (taken : ℕ) where
           subst (λ kind. Searched old before after (Ok kind) now) (kind_of-long first longer)
           (Searched-last none (omega (arith, longer)) source_ended few ended number (text ∙ sym (lent_of-long first longer)))
 
--- what ended the reader behind so many lines ended it behind as many
+-- what ended the reader after so many lines ended it after as many
 IsEnded-same : (lines number : ℕ) (answer : Result Line LineFault) (now : Buffered) → lines ≡ number → IsEnded lines answer now → IsEnded number answer now
 IsEnded-same lines number answer now same is = record { number = is.number ∙ same; text = is.text; ended = is.ended }
 
@@ -220,7 +220,7 @@ IsReading-start old before part few going = record {
 }
 
 module _ (old now : Buffered) (before mid : SourceState) (reading : IsReading old now before mid) (end : Buffered) (after : SourceState) (count : ℕ) (filled : IsRefilled now end mid after count) (same : after.faults ≡ mid.faults) where
-  -- the bytes of the turn stand behind those that were seen
+  -- the bytes of the turn come after those that were seen
   pub behind_seen : (waiting seen : List ℕ) → waiting ≡ end.waiting → seen ≡ now.waiting → take (length waiting - length seen) (drop (length seen) waiting) ≡ filled.more
   behind_seen waiting seen is was =
       let whole : waiting ≡ seen ++ filled.more = is ∙ filled.waiting ∙ ap (λ b. b ++ filled.more) (sym was) in

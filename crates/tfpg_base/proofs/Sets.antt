@@ -9,9 +9,9 @@ use Rattle.std.proofs.Math.Nat.{add_comm, mod-one, mod-lt, mod-eq_of_lt}
 use Rattle.std.proofs.Math.Pow.{mod-pow-add, pow_pos}
 use Rattle.std.proofs.lemmas.Nat.{ones_le_self, zero_from_ones, ones_cat}
 use Rattle.std.proofs.lemmas.Nat.Bits.{bit_at-lt, shr_and_one, bit_at_and, bit_at_set_same, bit_at_set_other, bit_at_above, same_from_bits}
-use Rattle.tfpg_base.proofs.Elements.{AllPairs-head, AllPairs-tail, AllPairs-cons, All-from_members, Contains-head, Contains-tail, Contains-cons_cases, Contains-nil}
+use Rattle.tfpg_base.proofs.lists.Elements.{AllPairs-head, AllPairs-tail, AllPairs-cons, All-from_members, Contains-head, Contains-tail, Contains-cons_cases, Contains-nil}
 use Rattle.tfpg_base.specs.Set.{with_member, IsPart, IsSet}
-use Rattle.tfpg_base.specs.SetBits.{ones_below, members_of, bits_of, bits_of, bits_of-members_of}
+use Rattle.tfpg_base.specs.inside.SetBits.{ones_below, members_of, bits_of, bits_of, bits_of-members_of}
 
 -- the members rise strictly
 abbrev pub Rises : List ℕ → Type 0
@@ -246,7 +246,7 @@ bits_from_IsPart a b small part =
 pub IsSet-from_bits : (bits : ℕ) (members : List ℕ) → members_of bits ≡ members → IsSet members
 IsSet-from_bits bits members view = rw (← view) (IsSet-members_of bits)
 
--- the bit of a place tells whether it is a member
+-- the bit of a place says whether it is a member
 pub bit_tells_member : (bits place : ℕ) (members : List ℕ) → members_of bits ≡ members → place < 64 → IsTrue (nat_eq (bit_and (bits / 2 ^ place) 1) 1) ↔ Contains members place
 bit_tells_member bits place members view small =
     rw (← view) (
@@ -267,7 +267,7 @@ bits_tell_equal a b xs ys view_a view_b small_a small_b =
       λ same. eq-eqb a b (same_from_members_of a b small_a small_b same),
     )
 
--- the bits of both tell whether one set is a part of the other
+-- the bits of both say whether one set is a part of the other
 pub bits_tell_part : (a b : ℕ) (xs ys : List ℕ) → members_of a ≡ xs → members_of b ≡ ys → a < 2 ^ 64 → IsTrue (nat_eq (bit_and a b) a) ↔ IsPart xs ys
 bits_tell_part a b xs ys view_a view_b small =
     rw (← view_a, ← view_b) (

@@ -1,5 +1,5 @@
 -- Laws of what the outside gives: taking in turns, and counts of faults in turns.
-use Rattle.std.proofs.Common.{◌≡◌, inl, inr, ℕ, List, [], ◌++◌, Option, Some, None, Result, Err, refl, ap, ◌∙◌, sym, subst, append_assoc, IfSome}
+use Rattle.std.proofs.Common.{◌≡◌, ℕ, List, [], ◌++◌, Option, Some, None, Err, refl, ap, ◌∙◌, sym, subst, append_assoc, IfSome}
 use Rattle.tfpg_base.specs.declared.line.LineFault.{LineFault}
 use Rattle.tfpg_base.specs.declared.line.LineFault.TheVariants as fault
 use Rattle.tfpg_base.specs.Outside.{SourceState, Takes, Rose}

@@ -7,9 +7,10 @@ use Rattle.std.proofs.lemmas.Cmp.{ranked}
 use Rattle.std.proofs.lemmas.Bool.{ltb-true, ltb-false, eqb-true, eqb-false, lt-ltb, le-ltb, eq-eqb, ne_eqb, cond-true, cond-false, cond_both, cases_lt}
 use Rattle.std.proofs.lemmas.Bool.Decides.{nat_tests}
 use Rattle.std.proofs.lemmas.List.Elements.{All-cons, All-weaker, All-contains}
-use Rattle.tfpg_base.proofs.Elements.{AllPairs-head, AllPairs-tail, AllPairs-cons, All-from_members, Contains-head, Contains-tail, Contains-cons_cases, Contains-nil}
+use Rattle.tfpg_base.proofs.lists.Elements.{AllPairs-head, AllPairs-tail, AllPairs-cons, All-from_members, Contains-head, Contains-tail, Contains-cons_cases, Contains-nil}
 use Rattle.tfpg_base.specs.declared.activation.Activation.{Activation}
-use Rattle.tfpg_base.specs.Trace.{TimesAfter, IsRisingByNode, StandsAt, IsPlaceFor, time_of, with_time}
+use Rattle.tfpg_base.specs.Trace.{TimesAfter, IsRisingByNode, time_of, with_time}
+use Rattle.tfpg_base.specs.inside.TraceSearch.{StandsAt, IsPlaceFor}
 
 -- ---- a search by node
 

@@ -1,15 +1,15 @@
-pub mod Memory
+-- What the public contracts say.
 pub mod Outside
-pub mod Words
-pub mod Times
+pub mod Memory
 pub mod Lines
-pub mod LineSearch
-pub mod LinesInside
+pub mod Words
+pub mod TextLine
+pub mod Append
 pub mod Set
 pub mod Trace
-pub mod Append
-pub mod SetBits
-pub mod TextLine
-pub mod Choice
+pub mod Times
 pub mod Constraint
 pub mod ConstraintCycle
+pub mod Choice
+-- What the code and its proofs need besides. No public clause reaches it.
+pub mod inside

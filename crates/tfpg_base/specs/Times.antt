@@ -5,6 +5,6 @@ use Rattle.std.specs.Prelude.{ℕ, ◌+◌, ◌^◌}
 abbrev pub max_time : ℕ
 max_time = 10 ^ 12
 
--- a time after the last one, which stands for never
+-- a time after the last one, which means never
 abbrev pub never : ℕ
 never = max_time + 1

@@ -1,6 +1,5 @@
 -- Traces: which node became active when, as a list of activations by rising nodes.
-use Rattle.std.specs.Prelude.{◌≡◌, ◌≢◌, ℕ, ◌<◌, ◌≤◌, List, [], ◌∷◌, length, AllPairs, Option, Some, None, nat_lt, ◌==◌, if◌then◌else◌}
-use Rattle.std.specs.List.{AllWithin, HoldsAt}
+use Rattle.std.specs.Prelude.{◌≡◌, ◌≢◌, ℕ, ◌<◌, List, [], ◌∷◌, AllPairs, Option, Some, None, nat_lt, ◌==◌, if◌then◌else◌}
 use Rattle.tfpg_base.specs.declared.activation.Activation.{Activation}
 
 -- No node stands twice, and they stand in order.
@@ -23,19 +22,3 @@ with_time node time (first ∷ others) =
 pub record TimesAfter (old new : List Activation) (node time : ℕ) : Type 0 where
   pub here : time_of new node ≡ Some time
   pub elsewhere : (other : ℕ) → node ≢ other → time_of new other ≡ time_of old other
-
--- the nodes before this place are lesser
-abbrev pub AreLesserBefore : List Activation → ℕ → ℕ → Type 0
-AreLesserBefore trace node place = AllWithin (λ earlier. earlier.node < node) trace 0 place
-
--- The node stands at this place.
-pub record StandsAt (trace : List Activation) (node place : ℕ) : Type 0 where
-  pub in_range : place < length trace
-  pub before : AreLesserBefore trace node place
-  pub here : HoldsAt (λ activation. activation.node ≡ node) trace place
-
--- The node stands nowhere, and this is the place for it.
-pub record IsPlaceFor (trace : List Activation) (node place : ℕ) : Type 0 where
-  pub in_range : place ≤ length trace
-  pub before : AreLesserBefore trace node place
-  pub after : AllWithin (λ later. node < later.node) trace place (length trace)

@@ -6,7 +6,7 @@ use Rattle.std.specs.Str.Parse.{digits_value}
 use Rattle.tfpg_base.specs.declared.word.Number.{Number}
 use Rattle.tfpg_base.specs.declared.word.Number.TheVariants.{Value, TooLarge, NotANumber}
 
--- The words of a line: the parts round its spaces. A space at an end of the line, or behind another one, makes an empty word.
+-- The words of a line: the parts round its spaces. A space at an end of the line, or after another one, makes an empty word.
 abbrev pub words_of : List ℕ → List (List ℕ)
 words_of line = slice_split (λ byte. byte == 32) line
 

@@ -1,8 +1,8 @@
 //! What every other crate of the diagnoser stands on: the outside (sources, sinks and shelves of files),
 //! lines of bytes, the words on a line, sets of failure modes, traces and difference constraints.
 //!
-//! - [`Source`], [`Sink`] and [`Shelf`] are the outside. Each counts its faults, and may tell its contents to
-//!   the contracts. [`MemorySource`], [`MemorySink`] and [`MemoryShelf`] are each in memory; [`SteadySource`]
+//! - [`Source`], [`Sink`] and [`Shelf`] are the outside. Each counts the calls that failed, and contracts may know its
+//!   contents. [`MemorySource`], [`MemorySink`] and [`MemoryShelf`] are each in memory; [`SteadySource`]
 //!   and [`Discard`] never fail.
 //! - [`Lines`] cuts what a source gives into lines.
 //! - [`Words`] cuts a line into words. [`read_name`] and [`read_number`] know the two forms of words that every
@@ -13,11 +13,24 @@
 //! - [`put_line`] appends a line of words to a text, [`put_words`] its words alone, and [`put_part`] a part of a line with
 //!   its separator.
 //! - [`Steps`] counts the steps of a call, at no cost.
+//!
+//! The words of the first line of a text:
+//!
+//! ```
+//! let mut source = SteadySource::new(b"5 alarm A\n9 sweep\n");
+//! let mut lines = Lines::new(alloc)?;
+//! if lines.next(&mut source)? == Line::Text
+//!     && let Some(words) = Words::of(lines.text())
+//! {
+//!     // words.as_slice() is [b"5", b"alarm", b"A"]
+//! }
+//! ```
 #![tactic(auto)]
 
 mod activation;
 mod constraint;
 mod items;
+mod limits;
 mod line;
 mod lines;
 mod memory;
@@ -27,7 +40,6 @@ mod set;
 mod steps;
 mod text;
 mod text_line;
-mod time;
 mod trace;
 mod word;
 mod words;
@@ -35,16 +47,16 @@ mod words;
 pub use activation::Activation;
 pub use constraint::Constraint;
 pub use items::{Bytes, Items, LineList, NumberList};
-pub use line::{LONGEST_LINE, Line, LineFault};
+pub use limits::{LONGEST_FILE, LONGEST_LINE, MAX_BYTES, MAX_TIME, MAX_WORDS, NEVER};
+pub use line::{Line, LineFault};
 pub use lines::Lines;
 pub use memory::{Discard, MemoryShelf, MemorySink, MemorySource, SteadySource};
 pub use no_memory::NoMemory;
-pub use outside::{Failed, LONGEST_FILE, Shelf, ShelfFault, Sink, Source};
+pub use outside::{Failed, Shelf, ShelfFault, Sink, Source};
 pub use set::Set;
 pub use steps::Steps;
 pub use text::Text;
 pub use text_line::{put_line, put_part, put_words};
-pub use time::{MAX_TIME, NEVER};
 pub use trace::Trace;
 pub use word::{Number, read_name, read_number};
-pub use words::{MAX_WORDS, Words, has_empty_word};
+pub use words::{Words, has_empty_word};

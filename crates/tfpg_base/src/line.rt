@@ -1,20 +1,17 @@
-//! What a reader of lines answers.
-
-/// How many bytes a line has at most.
-pub const LONGEST_LINE: usize = 4_096;
+//! What a reader of lines returns.
 
 /// What the next line is.
 #[derive(Clone, Copy, Debug, PartialEq, Eq)]
 pub enum Line {
-    /// A line of at most [`LONGEST_LINE`] bytes.
+    /// A line of at most [`LONGEST_LINE`](crate::LONGEST_LINE) bytes.
     Text,
-    /// A line of more than [`LONGEST_LINE`] bytes, which was skipped and counted.
+    /// A line of more than [`LONGEST_LINE`](crate::LONGEST_LINE) bytes, which was skipped and counted.
     TooLong,
     /// There is no further line.
     End,
 }
 
-/// Why there is no next line to be had.
+/// Why no next line can be read.
 #[derive(Clone, Copy, Debug, PartialEq, Eq)]
 pub enum LineFault {
     /// The source failed.

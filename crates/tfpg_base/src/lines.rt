@@ -1,11 +1,11 @@
 //! Bytes as lines.
 //!
-//! [`Lines`] keeps the bytes that it took in one buffer. What waits there is what stands behind the lines that it
-//! gave; a line is lent from where it stands. A line that is too long for the buffer is passed in pieces.
+//! [`Lines`] keeps the bytes that it took in one buffer, and lends each line from its place there. The bytes after the
+//! last line returned wait in the buffer. A line that is too long for the buffer is passed in pieces.
 
 ghost use Rattle.std.specs.Prelude.{◌≡◌, ◌<◌, ◌≤◌, ◌+◌, [], ℕ, List, take, drop, length, slice_range, IfOk, IfNone, IfSome};
 ghost use Rattle.tfpg_base.specs.Lines.{Reading, new_reading, LinesRepresent, Continues, HasNoLineEnd};
-ghost use Rattle.tfpg_base.specs.LineSearch.{IsAtLineEnd, kind_of, lent_of};
+ghost use Rattle.tfpg_base.specs.inside.LineSearch.{IsAtLineEnd, kind_of, lent_of};
 
 mod refill;
 mod search;
@@ -49,7 +49,7 @@ impl Model for Lines {
 
     ghost Value = { Buffered };
 
-    ghost use Rattle.tfpg_base.specs.LinesInside.{buffered_of, IsInPlace};
+    ghost use Rattle.tfpg_base.specs.inside.Buffer.{buffered_of, IsInPlace};
 
     ghost view = { buffered_of };
 
@@ -74,9 +74,9 @@ impl Lines {
 
     /// Moves to the next line. The lines are those of all the bytes that the calls of one reader take, in order.
     ///
-    /// Bytes are taken only where no whole line is left in the buffer. After the end, and after a fault, each
-    /// later call answers the same and takes nothing. A last line without a line end is given once the source has
-    /// given its end, and then the source is not asked again.
+    /// Bytes are taken only where no whole line is left in the buffer, and no piece more than the line needs. After the
+    /// end, and after a fault, each later call returns the same and leaves the source alone. A last line without a line end
+    /// is returned once the source has ended, and then the source is not asked again.
     ///
     /// # Errors
     ///
@@ -96,7 +96,7 @@ impl Lines {
         }
     }
 
-    /// The line, without its line end; empty where the last answer was not `Text`.
+    /// The line, without its line end; empty where the last call of `next` did not return `Text`.
     pub fn text(&self) -> &[u8]
         ensures { result.now ≡ self.now.text }
     {
@@ -110,14 +110,14 @@ impl Lines {
         self.number
     }
 
-    /// The bytes behind the lines that were given.
+    /// The bytes after the lines that were returned.
     fn waiting(&self) -> &[u8]
         ensures { result.now ≡ self.now.waiting }
     {
         &self.buffer[self.waiting.start..self.waiting.end]
     }
 
-    /// Gives so many of the bytes that wait as a line, and passes the line end behind them.
+    /// Returns so many of the bytes that wait as a line, and passes the line end after them.
     fn give_whole(&mut self, count: usize) -> Line
         requires { count < length self.old.waiting }
         ensures kind { result ≡ kind_of (take count self.old.waiting) }
@@ -142,7 +142,7 @@ fn line_end(bytes: &[u8]) -> Option<usize>
     bytes.iter().position(|byte| *byte == b'\n')
 }
 
-/// What the answer at a line of so many bytes is.
+/// What is returned at a line of so many bytes.
 fn kind(count: usize) -> Line
     ensures { (line : List ℕ) → length line ≡ count → result ≡ kind_of line }
 {

@@ -1,7 +1,7 @@
 //! The outside in memory, for tests and for bytes that are at hand.
 //!
-//! [`MemorySource`], [`MemorySink`] and [`MemoryShelf`] tell their contents, and fail at the calls that they are
-//! told. Calls are numbered from 1. A count of faults stands still at the last value of its type.
+//! Contracts know the contents of [`MemorySource`], [`MemorySink`] and [`MemoryShelf`]. Each fails at the calls with the
+//! numbers that it was made with. Calls are numbered from 1. A count of faults stands still at the last value of its type.
 //! [`SteadySource`] and [`Discard`] never fail.
 
 mod discard;

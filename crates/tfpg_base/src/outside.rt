@@ -9,9 +9,6 @@ ghost use Rattle.tfpg_base.specs.Outside.{SourceState, SinkState, ShelfState, Ro
 
 use std::alloc::Global;
 
-/// How many bytes a file has at most.
-pub const LONGEST_FILE: usize = 1 << 24;
-
 /// The outside failed.
 #[derive(Clone, Copy, Debug, PartialEq, Eq)]
 pub struct Failed;
@@ -21,7 +18,7 @@ pub struct Failed;
 pub enum ShelfFault {
     /// The file is absent, or reading it failed.
     Failed,
-    /// The file has more than [`LONGEST_FILE`] bytes, which are 2^24.
+    /// The file has more than [`LONGEST_FILE`](crate::LONGEST_FILE) bytes, which are 2^24.
     TooLong,
     /// The call ran out of memory.
     NoMemory,

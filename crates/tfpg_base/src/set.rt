@@ -17,7 +17,7 @@ pub struct Set {
 impl Model for Set {
     ghost use Rattle.std.specs.Prelude.{ℕ, List, ◌<◌, ◌^◌};
     ghost use Rattle.std.proofs.Common.{ap};
-    ghost use Rattle.tfpg_base.specs.SetBits.{members_of, bits_of, bits_of-members_of};
+    ghost use Rattle.tfpg_base.specs.inside.SetBits.{members_of, bits_of, bits_of-members_of};
 
     ghost Value = { List ℕ };
 
@@ -52,7 +52,7 @@ impl Set {
         Set { bits: 0 }
     }
 
-    /// The members as bits: bit `p` stands for position `p`.
+    /// The members as bits: bit `p` is position `p`.
     pub fn bits(self) -> u64
         ensures worth { result ≡ sum_by (λ place. 2 ^ place) self }
         ensures set { IsSet self }

@@ -7,8 +7,8 @@ ghost use Rattle.tfpg_base.specs.Words.{line_of};
 
 use crate::no_memory::NoMemory;
 
-/// Appends the words with a space between each two, and a line end. Where memory is wanting, a part of the line may
-/// stand behind the old bytes.
+/// Appends the words with a space between each two, and a line end. Where it runs out of memory, a part of the
+/// line may follow the old bytes.
 pub fn put_line(into: &mut Vec<u8>, words: &[&[u8]]) -> Result<(), NoMemory>
     ensures { Appends result into.old.items into.new.items (text_line (map (λ word. word.now) words.now)) }
 {

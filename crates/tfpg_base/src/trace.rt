@@ -1,7 +1,8 @@
 //! Traces: which node became active when.
 
 ghost use Rattle.std.specs.Prelude.{◌≡◌, [], IfOk, IfErr, OnOk, OnErr};
-ghost use Rattle.tfpg_base.specs.Trace.{IsRisingByNode, IsPlaceFor, StandsAt, TimesAfter, time_of, with_time};
+ghost use Rattle.tfpg_base.specs.Trace.{IsRisingByNode, TimesAfter, time_of, with_time};
+ghost use Rattle.tfpg_base.specs.inside.TraceSearch.{IsPlaceFor, StandsAt};
 
 use crate::{Activation, NoMemory};
 use std::alloc::Global;

@@ -79,7 +79,7 @@ fn value_of(digits: &[u8]) -> Option<u64>
     Some(value)
 }
 
-/// The value of digits with one more behind them, where a `u64` holds it.
+/// The value of digits with one more after them, where a `u64` holds it.
 fn with_digit(value: u64, digit: u8) -> Option<u64>
     requires { IsAsciiDigit digit }
     ensures { SomeIff result (value * 10 + digit_value digit < 2 ^ 64) (value * 10 + digit_value digit) }

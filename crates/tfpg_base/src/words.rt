@@ -4,10 +4,8 @@ ghost use Rattle.std.specs.Prelude.{◌≡◌, ◌<◌, ◌==◌, length, map, M
 ghost use Rattle.std.specs.List.{list_any};
 ghost use Rattle.tfpg_base.specs.Words.{words_of};
 
+use crate::MAX_WORDS;
 use std::marker::Model;
-
-/// How many words a line of any text format has at most.
-pub const MAX_WORDS: usize = 9;
 
 /// The words of a line that has at most [`MAX_WORDS`]. Contracts see them as the list of their bytes.
 #[derive(Debug, Drop)]

@@ -3,16 +3,13 @@
 ghost use Rattle.std.specs.Prelude.{◌≡◌, ◌<◌, ◌≤◌, ◌+◌, ◌-◌, take, length, slice_range, vec_len, IfOk, OnErr, Ok};
 ghost use Rattle.tfpg_base.specs.Outside.{Rose, Takes, IsAtEnd};
 ghost use Rattle.tfpg_base.specs.Lines.{longest_line, max_bytes, CountsReadFault};
-ghost use Rattle.tfpg_base.specs.LineSearch.{Refilled};
+ghost use Rattle.tfpg_base.specs.inside.LineSearch.{Refilled};
 
 use super::{Lines, Places, ROOM};
-use crate::{Failed, LineFault, Source};
-
-/// How many bytes a reader takes, but for one to see that there are more.
-const MOST: u64 = 4_294_967_296;
+use crate::{Failed, LineFault, MAX_BYTES, Source};
 
 impl Lines {
-    /// Takes further bytes, and answers how many: none where the source has given its end. A fault ends the reader.
+    /// Takes further bytes, and returns how many: none where the source has ended. A fault ends the reader.
     pub(super) fn refill<S: Source>(&mut self, source: &mut S) -> Result<usize, LineFault>
         requires short { length self.old.waiting ≤ longest_line }
         requires few { self.old.taken ≤ max_bytes }
@@ -31,7 +28,7 @@ impl Lines {
             Ok(count) => {
                 self.waiting.end += count;
                 self.taken += count as u64;
-                if self.taken > MOST {
+                if self.taken > MAX_BYTES {
                     self.ended = Some(Err(LineFault::TooMuchInput));
                     return Err(LineFault::TooMuchInput);
                 }
@@ -41,8 +38,8 @@ impl Lines {
     }
 }
 
-/// Where the bytes that wait stand once there is a place behind them. They are moved to the front of the buffer
-/// where there was none, and where none waits.
+/// The places of the bytes that wait, once there is a free place after them. They are moved to the front of the buffer
+/// where there was none, and where no byte waits.
 fn with_room(buffer: &mut Vec<u8>, waiting: Places) -> Places
     requires room { vec_len buffer.old ≡ ROOM }
     requires order { waiting.start ≤ waiting.end }
@@ -73,7 +70,7 @@ fn wanted(taken: u64, free: usize) -> usize
     ensures one { taken ≡ max_bytes → result ≡ 1 }
     ensures all { taken + free ≤ max_bytes → result ≡ free }
 {
-    let left = MOST - taken;
+    let left = MAX_BYTES - taken;
     if left < free as u64 {
         (left as usize).max(1)
     } else {
@@ -81,7 +78,7 @@ fn wanted(taken: u64, free: usize) -> usize
     }
 }
 
-/// Takes bytes into the places of the buffer from the one to before the other, and answers how many.
+/// Takes bytes into the places of the buffer from the one up to before the other, and returns how many.
 fn take_into<S: Source>(
     source: &mut S,
     buffer: &mut Vec<u8>,

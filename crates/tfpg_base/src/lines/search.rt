@@ -2,7 +2,7 @@
 
 ghost use Rattle.std.specs.Prelude.{◌≡◌, ◌<◌, ◌≤◌, ◌+◌, [], drop, length, None, Some, Ok};
 ghost use Rattle.tfpg_base.specs.Lines.{HasNoLineEnd, longest_line, max_bytes, CountsReadFault};
-ghost use Rattle.tfpg_base.specs.LineSearch.{GivesLast, Searched};
+ghost use Rattle.tfpg_base.specs.inside.LineSearch.{GivesLast, Searched};
 
 use super::{Lines, Places, line_end};
 use crate::{LONGEST_LINE, Line, LineFault, Source};
@@ -52,7 +52,7 @@ impl Lines {
         }
     }
 
-    /// Gives the bytes that wait as the last line, if there are some. From then on the end is answered.
+    /// Returns the bytes that wait as the last line, if there are some. From then on the end is returned.
     fn give_last(&mut self) -> Line
         requires { length self.old.waiting ≤ longest_line }
         ensures given { GivesLast self.old result self.new }
@@ -80,7 +80,7 @@ impl Lines {
         self.waiting = Places::NONE;
     }
 
-    /// Passes so many of the bytes that wait and the line end behind them, as the rest of a line that is too long.
+    /// Passes so many of the bytes that wait and the line end after them, as the rest of a line that is too long.
     fn pass(&mut self, count: usize)
         requires { count < length self.old.waiting }
         ensures waiting { self.new.waiting ≡ drop (count + 1) self.old.waiting }
@@ -94,7 +94,7 @@ impl Lines {
         self.number += 1;
     }
 
-    /// Counts a last line that is too long. From then on the end is answered.
+    /// Counts a last line that is too long. From then on the end is returned.
     fn pass_last(&mut self)
         requires { self.old.number < self.old.taken }
         ensures text { self.new.text ≡ [] }

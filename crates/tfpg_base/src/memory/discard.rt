@@ -4,7 +4,8 @@ ghost use Rattle.std.specs.Prelude.{◌≡◌, length, Ok};
 
 use crate::{Failed, Sink};
 
-/// A sink that keeps nothing and never fails: its count of faults is the constant 0. It tells nothing.
+/// A sink that keeps nothing and never fails: its count of faults is the constant 0. Contracts do not know its
+/// contents.
 #[derive(Clone, Copy, Debug, PartialEq, Eq)]
 pub struct Discard;
 

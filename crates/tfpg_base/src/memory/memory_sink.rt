@@ -9,8 +9,8 @@ use crate::{Failed, Sink};
 use std::alloc::Global;
 use std::marker::Model;
 
-/// A sink that keeps what is put to it, takes a limited number of bytes in a call, and fails at chosen calls and
-/// where it finds no memory.
+/// A sink that keeps its bytes, takes a limited number of them in a call, and fails at chosen calls and where it runs out
+/// of memory.
 #[derive(Debug, Drop)]
 pub struct MemorySink<'a> {
     bytes: Vec<u8>,

@@ -1,6 +1,6 @@
 use Rattle.std.proofs.Common.{ap, ◌∙◌, arith}
 use Rattle.tfpg_base.specs.Lines.{Buffered}
-use Rattle.tfpg_base.specs.LineSearch.{lent_of}
+use Rattle.tfpg_base.specs.inside.LineSearch.{lent_of}
 use Rattle.tfpg_base.proofs.Ranges.{slice_range-behind, slice_range-before, end-above}
 use Rattle.tfpg_base.proofs.lines.Lines.give_whole.Goals as goal
 

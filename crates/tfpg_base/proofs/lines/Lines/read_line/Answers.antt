@@ -3,7 +3,7 @@ use Rattle.std.proofs.lemmas.Result.{err_from_is_err_and}
 use Rattle.tfpg_base.specs.declared.line.Line.{Line}
 use Rattle.tfpg_base.specs.declared.line.LineFault.{LineFault}
 use Rattle.tfpg_base.specs.Lines.{HasNoLineEnd, CountsReadFault}
-use Rattle.tfpg_base.specs.LineSearch.{IsAtLineEnd, Searched}
+use Rattle.tfpg_base.specs.inside.LineSearch.{IsAtLineEnd, Searched}
 use Rattle.tfpg_base.proofs.Searches.{IsReading-start, IsReading-more, Searched-read, Searched-given_last, Searched-fault, Searched-further, behind_seen}
 use Rattle.tfpg_base.proofs.Taking.{CountsReadFault-later}
 use Rattle.tfpg_base.proofs.lines.Lines.read_line.Goals as goal

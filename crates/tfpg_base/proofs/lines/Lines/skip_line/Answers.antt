@@ -3,7 +3,7 @@ use Rattle.std.proofs.lemmas.Result.{err_from_is_err_and}
 use Rattle.tfpg_base.specs.declared.line.Line.{Line}
 use Rattle.tfpg_base.specs.declared.line.LineFault.{LineFault}
 use Rattle.tfpg_base.specs.Lines.{HasNoLineEnd, CountsReadFault}
-use Rattle.tfpg_base.specs.LineSearch.{Searched}
+use Rattle.tfpg_base.specs.inside.LineSearch.{Searched}
 use Rattle.tfpg_base.proofs.Searches.{SoFar-more, Searched-long, Searched-long_last, Searched-fault}
 use Rattle.tfpg_base.proofs.Taking.{CountsReadFault-later}
 use Rattle.tfpg_base.proofs.lines.Lines.skip_line.Goals as goal

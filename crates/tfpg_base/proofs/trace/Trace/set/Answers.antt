@@ -1,4 +1,4 @@
-use Rattle.std.proofs.Common.{◌∙◌, sym, ap}
+use Rattle.std.proofs.Common.{◌∙◌}
 use Rattle.tfpg_base.proofs.Traces.{TimesAfter-with_time, with_time-stands, with_time-absent}
 use Rattle.tfpg_base.proofs.trace.Trace.set.Goals as goal
 

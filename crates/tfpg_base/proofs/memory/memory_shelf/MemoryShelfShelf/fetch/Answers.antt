@@ -1,4 +1,4 @@
-use Rattle.std.proofs.Common.{◌≡◌, inl, inr, List, ℕ, Option, Result, Ok, Err, ◌∙◌, ap, subst, sym}
+use Rattle.std.proofs.Common.{inl, inr, List, ℕ, Option, Result, Ok, Err, subst, sym}
 use Rattle.tfpg_base.specs.declared.outside.ShelfFault.{ShelfFault}
 use Rattle.tfpg_base.specs.declared.outside.ShelfFault.TheVariants as faults
 use Rattle.tfpg_base.specs.Outside.{file_of}

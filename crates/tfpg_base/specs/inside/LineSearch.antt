@@ -1,5 +1,5 @@
 -- What one call of a reader of lines finds, apart from its history: how the bytes after the lines given go on.
-use Rattle.std.specs.Prelude.{◌≡◌, ◌⊎◌, ℕ, ◌+◌, ◌<◌, ◌≤◌, List, [], ◌∷◌, ◌++◌, length, take, drop, nat_le, if◌then◌else◌, Option, Some, None, Result, Ok, Err}
+use Rattle.std.specs.Prelude.{◌≡◌, ◌⊎◌, ℕ, ◌+◌, ◌<◌, ◌≤◌, List, [], ◌∷◌, ◌++◌, length, take, drop, nat_le, if◌then◌else◌, Some, None, Result, Ok, Err}
 use Rattle.tfpg_base.specs.declared.line.Line.{Line}
 use Rattle.tfpg_base.specs.declared.line.Line.TheVariants as line
 use Rattle.tfpg_base.specs.declared.line.LineFault.{LineFault}
@@ -99,7 +99,7 @@ Refilled old before after (Err fault.ReadFault) now =
 Refilled old before after (Err fault.TooMuchInput) now =
     (last : ℕ) × Took old now before after (last ∷ []) × (now.taken ≡ max_bytes + 1) × IsEnded old.number (Err fault.TooMuchInput) now
 
--- bytes were taken until one of the answers came
+-- bytes were taken until a line, the end or a fault was found
 abbrev pub Searched : Buffered → SourceState → SourceState → Result Line LineFault → Buffered → Type 0
 Searched old before after result now =
     (more : List ℕ) × Took old now before after more × Pieces old more × Found (old.waiting ++ more) old.number (IsAtEnd after) result now

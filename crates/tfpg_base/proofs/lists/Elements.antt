@@ -1,7 +1,9 @@
 -- Laws of the elements of a list: which stand in it, and what holds of each two.
-use Rattle.std.proofs.Common.{◌≡◌, suc, zero, List, [], ◌∷◌, get_or, ◌⊎◌, inl, inr, refl, arith}
+use Rattle.std.proofs.Common.{◌≡◌, suc, zero, List, [], ◌∷◌, ◌++◌, get_or, ◌⊎◌, inl, inr, refl, subst, length-append, arith}
 use Rattle.std.specs.List.{All, AllPairs, Contains}
+use Rattle.std.proofs.lemmas.List.{get_or_append_left}
 use Rattle.std.proofs.lemmas.List.Elements.{Contains-get_or, Contains-append_right}
+pub use Rattle.std.proofs.lemmas.List.Kept.{AllPairs-cons}
 
 module _ {X : Type 0} where
   -- what heads a list stands in it
@@ -33,9 +35,10 @@ module _ {X : Type 0} where
   pub AllPairs-tail : (R : X → X → Type 0) (first : X) (others : List X) → AllPairs R (first ∷ others) → AllPairs R others
   AllPairs-tail R first others pairs i j d before within = pairs (suc i) (suc j) d (omega arith) (omega arith)
 
-  -- what relates a head to each of the rest, and each two of the rest, relates each two
-  pub AllPairs-cons : (R : X → X → Type 0) (first : X) (others : List X) → All (R first) others → AllPairs R others → AllPairs R (first ∷ others)
-  AllPairs-cons R first others head rest zero zero d before within = absurd (omega arith)
-  AllPairs-cons R first others head rest zero (suc j) d before within = head j d (omega arith)
-  AllPairs-cons R first others head rest (suc i) zero d before within = absurd (omega arith)
-  AllPairs-cons R first others head rest (suc i) (suc j) d before within = rest i j d (omega arith) (omega arith)
+  -- what relates each two relates each two of a front
+  pub AllPairs-front : (R : X → X → Type 0) (front rest : List X) → AllPairs R (front ++ rest) → AllPairs R front
+  AllPairs-front R front rest pairs i j d before within =
+      let at_i : get_or (front ++ rest) i d ≡ get_or front i d = get_or_append_left front rest d i (omega arith) in
+      let at_j : get_or (front ++ rest) j d ≡ get_or front j d = get_or_append_left front rest d j within in
+      subst (λ (a : X). R a (get_or front j d)) at_i
+      (subst (λ (b : X). R (get_or (front ++ rest) i d) b) at_j (pairs i j d before (omega (arith, within, length-append front rest))))

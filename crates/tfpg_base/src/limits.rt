@@ -1,0 +1,19 @@
+//! The limits of inputs and of times.
+
+/// How many bytes a file has at most: 2^24.
+pub const LONGEST_FILE: usize = 16_777_216;
+
+/// How many bytes a line has at most.
+pub const LONGEST_LINE: usize = 4_096;
+
+/// How many bytes a reader of lines takes, but for one to see that there are more: 2^32.
+pub const MAX_BYTES: u64 = 4_294_967_296;
+
+/// How many words a line of any text format has at most.
+pub const MAX_WORDS: usize = 9;
+
+/// The greatest time, delay and lag, in milliseconds.
+pub const MAX_TIME: u64 = 1_000_000_000_000;
+
+/// One past the greatest time, which means never.
+pub const NEVER: u64 = MAX_TIME + 1;
