@@ -7,7 +7,7 @@ use Rattle.std.proofs.lemmas.List.Quantifiers.{all_pairs_push}
 use Rattle.tfpg_base.specs.declared.activation.Activation.{Activation}
 use Rattle.tfpg_base.specs.Lines.{longest_line}
 use Rattle.tfpg_base.specs.Trace.{time_of, with_time}
-use Rattle.tfpg_base.proofs.Elements.{Contains-head, Contains-tail, AllPairs-head, AllPairs-tail}
+use Rattle.tfpg_base.proofs.lists.Elements.{Contains-head, Contains-tail, AllPairs-head, AllPairs-tail}
 use Rattle.tfpg_base.proofs.Traces.{time_of-with_time, time_of-with_time_other, IsRisingByNode-with_time}
 use Rattle.tfpg_graph.specs.Graph.{Tfpg}
 use Rattle.tfpg_graph.specs.Valid.{IsValid}

@@ -17,7 +17,7 @@ use Rattle.tfpg_base.specs.declared.word.Number.TheVariants.{Value, TooLarge}
 use Rattle.tfpg_base.specs.Set.{with_member}
 use Rattle.tfpg_base.specs.Times.{max_time}
 use Rattle.tfpg_base.specs.Words.{words_of, line_of, is_name, is_name_byte, number_of, number_up_to}
-use Rattle.tfpg_base.proofs.Elements.{AllPairs-head, AllPairs-tail, AllPairs-cons}
+use Rattle.tfpg_base.proofs.lists.Elements.{AllPairs-head, AllPairs-tail, AllPairs-cons}
 use Rattle.tfpg_base.proofs.Numbers.{number_of-decimal, decimal-number_of}
 use Rattle.tfpg_base.proofs.Separators.{Lacks, name_lacks, decimal_lacks, join_with_byte-words_of}
 use Rattle.tfpg_graph.specs.Graph.{Tfpg, name_at, node_named, failures, failure_at, place_of_failure, is_failure}

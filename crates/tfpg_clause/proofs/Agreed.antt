@@ -5,7 +5,7 @@ use Rattle.std.proofs.lemmas.Bool.{eqb-true, le-leb, leb-true, ne_eqb, eq-eqb}
 use Rattle.std.proofs.lemmas.List.Elements.{All-contains}
 use Rattle.tfpg_base.specs.declared.activation.Activation.{Activation}
 use Rattle.tfpg_base.specs.Trace.{IsRisingByNode, time_of}
-use Rattle.tfpg_base.proofs.Elements.{Contains-tail, Contains-nil, Contains-cons_cases, AllPairs-head, AllPairs-tail}
+use Rattle.tfpg_base.proofs.lists.Elements.{Contains-tail, Contains-nil, Contains-cons_cases, AllPairs-head, AllPairs-tail}
 use Rattle.tfpg_graph.specs.Graph.{Tfpg}
 use Rattle.tfpg_log.specs.Rules.{IsActive}
 use Rattle.tfpg_clause.specs.Cut.{cut, cut_from, AreNumbersOf}

@@ -10,7 +10,7 @@ use Rattle.tfpg_base.specs.Times.{never}
 use Rattle.tfpg_base.specs.declared.activation.Activation.{Activation}
 use Rattle.tfpg_base.specs.declared.constraint.Constraint.{Constraint}
 use Rattle.tfpg_base.specs.Trace.{time_of}
-use Rattle.tfpg_base.proofs.Elements.{AllPairs-head, AllPairs-tail}
+use Rattle.tfpg_base.proofs.lists.Elements.{AllPairs-head, AllPairs-tail}
 use Rattle.tfpg_graph.specs.Graph.{Tfpg, Node, lag_at, lag_of, is_monitored}
 use Rattle.tfpg_graph.specs.Reach.{IsReach, Reaches, is_among}
 use Rattle.tfpg_graph.specs.ZeroCycle.{HasZeroOrder}

@@ -8,7 +8,7 @@ use Rattle.std.proofs.lemmas.List.Elements.{All-nil, All-cons}
 use Rattle.std.proofs.lemmas.List.Folds.{list_any_at}
 use Rattle.tfpg_base.specs.declared.activation.Activation.{Activation}
 use Rattle.tfpg_base.specs.Trace.{IsRisingByNode}
-use Rattle.tfpg_base.proofs.Elements.{All-from_members, AllPairs-cons, Contains-head, Contains-tail}
+use Rattle.tfpg_base.proofs.lists.Elements.{All-from_members, AllPairs-cons, Contains-head, Contains-tail}
 use Rattle.tfpg_graph.specs.declared.kind.Kind.{Kind}
 use Rattle.tfpg_graph.specs.declared.kind.Kind.TheVariants.{Failure, Or, And}
 use Rattle.tfpg_graph.specs.Graph.{Tfpg, kind_at, is_kind_at, is_failure, is_or, is_and, failure_at}

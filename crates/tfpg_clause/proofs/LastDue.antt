@@ -3,7 +3,7 @@
 use Rattle.std.proofs.Common.{ℕ, ◌+◌, ◌<◌, ◌≤◌, List, [], ◌∷◌, get_or, max, ◌⊎◌, inl, inr, ap, arith}
 use Rattle.std.specs.Prelude.{Contains, fold}
 use Rattle.std.proofs.lemmas.Bool.{cases_lt}
-use Rattle.tfpg_base.proofs.Elements.{Contains-head, Contains-tail, Contains-nil, Contains-cons_cases}
+use Rattle.tfpg_base.proofs.lists.Elements.{Contains-head, Contains-tail, Contains-nil, Contains-cons_cases}
 use Rattle.tfpg_clause.specs.declared.due.Due.{Due}
 use Rattle.tfpg_clause.specs.Clauses.{latest_of}
 

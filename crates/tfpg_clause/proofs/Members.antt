@@ -4,7 +4,7 @@ use Rattle.std.specs.Prelude.{Contains, map, filter_map, slice_get, option_map}
 use Rattle.std.specs.List.{cons_option}
 use Rattle.std.proofs.lemmas.Option.{slice_get_within}
 use Rattle.tfpg_base.specs.Choice.{each_of}
-use Rattle.tfpg_base.proofs.Elements.{Contains-head, Contains-tail, Contains-nil, Contains-cons_cases}
+use Rattle.tfpg_base.proofs.lists.Elements.{Contains-head, Contains-tail, Contains-nil, Contains-cons_cases}
 
 module _ {X Y : Type 0} (f : X → Option Y) where
   -- what is had of an item stands among what is had of all

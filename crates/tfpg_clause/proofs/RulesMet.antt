@@ -12,7 +12,7 @@ use Rattle.std.proofs.lemmas.Option.{option_and_then_some, slice_get_within, get
 use Rattle.tfpg_base.specs.declared.activation.Activation.{Activation}
 use Rattle.tfpg_base.specs.declared.constraint.Constraint.{Constraint}
 use Rattle.tfpg_base.specs.Trace.{time_of}
-use Rattle.tfpg_base.proofs.Elements.{All-from_members, Contains-head}
+use Rattle.tfpg_base.proofs.lists.Elements.{All-from_members, Contains-head}
 use Rattle.tfpg_graph.specs.declared.edge.Edge.{Edge}
 use Rattle.tfpg_graph.specs.declared.kind.Kind.{Kind}
 use Rattle.tfpg_graph.specs.Graph.{Tfpg, Node, is_kind_at, is_or, is_and, edges_into}

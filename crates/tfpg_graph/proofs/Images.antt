@@ -1,7 +1,7 @@
 -- What stands among the images of a list's elements.
 use Rattle.std.proofs.Common.{◌≡◌, List, [], ◌∷◌, map, ⊎_elim, ap, subst}
 use Rattle.std.specs.List.{Contains}
-use Rattle.tfpg_base.proofs.Elements.{Contains-head, Contains-tail, Contains-cons_cases, Contains-nil}
+use Rattle.tfpg_base.proofs.lists.Elements.{Contains-head, Contains-tail, Contains-cons_cases, Contains-nil}
 
 module _ {X Y : Type 0} (f : X → Y) where
   -- the image of what stands in a list stands among the images

@@ -7,7 +7,7 @@ use Rattle.std.proofs.lemmas.List.{append-nil, map-append, map-id}
 use Rattle.std.proofs.lemmas.List.Elements.{All-contains, Contains-get_or, Contains-append_left, Contains-append_right, Contains-append_cases}
 use Rattle.std.proofs.lemmas.List.Kept.{AllPairs-from_increasing}
 use Rattle.tfpg_base.specs.Set.{with_member}
-use Rattle.tfpg_base.proofs.Elements.{All-from_members, Contains-nil, Contains-cons_cases}
+use Rattle.tfpg_base.proofs.lists.Elements.{All-from_members, Contains-nil, Contains-cons_cases}
 use Rattle.tfpg_base.proofs.Sets.{Rises}
 use Rattle.tfpg_graph.specs.Graph.{Tfpg, failures}
 use Rattle.tfpg_hyp.specs.Table.{IsHypothesis, ComesFirst, IsBefore, IsTable}

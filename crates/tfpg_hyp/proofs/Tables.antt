@@ -8,7 +8,7 @@ use Rattle.tfpg_graph.specs.Graph.{Tfpg, failures}
 use Rattle.tfpg_graph.specs.Reach.{IsReach}
 use Rattle.tfpg_graph.proofs.Positions.{slice_get-push_before, slice_get-push_last}
 use Rattle.tfpg_hyp.specs.Table.{ComesFirst, IsBefore, IsTable}
-use Rattle.tfpg_base.proofs.Elements.{All-from_members}
+use Rattle.tfpg_base.proofs.lists.Elements.{All-from_members}
 use Rattle.tfpg_hyp.specs.declared.table.TableFault.{TableFault}
 use Rattle.tfpg_hyp.specs.declared.table.TableFault.TheVariants.{TooMany}
 use Rattle.tfpg_hyp.specs.Hypotheses.{HasHypotheses}

@@ -4,7 +4,7 @@ use Rattle.std.specs.Prelude.{◌↔◌, fold, All, AllPairs, IsTrue, slice_get,
 use Rattle.std.proofs.lemmas.Bool.{le-ltb}
 use Rattle.std.proofs.lemmas.List.Elements.{All-tail}
 use Rattle.tfpg_base.specs.declared.activation.Activation.{Activation}
-use Rattle.tfpg_base.proofs.Elements.{AllPairs-head, AllPairs-tail}
+use Rattle.tfpg_base.proofs.lists.Elements.{AllPairs-head, AllPairs-tail}
 use Rattle.tfpg_graph.specs.declared.edge.Edge.{Edge}
 use Rattle.tfpg_graph.specs.Graph.{Tfpg, is_allowed}
 use Rattle.tfpg_log.specs.declared.event.Event.{Event}

@@ -6,7 +6,7 @@ use Rattle.std.proofs.lemmas.Bool.{or_parts, ne_eqb, eqb-false}
 use Rattle.std.proofs.lemmas.List.Elements.{All-nil, All-cons, All-head, All-tail, All-contains}
 use Rattle.std.proofs.lemmas.Slice.Eq.{bytes_eq-Decides}
 use Rattle.tfpg_base.specs.Words.{words_of, line_of}
-use Rattle.tfpg_base.proofs.Elements.{All-from_members}
+use Rattle.tfpg_base.proofs.lists.Elements.{All-from_members}
 use Rattle.tfpg_base.proofs.Separators.{Lacks, join_with_byte-words_of}
 use Rattle.tfpg_graph.specs.Statements.{IsLineWord}
 use Rattle.tfpg_graph.proofs.lemmas.reading.LinesSay.{slice_split-join}

@@ -5,7 +5,7 @@ use Rattle.std.proofs.lemmas.Bool.{lt-ltb, le-ltb}
 use Rattle.std.proofs.lemmas.Bool.Decides.{nat_tests}
 use Rattle.std.proofs.lemmas.List.{append-nil, map-append, length-map, length-append}
 use Rattle.std.proofs.lemmas.List.Elements.{All-head, All-tail, All-contains}
-use Rattle.tfpg_base.proofs.Elements.{AllPairs-head, AllPairs-tail, Contains-tail, Contains-cons_cases, Contains-nil}
+use Rattle.tfpg_base.proofs.lists.Elements.{AllPairs-head, AllPairs-tail, Contains-tail, Contains-cons_cases, Contains-nil}
 use Rattle.tfpg_graph.specs.Graph.{Tfpg}
 use Rattle.tfpg_base.specs.TextLine.{separated}
 use Rattle.tfpg_report.specs.Blocks.{failure_word}

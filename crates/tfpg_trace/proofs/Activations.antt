@@ -5,7 +5,7 @@ use Rattle.std.proofs.lemmas.Bool.{eqb-true, cond-true, cond-false, eq-eqb, ne_e
 use Rattle.std.proofs.lemmas.List.Elements.{All-contains}
 use Rattle.tfpg_base.specs.declared.activation.Activation.{Activation}
 use Rattle.tfpg_base.specs.Trace.{IsRisingByNode, time_of}
-use Rattle.tfpg_base.proofs.Elements.{Contains-tail, Contains-nil, Contains-cons_cases, AllPairs-head, AllPairs-tail}
+use Rattle.tfpg_base.proofs.lists.Elements.{Contains-tail, Contains-nil, Contains-cons_cases, AllPairs-head, AllPairs-tail}
 
 -- a time that the trace gives a node is that of an activation
 pub activation_there : (trace : List Activation) (node time : ℕ) → time_of trace node ≡ Some time → Contains trace (record { node = node; time = time })

@@ -2,7 +2,7 @@
 use Rattle.std.proofs.Common.{◌≡◌, ℕ, ◌<◌, ◌≤◌, Bool, true, false, nat_eq, List, [], ◌∷◌, Option, Some, None, inl, inr, refl, arith}
 use Rattle.std.specs.Prelude.{IsTrue, Contains}
 use Rattle.std.proofs.lemmas.Bool.{eqb-true, eqb-false}
-use Rattle.tfpg_base.proofs.Elements.{Contains-tail, Contains-cons_cases}
+use Rattle.tfpg_base.proofs.lists.Elements.{Contains-tail, Contains-cons_cases}
 use Rattle.tfpg_graph.specs.Graph.{Tfpg, is_kind_at, is_failure, place_of_failure}
 use Rattle.tfpg_log.specs.Explains.{IsMember}
 use Rattle.tfpg_trace.proofs.FailureModes.{member_by_place, no_failure}

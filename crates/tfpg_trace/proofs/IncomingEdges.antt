@@ -4,7 +4,7 @@ use Rattle.std.specs.Prelude.{Contains, IsSomeAnd}
 use Rattle.std.proofs.lemmas.List.Elements.{All-contains, All-get_or, All-same, Contains-get_or}
 use Rattle.std.proofs.lemmas.List.{take_all}
 use Rattle.std.proofs.lemmas.Option.{slice_get-get_or, slice_get_within, get_or_from_slice_get}
-use Rattle.tfpg_base.proofs.Elements.{All-from_members}
+use Rattle.tfpg_base.proofs.lists.Elements.{All-from_members}
 use Rattle.tfpg_graph.specs.Graph.{numbers_from}
 use Rattle.tfpg_graph.proofs.Numbered.{All-below-numbers_from}
 use Rattle.tfpg_trace.proofs.NumberedItems.{item_of, number_of, kept, was_there}

@@ -2,7 +2,7 @@
 use Rattle.std.proofs.Common.{◌≡◌, ℕ, zero, suc, ◌+◌, Bool, true, false, cond, List, [], ◌∷◌, filter, Some, slice_get, inl, inr, refl, ap, sym, ◌∙◌, arith}
 use Rattle.std.specs.Prelude.{Contains}
 use Rattle.std.proofs.lemmas.Option.{slice_get_within}
-use Rattle.tfpg_base.proofs.Elements.{Contains-tail, Contains-nil, Contains-cons_cases}
+use Rattle.tfpg_base.proofs.lists.Elements.{Contains-tail, Contains-nil, Contains-cons_cases}
 use Rattle.tfpg_graph.specs.Graph.{numbers_from}
 
 -- The item of a number that is counted from another one, and passes.

@@ -10,7 +10,7 @@ use Rattle.std.proofs.lemmas.List.Kept.{AllPairs-from_increasing}
 use Rattle.std.proofs.lemmas.Map.Views.{list_any-from_Contains, Contains-from_any}
 use Rattle.std.proofs.lemmas.Option.{slice_get-map, slice_get_within, get_or_from_slice_get, same_Some}
 use Rattle.tfpg_base.specs.Set.{with_member}
-use Rattle.tfpg_base.proofs.Elements.{All-from_members}
+use Rattle.tfpg_base.proofs.lists.Elements.{All-from_members}
 use Rattle.tfpg_base.proofs.Sets.{same_from_members, Contains-with_member, with_member-keeps, with_member-only}
 use Rattle.tfpg_graph.specs.declared.kind.Kind.{Kind}
 use Rattle.tfpg_graph.specs.declared.kind.Kind.TheVariants.{Failure, Or, And}

@@ -14,7 +14,7 @@ use Rattle.tfpg_graph.specs.Declares.{modes_listed}
 use Rattle.std.proofs.lemmas.List.Sums.{sum_by-cons}
 use Rattle.tfpg_base.specs.Set.{with_member}
 use Rattle.tfpg_base.proofs.Sets.{with_member-only}
-use Rattle.tfpg_base.proofs.Elements.{All-from_members, Contains-head, Contains-tail, AllPairs-head, AllPairs-tail}
+use Rattle.tfpg_base.proofs.lists.Elements.{All-from_members, Contains-head, Contains-tail, AllPairs-head, AllPairs-tail}
 use Rattle.tfpg_graph.specs.Graph.{Tfpg, mode_named}
 use Rattle.tfpg_graph.specs.Causes.{has_twice}
 use Rattle.tfpg_graph.specs.inside.reading.LineCauses.{with_option}

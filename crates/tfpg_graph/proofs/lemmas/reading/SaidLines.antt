@@ -5,7 +5,7 @@ use Rattle.std.proofs.lemmas.Bool.{or_parts, ne_eqb, eq-eqb, false≢true}
 use Rattle.std.proofs.lemmas.List.Elements.{All-nil, All-cons, All-head, All-tail, All-contains}
 use Rattle.tfpg_base.specs.Words.{words_of}
 use Rattle.tfpg_base.specs.Lines.{longest_line}
-use Rattle.tfpg_base.proofs.Elements.{All-from_members}
+use Rattle.tfpg_base.proofs.lists.Elements.{All-from_members}
 use Rattle.tfpg_base.proofs.Separators.{Lacks}
 use Rattle.tfpg_graph.specs.Statements.{NodeWords, FailureWords, OrWords, AndWords, Statement, DeclaresMode, DeclaresNode, DeclaresEdge, Ends, words_of_watch, words_of_node, words_of_statement, IsLineWord, SaysStatement, lag_in, statement_in, statement_of}
 use Rattle.tfpg_graph.proofs.lemmas.reading.SaidWords.{cond_second, statement_in_words, said_by_words}

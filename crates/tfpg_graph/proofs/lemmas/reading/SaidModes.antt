@@ -9,7 +9,7 @@ use Rattle.std.proofs.lemmas.List.Splits.{length-slice_split, join_with_byte-sli
 use Rattle.std.proofs.lemmas.List.Quantifiers.{position-Some}
 use Rattle.std.proofs.lemmas.Option.{slice_get-get_or, same_Some}
 use Rattle.std.proofs.lemmas.Slice.Eq.{bytes_eq-Decides}
-use Rattle.tfpg_base.proofs.Elements.{AllPairs-cons}
+use Rattle.tfpg_base.proofs.lists.Elements.{AllPairs-cons}
 use Rattle.tfpg_graph.specs.Graph.{Tfpg, mode_named}
 use Rattle.tfpg_graph.specs.Text.{SpellsModes}
 use Rattle.tfpg_graph.specs.Declares.{modes_listed, modes_of_word}

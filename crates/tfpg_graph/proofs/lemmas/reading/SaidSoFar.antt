@@ -5,7 +5,7 @@ use Rattle.std.specs.List.{AllZip, list_any, filter_map, cons_option}
 use Rattle.std.proofs.lemmas.List.{append-nil, map_push, length-append, get_or_at, get_or_append_left}
 use Rattle.std.proofs.lemmas.List.Elements.{All-head, All-tail, All-nil, All-append, All-map, All-contains, Contains-append_right, filter_map-append}
 use Rattle.std.proofs.lemmas.List.Folds.{list_any_none}
-use Rattle.tfpg_base.proofs.Elements.{Contains-head, All-from_members}
+use Rattle.tfpg_base.proofs.lists.Elements.{Contains-head, All-from_members}
 use Rattle.tfpg_graph.specs.declared.edge.Edge.{Edge}
 use Rattle.tfpg_graph.specs.Graph.{Tfpg, Node, numbers_from}
 use Rattle.tfpg_graph.specs.Valid.{HasValidNumber}

@@ -12,7 +12,7 @@ use Rattle.std.proofs.lemmas.Slice.Eq.{bytes_eq-Decides}
 use Rattle.tfpg_base.specs.Words.{is_name, is_number, is_letter, number_of}
 use Rattle.tfpg_base.proofs.Numbers.{is_number-decimal, number_of-decimal}
 use Rattle.tfpg_base.proofs.Separators.{Lacks, name_lacks}
-use Rattle.tfpg_base.proofs.Elements.{AllPairs-head, AllPairs-tail}
+use Rattle.tfpg_base.proofs.lists.Elements.{AllPairs-head, AllPairs-tail}
 use Rattle.tfpg_graph.specs.declared.kind.Kind.{Kind}
 use Rattle.tfpg_graph.specs.declared.kind.Kind.TheVariants.{Failure, Or, And}
 use Rattle.tfpg_graph.specs.Text.{tmax_word}

@@ -2,7 +2,7 @@
 use Rattle.std.proofs.Common.{◌≡◌, ℕ, ◌<◌, List, [], ◌∷◌, refl, sym, ap, subst, ◌∙◌, arith}
 use Rattle.std.proofs.lemmas.List.Elements.{All-nil, All-cons, All-same}
 use Rattle.std.specs.Prelude.{IsTrue}
-use Rattle.tfpg_base.proofs.Elements.{AllPairs-cons}
+use Rattle.tfpg_base.proofs.lists.Elements.{AllPairs-cons}
 use Rattle.tfpg_evidence.specs.declared.finding.Finding.{Finding}
 use Rattle.tfpg_evidence.specs.declared.round.Round.{Round}
 use Rattle.tfpg_evidence.specs.RoundOf.{Sizes, IsFindingOf, IsRankedIn, IsRoundOf, is_ranked}
