@@ -7,7 +7,7 @@ use Rattle.std.proofs.lemmas.List.Elements.{All-nil, All-set, All-get_or, All-co
 use Rattle.std.proofs.lemmas.List.Kept.{AllPairs-from_increasing}
 use Rattle.std.proofs.lemmas.Nat.{or_lt, mod_below}
 use Rattle.tfpg_base.specs.Set.{with_member}
-use Rattle.tfpg_base.specs.SetBits.{members_of}
+use Rattle.tfpg_base.specs.inside.SetBits.{members_of}
 use Rattle.tfpg_base.proofs.lists.Elements.{AllPairs-head, AllPairs-tail, AllPairs-cons, All-from_members, Contains-head, Contains-tail, Contains-nil}
 use Rattle.tfpg_base.proofs.Sets.{Rises, same_from_members, Contains-with_member, with_member-keeps, with_member-only, Rises-with_member, IsSet-members_of, members_of-is, members_of-zero, members_of-set, bit_tells_member}
 use Rattle.tfpg_graph.specs.NodeSet.{IsNodeSet}
