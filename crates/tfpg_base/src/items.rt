@@ -72,20 +72,3 @@ impl<T: Drop> Items<T> {
         Ok(())
     }
 }
-
-#[cfg(test)]
-mod tests {
-    use super::*;
-    use std::test::Fail;
-
-    #[test]
-    fn items_come_back_in_order(rt: HostRuntime) -> Result<(), Fail> {
-        let mut list = NumberList::new(rt.alloc());
-        list.push(7)?;
-        list.push(5)?;
-        assert_eq!(rt; list.as_slice(), [7, 5].as_slice());
-        let list = NumberList::from_vec(list.into_vec());
-        assert_eq!(rt; list.as_slice(), [7, 5].as_slice());
-        Ok(())
-    }
-}

@@ -9,8 +9,6 @@ ghost use Rattle.tfpg_base.specs.inside.LineSearch.{IsAtLineEnd, kind_of, lent_o
 
 mod refill;
 mod search;
-#[cfg(test)]
-mod tests;
 
 use crate::{LONGEST_LINE, Line, LineFault, NoMemory, Source};
 use std::alloc::Global;

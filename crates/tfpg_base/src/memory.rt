@@ -10,8 +10,6 @@ mod memory_shelf;
 mod memory_sink;
 mod memory_source;
 mod steady_source;
-#[cfg(test)]
-mod tests;
 
 pub use discard::Discard;
 pub use memory_shelf::MemoryShelf;

@@ -108,27 +108,3 @@ impl Set {
         self.bits & of.bits == self.bits
     }
 }
-
-#[cfg(test)]
-mod tests {
-    use super::*;
-
-    #[test]
-    fn holds_its_members(rt: HostRuntime) {
-        let set = Set::empty().with(63).with(0).with(63);
-        assert_eq!(rt; set.len(), 2);
-        for (place, is_member) in [
-            (0, true),
-            (1, false),
-            (63, true),
-            (64, false),
-            (u32::MAX, false),
-        ] {
-            assert_eq!(rt; set.has(place), is_member, "at {place}");
-        }
-        assert!(rt; Set::empty().is_empty() && !set.is_empty());
-        assert!(rt; Set::empty().with(63).is_proper_part(set));
-        assert!(rt; !set.is_proper_part(set) && !Set::empty().with(1).is_proper_part(set));
-        assert!(rt; set == Set::empty().with(0).with(63));
-    }
-}

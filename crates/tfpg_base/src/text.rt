@@ -36,15 +36,3 @@ impl Text {
         self.text.as_str()
     }
 }
-
-#[cfg(test)]
-mod tests {
-    use super::*;
-    use std::test::Fail;
-
-    #[test]
-    fn a_text_is_kept(rt: HostRuntime) -> Result<(), Fail> {
-        assert_eq!(rt; Text::of(rt.alloc(), "pump")?.as_str(), "pump");
-        Ok(())
-    }
-}

@@ -42,18 +42,3 @@ pub fn put_part(
     into.extend_from_slice(part)?;
     Ok(())
 }
-
-#[cfg(test)]
-mod tests {
-    use super::*;
-    use std::test::Fail;
-
-    #[test]
-    fn words_stand_behind_the_text(rt: HostRuntime) -> Result<(), Fail> {
-        let mut text = Vec::from_slice(rt.alloc(), b"a\n")?;
-        put_line(&mut text, &[b"b", b"", b"c"])?;
-        put_part(&mut text, b',', false, b"d")?;
-        assert_eq!(rt; text.as_slice(), b"a\nb  c\n,d".as_slice());
-        Ok(())
-    }
-}

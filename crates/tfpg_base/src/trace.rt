@@ -79,27 +79,3 @@ fn search(items: &[Activation], node: u32) -> Result<usize, usize>
 {
     items.binary_search_by_key(&node, |activation| activation.node)
 }
-
-#[cfg(test)]
-mod tests {
-    use super::*;
-    use std::test::Fail;
-
-    #[test]
-    fn keeps_the_last_time_by_rising_nodes(rt: HostRuntime) -> Result<(), Fail> {
-        let mut trace = Trace::new(rt.alloc());
-        for (node, time) in [(7, 10), (4, 20), (9, 0), (7, 30)] {
-            trace.set(node, time)?;
-        }
-        let expected = [
-            Activation { node: 4, time: 20 },
-            Activation { node: 7, time: 30 },
-            Activation { node: 9, time: 0 },
-        ];
-        assert_eq!(rt; trace.as_slice(), expected.as_slice());
-        assert_eq!(rt; trace.at(7), Some(30));
-        assert_eq!(rt; trace.at(8), None);
-        assert_eq!(rt; trace.clone()?.as_slice(), trace.as_slice());
-        Ok(())
-    }
-}

@@ -56,20 +56,3 @@ pub fn has_empty_word(words: &[&[u8]]) -> bool
 {
     words.iter().any(|word| word.is_empty())
 }
-
-#[cfg(test)]
-mod tests {
-    use super::*;
-
-    #[test]
-    fn cuts_at_each_space(rt: HostRuntime) {
-        let words = Words::of(b"5 alarm  N\t ").expect(&rt, "few words");
-        match words.as_slice() {
-            [b"5", b"alarm", b"", b"N\t", b""] => {}
-            other => panic!(&rt; "{other:?}"),
-        }
-        assert!(rt; has_empty_word(words.as_slice()));
-        assert!(rt; Words::of(b"1 2 3 4 5 6 7 8 9").is_some());
-        assert!(rt; Words::of(b"1 2 3 4 5 6 7 8 9 ").is_none());
-    }
-}
