@@ -86,14 +86,14 @@ explains-empty graph log valid quiet = record {
   trace_of = (λ i j d lt below. absurd (omega arith), All-nil _);
   by_now = All-nil _;
   from_set = All-nil _;
-  rules = λ node instant below past. (
-    record { or_node = λ or at. absurd cc; and_node = λ and at. absurd cc },
-    record {
+  rules = λ node below. record {
+    may = λ instant past. record { or_node = λ or at. absurd cc; and_node = λ and at. absurd cc };
+    must = λ instant past. record {
       or_node = λ or edge into due. absurd (never_due log edge instant due);
       and_node = λ and all. let first = and_node_has_edge graph node valid and in
           absurd (never_due log first.0 instant (rw first.2 at (all 0 first.0 (rw first.2 (omega arith)))));
-    },
-  );
+    };
+  };
   shows = λ number event e. shows_without_alarm graph (take number log.events) event (λ time node is. no_alarm log.events number time node (e ∙ ap Some is) (quiet node));
 }
 

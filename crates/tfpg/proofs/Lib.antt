@@ -1,7 +1,7 @@
 pub mod Refused
 pub mod EmptySet
 pub mod EmptyRounds
-pub mod Telling
+pub mod Reporting
 pub mod Putting
 pub mod Answering
 pub mod Turns

@@ -111,14 +111,14 @@ module _ (graph : Tfpg) (valid : IsValid graph) where
       ap words_after_at (slice_split-join 32 (codes "at" ∷ name_word graph activation.node ∷ decimal activation.time ∷ []) (omega arith) (
         lacks_checked 32 (codes "at") refl,
         (
-          name_lacks 32 (name_word graph activation.node) refl (is_name-name_of graph activation.node of.in_graph valid.node_names),
+          name_lacks 32 (name_word graph activation.node) refl (is_name-name_of graph activation.node of.in_graph valid.so_far.node_names),
           (decimal_lacks 32 activation.time refl (small_time activation.time of.in_range), tt),
         ),
       ))
 
   -- the name of a node names it
   pub node_of_word : (node : ℕ) → node < length graph.nodes → node_named graph (name_word graph node) ≡ Some node
-  node_of_word node within = node_named-name_of graph node within valid.nodes_differ
+  node_of_word node within = node_named-name_of graph node within valid.so_far.nodes_differ
 
   -- two lines of activations that are the same are of one node
   pub one_node : (one other : Activation) → IsActivationOf graph one → IsActivationOf graph other → at_line graph one ≡ at_line graph other → one.node ≡ other.node
@@ -169,7 +169,7 @@ module _ (graph : Tfpg) (valid : IsValid graph) where
   failure_name-is_name place within =
       let node = get_or (failures graph) place 0 in
       let at : failure_at graph place ≡ Some node = slice_get-get_or (failures graph) place 0 within in
-      ap is_name (failure_name-node graph place node at) ∙ is_name-name_of graph node (failure_in_graph graph place node at) valid.node_names
+      ap is_name (failure_name-node graph place node at) ∙ is_name-name_of graph node (failure_in_graph graph place node at) valid.so_far.node_names
 
 -- a position that a name names is of a failure mode of that name
 pub place_named : (graph : Tfpg) (name : List ℕ) (place : ℕ) → failure_named graph name ≡ Some place → (place < length (failures graph)) × (failure_name graph place ≡ name)

@@ -4,7 +4,7 @@ use Rattle.tfpg_base.specs.Outside.{ShelfState, Gives}
 use Rattle.tfpg_graph.specs.declared.cause.GraphRefusal.{GraphRefusal}
 use Rattle.tfpg_graph.specs.declared.cause.GraphRefusal.TheVariants.{Fault, NoMemory}
 use Rattle.tfpg_graph.specs.Faults.{IsRefusalOf}
-use Rattle.tfpg.specs.EndsOf.{fetch_fault_of_refusal}
+use Rattle.tfpg.specs.inside.Faults.{fetch_fault_of_refusal}
 use Rattle.tfpg.specs.Fetch.{IsFetchFault}
 
 -- the refusal of a text that was fetched is why there is no graph

@@ -1,9 +1,10 @@
 -- One turn of a diagnosis after another.
-use Rattle.std.proofs.Common.{◌-◌, ◌^◌, ◌≡◌, ◌⊎◌, ℕ, ◌+◌, ◌<◌, ◌≤◌, List, [], ◌∷◌, ◌++◌, length, take, drop, Option, Some, None, Result, Ok, Err, refl, sym, ap, subst, ◌∙◌, arith, inl, inr, append_assoc}
+use Rattle.std.proofs.Common.{◌-◌, ◌^◌, ◌≡◌, ◌⊎◌, ℕ, ◌+◌, ◌<◌, ◌≤◌, List, [], ◌∷◌, ◌++◌, length, take, drop, Option, Some, None, Result, Ok, Err, refl, sym, ap, subst, ◌∙◌, arith, inl, inr, ⊎_elim, append_assoc}
 use Rattle.std.specs.Prelude.{flat_map, IsErrAnd, IfErr, OnErr, IfSome, unwrap_or, slice_get}
 use Rattle.std.specs.List.{AllByRecursion, slice_split}
 use Rattle.std.proofs.lemmas.List.Splits.{length-slice_split}
-use Rattle.std.proofs.lemmas.List.Sums.{count_by-le-length}
+use Rattle.std.proofs.lemmas.Bool.{cases_lt}
+use Rattle.std.proofs.lemmas.List.Sums.{count_by-le-length, fold-append}
 use Rattle.std.proofs.lemmas.List.{take-append-drop, take-append-le, append-nil, length-append, length-take, take_at, take_all, take-take}
 use Rattle.std.proofs.lemmas.List.Concat.{flat_map-append}
 use Rattle.std.proofs.lemmas.Option.{slice_get_within}
@@ -17,14 +18,18 @@ use Rattle.tfpg_base.proofs.LinesOf.{take-lines_of, lines_of-append}
 use Rattle.tfpg_base.proofs.Taking.{Takes-append, Takes-nothing}
 use Rattle.tfpg_base.proofs.ReadingOn.{GaveLine, Continues-turn, Continues-text, Continues-too_long}
 use Rattle.tfpg_graph.specs.Graph.{Tfpg}
+use Rattle.tfpg_graph.proofs.Positions.{slice_get-push_before, slice_get-push_last}
+use Rattle.tfpg_log.specs.Log.{Logbook}
+use Rattle.tfpg_log.specs.LogOfLines.{new_log, log_after, log_of_lines}
+use Rattle.tfpg_evidence.specs.declared.round.Round.{Round}
 use Rattle.tfpg_report.specs.declared.refused_line.RefusedLine.TheVariants.{TooLong}
 use Rattle.tfpg_report.specs.Blocks.{Block, block_text, head_text, refused_text}
-use Rattle.tfpg_check.specs.Report.{Progress, IsBlock, AreBlocks, report_text, start, after}
-use Rattle.tfpg_check.specs.inside.Progress.{after_all}
+use Rattle.tfpg_check.specs.Report.{Progress, IsBlock, AreBlocks, report_text, rounds_of, progress_of}
+use Rattle.tfpg_check.specs.inside.Progress.{start, after}
 use Rattle.tfpg.specs.declared.diagnoser.Diagnoser.{Diagnoser}
 use Rattle.tfpg.specs.declared.fault.StreamFault.{StreamFault}
 use Rattle.tfpg.specs.declared.fault.StreamFault.TheVariants as faults
-use Rattle.tfpg.specs.EndsOf.{stream_fault_of_lines}
+use Rattle.tfpg.specs.inside.Faults.{stream_fault_of_lines}
 use Rattle.tfpg.specs.ForNow.{budget, LosesNone, OpensNone}
 use Rattle.tfpg.specs.Run.{Streams, HasLeft, HasNoFault, BeginsReportOfInput, Diagnoses}
 use Rattle.tfpg.specs.inside.Diagnoser.{DiagnoserRepresents, HasBlock}
@@ -34,23 +39,55 @@ use Rattle.tfpg.proofs.Putting.{Puts-append, Puts-same_held}
 
 -- ---- one block more
 
--- the blocks of some lines, and one block more
-pub AreBlocks-push : (graph : Tfpg) (k b : ℕ) (before : Progress) (n m : ℕ) (lines : List (List ℕ)) (blocks : List Block) (line : List ℕ) (block : Block) → m ≡ n + length lines
-    → AreBlocks graph k b before n lines blocks → IsBlock graph k b (after_all graph before lines blocks) m line block
-    → AreBlocks graph k b before n (lines ++ line ∷ []) (blocks ++ block ∷ [])
-AreBlocks-push graph k b before n m [] [] line block e are is = let same : m ≡ n = omega arith in (subst (λ (x : ℕ). IsBlock graph k b before x line block) same is, tt)
-AreBlocks-push graph k b before n m [] (other ∷ blocks) line block e are is = elim are [ ]
-AreBlocks-push graph k b before n m (first ∷ lines) [] line block e are is = elim are [ ]
-AreBlocks-push graph k b before n m (first ∷ lines) (other ∷ blocks) line block e are is =
-    (are.0, AreBlocks-push graph k b (after graph before first other) (n + 1) m lines blocks line block (omega arith) are.1 is)
+abbrev progress_with : List Round → Logbook → Progress
+progress_with rounds log = record { rounds = rounds; log = log }
+
+same_some : {X : Type 0} {one other : X} → Some one ≡ Some other → one ≡ other
+same_some e = cc
 
 -- how far a report has come after one block more
-pub after_all-push : (graph : Tfpg) (k b : ℕ) (before : Progress) (n : ℕ) (lines : List (List ℕ)) (blocks : List Block) (line : List ℕ) (block : Block)
-    → AreBlocks graph k b before n lines blocks → after_all graph before (lines ++ line ∷ []) (blocks ++ block ∷ []) ≡ after graph (after_all graph before lines blocks) line block
-after_all-push graph k b before n [] [] line block are = refl
-after_all-push graph k b before n [] (other ∷ blocks) line block are = elim are [ ]
-after_all-push graph k b before n (first ∷ lines) [] line block are = elim are [ ]
-after_all-push graph k b before n (first ∷ lines) (other ∷ blocks) line block are = after_all-push graph k b (after graph before first other) (n + 1) lines blocks line block are.1
+pub progress_of-push : (graph : Tfpg) (lines : List (List ℕ)) (blocks : List Block) (line : List ℕ) (block : Block)
+    → progress_of graph (lines ++ line ∷ []) (blocks ++ block ∷ []) ≡ after graph (progress_of graph lines blocks) line block
+progress_of-push graph lines blocks line block =
+    let rounds : flat_map rounds_of (blocks ++ block ∷ []) ≡ flat_map rounds_of blocks ++ rounds_of block =
+    flat_map-append rounds_of blocks (block ∷ []) ∙ ap (λ (rs : List Round). flat_map rounds_of blocks ++ rs) (append-nil (rounds_of block)) in
+    let log : log_of_lines graph (lines ++ line ∷ []) ≡ log_after graph (log_of_lines graph lines) line = fold-append (log_after graph) new_log lines (line ∷ []) in
+    ap (λ (rs : List Round). progress_with rs (log_of_lines graph (lines ++ line ∷ []))) rounds ∙ ap (progress_with (flat_map rounds_of blocks ++ rounds_of block)) log
+
+-- no line has no block
+AreBlocks-none : (graph : Tfpg) (k b : ℕ) → AreBlocks graph k b [] []
+AreBlocks-none graph k b = record { one_each = refl; each = λ place line block at there. absurd (omega (arith, slice_get_within {A = List ℕ} [] place line at)) }
+
+-- the blocks of some lines, and one block more
+module _ (graph : Tfpg) (k b : ℕ) (lines : List (List ℕ)) (blocks : List Block) (last : List ℕ) (end : Block) (are : AreBlocks graph k b lines blocks) where
+  block_at : (place : ℕ) (line : List ℕ) (block : Block) (firsts : List (List ℕ)) (before : List Block) → take place (lines ++ last ∷ []) ≡ firsts → take place (blocks ++ end ∷ []) ≡ before
+      → IsBlock graph k b (progress_of graph firsts before) (place + 1) line block
+      → IsBlock graph k b (progress_of graph (take place (lines ++ last ∷ [])) (take place (blocks ++ end ∷ []))) (place + 1) line block
+  block_at place line block firsts before f e is =
+      subst (λ (fs : List (List ℕ)). IsBlock graph k b (progress_of graph fs (take place (blocks ++ end ∷ []))) (place + 1) line block) (sym f)
+      (subst (λ (bs : List Block). IsBlock graph k b (progress_of graph firsts bs) (place + 1) line block) (sym e) is)
+
+  pub AreBlocks-push : (number : ℕ) → number ≡ 1 + length lines → IsBlock graph k b (progress_of graph lines blocks) number last end → AreBlocks graph k b (lines ++ last ∷ []) (blocks ++ end ∷ [])
+  AreBlocks-push number numbered is = record {
+    one_each = omega (arith, are.one_each, length-append blocks (end ∷ []), length-append lines (last ∷ []));
+    each = λ place line block at there. ⊎_elim
+        (λ early.
+        let early_block : place < length blocks = omega (arith, early, are.one_each) in
+        block_at place line block (take place lines) (take place blocks)
+        (take-append-le place lines (last ∷ []) (omega (arith, early))) (take-append-le place blocks (end ∷ []) (omega (arith, early_block)))
+        (are.each place line block (sym (slice_get-push_before lines last place early) ∙ at) (sym (slice_get-push_before blocks end place early_block) ∙ there)))
+        (λ late.
+        let here : place ≡ length lines = omega (arith, late, slice_get_within (lines ++ last ∷ []) place line at, length-append lines (last ∷ [])) in
+        let here_block : place ≡ length blocks = omega (arith, here, are.one_each) in
+        let line_is : last ≡ line = same_some (sym (slice_get-push_last lines last place here) ∙ at) in
+        let block_is : end ≡ block = same_some (sym (slice_get-push_last blocks end place here_block) ∙ there) in
+        let count : number ≡ place + 1 = omega (arith, numbered, here) in
+        block_at place line block lines blocks (take_at lines (last ∷ []) place (sym here)) (take_at blocks (end ∷ []) place (sym here_block))
+        (subst (λ (n : ℕ). IsBlock graph k b (progress_of graph lines blocks) n line block) count
+        (subst (λ (l : List ℕ). IsBlock graph k b (progress_of graph lines blocks) number l block) line_is
+        (subst (λ (x : Block). IsBlock graph k b (progress_of graph lines blocks) number last x) block_is is))))
+        (cases_lt place (length lines));
+  }
 
 -- the text of one block more
 pub report_text-push : (graph : Tfpg) (k b : ℕ) (blocks : List Block) (block : Block) → report_text graph k b blocks ++ block_text graph block ≡ report_text graph k b (blocks ++ block ∷ [])
@@ -110,7 +147,7 @@ front_is_within lines given e = let same : length (take (length given) lines) �
 
 -- what is written so far begins the report
 begins : (graph : Tfpg) (input : SourceState) (taken : List ℕ) (given : List (List ℕ)) (blocks : List Block) → take (length given) (lines_of (taken ++ rest_of input)) ≡ given
-    → AreBlocks graph 0 budget start 1 given blocks → (written rest : List ℕ) → report_text graph 0 budget blocks ≡ written ++ rest
+    → AreBlocks graph 0 budget given blocks → (written rest : List ℕ) → report_text graph 0 budget blocks ≡ written ++ rest
     → BeginsReportOfInput graph input taken blocks written
 begins graph input taken given blocks front are written rest e = record {
   rest = rest_of input;
@@ -119,7 +156,7 @@ begins graph input taken given blocks front are written rest e = record {
     count = length given;
     within = front_is_within (lines_of (taken ++ rest_of input)) given front;
     report = report_text graph 0 budget blocks;
-    is_report = record { are_blocks = subst (λ (ls : List (List ℕ)). AreBlocks graph 0 budget start 1 ls blocks) (sym front) are; text = refl };
+    is_report = record { are_blocks = subst (λ (ls : List (List ℕ)). AreBlocks graph 0 budget ls blocks) (sym front) are; text = refl };
     more = rest;
     begins = e;
   };
@@ -221,7 +258,7 @@ ends_done graph before now lines lines' diagnoser input under continues =
       no_losses = under.no_losses;
       none_open = under.none_open;
       ends = record {
-        report = record { are_blocks = subst (λ (ls : List (List ℕ)). AreBlocks graph 0 budget start 1 ls under.blocks) (sym end.all) under.are_blocks; text = refl };
+        report = record { are_blocks = subst (λ (ls : List (List ℕ)). AreBlocks graph 0 budget ls under.blocks) (sym end.all) under.are_blocks; text = refl };
         few = end.few;
         at_end = end.end;
         no_fault = record { input = end.no_fault ∙ under.no_fault.input; output = under.no_fault.output };
@@ -264,12 +301,12 @@ module _ (graph : Tfpg) (before now : Streams) (lines : Buffered) (diagnoser : D
       }
 
   module _ (number : ℕ) (bytes : List ℕ) (answered : Diagnoser) (output : SinkState)
-      (number_is : number ≡ reader.number) (block : HasBlock graph (after_all graph start under.reading.given under.blocks) number gave.first bytes answered) where
-    blocks_are : AreBlocks graph 0 budget start 1 (under.reading.given ++ gave.first ∷ []) (under.blocks ++ block.block ∷ [])
+      (number_is : number ≡ reader.number) (block : HasBlock graph (progress_of graph under.reading.given under.blocks) number gave.first bytes answered) where
+    blocks_are : AreBlocks graph 0 budget (under.reading.given ++ gave.first ∷ []) (under.blocks ++ block.block ∷ [])
     blocks_are =
         let given = under.reading.given in
         let place : number ≡ 1 + length given = omega (arith, number_is, gave.stands.number, length-append given (gave.first ∷ [])) in
-        AreBlocks-push graph 0 budget start 1 number given under.blocks gave.first block.block place under.are_blocks block.is_block
+        AreBlocks-push graph 0 budget given under.blocks gave.first block.block under.are_blocks number place block.is_block
 
     -- where the block is written, the diagnosis is under way still
     pub gave_block : Puts now.output output bytes → output.faults ≡ now.output.faults → answered.graph ≡ graph
@@ -291,7 +328,7 @@ module _ (graph : Tfpg) (before now : Streams) (lines : Buffered) (diagnoser : D
           are_blocks = blocks_are;
           no_losses = All-push LosesNone under.blocks block.block under.no_losses block.no_losses;
           none_open = All-push OpensNone under.blocks block.block under.none_open block.none_open;
-          reported = subst (DiagnoserRepresents answered) (sym (after_all-push graph 0 budget start 1 given under.blocks gave.first block.block under.are_blocks)) block.stands;
+          reported = subst (DiagnoserRepresents answered) (sym (progress_of-push graph given under.blocks gave.first block.block)) block.stands;
           same_graph = same;
           no_fault = record { input = gave.no_fault ∙ under.no_fault.input; output = no_fault ∙ under.no_fault.output };
         }
@@ -332,7 +369,7 @@ module _ (graph : Tfpg) (before now : Streams) (lines : Buffered) (diagnoser : D
 pub record IsAnswered (graph : Tfpg) (before now : Streams) (lines : Buffered) (diagnoser : Diagnoser) (input : SourceState) (reader : Buffered)
     (under : IsUnderWay graph before now lines diagnoser) (number : ℕ) (bytes : List ℕ) (answered : Diagnoser) : Type 0 where
   pub gave : GaveLine under.reading now.input input reader
-  pub block : HasBlock graph (after_all graph start under.reading.given under.blocks) number gave.first bytes answered
+  pub block : HasBlock graph (progress_of graph under.reading.given under.blocks) number gave.first bytes answered
 
 module _ (graph : Tfpg) (before now : Streams) (lines : Buffered) (diagnoser : Diagnoser) (input : SourceState) (reader : Buffered)
     (under : IsUnderWay graph before now lines diagnoser) (l : Line) (continues : Continues under.reading under.reading.ended now.input input (Ok l) reader) where
@@ -359,7 +396,7 @@ module _ (graph : Tfpg) (before now : Streams) (lines : Buffered) (diagnoser : D
       let met = met_text e in
       let text_is : text ≡ met.0.first = t ∙ met.2 in
       let short : length text ≤ 4096 = subst (λ (x : List ℕ). length x ≤ 4096) (sym text_is) met.1 in
-      let at = after_all graph start under.reading.given under.blocks in
+      let at = progress_of graph under.reading.given under.blocks in
       record {
         gave = met.0;
         block = subst (λ (x : List ℕ). HasBlock graph at number x bytes answered) text_is
@@ -373,7 +410,7 @@ module _ (graph : Tfpg) (before now : Streams) (lines : Buffered) (diagnoser : D
       let met = met_long e in
       record {
         gave = met.0;
-        block = block_of_long_line graph (after_all graph start under.reading.given under.blocks) number met.0.first bytes diagnoser met.1 under.reported text;
+        block = block_of_long_line graph (progress_of graph under.reading.given under.blocks) number met.0.first bytes diagnoser met.1 under.reported text;
       }
 
 -- what holds at the exit of a `?`
@@ -430,7 +467,7 @@ begins_under_way graph before lines diagnoser output unread new same puts no_fau
   front = refl;
   blocks = [];
   writes = subst (Puts before.output output) (sym (append-nil (head_text 0 budget))) puts;
-  are_blocks = tt;
+  are_blocks = AreBlocks-none graph 0 budget;
   no_losses = tt;
   none_open = tt;
   reported = new;
@@ -450,7 +487,7 @@ module _ (graph : Tfpg) (before : Streams) where
     blocks = [];
     no_losses = tt;
     none_open = tt;
-    ends = (tt, begins graph before.input [] [] [] refl tt [] (report_text graph 0 budget []) refl);
+    ends = (tt, begins graph before.input [] [] [] refl (AreBlocks-none graph 0 budget) [] (report_text graph 0 budget []) refl);
   }
 
   -- or since the output failed
@@ -464,7 +501,7 @@ module _ (graph : Tfpg) (before : Streams) where
     blocks = [];
     no_losses = tt;
     none_open = tt;
-    ends = (rose, begins graph before.input [] [] [] refl tt front rest (append-nil (head_text 0 budget) ∙ sym is ∙ parts));
+    ends = (rose, begins graph before.input [] [] [] refl (AreBlocks-none graph 0 budget) front rest (append-nil (head_text 0 budget) ∙ sym is ∙ parts));
   }
 
 -- one line on, fewer are left

@@ -7,7 +7,7 @@ is_option_word [] = false
 is_option_word (first ∷ []) = false
 is_option_word (first ∷ second ∷ others) = first == 45
 
--- a rule for now: the name of the graph, where the words are `diagnose`, `--k`, `0` and a name
+-- For now: the name of the graph, where the words are `diagnose`, `--k`, `0` and a name.
 abbrev pub graph_word : List (List ℕ) → Option (List ℕ)
 graph_word [] = None
 graph_word (command ∷ []) = None

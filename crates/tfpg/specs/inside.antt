@@ -3,3 +3,4 @@ pub mod Diagnoser
 pub mod EmptyRounds
 pub mod Course
 pub mod MapLines
+pub mod Faults

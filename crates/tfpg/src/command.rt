@@ -1,8 +1,18 @@
 //! The words of the command line.
 
-ghost use Rattle.std.specs.Prelude.{◌≡◌, ◌&&◌, bytes_eq, codes, map, None, Some, MatchOption};
+ghost use Rattle.std.specs.Prelude.{◌≡◌, ◌&&◌, bytes_eq, codes, drop, map, None, Some, MatchOption};
 ghost use Rattle.std.specs.String.{string_bytes};
 ghost use Rattle.tfpg.specs.Command.{graph_word, is_option_word};
+
+/// The words of the command line: the arguments after the first, which is the name of the program.
+pub(crate) fn words_after_name(args: &[String]) -> &[String]
+    ensures { result.now ≡ drop 1 args.now }
+{
+    match args.split_first() {
+        Some((_, words)) => words,
+        None => args,
+    }
+}
 
 /// The name of the graph, where the words are `diagnose --k 0 GRAPH` and GRAPH is no option.
 pub(crate) fn graph_name(words: &[String]) -> Option<&str>
@@ -22,7 +32,7 @@ pub(crate) fn graph_name(words: &[String]) -> Option<&str>
     }
 }
 
-/// Whether the words in front of the name are those of the one shape.
+/// Whether the words before the name are those of the one shape.
 fn is_shape(command: &str, option: &str, value: &str) -> bool
     ensures { result ≡ (bytes_eq command.now (codes "diagnose") && (bytes_eq option.now (codes "--k") && bytes_eq value.now (codes "0"))) }
 {

@@ -8,10 +8,11 @@ ghost use Rattle.tfpg_log.specs.Log.{IsEventOf};
 ghost use Rattle.tfpg_hyp.specs.Rounds.{IsRound, HasNoneOpen};
 ghost use Rattle.tfpg_graph.specs.Valid.{IsValid};
 ghost use Rattle.tfpg_report.specs.Blocks.{sizes_of, refused_text, round_text};
-ghost use Rattle.tfpg_check.specs.Report.{Progress, start};
+ghost use Rattle.tfpg_check.specs.Report.{Progress};
+ghost use Rattle.tfpg_check.specs.inside.Progress.{start};
 ghost use Rattle.tfpg.specs.inside.EmptyRounds.{ranking_round, rejecting_round, rejection};
 ghost use Rattle.tfpg.specs.ForNow.{budget};
-ghost use Rattle.tfpg.specs.inside.Diagnoser.{DiagnoserRepresents, HasHeard, IsReady, Tells, after_told, IsToldOf, HasBlock};
+ghost use Rattle.tfpg.specs.inside.Diagnoser.{DiagnoserRepresents, HasHeard, IsReady, Returns, after_answer, NamesOnly, HasBlock};
 
 use std::alloc::Global;
 use tfpg_base::{NoMemory, NumberList, Set, Trace};
@@ -72,9 +73,9 @@ impl Diagnoser {
     /// What a line of this number and text gives.
     fn hear(&mut self, alloc: Global, line: u64, text: &[u8]) -> Result<Told, NoMemory>
         requires { IsReady self.old }
-        ensures told { (before : Progress) → DiagnoserRepresents self.old before
-            → IfOk result (λ told. Tells self.old.graph before line text.now told × DiagnoserRepresents self.new (after_told self.old.graph before text.now told)) }
-        ensures of_graph { IfOk result (IsToldOf (sizes_of self.old.graph)) }
+        ensures returned { (before : Progress) → DiagnoserRepresents self.old before
+            → IfOk result (λ answer. Returns self.old.graph before line text.now answer × DiagnoserRepresents self.new (after_answer self.old.graph before text.now answer)) }
+        ensures of_graph { IfOk result (NamesOnly (sizes_of self.old.graph)) }
         ensures graph { self.new.graph ≡ self.old.graph }
         ensures ready { IsReady self.new }
     {
@@ -88,7 +89,7 @@ impl Diagnoser {
     fn tell(&mut self, alloc: Global, line: u64, event: Event) -> Result<Round, NoMemory>
         requires ready { IsReady self.old }
         requires event { IsEventOf self.old.graph event }
-        ensures told { (before : Progress) → HasHeard self.old before event
+        ensures returned { (before : Progress) → HasHeard self.old before event
             → IfOk result (λ round. IsRound self.old.graph 0 budget before.rounds self.old.log line round × HasNoneOpen round
             × DiagnoserRepresents self.new (record { rounds = before.rounds ++ round ∷ []; log = self.old.log })) }
         ensures of_graph { IfOk result (IsRoundOf (sizes_of self.old.graph)) }

@@ -1,6 +1,7 @@
 //! How a run of the program ends.
 
 ghost use Rattle.std.specs.Prelude.{◌≡◌, ◌∷◌, [], codes, decimal};
+ghost use Rattle.std.specs.Process.{exit_status};
 ghost use Rattle.tfpg_base.specs.Append.{Appends};
 ghost use Rattle.tfpg_base.specs.Words.{line_of};
 ghost use Rattle.tfpg.specs.Ends.{graph_cause_name, line_of_end, status_of, usage_name};
@@ -8,6 +9,7 @@ ghost use Rattle.tfpg.specs.EndsOf.{end_of_fetch_fault, end_of_stream_fault};
 
 use crate::fault::{FetchFault, StreamFault};
 use itoa::Buffer;
+use std::process::ExitCode;
 use tfpg_base::{NoMemory, put_words};
 use tfpg_graph::GraphCause;
 
@@ -52,6 +54,13 @@ impl End {
             End::TooMuchInput => 7,
             End::NoMemory => 8,
         }
+    }
+
+    /// The exit code of the process.
+    pub(crate) fn code(&self) -> ExitCode
+        ensures { exit_status result ≡ status_of self.now }
+    {
+        ExitCode::from(self.status())
     }
 
     /// Appends what is said of the end, without a line end: nothing where all went well.

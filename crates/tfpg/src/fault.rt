@@ -1,7 +1,7 @@
 //! What ends the two parts of a run early: fetching a file, and the streams.
 
 ghost use Rattle.std.specs.Prelude.{◌≡◌};
-ghost use Rattle.tfpg.specs.EndsOf.{fetch_fault_of_shelf, fetch_fault_of_refusal, stream_fault_of_lines};
+ghost use Rattle.tfpg.specs.inside.Faults.{fetch_fault_of_shelf, fetch_fault_of_refusal, stream_fault_of_lines};
 ghost use Rattle.tfpg.specs.declared.fault.StreamFault.TheVariants as streams;
 
 use tfpg_base::{Failed, LineFault, NoMemory, ShelfFault};

@@ -17,6 +17,7 @@ mod run;
 #[cfg(test)]
 mod tests;
 
+use command::words_after_name;
 use end::{End, UsageCause};
 use real::{FileShelf, StandardInput, StandardOutput};
 use std::io::{ErrorKind, Write};
@@ -26,25 +27,25 @@ use tfpg_base::NoMemory;
 
 /// Runs on the words of the command line, says how that ended, and exits with its status.
 fn main(rt: HostRuntime) -> ExitCode {
-    let end = match words_of(&rt) {
-        Ok(words) => run_words(&rt, &words),
+    let end = match args_of(&rt) {
+        Ok(args) => run_words(&rt, words_after_name(&args)),
         Err(error) => end_without_words(&error),
     };
-    // Where there is no memory to say it, the status alone is given.
-    let _ = tell(&rt, &end);
-    ExitCode::from(end.status())
+    // Where memory runs out for the line, the status alone is given.
+    let _ = print_line(&rt, &end);
+    end.code()
 }
 
-/// The words behind the name of the program.
-fn words_of(rt: &HostRuntime) -> io::Result<Vec<String>> {
-    let mut words = Vec::new(rt.alloc());
-    for word in env::args(rt)?.skip(1) {
-        words.push(word)?;
+/// The arguments of the process, of which the first is the name of the program.
+fn args_of(rt: &HostRuntime) -> io::Result<Vec<String>> {
+    let mut args = Vec::new(rt.alloc());
+    for arg in env::args(rt)? {
+        args.push(arg)?;
     }
-    Ok(words)
+    Ok(args)
 }
 
-/// The end where the words cannot be had as texts, or there is no memory for them.
+/// The end where the words are no texts, or memory ran out for them.
 fn end_without_words(error: &io::Error) -> End {
     if error.kind() == ErrorKind::OutOfMemory {
         End::NoMemory
@@ -63,8 +64,8 @@ fn run_words(rt: &HostRuntime, words: &[String]) -> End {
     run::run(rt.alloc(), words, &mut shelf, &mut input, &mut output)
 }
 
-/// Writes what is said of the end to standard error. Where that fails, nothing more can be said.
-fn tell(rt: &HostRuntime, end: &End) -> Result<(), NoMemory> {
+/// Writes the line of the end to standard error, where it has one. Where that fails, nothing more can be said.
+fn print_line(rt: &HostRuntime, end: &End) -> Result<(), NoMemory> {
     let mut line = Vec::new(rt.alloc());
     end.line(&mut line)?;
     if !line.is_empty() {

@@ -1,12 +1,12 @@
 -- The report of a graph and a list of lines.
-use Rattle.std.specs.Prelude.{◌≡◌, ℕ, ◌+◌, ◌<◌, ◌≤◌, List, [], ◌∷◌, ◌++◌, length, take, flat_map, AllPairs, if◌then◌else◌, Result, Ok, Err}
+use Rattle.std.specs.Prelude.{◌≡◌, ℕ, ◌+◌, ◌<◌, ◌≤◌, List, [], ◌∷◌, ◌++◌, length, take, flat_map, AllPairs, if◌then◌else◌, Some, slice_get, Result, Ok, Err}
 use Rattle.tfpg_graph.specs.Graph.{Tfpg}
 use Rattle.tfpg_log.specs.declared.event.Event.{Event}
 use Rattle.tfpg_log.specs.declared.event.Offered.{Offered}
 use Rattle.tfpg_log.specs.declared.event.Offered.TheVariants.{Accepted, Refused}
 use Rattle.tfpg_log.specs.Log.{Logbook, with_event}
 use Rattle.tfpg_log.specs.Accepted.{reply_to}
-use Rattle.tfpg_log.specs.LogOfLines.{new_log, is_too_long, log_after}
+use Rattle.tfpg_log.specs.LogOfLines.{is_too_long, log_of_lines}
 use Rattle.tfpg_evidence.specs.declared.round.Round.{Round}
 use Rattle.tfpg_hyp.specs.Rounds.{IsRound}
 use Rattle.tfpg_report.specs.declared.refused_line.RefusedLine.{RefusedLine}
@@ -27,18 +27,14 @@ pub record Progress : Type 0 where
   pub rounds : List Round
   pub log : Logbook
 
--- nothing is reported yet
-abbrev pub start : Progress
-start = record { rounds = []; log = new_log }
-
 -- the round of a block
 abbrev pub rounds_of : Block → List Round
 rounds_of (RefusedBlock line cause) = []
 rounds_of (RoundBlock round losses) = round ∷ []
 
--- how far a report has come after the block of a line
-abbrev pub after : Tfpg → Progress → List ℕ → Block → Progress
-after graph before line block = record { rounds = before.rounds ++ rounds_of block; log = log_after graph before.log line }
+-- how far a report of these lines with these blocks has come
+abbrev pub progress_of : Tfpg → List (List ℕ) → List Block → Progress
+progress_of graph lines blocks = record { rounds = flat_map rounds_of blocks; log = log_of_lines graph lines }
 
 -- What block a line has. A refused line has the block of its refusal. An accepted one has the block of some round that meets the
 -- definition of a round for all events and all rounds so far; panels may be lost at it, in the order of their numbers.
@@ -53,13 +49,11 @@ IsBlockOf graph k budget before number block (Ok event) =
 abbrev pub IsBlock : Tfpg → ℕ → ℕ → Progress → ℕ → List ℕ → Block → Type 0
 IsBlock graph k budget before number line block = IsBlockOf graph k budget before number block (event_of_line graph before.log line)
 
--- These are the blocks of the lines, one for each line in order, of which the first line has this number.
-abbrev pub AreBlocks : Tfpg → ℕ → ℕ → Progress → ℕ → List (List ℕ) → List Block → Type 0
-AreBlocks graph k budget before number [] [] = Unit {0}
-AreBlocks graph k budget before number [] (block ∷ blocks) = ⊥
-AreBlocks graph k budget before number (line ∷ lines) [] = ⊥
-AreBlocks graph k budget before number (line ∷ lines) (block ∷ blocks) =
-    IsBlock graph k budget before number line block × AreBlocks graph k budget (after graph before line block) (number + 1) lines blocks
+-- These are the blocks of the lines, one for each line in order. Lines are numbered from 1, and places count from 0.
+pub record AreBlocks (graph : Tfpg) (k budget : ℕ) (lines : List (List ℕ)) (blocks : List Block) : Type 0 where
+  pub one_each : length blocks ≡ length lines
+  pub each : (place : ℕ) (line : List ℕ) (block : Block) → slice_get lines place ≡ Some line → slice_get blocks place ≡ Some block
+      → IsBlock graph k budget (progress_of graph (take place lines) (take place blocks)) (place + 1) line block
 
 -- the text of a report with these blocks
 abbrev pub report_text : Tfpg → ℕ → ℕ → List Block → List ℕ
@@ -67,7 +61,7 @@ report_text graph k budget blocks = head_text k budget ++ flat_map (block_text g
 
 -- The bytes are a report of the graph, of sets of at most k failure modes, of this budget and of these lines, with these blocks.
 pub record IsReport (graph : Tfpg) (k budget : ℕ) (lines : List (List ℕ)) (blocks : List Block) (bytes : List ℕ) : Type 0 where
-  pub are_blocks : AreBlocks graph k budget start 1 lines blocks
+  pub are_blocks : AreBlocks graph k budget lines blocks
   pub text : bytes ≡ report_text graph k budget blocks
 
 -- The bytes begin a report of the first of these lines, with these blocks.

@@ -47,14 +47,14 @@ steps_in number round =
 abbrev pub steps_so_far : ℕ → List Round → List Judged
 steps_so_far number rounds = flat_map (steps_in number) rounds
 
--- the hypothesis of this number is ranked, and its set is a proper part of the set
+-- the hypothesis of this number is ranked, and its set is a proper subset of the set
 pub record IsRankedPart (findings : List Finding) (set : List ℕ) (number : ℕ) : Type 0 where
   pub finding : Finding
   pub numbered : slice_get findings number ≡ Some finding
   pub ranked : IsTrue (is_ranked finding.status)
   pub part : IsProperPart finding.set set
 
--- Some hypothesis is ranked whose set is a proper part of the set.
+-- Some hypothesis is ranked whose set is a proper subset of the set.
 abbrev pub HasRankedPart : List Finding → List ℕ → Type 0
 HasRankedPart findings set = (number : ℕ) × IsRankedPart findings set number
 
@@ -62,15 +62,15 @@ HasRankedPart findings set = (number : ℕ) × IsRankedPart findings set number
 abbrev pub HasEvidence : Tfpg → Logbook → ℕ → List Finding → List ℕ → List Judged → Finding → Status → Type 0
 -- The steps of all rounds are a refutation.
 HasEvidence graph log budget findings reach steps finding Rejected = IsRefutation graph log reach steps
--- A proper part is ranked, and the least number of one is given. There is no step in this round.
+-- A proper subset is ranked, and the least number of one is named. There is no step in this round.
 HasEvidence graph log budget findings reach steps finding (Covered by) =
     IsPartial graph log reach steps × (finding.steps ≡ []) × IsRankedPart findings finding.set by
     × ((other : ℕ) → IsRankedPart findings finding.set other → by ≤ other)
--- A trace explains the log from the set, and no proper part is ranked.
+-- A trace explains the log from the set, and no proper subset is ranked.
 HasEvidence graph log budget findings reach steps finding (Ranked trace c alarmed monitored) =
     IsPartial graph log reach steps × Explains graph log finding.set trace × (HasRankedPart findings finding.set → ⊥) × (c ≡ cost_of graph finding.set)
     × (robustness_of graph log reach ≡ record { alarmed = alarmed; monitored = monitored })
--- This round spent its whole budget on splits, the tree is not closed, and no proper part is ranked.
+-- This round spent its whole budget on splits, the tree is not closed, and no proper subset is ranked.
 HasEvidence graph log budget findings reach steps finding Open =
     IsPartial graph log reach steps × (HasRankedPart findings finding.set → ⊥) × (count_by is_split finding.steps ≡ budget)
 
@@ -114,7 +114,7 @@ counts_of findings =
       unsettled = count_by (λ finding. is_open finding.status) findings;
     }
 
--- The round that an accepted line gives, behind these rounds: a finding for each hypothesis of the table.
+-- The round of an accepted line after these rounds: a finding for each hypothesis of the table.
 pub record IsRound (graph : Tfpg) (k budget : ℕ) (rounds : List Round) (log : Logbook) (line : ℕ) (round : Round) : Type 0 where
   pub number : round.number ≡ length log.events
   pub line_is : round.line ≡ line

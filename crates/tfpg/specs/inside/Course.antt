@@ -6,8 +6,7 @@ use Rattle.tfpg_base.specs.Lines.{Reading, Buffered, LinesRepresent, lines_of, m
 use Rattle.tfpg_base.specs.Outside.{Takes, Puts, IsAtEnd}
 use Rattle.tfpg_graph.specs.Graph.{Tfpg}
 use Rattle.tfpg_report.specs.Blocks.{Block}
-use Rattle.tfpg_check.specs.Report.{AreBlocks, report_text, start}
-use Rattle.tfpg_check.specs.inside.Progress.{after_all}
+use Rattle.tfpg_check.specs.Report.{AreBlocks, report_text, progress_of}
 use Rattle.tfpg.specs.declared.diagnoser.Diagnoser.{Diagnoser}
 use Rattle.tfpg.specs.declared.course.Turn.{Turn}
 use Rattle.tfpg.specs.declared.course.Turn.TheVariants.{Answered, Ended}
@@ -26,10 +25,10 @@ pub record IsUnderWay (graph : Tfpg) (before now : Streams) (lines : Buffered) (
   pub front : take (length reading.given) (lines_of reading.taken) ≡ reading.given
   pub blocks : List Block
   pub writes : Puts before.output now.output (report_text graph 0 budget blocks)
-  pub are_blocks : AreBlocks graph 0 budget start 1 reading.given blocks
+  pub are_blocks : AreBlocks graph 0 budget reading.given blocks
   pub no_losses : AllByRecursion LosesNone blocks
   pub none_open : AllByRecursion OpensNone blocks
-  pub reported : DiagnoserRepresents diagnoser (after_all graph start reading.given blocks)
+  pub reported : DiagnoserRepresents diagnoser (progress_of graph reading.given blocks)
   pub same_graph : diagnoser.graph ≡ graph
   pub no_fault : HasNoFault before now
 

@@ -79,8 +79,8 @@ fn read_whole<R: Read>(reader: &mut R, into: &mut Vec<u8>) -> Result<(), ShelfFa
     ensures small { OnOk result (length into.new.items ≤ 2 ^ 24) }
     ensures too_long { IsErrOf result ShelfFault.TooLong → length into.new.items ≡ 2 ^ 24 }
     ensures no_memory { IsErrOf result ShelfFault.NoMemory → vec_capacity into.old < 2 ^ 24 }
-    ensures whole { OnOk result (IfSome (R.remaining reader.old) (λ told. into.new.items ≡ told)) }
-    ensures front { IsErrOf result ShelfFault.TooLong → IfSome (R.remaining reader.old) (λ told. (more : List ℕ) × (0 < length more) × (told ≡ into.new.items ++ more)) }
+    ensures whole { OnOk result (IfSome (R.remaining reader.old) (λ known. into.new.items ≡ known)) }
+    ensures front { IsErrOf result ShelfFault.TooLong → IfSome (R.remaining reader.old) (λ known. (more : List ℕ) × (0 < length more) × (known ≡ into.new.items ++ more)) }
 {
     let mut room = [0; BLOCK];
     // The bound lets the call be proved to return; no run comes near it.

@@ -1,11 +1,14 @@
--- How far a report has come.
-use Rattle.std.specs.Prelude.{ℕ, List, [], ◌∷◌}
+-- How far a report has come, block by block.
+use Rattle.std.specs.Prelude.{ℕ, List, [], ◌++◌}
 use Rattle.tfpg_graph.specs.Graph.{Tfpg}
+use Rattle.tfpg_log.specs.LogOfLines.{new_log, log_after}
 use Rattle.tfpg_report.specs.Blocks.{Block}
-use Rattle.tfpg_check.specs.Report.{Progress, after}
+use Rattle.tfpg_check.specs.Report.{Progress, rounds_of}
 
--- how far a report has come after these lines with these blocks
-abbrev pub after_all : Tfpg → Progress → List (List ℕ) → List Block → Progress
-after_all graph before [] blocks = before
-after_all graph before (line ∷ lines) [] = before
-after_all graph before (line ∷ lines) (block ∷ blocks) = after_all graph (after graph before line block) lines blocks
+-- nothing is reported yet
+abbrev pub start : Progress
+start = record { rounds = []; log = new_log }
+
+-- how far a report has come after the block of a line
+abbrev pub after : Tfpg → Progress → List ℕ → Block → Progress
+after graph before line block = record { rounds = before.rounds ++ rounds_of block; log = log_after graph before.log line }

@@ -1,7 +1,7 @@
 use Rattle.std.proofs.Common.{sym, subst, ◌∙◌}
 use Rattle.std.proofs.lemmas.Result.{IfOk-weaker}
 use Rattle.tfpg.specs.declared.fault.StreamFault.TheVariants as faults
-use Rattle.tfpg.specs.EndsOf.{stream_fault_of_lines}
+use Rattle.tfpg.specs.inside.Faults.{stream_fault_of_lines}
 use Rattle.tfpg.specs.inside.Course.{LeadsTo}
 use Rattle.tfpg.proofs.Putting.{Puts-same}
 use Rattle.tfpg.proofs.Turns.{err_is, stopped_by, ends_by_fault, met_end, met_text, met_long, answered_text, answered_long, gave_without_memory, gave_block, gave_one_more, gave_front}

@@ -1,4 +1,4 @@
--- What a diagnoser tells of an accepted event.
+-- What a diagnoser returns for an accepted event.
 use Rattle.std.proofs.Common.{◌≡◌, ◌≢◌, ℕ, suc, ◌<◌, Bool, true, false, cond, eqb, List, [], ◌∷◌, ◌++◌, length, get_or, All, Option, Some, None, refl, sym, ap, subst, ◌∙◌, arith}
 use Rattle.std.specs.Prelude.{IsTrue, is_some, option_and_then}
 use Rattle.std.proofs.lemmas.List.{append-nil, length-append}
@@ -22,7 +22,7 @@ use Rattle.tfpg_check.specs.Report.{Progress}
 use Rattle.tfpg.specs.inside.EmptyRounds.{rejection, ranking_round, rejecting_round}
 use Rattle.tfpg.specs.declared.diagnoser.Diagnoser.{Diagnoser}
 use Rattle.tfpg.specs.ForNow.{budget}
-use Rattle.tfpg.specs.inside.Diagnoser.{IsRejection, IsSettled, IsReady, HasHeard}
+use Rattle.tfpg.specs.inside.Diagnoser.{IsRejection, AgreesWithSteps, IsReady, HasHeard}
 use Rattle.tfpg.proofs.EmptySet.{refutes}
 use Rattle.tfpg_log.proofs.AndNodes.{some_is_below}
 use Rattle.tfpg.proofs.EmptyRounds.{ranks_empty, rejects_empty, steps-more}
@@ -99,16 +99,16 @@ last_of_all P xs x h = subst P (item_at_end xs x) (h (length xs) x (omega (arith
 
 -- ---- the three cases
 
--- what is told of an event, by a diagnoser that is then in this state
-pub record IsTold (graph : Tfpg) (log : Logbook) (rejected : Bool) (before : Progress) (line : ℕ) (round : Round) : Type 0 where
+-- what is returned for an event, by a diagnoser that is then in this state
+pub record IsReported (graph : Tfpg) (log : Logbook) (rejected : Bool) (before : Progress) (line : ℕ) (round : Round) : Type 0 where
   pub is_round : IsRound graph 0 budget before.rounds log line round
   pub none_open : HasNoneOpen round
-  pub settled : IsSettled graph log rejected (steps_so_far 0 (before.rounds ++ round ∷ []))
+  pub settled : AgreesWithSteps graph log rejected (steps_so_far 0 (before.rounds ++ round ∷ []))
 
 -- the empty set was rejected before
-pub told_again : (graph : Tfpg) (before : Progress) (event : Event) (line : ℕ) → IsValid graph → IsRejection graph before.log (steps_so_far 0 before.rounds)
-    → IsTold graph (with_event before.log event) true before line (rejecting_round (length (with_event before.log event).events) line (now_of (with_event before.log event)) [])
-told_again graph before event line valid h =
+pub round_again : (graph : Tfpg) (before : Progress) (event : Event) (line : ℕ) → IsValid graph → IsRejection graph before.log (steps_so_far 0 before.rounds)
+    → IsReported graph (with_event before.log event) true before line (rejecting_round (length (with_event before.log event).events) line (now_of (with_event before.log event)) [])
+round_again graph before event line valid h =
     let log = with_event before.log event in
     let round = rejecting_round (length log.events) line (now_of log) [] in
     let stays = rejection_stays graph before.log event (steps_so_far 0 before.rounds) h in
@@ -120,11 +120,11 @@ told_again graph before event line valid h =
     }
 
 -- this alarm rejects it
-pub told_by_alarm : (graph : Tfpg) (before : Progress) (time node line : ℕ) → IsValid graph → IsOf graph (with_event before.log (Alarm time node)) → steps_so_far 0 before.rounds ≡ []
-    → IsTold graph (with_event before.log (Alarm time node)) true before line
+pub round_by_alarm : (graph : Tfpg) (before : Progress) (time node line : ℕ) → IsValid graph → IsOf graph (with_event before.log (Alarm time node)) → steps_so_far 0 before.rounds ≡ []
+    → IsReported graph (with_event before.log (Alarm time node)) true before line
     (rejecting_round (length (with_event before.log (Alarm time node)).events) line (now_of (with_event before.log (Alarm time node)))
     (rejection (length (with_event before.log (Alarm time node)).events) time node ∷ []))
-told_by_alarm graph before time node line valid of_graph none =
+round_by_alarm graph before time node line valid of_graph none =
     let log = with_event before.log (Alarm time node) in
     let number = length log.events in
     let steps = rejection number time node ∷ [] in
@@ -142,10 +142,10 @@ told_by_alarm graph before time node line valid of_graph none =
     }
 
 -- there is no alarm so far
-pub told_quietly : (graph : Tfpg) (before : Progress) (event : Event) (line : ℕ) → IsValid graph → ((time n : ℕ) → event ≢ Alarm time n)
+pub round_quietly : (graph : Tfpg) (before : Progress) (event : Event) (line : ℕ) → IsValid graph → ((time n : ℕ) → event ≢ Alarm time n)
     → ((node : ℕ) → alarm_of before.log node ≡ None) → steps_so_far 0 before.rounds ≡ []
-    → IsTold graph (with_event before.log event) false before line (ranking_round (length (with_event before.log event).events) line (now_of (with_event before.log event)))
-told_quietly graph before event line valid no_alarm quiet none =
+    → IsReported graph (with_event before.log event) false before line (ranking_round (length (with_event before.log event).events) line (now_of (with_event before.log event)))
+round_quietly graph before event line valid no_alarm quiet none =
     let log = with_event before.log event in
     let round = ranking_round (length log.events) line (now_of log) in
     let still : (node : ℕ) → alarm_of log node ≡ None = λ node. still_quiet before.log.events event node no_alarm (quiet node) in
@@ -157,11 +157,11 @@ told_quietly graph before event line valid no_alarm quiet none =
 
 -- ---- the same, as the code comes to it
 
-told_along : (graph : Tfpg) (log log' : Logbook) (rejected rejected' : Bool) (before : Progress) (line : ℕ) (round round' : Round) → log ≡ log' → rejected ≡ rejected' → round ≡ round'
-    → IsTold graph log' rejected' before line round' → IsTold graph log rejected before line round
-told_along graph log log' rejected rejected' before line round round' a b e told =
-    subst (λ (l : Logbook). IsTold graph l rejected before line round) (sym a)
-    (subst (λ (r : Bool). IsTold graph log' r before line round) (sym b) (subst (λ (r : Round). IsTold graph log' rejected' before line r) (sym e) told))
+round_along : (graph : Tfpg) (log log' : Logbook) (rejected rejected' : Bool) (before : Progress) (line : ℕ) (round round' : Round) → log ≡ log' → rejected ≡ rejected' → round ≡ round'
+    → IsReported graph log' rejected' before line round' → IsReported graph log rejected before line round
+round_along graph log log' rejected rejected' before line round round' a b e told =
+    subst (λ (l : Logbook). IsReported graph l rejected before line round) (sym a)
+    (subst (λ (r : Bool). IsReported graph log' r before line round) (sym b) (subst (λ (r : Round). IsReported graph log' rejected' before line r) (sym e) told))
 
 rejecting_along : (log log' : Logbook) (number line time : ℕ) (steps steps' : List Step) → log ≡ log' → number ≡ length log.events → time ≡ now_of log → steps ≡ steps'
     → rejecting_round number line time steps ≡ rejecting_round (length log'.events) line (now_of log') steps'
@@ -170,31 +170,31 @@ rejecting_along log log' number line time steps steps' a n t s =
     ∙ ap (λ (x : ℕ). rejecting_round (length log'.events) line x steps) (t ∙ ap now_of a) ∙ ap (rejecting_round (length log'.events) line (now_of log')) s
 
 -- the set was rejected before
-pub tells_again : (diagnoser : Diagnoser) (before : Progress) (event : Event) (line number time : ℕ) (steps : List Step) (round : Round)
+pub reports_again : (diagnoser : Diagnoser) (before : Progress) (event : Event) (line number time : ℕ) (steps : List Step) (round : Round)
     → IsValid diagnoser.graph → HasHeard diagnoser before event → diagnoser.rejected ≡ true → number ≡ length diagnoser.log.events → time ≡ now_of diagnoser.log → steps ≡ []
-    → round ≡ rejecting_round number line time steps → IsTold diagnoser.graph diagnoser.log diagnoser.rejected before line round
-tells_again d before event line number time steps round valid heard r n t s e =
-    told_along d.graph d.log (with_event before.log event) d.rejected true before line round _ heard.log r
-    (e ∙ rejecting_along d.log (with_event before.log event) number line time steps [] heard.log n t s) (told_again d.graph before event line valid (heard.settled.refuted r))
+    → round ≡ rejecting_round number line time steps → IsReported diagnoser.graph diagnoser.log diagnoser.rejected before line round
+reports_again d before event line number time steps round valid heard r n t s e =
+    round_along d.graph d.log (with_event before.log event) d.rejected true before line round _ heard.log r
+    (e ∙ rejecting_along d.log (with_event before.log event) number line time steps [] heard.log n t s) (round_again d.graph before event line valid (heard.settled.refuted r))
 
 -- the alarm rejects it
-pub tells_by_alarm : (diagnoser : Diagnoser) (before : Progress) (event : Event) (at node line number time : ℕ) (steps : List Step) (round : Round)
+pub reports_by_alarm : (diagnoser : Diagnoser) (before : Progress) (event : Event) (at node line number time : ℕ) (steps : List Step) (round : Round)
     → IsReady diagnoser → HasHeard diagnoser before event → diagnoser.rejected ≡ false → event ≡ Alarm at node → number ≡ length diagnoser.log.events → time ≡ now_of diagnoser.log
-    → steps ≡ rejection number at node ∷ [] → round ≡ rejecting_round number line time steps → IsTold diagnoser.graph diagnoser.log true before line round
-tells_by_alarm d before event at node line number time steps round ready heard r a n t s e =
+    → steps ≡ rejection number at node ∷ [] → round ≡ rejecting_round number line time steps → IsReported diagnoser.graph diagnoser.log true before line round
+reports_by_alarm d before event at node line number time steps round ready heard r a n t s e =
     let log_is : d.log ≡ with_event before.log (Alarm at node) = heard.log ∙ ap (with_event before.log) a in
     let number_is : number ≡ length (with_event before.log (Alarm at node)).events = n ∙ ap (λ (l : Logbook). length l.events) log_is in
-    told_along d.graph d.log (with_event before.log (Alarm at node)) true true before line round _ log_is refl
+    round_along d.graph d.log (with_event before.log (Alarm at node)) true true before line round _ log_is refl
     (e ∙ rejecting_along d.log (with_event before.log (Alarm at node)) number line time steps _ log_is n t (s ∙ ap (λ (x : ℕ). rejection x at node ∷ []) number_is))
-    (told_by_alarm d.graph before at node line ready.valid (subst (IsOf d.graph) log_is ready.of_graph) (heard.settled.quiet r).1)
+    (round_by_alarm d.graph before at node line ready.valid (subst (IsOf d.graph) log_is ready.of_graph) (heard.settled.quiet r).1)
 
 -- there is no alarm so far
-pub tells_quietly : (diagnoser : Diagnoser) (before : Progress) (event : Event) (line number time : ℕ) (round : Round)
+pub reports_quietly : (diagnoser : Diagnoser) (before : Progress) (event : Event) (line number time : ℕ) (round : Round)
     → IsValid diagnoser.graph → HasHeard diagnoser before event → diagnoser.rejected ≡ false → ((at node : ℕ) → event ≡ Alarm at node → ⊥) → number ≡ length diagnoser.log.events
-    → time ≡ now_of diagnoser.log → round ≡ ranking_round number line time → IsTold diagnoser.graph diagnoser.log diagnoser.rejected before line round
-tells_quietly d before event line number time round valid heard r no_alarm n t e =
+    → time ≡ now_of diagnoser.log → round ≡ ranking_round number line time → IsReported diagnoser.graph diagnoser.log diagnoser.rejected before line round
+reports_quietly d before event line number time round valid heard r no_alarm n t e =
     let quiet = heard.settled.quiet r in
-    told_along d.graph d.log (with_event before.log event) d.rejected false before line round _ heard.log r
+    round_along d.graph d.log (with_event before.log event) d.rejected false before line round _ heard.log r
     (e ∙ ap (λ (x : ℕ). ranking_round x line time) (n ∙ ap (λ (l : Logbook). length l.events) heard.log)
     ∙ ap (ranking_round (length (with_event before.log event).events) line) (t ∙ ap now_of heard.log))
-    (told_quietly d.graph before event line valid no_alarm quiet.0 quiet.1)
+    (round_quietly d.graph before event line valid no_alarm quiet.0 quiet.1)

@@ -1,0 +1,24 @@
+#!/usr/bin/env bash
+# Compares what the program writes on each example with the report beside it, byte for byte, and the program's stored run
+# with the example of the pump. Ends with status 1 where something differs.
+set -u
+
+top=$(dirname "$(dirname "$(readlink -f "${BASH_SOURCE[0]}")")")
+status=0
+
+differs() {
+    printf 'differs: %s\n' "$1"
+    status=1
+}
+
+for report in "$top"/examples/*.report; do
+    name=$(basename "$report" .report)
+    "$top/tfpg" diagnose --k 0 "$top/examples/${name%%-*}.tfpg" < "${report%.report}.log" | cmp -s - "$report" || differs "$name"
+done
+
+stored=$top/crates/tfpg
+cmp -s "$stored/data/pump.tfpg" "$top/examples/pump.tfpg" || differs "the stored graph"
+cmp -s "$stored/stdin" "$top/examples/pump.log" || differs "the stored log"
+cmp -s "$stored/stdout" "$top/examples/pump.report" || differs "the stored report"
+
+exit "$status"
