@@ -81,12 +81,12 @@ module _ (graph : Tfpg) (valid : IsValid graph) where
   pub sources_within : (node : ℕ) → All (λ (edge : Edge). edge.source < length graph.nodes) (edges_into graph node)
   sources_within node =
       All-filter (λ (edge : Edge). eqb edge.target node) (λ (edge : Edge). edge.source < length graph.nodes) graph.edges
-      (All-weaker (IsValidEdge graph) (λ (edge : Edge). edge.source < length graph.nodes) (λ edge is. is.source) graph.edges valid.edges)
+      (All-weaker (IsValidEdge graph) (λ (edge : Edge). edge.source < length graph.nodes) (λ edge is. is.source) graph.edges valid.so_far.edges)
 
   pub source_within : (k : ℕ) (edge : Edge) → slice_get graph.edges k ≡ Some edge → All (λ (e : Edge). e.source < length graph.nodes) (edge ∷ [])
   source_within k edge at =
       All-cons (λ (e : Edge). e.source < length graph.nodes) edge []
-      (All-contains (IsValidEdge graph) graph.edges edge valid.edges (item_there graph.edges k edge at)).source (All-nil _)
+      (All-contains (IsValidEdge graph) graph.edges edge valid.so_far.edges (item_there graph.edges k edge at)).source (All-nil _)
 
 -- the edges into a node enter it
 pub targets_are : (graph : Tfpg) (node : ℕ) → All (λ (edge : Edge). edge.target ≡ node) (edges_into graph node)
@@ -123,7 +123,7 @@ module _ (graph : Tfpg) (log : Logbook) (trace : List Activation) (numbers : Lis
         → may_by log (is_kind_at is_or graph node) node (edges_into graph node) number horizon ≡ Some clause → MeetsClause numbers clause
     or_may_met node number horizon clause upto or allowed =
         may_is_met log trace numbers (length graph.nodes) agree node (edges_into graph node) (targets_are graph node) number (is_kind_at is_or graph node) horizon clause
-        (kind_within graph is_or node or) upto (λ instant by_now at. (rules node instant (kind_within graph is_or node or) by_now).0.or_node or at) allowed
+        (kind_within graph is_or node or) upto (λ instant by_now at. ((rules node (kind_within graph is_or node or)).may instant by_now).or_node or at) allowed
 
     and_may_met : (k : ℕ) (edge : Edge) (number horizon : ℕ) (clause : List (List Constraint)) → slice_get graph.edges k ≡ Some edge → horizon ≤ now_of log
         → is_kind_at is_and graph edge.target ≡ true
@@ -135,7 +135,7 @@ module _ (graph : Tfpg) (log : Logbook) (trace : List Activation) (numbers : Lis
           edge,
           Contains-head edge [],
           All-contains (λ e. HasAge log trace e instant e.tmin) (edges_into graph edge.target) edge
-              ((rules edge.target instant (kind_within graph is_and edge.target and) by_now).0.and_node and at) (edge_into graph k edge there),
+              (((rules edge.target (kind_within graph is_and edge.target and)).may instant by_now).and_node and at) (edge_into graph k edge there),
         ))
         allowed
 
@@ -147,7 +147,7 @@ module _ (graph : Tfpg) (log : Logbook) (trace : List Activation) (numbers : Lis
         must_is_met log trace numbers (length graph.nodes) agree edge.target (edge ∷ []) number horizon window.0 (edge_common log edge number horizon window.0 window.1)
         (is_kind_at is_or graph edge.target) clause (kind_within graph is_or edge.target or) (source_within graph valid k edge there) (own_target edge) upto
         (λ instant by_now dues.
-        (rules edge.target instant (kind_within graph is_or edge.target or) by_now).1.or_node or edge (edge_into graph k edge there)
+        ((rules edge.target (kind_within graph is_or edge.target or)).must instant by_now).or_node or edge (edge_into graph k edge there)
         (All-head (λ e. IsDue log trace e instant) edge [] dues))
         (ap (λ w. must_by log (is_kind_at is_or graph edge.target) edge.target (edge ∷ []) w number horizon) (sym window.1) ∙ allowed)
 
@@ -157,7 +157,7 @@ module _ (graph : Tfpg) (log : Logbook) (trace : List Activation) (numbers : Lis
         let window = must_has_window log (is_kind_at is_and graph node) node (edges_into graph node) (joint_of graph log node number horizon) number horizon clause allowed in
         must_is_met log trace numbers (length graph.nodes) agree node (edges_into graph node) number horizon window.0 (joint_common graph log node number horizon window.0 window.1)
         (is_kind_at is_and graph node) clause (kind_within graph is_and node and) (sources_within graph valid node) (targets_are graph node) upto
-        (λ instant by_now dues. (rules node instant (kind_within graph is_and node and) by_now).1.and_node and dues)
+        (λ instant by_now dues. ((rules node (kind_within graph is_and node and)).must instant by_now).and_node and dues)
         (ap (λ w. must_by log (is_kind_at is_and graph node) node (edges_into graph node) w number horizon) (sym window.1) ∙ allowed)
 
     -- Where the trace keeps the rules, the numbers meet each allowed clause.
@@ -243,13 +243,13 @@ module _ (graph : Tfpg) (log : Logbook) (trace : List Activation) (numbers : Lis
 
     -- Where the numbers meet each allowed clause with the horizon now, the trace keeps the rules.
     pub rules_are_kept : KeepsRules graph log trace
-    rules_are_kept node instant within upto = (
-      record {
+    rules_are_kept node within = record {
+      may = λ instant upto. record {
         or_node = λ or at. or_may_kept node instant upto or instant upto at;
         and_node = λ and at. All-from_members (λ edge. HasAge log trace edge instant edge.tmin) (edges_into graph node) (and_may_kept node instant upto and at);
-      },
-      record {
+      };
+      must = λ instant upto. record {
         or_node = λ or edge member due. or_must_kept node instant upto or edge member due;
         and_node = λ and dues. and_must_kept node instant upto and dues;
-      },
-    )
+      };
+    }
