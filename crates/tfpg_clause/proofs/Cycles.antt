@@ -4,8 +4,8 @@ use Rattle.std.specs.Prelude.{ℤ, pos, ◌+ℤ◌, ◌-ℤ◌, ◌≤ℤ◌, fo
 use Rattle.std.proofs.lemmas.Int.{ints}
 use Rattle.std.proofs.lemmas.List.Elements.{All-tail}
 use Rattle.tfpg_base.specs.declared.constraint.Constraint.{Constraint}
-use Rattle.tfpg_clause.specs.Bounds.{Meets, value_of}
-use Rattle.tfpg_clause.specs.Trees.{IsChainTo, IsCycle, sum_of}
+use Rattle.tfpg_base.specs.Constraint.{Meets, value_of}
+use Rattle.tfpg_base.specs.ConstraintCycle.{IsChainTo, IsCycle, sum_of}
 
 -- the sum from a total on
 abbrev sum_from : ℤ → List Constraint → ℤ

@@ -22,7 +22,8 @@ use Rattle.tfpg_log.specs.Explains.{Explains, Shows, ShowsAll, ShowsSilence}
 use Rattle.tfpg_log.proofs.InReach.{trace_in_reach}
 use Rattle.tfpg_evidence.specs.declared.reason.Reason.{Reason}
 use Rattle.tfpg_evidence.specs.declared.reason.Reason.TheVariants.{Zero, Top, Unreached, From, Upto, Quiet, Pick}
-use Rattle.tfpg_clause.specs.Bounds.{Meets, at_most, at_least}
+use Rattle.tfpg_clause.specs.Bounds.{at_most, at_least}
+use Rattle.tfpg_base.specs.Constraint.{Meets}
 use Rattle.tfpg_clause.specs.Facts.{fact, from_alarm, upto_alarm}
 use Rattle.tfpg_clause.specs.Cut.{AreNumbersOf}
 use Rattle.tfpg_clause.proofs.Bounded.{met_at_most, met_at_least, says_at_most, says_at_least}

@@ -19,7 +19,8 @@ use Rattle.tfpg_log.specs.AgeInWindow.{HasAgeInWindow}
 use Rattle.tfpg_log.specs.Spans.{span_number, span_at, window_of}
 use Rattle.tfpg_log.proofs.SpanRuns.{is_span, has_span}
 use Rattle.tfpg_log.proofs.WindowAges.{exactly}
-use Rattle.tfpg_clause.specs.Bounds.{Meets, at_most, at_least, at_least_after}
+use Rattle.tfpg_clause.specs.Bounds.{at_most, at_least, at_least_after}
+use Rattle.tfpg_base.specs.Constraint.{Meets}
 use Rattle.tfpg_clause.specs.Clauses.{outside_span, arrival, may_by, MeetsClause}
 use Rattle.tfpg_clause.proofs.Bounded.{met_at_most, met_before, met_at_least, met_at_least_after, says_at_least, says_at_least_after, says_before}
 use Rattle.tfpg_clause.proofs.Members.{had_there, had_from}

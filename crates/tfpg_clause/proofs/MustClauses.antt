@@ -21,7 +21,8 @@ use Rattle.tfpg_log.specs.AgeInWindow.{HasAgeInWindow}
 use Rattle.tfpg_log.specs.Spans.{window_of}
 use Rattle.tfpg_log.proofs.WindowAges.{by_window}
 use Rattle.tfpg_clause.specs.declared.due.Due.{Due}
-use Rattle.tfpg_clause.specs.Bounds.{Meets, at_most, at_least, at_most_after}
+use Rattle.tfpg_clause.specs.Bounds.{at_most, at_least, at_most_after}
+use Rattle.tfpg_base.specs.Constraint.{Meets}
 use Rattle.tfpg_clause.specs.Clauses.{due_over, must_in, must_by, must_alternatives, starts_late, follows_in_time, latest_of, MeetsClause}
 use Rattle.tfpg_clause.proofs.Bounded.{met_at_most, met_at_least, met_at_most_after, says_at_most, says_at_least, says_at_most_after}
 use Rattle.tfpg_clause.proofs.Members.{each_from, each_to, each_there, mapped_to, mapped_from, only_one}

@@ -8,7 +8,7 @@ use Rattle.tfpg_graph.specs.Reach.{IsReach}
 use Rattle.tfpg_log.specs.Log.{Logbook, now_of, IsOf, IsOrdered}
 use Rattle.tfpg_log.specs.Explains.{IsMember}
 use Rattle.tfpg_evidence.specs.declared.reason.Reason.{Reason}
-use Rattle.tfpg_clause.specs.Bounds.{Meets}
+use Rattle.tfpg_base.specs.Constraint.{Meets}
 use Rattle.tfpg_clause.specs.Facts.{fact}
 use Rattle.tfpg_clause.specs.Cut.{cut, AreNumbers}
 use Rattle.tfpg_clause.proofs.Agreed.{of_cut, time_there}

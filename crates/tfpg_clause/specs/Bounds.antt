@@ -1,5 +1,5 @@
 -- Constraints on the times of nodes, as difference constraints.
-use Rattle.std.specs.Prelude.{ℕ, zero, suc, ◌+◌, ℤ, pos, neg_ℤ, ◌-ℤ◌, ◌≤ℤ◌, List, slice_index}
+use Rattle.std.specs.Prelude.{ℕ, ◌+◌, ℤ, pos, neg_ℤ}
 use Rattle.tfpg_base.specs.declared.constraint.Constraint.{Constraint}
 
 -- the time of the node is at most this
@@ -17,12 +17,3 @@ at_most_after node source most = record { left = node + 1; right = source + 1; m
 -- the one node's time is at least so much after the other's
 abbrev pub at_least_after : ℕ → ℕ → ℕ → Constraint
 at_least_after node source least = record { left = source + 1; right = node + 1; most = neg_ℤ (pos least) }
-
--- the value of a number of a constraint, where these are the times of the nodes: number 0 is the constant zero
-abbrev pub value_of : List ℕ → ℕ → ℤ
-value_of times zero = pos 0
-value_of times (suc node) = pos (slice_index times node)
-
--- these times meet the constraint
-abbrev pub Meets : List ℕ → Constraint → Type 0
-Meets times constraint = (value_of times constraint.left -ℤ value_of times constraint.right) ≤ℤ constraint.most

@@ -13,7 +13,8 @@ use Rattle.tfpg_log.specs.Spans.{span_at, window_of, joint_of}
 use Rattle.tfpg_evidence.specs.declared.clause_name.ClauseName.{ClauseName}
 use Rattle.tfpg_evidence.specs.declared.clause_name.ClauseName.TheVariants.{OrMay, AndMay, OrMust, AndMust}
 use Rattle.tfpg_clause.specs.declared.due.Due.{Due}
-use Rattle.tfpg_clause.specs.Bounds.{at_most, at_least, at_most_after, at_least_after, Meets}
+use Rattle.tfpg_clause.specs.Bounds.{at_most, at_least, at_most_after, at_least_after}
+use Rattle.tfpg_base.specs.Constraint.{Meets}
 
 -- The node becomes active before the span; or after it.
 abbrev pub outside_span : ℕ → Span → List (List Constraint)

@@ -2,6 +2,7 @@
 -- tree gives its places in the order of the steps, and what is said of trees is said of these.
 use Rattle.std.specs.Prelude.{◌≡◌, ℕ, suc, ◌+◌, ◌<◌, ℤ, pos, ◌+ℤ◌, ◌<ℤ◌, List, [], ◌∷◌, ◌++◌, length, take, map, fold, All, Bool, true, false, Option, Some, option_map, option_and_then, slice_get}
 use Rattle.tfpg_base.specs.Choice.{each_of}
+use Rattle.tfpg_base.specs.ConstraintCycle.{IsCycle, sum_of}
 use Rattle.tfpg_base.specs.declared.constraint.Constraint.{Constraint}
 use Rattle.tfpg_graph.specs.Graph.{Tfpg}
 use Rattle.tfpg_log.specs.Log.{Logbook, first_events}
@@ -89,21 +90,6 @@ stated graph log reach path seen (Unreached node horizon) = fact graph (first_ev
 stated graph log reach path seen (From event) = fact graph (first_events log seen) reach (From event)
 stated graph log reach path seen (Upto event) = fact graph (first_events log seen) reach (Upto event)
 stated graph log reach path seen (Quiet event node) = fact graph (first_events log seen) reach (Quiet event node)
-
--- Each right side is the next left side, and the last right side is this one.
-abbrev pub IsChainTo : ℕ → List Constraint → Type 0
-IsChainTo end [] = ⊥
-IsChainTo end (last ∷ []) = last.right ≡ end
-IsChainTo end (first ∷ second ∷ others) = (first.right ≡ second.left) × IsChainTo end (second ∷ others)
-
--- The constraints chain into a cycle.
-abbrev pub IsCycle : List Constraint → Type 0
-IsCycle [] = ⊥
-IsCycle (first ∷ others) = IsChainTo first.left (first ∷ others)
-
--- the sum of their bounds
-abbrev pub sum_of : List Constraint → ℤ
-sum_of constraints = fold (λ total constraint. total +ℤ constraint.most) (pos 0) constraints
 
 -- A leaf is closed: its reasons hold there, they chain into a cycle, and the sum of their bounds is negative.
 pub record IsClosedLeaf (graph : Tfpg) (log : Logbook) (reach : List ℕ) (path : List PathSplit) (seen : ℕ) (reasons : List Reason) : Type 0 where

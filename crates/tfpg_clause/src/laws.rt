@@ -12,12 +12,13 @@ ghost use Rattle.tfpg_log.specs.Rules.{KeepsRules};
 ghost use Rattle.tfpg_log.specs.Explains.{Explains, ShowsAll, IsMember};
 ghost use Rattle.tfpg_evidence.specs.declared.clause_name.ClauseName.{ClauseName};
 ghost use Rattle.tfpg_evidence.specs.declared.reason.Reason.{Reason};
-ghost use Rattle.tfpg_clause.specs.Bounds.{Meets};
+ghost use Rattle.tfpg_base.specs.Constraint.{Meets};
 ghost use Rattle.tfpg_clause.specs.Facts.{fact};
 ghost use Rattle.tfpg_clause.specs.Clauses.{alternatives, MeetsClause};
 ghost use Rattle.tfpg_clause.specs.Order.{horizon_of};
 ghost use Rattle.tfpg_clause.specs.Cut.{cut, AreNumbers, AreNumbersOf};
-ghost use Rattle.tfpg_clause.specs.Trees.{Judged, PathSplit, IsCycle, sum_of, IsPartial, IsPresentLeaf};
+ghost use Rattle.tfpg_clause.specs.Trees.{Judged, PathSplit, IsPartial, IsPresentLeaf};
+ghost use Rattle.tfpg_base.specs.ConstraintCycle.{IsCycle, sum_of};
 
 /// What is allowed at a log stays allowed at each log that goes on from it, with the same constraints: `clause` says it of
 /// clauses, and `fact` of facts.
