@@ -19,4 +19,6 @@ mod log;
 #[cfg(test)]
 mod report;
 #[cfg(test)]
+mod sim;
+#[cfg(test)]
 mod trace;

@@ -1,0 +1,136 @@
+-- The failure arrives at a discrepancy exactly where the flights over its edges have landed.
+use Rattle.std.proofs.Common.{◌≡◌, ℕ, suc, ◌^◌, ◌⊎◌, ⊎_elim, cond, [], ◌∷◌, ◌<◌, ◌≤◌, Bool, true, false, eqb, IsTrue, List, length, get_or, filter_map, All, Option, Some, None, option_map, option_and_then, slice_get, slice_index, refl, sym, ap, ◌∙◌, subst, arith}
+use Rattle.std.specs.Option.{option_map_or}
+use Rattle.std.proofs.lemmas.List.{get_or_past}
+use Rattle.std.proofs.lemmas.Option.{slice_get-get_or, slice_get_within}
+use Rattle.std.proofs.lemmas.List.Elements.{All-contains}
+use Rattle.tfpg_base.proofs.Elements.{All-from_members}
+use Rattle.tfpg_base.specs.declared.activation.Activation.{Activation}
+use Rattle.tfpg_base.specs.Trace.{time_of}
+use Rattle.tfpg_graph.specs.declared.edge.Edge.{Edge}
+use Rattle.tfpg_graph.specs.declared.kind.Kind.{Kind}
+use Rattle.tfpg_graph.specs.declared.kind.Kind.TheVariants.{Or, And}
+use Rattle.tfpg_graph.specs.Graph.{Tfpg, kind_at, is_kind_at, is_or, is_and, incoming}
+use Rattle.tfpg_log.specs.Log.{Logbook}
+use Rattle.tfpg_sim.specs.declared.flight.Flight.{Flight}
+use Rattle.tfpg_sim.specs.Flights.{Lands, LandsBy}
+use Rattle.tfpg_sim.specs.Arrivals.{flight_over}
+use Rattle.tfpg_sim.specs.Simulation.{Carries, Arrives, IsFirst}
+use Rattle.tfpg_sim.proofs.FilteredItems.{from_and_then, from_map, value_there, item_there, each_valued, some_valueless}
+
+-- the first instant at which the one holds is that of the other
+pub IsFirst-same : (Holds Other : ℕ → Type 0) (limit : ℕ) (first : Option ℕ) → ((x : ℕ) → Holds x → Other x) → ((x : ℕ) → Other x → Holds x)
+    → IsFirst Holds limit first → IsFirst Other limit first
+IsFirst-same Holds Other limit None to from is = λ x upto other. is x upto (from x other)
+IsFirst-same Holds Other limit (Some first) to from is = (is.0, to first is.1, λ x less other. is.2 x less (from x other))
+
+-- the item of a number, read with a default
+item_read : (xs : List ℕ) (n x : ℕ) → slice_get xs n ≡ Some x → slice_index xs n ≡ x
+item_read xs n x is =
+    let within : n < length xs = slice_get_within xs n x is in
+    let same : Some (get_or xs n 0) ≡ Some x = sym (slice_get-get_or xs n 0 within) ∙ is in cc
+
+-- a time of a trace is one of its times
+time_small : (most : ℕ) (trace : List Activation) (node start : ℕ) → All (λ activation. activation.time ≤ most) trace → time_of trace node ≡ Some start → start ≤ most
+time_small most [] node start all is = absurd (let none : None ≡ Some start = is in cc)
+time_small most (first ∷ others) node start all is = by (eqb first.node node) is (λ rest. time_small most others node start (λ k d within. all (suc k) d (omega arith)) rest)
+  where
+    by : (same : Bool) → cond same (Some first.time) (time_of others node) ≡ Some start → (time_of others node ≡ Some start → start ≤ most) → start ≤ most
+    by true here again = let upto : first.time ≤ most = all 0 first (omega arith) in let same : first.time ≡ start = (let somes : Some first.time ≡ Some start = here in cc) in omega arith
+    by false rest again = again rest
+
+-- the flights have small numbers
+pub flights_small : (graph : Tfpg) (delays : List ℕ) (trace : List Activation) (numbers : List ℕ)
+    → All (λ delay. delay ≤ 2 ^ 42) delays → All (λ activation. activation.time ≤ 2 ^ 42) trace
+    → All (λ (flight : Flight). (flight.start ≤ 2 ^ 42) × (flight.delay ≤ 2 ^ 42)) (filter_map (flight_over graph delays trace) numbers)
+flights_small graph delays trace numbers small times = λ k d within.
+    let at = slice_get-get_or (filter_map (flight_over graph delays trace) numbers) k d within in
+    let item = item_there (flight_over graph delays trace) numbers k _ at in
+    let edge = from_and_then (λ (e : Edge). option_map (λ start. record { modes = e.modes; start = start; delay = slice_index delays item.0 }) (time_of trace e.source)) (slice_get graph.edges item.0) _ item.2 in
+    let start = from_map (λ start. record { modes = edge.0.modes; start = start; delay = slice_index delays item.0 }) (time_of trace edge.0.source) _ edge.2 in
+    subst (λ (flight : Flight). (flight.start ≤ 2 ^ 42) × (flight.delay ≤ 2 ^ 42)) start.2
+    (time_small (2 ^ 42) trace edge.0.source start.0 times start.1, delay_small item.0)
+  where
+    delay_small : (number : ℕ) → slice_index delays number ≤ 2 ^ 42
+    delay_small number = ⊎_elim (λ within. small number 0 within) (λ past. let none : get_or delays number 0 ≡ 0 = get_or_past delays number 0 past in omega arith)
+        (let cases : (number < length delays) ⊎ (length delays ≤ number) = grind arith in cases)
+
+module _ (graph : Tfpg) (log : Logbook) (delays : List ℕ) (trace : List Activation) (each : length delays ≡ length graph.edges) where
+  -- an edge that carries the failure has a flight that has landed
+  pub carried : (x number : ℕ) → Carries graph log delays trace x number
+      → (flight : Flight) × (flight_over graph delays trace number ≡ Some flight) × Lands log x flight
+  carried x number carries =
+      let delay = item_read delays number carries.delay carries.drawn in (
+        record { modes = carries.edge.modes; start = carries.age.start; delay = slice_index delays number },
+        ap (λ o. option_and_then (λ (edge : Edge). option_map (λ start. record { modes = edge.modes; start = start; delay = slice_index delays number }) (time_of trace edge.source)) o) carries.is
+            ∙ ap (λ o. option_map (λ start. record { modes = carries.edge.modes; start = start; delay = slice_index delays number }) o) carries.age.source,
+        record {
+          since = let since = carries.age.since in omega arith;
+          open_since = λ y after upto. carries.age.allowed y (omega arith) upto;
+        },
+      )
+
+  -- and the other way round
+  pub landed : (x number : ℕ) (flight : Flight) → flight_over graph delays trace number ≡ Some flight → Lands log x flight → Carries graph log delays trace x number
+  landed x number flight is lands =
+      let edge = from_and_then (λ (e : Edge). option_map (λ start. record { modes = e.modes; start = start; delay = slice_index delays number }) (time_of trace e.source)) (slice_get graph.edges number) flight is in
+      let start = from_map (λ start. record { modes = edge.0.modes; start = start; delay = slice_index delays number }) (time_of trace edge.0.source) flight edge.2 in
+      let within : number < length delays = let inside = slice_get_within graph.edges number edge.0 edge.1 in omega arith in
+      let same : record { modes = edge.0.modes; start = start.0; delay = slice_index delays number } ≡ flight = start.2 in
+      let here = subst (Lands log x) (sym same) lands in
+      record {
+        edge = edge.0;
+        is = edge.1;
+        delay = slice_index delays number;
+        drawn = slice_get-get_or delays number 0 within;
+        age = record { start = start.0; source = start.1; since = here.since; allowed = here.open_since };
+      }
+
+  module _ (node : ℕ) where
+    -- the flights over the edges into the node
+    abbrev pub flights : List Flight
+    flights = filter_map (flight_over graph delays trace) (incoming graph node)
+
+    -- what a node of a kind is not
+    not_kind : (is_kind : Kind → Bool) (kind : Kind) → kind_at graph node ≡ Some kind → is_kind kind ≡ false → IsTrue (is_kind_at is_kind graph node) → ⊥
+    not_kind is_kind kind here unlike is =
+        let false_true : false ≡ true = sym unlike ∙ sym (ap (λ o. option_map_or is_kind o false) here) ∙ is in cc
+
+    has_kind : (is_kind : Kind → Bool) (kind : Kind) → kind_at graph node ≡ Some kind → is_kind kind ≡ true → IsTrue (is_kind_at is_kind graph node)
+    has_kind is_kind kind here alike = ap (λ o. option_map_or is_kind o false) here ∙ alike
+
+    pub or_arrival : (lag : Option ℕ) (limit : ℕ) (first : Option ℕ) → kind_at graph node ≡ Some (Or lag)
+        → IsFirst (LandsBy false log flights) limit first → IsFirst (Arrives graph log delays trace node) limit first
+    or_arrival lag limit first kind = IsFirst-same (LandsBy false log flights) (Arrives graph log delays trace node) limit first
+        (λ x some. record {
+          or_node = λ _. let item = item_there (flight_over graph delays trace) (incoming graph node) some.0 some.1 some.2 in
+              (item.0, item.1, landed x item.0 some.1 item.2 some.3);
+          and_node = λ other. absurd (not_kind is_and (Or lag) kind refl other);
+        })
+        (λ x arrives. let some = arrives.or_node (has_kind is_or (Or lag) kind refl) in
+        let flight = carried x some.0 some.2 in
+        let place = value_there (flight_over graph delays trace) (incoming graph node) some.0 flight.0 some.1 flight.1 in
+        (place.0, flight.0, place.1, flight.2))
+
+    pub and_arrival : (lag : Option ℕ) (limit : ℕ) (first : Option ℕ) → kind_at graph node ≡ Some (And lag)
+        → length (incoming graph node) ≤ length flights
+        → IsFirst (LandsBy true log flights) limit first → IsFirst (Arrives graph log delays trace node) limit first
+    and_arrival lag limit first kind many = IsFirst-same (LandsBy true log flights) (Arrives graph log delays trace node) limit first
+        (λ x all. record {
+          or_node = λ other. absurd (not_kind is_or (And lag) kind refl other);
+          and_node = λ _. All-from_members (Carries graph log delays trace x) (incoming graph node) (λ number member.
+              let valued = each_valued (flight_over graph delays trace) (incoming graph node) many number member in
+              let place = value_there (flight_over graph delays trace) (incoming graph node) number valued.0 member valued.1 in
+              landed x number valued.0 valued.1 (all place.0 valued.0 place.1));
+        })
+        (λ x arrives place flight at. let item = item_there (flight_over graph delays trace) (incoming graph node) place flight at in
+        let own = carried x item.0 (All-contains (Carries graph log delays trace x) (incoming graph node) item.0 (arrives.and_node (has_kind is_and (And lag) kind refl)) item.1) in
+        subst (Lands log x) (let same : own.0 ≡ flight = (let somes : Some own.0 ≡ Some flight = sym own.1 ∙ item.2 in cc) in same) own.2)
+
+    -- an AND node one of whose sources is not active
+    pub no_arrival : (lag : Option ℕ) (limit : ℕ) → kind_at graph node ≡ Some (And lag) → length flights < length (incoming graph node)
+        → IsFirst (Arrives graph log delays trace node) limit None
+    no_arrival lag limit kind few = λ x upto arrives.
+        some_valueless (flight_over graph delays trace) (incoming graph node) few (λ number member.
+        let own = carried x number (All-contains (Carries graph log delays trace x) (incoming graph node) number (arrives.and_node (has_kind is_and (And lag) kind refl)) member) in
+        (own.0, own.1))

@@ -1,0 +1,73 @@
+-- What is drawn for a list, step by step.
+use Rattle.std.proofs.Common.{◌≡◌, ℕ, zero, suc, ◌+◌, List, [], ◌∷◌, ◌++◌, ◌%◌, take, fold, Some, None, slice_get, option_map, All, refl, ap, ◌∙◌, subst, arith, add-one}
+use Rattle.std.specs.List.{scan}
+use Rattle.std.proofs.lemmas.List.Sums.{fold_push}
+use Rattle.tfpg_graph.specs.declared.edge.Edge.{Edge}
+use Rattle.tfpg_graph.specs.declared.kind.Kind.{Kind}
+use Rattle.tfpg_graph.specs.Graph.{Node, lag_of}
+use Rattle.rand_pcg.specs.Lcg.{Lcg}
+use Rattle.tfpg_sim.specs.Draws.{after_draw, drawn, delay_of, after_edges, delays_from, after_lag, lateness_of, latenesses_from}
+
+module _ {X : Type 0} where
+  -- one item more
+  pub take-item : (xs : List X) (n : ℕ) (x : X) → slice_get xs n ≡ Some x → take (suc n) xs ≡ take n xs ++ x ∷ []
+  take-item [] n x is = cc
+  take-item (y ∷ xs) zero x is = let same : y ≡ x = cc in ap (λ z. z ∷ []) same
+  take-item (y ∷ xs) (suc n) x is = ap (λ zs. y ∷ zs) (take-item xs n x is)
+
+  -- the same, as code counts
+  pub take-next : (xs : List X) (n : ℕ) (x : X) → slice_get xs n ≡ Some x → take (n + 1) xs ≡ take n xs ++ x ∷ []
+  take-next xs n x is = ap (λ m. take m xs) (add-one n) ∙ take-item xs n x is
+
+  -- what holds of all holds of the item of a number
+  pub All-item : (P : X → Type 0) (xs : List X) (n : ℕ) (x : X) → All P xs → slice_get xs n ≡ Some x → P x
+  All-item P [] n x all is = absurd (let no : None ≡ Some x = is in cc)
+  All-item P (y ∷ xs) zero x all is = subst P (let same : y ≡ x = cc in same) (all 0 y (omega arith))
+  All-item P (y ∷ xs) (suc n) x all is = All-item P xs n x (λ index d within. all (suc index) d (omega arith)) is
+
+module _ {S X Y : Type 0} (next : S → X → S) (out : S → X → Y) where
+  -- one item more
+  pub scan-push : (state : S) (xs : List X) (x : X) → scan next out state (xs ++ x ∷ []) ≡ scan next out state xs ++ out (fold next state xs) x ∷ []
+  scan-push state [] x = refl
+  scan-push state (y ∷ xs) x = ap (λ ys. out state y ∷ ys) (scan-push (next state y) xs x)
+
+module _ (state : Lcg) (edges : List Edge) (number : ℕ) (edge : Edge) where
+  pub delays_from-more : slice_get edges number ≡ Some edge
+      → delays_from state (take (number + 1) edges) ≡ delays_from state (take number edges) ++ delay_of edge (drawn (after_edges state (take number edges))) ∷ []
+  delays_from-more is =
+      ap (delays_from state) (take-next edges number edge is)
+      ∙ scan-push (λ before e. after_draw before) (λ before e. delay_of e (drawn before)) state (take number edges) edge
+
+  pub after_edges-more : slice_get edges number ≡ Some edge
+      → after_edges state (take (number + 1) edges) ≡ after_draw (after_edges state (take number edges))
+  after_edges-more is =
+      ap (after_edges state) (take-next edges number edge is)
+      ∙ fold_push (λ before e. after_draw before) state (take number edges) edge
+
+-- the node whose kind a look-up gives
+node_of_kind : (nodes : List Node) (n : ℕ) (kind : Kind) → option_map (λ node. node.kind) (slice_get nodes n) ≡ Some kind
+    → (node : Node) × (slice_get nodes n ≡ Some node) × (node.kind ≡ kind)
+node_of_kind [] n kind is = absurd (cc)
+node_of_kind (node ∷ nodes) zero kind is = (node, refl, let same : node.kind ≡ kind = cc in same)
+node_of_kind (node ∷ nodes) (suc n) kind is = node_of_kind nodes n kind is
+
+module _ (state : Lcg) (nodes : List Node) (n : ℕ) (kind : Kind) where
+  -- the generator after the nodes before one
+  abbrev at_node : Lcg
+  at_node = fold (λ before node. after_lag before (lag_of node.kind)) state (take n nodes)
+
+  pub latenesses_from-more : option_map (λ node. node.kind) (slice_get nodes n) ≡ Some kind
+      → latenesses_from state (take (n + 1) nodes) ≡ latenesses_from state (take n nodes) ++ option_map (λ lag. drawn at_node % (lag + 1)) (lag_of kind) ∷ []
+  latenesses_from-more is =
+      let found = node_of_kind nodes n kind is in
+      ap (latenesses_from state) (take-next nodes n found.0 found.1)
+      ∙ scan-push (λ before node. after_lag before (lag_of node.kind)) lateness_of state (take n nodes) found.0
+      ∙ ap (λ k. latenesses_from state (take n nodes) ++ option_map (λ lag. drawn at_node % (lag + 1)) (lag_of k) ∷ []) found.2
+
+  pub after_nodes-more : option_map (λ node. node.kind) (slice_get nodes n) ≡ Some kind
+      → fold (λ before node. after_lag before (lag_of node.kind)) state (take (n + 1) nodes) ≡ after_lag at_node (lag_of kind)
+  after_nodes-more is =
+      let found = node_of_kind nodes n kind is in
+      ap (fold (λ before node. after_lag before (lag_of node.kind)) state) (take-next nodes n found.0 found.1)
+      ∙ fold_push (λ before node. after_lag before (lag_of node.kind)) state (take n nodes) found.0
+      ∙ ap (λ k. after_lag at_node (lag_of k)) found.2

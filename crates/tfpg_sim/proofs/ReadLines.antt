@@ -1,0 +1,45 @@
+-- What the lines of a script say, line by line.
+use Rattle.std.proofs.Common.{◌≡◌, ℕ, ◌+◌, List, [], ◌∷◌, ◌++◌, length, fold, cond, None, Ok, Err, true, false, refl, sym, ap, ◌∙◌}
+use Rattle.std.proofs.lemmas.List.Sums.{fold-append, fold_push}
+use Rattle.tfpg_base.specs.Lines.{lines_of, parts_of}
+use Rattle.tfpg_graph.specs.Graph.{Tfpg}
+use Rattle.tfpg_sim.specs.declared.entry.Entry.{Entry}
+use Rattle.tfpg_sim.specs.Script.{has_stopped, next_entry, with_next, with_line, read_lines, stopped, script_of}
+
+-- a fault stays
+fault_stays : (graph : Tfpg) (number : ℕ) (lines : List (List ℕ)) → fold (with_line graph) (Err number) lines ≡ Err number
+fault_stays graph number [] = refl
+fault_stays graph number (line ∷ lines) = fault_stays graph number lines
+
+-- what one line more says
+pub read_lines-push : (graph : Tfpg) (lines : List (List ℕ)) (line : List ℕ) (entries : List Entry)
+    → read_lines graph lines ≡ Ok entries → read_lines graph (lines ++ line ∷ []) ≡ with_next entries (next_entry graph entries line)
+read_lines-push graph lines line entries are =
+    fold_push (with_line graph) (Ok []) lines line ∙ ap (λ read. with_line graph read line) are
+
+-- the first line that says nothing right
+pub script_of-fault : (graph : Tfpg) (text body : List ℕ) (before behind : List (List ℕ)) (line : List ℕ) (entries : List Entry)
+    → lines_of text ≡ parts_of body → parts_of body ≡ before ++ line ∷ behind → read_lines graph before ≡ Ok entries
+    → next_entry graph entries line ≡ None → script_of graph text ≡ Err (length entries + 1)
+script_of-fault graph text body before behind line entries lines parts are none =
+    ap (λ all. stopped (read_lines graph all)) (lines ∙ parts)
+    ∙ ap stopped (fold-append (with_line graph) (Ok []) before (line ∷ behind)
+    ∙ ap (λ read. fold (with_line graph) (with_line graph read line) behind) are
+    ∙ ap (λ next. fold (with_line graph) (with_next entries next) behind) none
+    ∙ fault_stays graph (length entries + 1) behind)
+
+-- all lines say something right, and the last is the stop
+pub script_of-stopped : (graph : Tfpg) (text body : List ℕ) (lines : List (List ℕ)) (entries : List Entry)
+    → lines_of text ≡ parts_of body → lines ≡ parts_of body → read_lines graph lines ≡ Ok entries
+    → has_stopped entries ≡ true → script_of graph text ≡ Ok entries
+script_of-stopped graph text body lines entries are same read stop =
+    ap (λ all. stopped (read_lines graph all)) (are ∙ sym same) ∙ ap stopped read
+    ∙ ap (λ b. cond b (Ok entries) (Err (length entries + 1))) stop
+
+-- all lines say something right, and the stop is missing
+pub script_of-missing : (graph : Tfpg) (text body : List ℕ) (lines : List (List ℕ)) (entries : List Entry)
+    → lines_of text ≡ parts_of body → lines ≡ parts_of body → read_lines graph lines ≡ Ok entries
+    → has_stopped entries ≡ false → script_of graph text ≡ Err (length entries + 1)
+script_of-missing graph text body lines entries are same read stop =
+    ap (λ all. stopped (read_lines graph all)) (are ∙ sym same) ∙ ap stopped read
+    ∙ ap (λ b. cond b (Ok entries) (Err (length entries + 1))) stop

@@ -1,0 +1,109 @@
+-- How a simulation begins, goes on and ends.
+use Rattle.std.proofs.Common.{◌≡◌, ℕ, zero, suc, ◌+◌, ◌<◌, ◌≤◌, ⊎_elim, Bool, true, false, not, cond, IsTrue, List, length, get_or, All, Option, Some, None, is_none, option_map, slice_get, refl, sym, ap, ◌∙◌, subst, arith}
+use Rattle.std.specs.Option.{option_map_or}
+use Rattle.std.proofs.lemmas.Option.{slice_get_within}
+use Rattle.tfpg_base.specs.declared.activation.Activation.{Activation}
+use Rattle.tfpg_base.specs.Trace.{time_of, with_time, IsRisingByNode}
+use Rattle.tfpg_base.proofs.Traces.{time_of-with_time, time_of-with_time_other}
+use Rattle.tfpg_graph.specs.Graph.{Tfpg, Node, is_kind_at, is_failure}
+use Rattle.tfpg_sim.specs.declared.entry.Entry.{Entry}
+use Rattle.tfpg_sim.specs.Script.{time_so_far}
+use Rattle.tfpg_sim.specs.Simulation.{Arrives, IsFirst, IsSimulated, script_log, start_of}
+use Rattle.tfpg_sim.specs.Settling.{candidate_at, AreCandidates, IsEarliest, IsUnderWay, IsStart, waiting_count}
+use Rattle.tfpg_sim.proofs.ScriptOrder.{All-with_time, time_holds}
+use Rattle.tfpg_sim.proofs.SettledNodes.{settle, its_first, same_or_not}
+
+-- a failure mode is a node of the graph
+failure_within : (graph : Tfpg) (node : ℕ) → IsTrue (is_kind_at is_failure graph node) → node < length graph.nodes
+failure_within graph node is = by (slice_get graph.nodes node) refl
+  where
+    by : (o : Option Node) → slice_get graph.nodes node ≡ o → node < length graph.nodes
+    by None at = let both : false ≡ true = sym (ap (λ o. option_map_or is_failure (option_map (λ (n : Node). n.kind) o) false) at) ∙ is in absurd (cc)
+    by (Some n) at = slice_get_within graph.nodes node n at
+
+module _ (graph : Tfpg) (entries : List Entry) (delays : List ℕ) (stop : ℕ) where
+  -- it begins with the failure modes that the script starts
+  pub begins : (trace : List Activation) (candidates : List (Option ℕ)) → ((node : ℕ) → time_of trace node ≡ start_of entries node)
+      → All (IsStart graph stop) trace → AreCandidates graph (script_log entries) delays stop trace candidates
+      → IsUnderWay graph (script_log entries) delays stop (start_of entries) trace candidates
+  begins trace candidates times own known = record {
+    within = λ k d below. failure_within graph (get_or trace k d).node (own k d below).0;
+    times = λ k d below. (own k d below).1;
+    failure_modes = λ node is. times node;
+    settled = λ node time unlike at. absurd (never node time unlike at);
+    known = known;
+    ordered = λ node time other later unlike at candidate. absurd (never node time unlike at);
+  }
+    where
+      never : (node time : ℕ) → is_kind_at is_failure graph node ≡ false → time_of trace node ≡ Some time → ⊥
+      never node time unlike at = let both : false ≡ true = sym unlike ∙ (time_holds (IsStart graph stop) trace node time own at).0 in cc
+
+  -- the times so far are small
+  pub times_after : (trace : List Activation) (candidates : List (Option ℕ)) (node time : ℕ)
+      → IsUnderWay graph (script_log entries) delays stop (start_of entries) trace candidates → IsEarliest candidates node time
+      → All (λ activation. activation.time ≤ stop) (with_time node time trace)
+  times_after trace candidates node time way earliest =
+      All-with_time (λ activation. activation.time ≤ stop) trace node time way.times
+      (its_first graph (script_log entries) delays stop (start_of entries) trace candidates way node time earliest).0
+
+  -- it goes on by the earliest candidate
+  pub goes_on : (trace : List Activation) (candidates later : List (Option ℕ)) (node time : ℕ)
+      → IsUnderWay graph (script_log entries) delays stop (start_of entries) trace candidates → IsEarliest candidates node time
+      → AreCandidates graph (script_log entries) delays stop (with_time node time trace) later
+      → IsUnderWay graph (script_log entries) delays stop (start_of entries) (with_time node time trace) later
+  goes_on trace candidates later node time way earliest known =
+      settle graph (script_log entries) delays stop (start_of entries) trace candidates way node time earliest later known
+      (All-with_time (λ activation. activation.node < length graph.nodes) trace node time way.within
+      (let within = earliest.within in let count = way.known.count in omega arith))
+      (times_after trace candidates node time way earliest)
+
+  -- it ends where there is no candidate
+  pub ends : (trace : List Activation) (candidates : List (Option ℕ)) → IsUnderWay graph (script_log entries) delays stop (start_of entries) trace candidates
+      → ((node : ℕ) → candidate_at candidates node ≡ None) → IsRisingByNode trace → stop ≡ time_so_far entries → IsSimulated graph entries delays trace
+  ends trace candidates way none rising is = record {
+    rising = rising;
+    within = way.within;
+    failure_modes = way.failure_modes;
+    discrepancies = λ node within unlike.
+        subst (λ limit. IsFirst (Arrives graph (script_log entries) delays trace node) limit (time_of trace node)) is
+        (by node within (not_true (is_kind_at is_failure graph node) unlike) (time_of trace node) refl);
+  }
+    where
+      not_true : (b : Bool) → IsTrue (not b) → b ≡ false
+      not_true true holds = let both : false ≡ true = holds in cc
+      not_true false holds = refl
+
+      by : (node : ℕ) → node < length graph.nodes → is_kind_at is_failure graph node ≡ false → (o : Option ℕ) → time_of trace node ≡ o
+          → IsFirst (Arrives graph (script_log entries) delays trace node) stop (time_of trace node)
+      by node within unlike (Some time) at = subst (IsFirst (Arrives graph (script_log entries) delays trace node) stop) (sym at) (way.settled node time unlike at)
+      by node within unlike None at = subst (IsFirst (Arrives graph (script_log entries) delays trace node) stop) (none node ∙ sym at)
+          ((way.known.each node within).waiting unlike at)
+
+-- one less of one number, and no more of another
+plus_less : (a b x y : ℕ) → a ≡ b → x ≡ 0 → y ≡ 1 → a + x < b + y
+plus_less a b x y same gone there = omega arith
+
+less_plus : (a b x y : ℕ) → a < b → x ≡ y → a + x < b + y
+less_plus a b x y less same = omega arith
+
+-- one node fewer is not active
+module _ (trace : List Activation) (node time : ℕ) where
+  waiting_same : (n : ℕ) → n ≤ node → waiting_count (with_time node time trace) n ≡ waiting_count trace n
+  waiting_same zero upto = refl
+  waiting_same (suc n) upto =
+      let same : time_of (with_time node time trace) n ≡ time_of trace n = time_of-with_time_other trace node time n (λ is. omega (arith, is)) in
+      (λ i. waiting_same n (upto') i + cond (is_none (same i)) 1 0)
+    where
+      upto' : n ≤ node
+      upto' = omega arith
+
+  pub waiting_less : time_of trace node ≡ None → (n : ℕ) → node < n → waiting_count (with_time node time trace) n < waiting_count trace n
+  waiting_less none zero within = absurd (omega arith)
+  waiting_less none (suc n) within = ⊎_elim
+      (λ here. plus_less (waiting_count (with_time node time trace) n) (waiting_count trace n) _ _ (waiting_same n (omega (arith, here)))
+      (ap (λ o. cond (is_none o) 1 0) (ap (time_of (with_time node time trace)) (sym here) ∙ time_of-with_time trace node time))
+      (ap (λ o. cond (is_none o) 1 0) (ap (time_of trace) (sym here) ∙ none)))
+      (λ unlike. less_plus (waiting_count (with_time node time trace) n) (waiting_count trace n) _ _
+      (waiting_less none n (let less : node < n = grind arith in less))
+      (ap (λ o. cond (is_none o) 1 0) (time_of-with_time_other trace node time n unlike)))
+      (same_or_not node n)

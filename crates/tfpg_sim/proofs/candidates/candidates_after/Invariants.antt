@@ -1,0 +1,16 @@
+use Rattle.std.proofs.Common.{◌≡◌, ℕ, ◌+◌, ◌<◌, List, length, None}
+use Rattle.tfpg_base.specs.declared.activation.Activation.{Activation}
+use Rattle.tfpg_base.specs.Trace.{time_of, with_time}
+use Rattle.tfpg_log.specs.Log.{Logbook}
+use Rattle.tfpg_sim.specs.ModeSpans.{AreSpans}
+use Rattle.tfpg_sim.specs.Settling.{IsCandidate, AreCandidates, candidate_at}
+use Rattle.tfpg_sim.proofs.candidates.candidates_after.Given as goal
+
+-- the candidates of the nodes so far
+abbrev pub invariant-loop-node : goal.invariant-loop-node
+invariant-loop-node l = record {
+  count : length l.next.items ≡ l.node;
+  each : (log : Logbook) (limit : ℕ) (before : List Activation) (time : ℕ) → AreSpans log (limit + 1) 0 l.spans
+      → l.trace ≡ with_time l.settled time before → time_of before l.settled ≡ None → AreCandidates l.graph log l.delays limit before l.candidates
+      → (k : ℕ) → k < l.node → IsCandidate l.graph log l.delays limit l.trace k (candidate_at l.next.items k);
+}

@@ -1,0 +1,14 @@
+use Rattle.std.proofs.Common.{◌≡◌, ◌↔◌, length, refl, arith, subst}
+use Rattle.tfpg_sim.specs.Flights.{IsReached}
+use Rattle.tfpg_sim.proofs.ReachedTimes.{SomeBelow, some_more}
+use Rattle.tfpg_sim.proofs.flight.soonest.Goals as goal
+
+pub loop-pending-preserved : goal.loop-pending-preserved
+loop-pending-preserved c =
+    some_more c.args.pendings.now c.loop-pending.pending-index c.loop-pending.first _ c.sooner-first.result refl
+    c.loop-pending.invariant c.sooner-first.ensures
+
+pub returns : goal.returns
+returns c = λ x.
+    let all : c.loop-pending.pending-index ≡ length c.args.pendings.now = omega arith in
+    subst (λ n. IsReached c.loop-pending.first x ↔ SomeBelow c.args.pendings.now n x) all (c.loop-pending.invariant x)

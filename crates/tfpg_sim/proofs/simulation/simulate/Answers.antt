@@ -1,0 +1,29 @@
+use Rattle.std.proofs.Common.{length, ap, subst, ◌∙◌, arith}
+use Rattle.tfpg_sim.specs.Script.{time_so_far}
+use Rattle.tfpg_sim.specs.Draws.{delays, latenesses}
+use Rattle.tfpg_sim.specs.Simulation.{IsSimulated}
+use Rattle.tfpg_sim.specs.SimulatedLog.{set_of, log_events, log_text}
+use Rattle.tfpg_sim.proofs.simulation.simulate.Goals as goal
+
+pub log_events-requires-clause-few : goal.log_events-requires-clause-few
+log_events-requires-clause-few c =
+    let few = c.node_count-few.ensures.valid.few_nodes in
+    omega (arith, ap length c.deref-5.ensures.value, c.in_ok-draws.ensures.each_lateness)
+
+pub returns-clause-simulated : goal.returns-clause-simulated
+returns-clause-simulated c =
+    let graph = c.args.graph.now in
+    let entries = c.in_ok-entries.entries.items in
+    let trace = c.in_ok-trace.trace in
+    let lates = latenesses graph c.args.number in
+    record {
+      entries = entries;
+      right = c.in_ok-entries.ensures.read;
+      set = c.started_set-set.ensures ∙ ap (set_of graph) c.deref-7.ensures.value;
+      trace = subst (λ es. IsSimulated graph es (delays graph c.args.number) trace) c.deref.ensures.value
+          (subst (λ ds. IsSimulated graph c.deref.result.now ds trace) (c.deref-2.ensures.value ∙ c.in_ok-draws.ensures.delays) c.in_ok-trace.ensures.simulated);
+      log = c.in_ok-log.ensures ∙ ap (log_text graph) (c.deref-6.ensures.value ∙ c.in_ok-events.ensures.events
+          ∙ ap (λ es. log_events es trace c.deref-5.result.now c.last_time-stop.result) c.deref-4.ensures.value
+          ∙ ap (λ ls. log_events entries trace ls c.last_time-stop.result) (c.deref-5.ensures.value ∙ c.in_ok-draws.ensures.latenesses)
+          ∙ ap (log_events entries trace lates) (c.last_time-stop.ensures ∙ ap time_so_far c.deref-3.ensures.value));
+    }

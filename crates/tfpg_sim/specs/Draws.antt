@@ -1,0 +1,62 @@
+-- What a simulation draws: the delay of each edge, and how late each alarm comes.
+use Rattle.std.specs.Prelude.{ℕ, ◌+◌, ◌-◌, ◌*◌, ◌%◌, ◌^◌, List, fold, Option, Some, None, option_map, IfSome, ◌≤◌}
+use Rattle.tfpg_base.specs.Times.{max_time}
+use Rattle.std.specs.List.{scan}
+use Rattle.rand_pcg.specs.Lcg.{Lcg, started, increment_of}
+use Rattle.rand_pcg.specs.Pcg.{multiplier_64, pcg32}
+use Rattle.tfpg_graph.specs.declared.edge.Edge.{Edge}
+use Rattle.tfpg_graph.specs.Graph.{Tfpg, Node, lag_of}
+
+-- the generator of a number and a stream: that of `Lcg64Xsh32`
+abbrev pub generator : ℕ → ℕ → Lcg
+generator number stream = started 64 multiplier_64 number (increment_of 64 stream)
+
+-- what a draw gives: two words, the high half first
+unfoldable pub drawn : Lcg → ℕ
+drawn state = (pcg32 state).0 * 2 ^ 32 + (pcg32 (pcg32 state).1).0
+
+-- the generator after a draw
+unfoldable pub after_draw : Lcg → Lcg
+after_draw state = (pcg32 (pcg32 state).1).1
+
+-- how many delays an edge may draw from its least one on
+abbrev pub delay_count : ℕ → Option ℕ → ℕ
+delay_count tmin None = 1000
+delay_count tmin (Some tmax) = tmax - tmin + 1
+
+-- the delay of an edge by what is drawn for it
+abbrev pub delay_of : Edge → ℕ → ℕ
+delay_of edge value = edge.tmin + value % delay_count edge.tmin edge.tmax
+
+-- the generator after a draw for each of these edges
+abbrev pub after_edges : Lcg → List Edge → Lcg
+after_edges state edges = fold (λ before edge. after_draw before) state edges
+
+-- the delays of these edges, from this generator on
+abbrev pub delays_from : Lcg → List Edge → List ℕ
+delays_from state edges = scan (λ before edge. after_draw before) (λ before edge. delay_of edge (drawn before)) state edges
+
+-- a monitored node takes a draw
+abbrev pub after_lag : Lcg → Option ℕ → Lcg
+after_lag state None = state
+after_lag state (Some lag) = after_draw state
+
+-- how late the alarm of a monitored node comes
+abbrev pub lateness_of : Lcg → Node → Option ℕ
+lateness_of state node = option_map (λ lag. drawn state % (lag + 1)) (lag_of node.kind)
+
+-- the latenesses of these nodes, from this generator on
+abbrev pub latenesses_from : Lcg → List Node → List (Option ℕ)
+latenesses_from state nodes = scan (λ before node. after_lag before (lag_of node.kind)) lateness_of state nodes
+
+-- the delay of each edge
+abbrev pub delays : Tfpg → ℕ → List ℕ
+delays graph number = delays_from (generator number 2) graph.edges
+
+-- the lateness of each node that is monitored, drawn after the delays
+abbrev pub latenesses : Tfpg → ℕ → List (Option ℕ)
+latenesses graph number = latenesses_from (after_edges (generator number 2) graph.edges) graph.nodes
+
+-- a lateness is not too large
+abbrev pub IsSmall : Option ℕ → Type 0
+IsSmall lateness = IfSome lateness (λ late. late ≤ max_time)

@@ -1,0 +1,161 @@
+//! When each discrepancy is activated next, by what is active so far.
+
+ghost use Rattle.std.specs.Prelude.{◌≡◌, ◌≤◌, ◌<◌, ◌+◌, ◌^◌, ℕ, List, length, All, IfOk, Option, None, MatchOption};
+ghost use Rattle.tfpg_base.specs.declared.activation.Activation.{Activation};
+ghost use Rattle.tfpg_base.specs.Trace.{time_of, with_time};
+ghost use Rattle.tfpg_graph.specs.Graph.{is_kind_at, is_failure};
+ghost use Rattle.tfpg_log.specs.Log.{Logbook};
+ghost use Rattle.tfpg_sim.specs.ModeSpans.{AreSpans};
+ghost use Rattle.tfpg_sim.specs.Settling.{IsCandidate, AreCandidates, IsEarliest, IsEarliestBelow, candidate_at};
+
+use crate::arrival::first_arrival;
+use std::alloc::Global;
+use tfpg_base::{NoMemory, Trace};
+use tfpg_graph::{Graph, Kind};
+use tfpg_log::Span;
+
+/// The candidates of all nodes. Costs the first arrival at each node.
+pub(crate) fn first_candidates(
+    alloc: Global,
+    graph: &Graph,
+    spans: &[Span],
+    delays: &[u64],
+    trace: &Trace,
+) -> Result<Vec<Option<u64>>, NoMemory>
+    requires each { length delays.now ≡ length graph.now.edges }
+    requires spans { All (λ span. span.lo ≤ 2 ^ 42) spans.now }
+    requires delays { All (λ delay. delay ≤ 2 ^ 42) delays.now }
+    requires times { All (λ activation. activation.time ≤ 2 ^ 42) trace.now }
+    ensures { IfOk result (λ candidates. (log : Logbook) (limit : ℕ) → AreSpans log (limit + 1) 0 spans.now →
+        AreCandidates graph.now log delays.now limit trace.now candidates.items) }
+{
+    let mut candidates = Vec::new(alloc);
+    for node in 0..graph.node_count() {
+        candidates.push(candidate(alloc, graph, spans, delays, trace, node)?)?;
+    }
+    Ok(candidates)
+}
+
+/// The candidates once one more node is active. Costs the first arrival at each node to which an edge goes from that one.
+pub(crate) fn candidates_after(
+    alloc: Global,
+    graph: &Graph,
+    spans: &[Span],
+    delays: &[u64],
+    trace: &Trace,
+    settled: u32,
+    candidates: &[Option<u64>],
+) -> Result<Vec<Option<u64>>, NoMemory>
+    requires settled { settled < length graph.now.nodes }
+    requires count { length candidates.now ≡ length graph.now.nodes }
+    requires each { length delays.now ≡ length graph.now.edges }
+    requires spans { All (λ span. span.lo ≤ 2 ^ 42) spans.now }
+    requires delays { All (λ delay. delay ≤ 2 ^ 42) delays.now }
+    requires times { All (λ activation. activation.time ≤ 2 ^ 42) trace.now }
+    ensures { IfOk result (λ next. (log : Logbook) (limit : ℕ) (before : List Activation) (time : ℕ) →
+        AreSpans log (limit + 1) 0 spans.now → trace.now ≡ with_time settled time before → time_of before settled ≡ None →
+        AreCandidates graph.now log delays.now limit before candidates.now →
+        AreCandidates graph.now log delays.now limit trace.now next.items) }
+{
+    let mut next = Vec::new(alloc);
+    for node in 0..graph.node_count() {
+        let before = candidates[node as usize];
+        next.push(candidate_after(alloc, graph, spans, delays, trace, settled, node, before)?)?;
+    }
+    Ok(next)
+}
+
+/// The candidate of the node once one more node is active. It is the same where no edge comes from that one.
+fn candidate_after(
+    alloc: Global,
+    graph: &Graph,
+    spans: &[Span],
+    delays: &[u64],
+    trace: &Trace,
+    settled: u32,
+    node: u32,
+    candidate_before: Option<u64>,
+) -> Result<Option<u64>, NoMemory>
+    requires settled { settled < length graph.now.nodes }
+    requires node { node < length graph.now.nodes }
+    requires each { length delays.now ≡ length graph.now.edges }
+    requires spans { All (λ span. span.lo ≤ 2 ^ 42) spans.now }
+    requires delays { All (λ delay. delay ≤ 2 ^ 42) delays.now }
+    requires times { All (λ activation. activation.time ≤ 2 ^ 42) trace.now }
+    ensures { IfOk result (λ next. (log : Logbook) (limit : ℕ) (before : List Activation) (time : ℕ) →
+        AreSpans log (limit + 1) 0 spans.now → trace.now ≡ with_time settled time before → time_of before settled ≡ None →
+        IsCandidate graph.now log delays.now limit before node candidate_before →
+        IsCandidate graph.now log delays.now limit trace.now node next) }
+{
+    if node != settled && graph.edge_between(settled, node).is_none() {
+        return Ok(candidate_before);
+    }
+    candidate(alloc, graph, spans, delays, trace, node)
+}
+
+/// The first arrival at the node, where it is a discrepancy that is not active yet.
+fn candidate(
+    alloc: Global,
+    graph: &Graph,
+    spans: &[Span],
+    delays: &[u64],
+    trace: &Trace,
+    node: u32,
+) -> Result<Option<u64>, NoMemory>
+    requires node { node < length graph.now.nodes }
+    requires each { length delays.now ≡ length graph.now.edges }
+    requires spans { All (λ span. span.lo ≤ 2 ^ 42) spans.now }
+    requires delays { All (λ delay. delay ≤ 2 ^ 42) delays.now }
+    requires times { All (λ activation. activation.time ≤ 2 ^ 42) trace.now }
+    ensures { IfOk result (λ candidate. (log : Logbook) (limit : ℕ) → AreSpans log (limit + 1) 0 spans.now →
+        IsCandidate graph.now log delays.now limit trace.now node candidate) }
+{
+    if is_failure(graph, node) {
+        return Ok(None);
+    }
+    if trace.at(node).is_some() {
+        return Ok(None);
+    }
+    first_arrival(alloc, graph, spans, delays, trace, node)
+}
+
+/// Whether the node is a failure mode.
+fn is_failure(graph: &Graph, node: u32) -> bool
+    requires { node < length graph.now.nodes }
+    ensures { result ≡ is_kind_at is_failure graph.now node }
+{
+    matches!(graph.kind(node), Kind::Failure { .. })
+}
+
+/// The node with the least candidate, and its time.
+pub(crate) fn earliest(candidates: &[Option<u64>]) -> Option<(u32, u64)>
+    requires { length candidates.now ≤ 512 }
+    ensures { MatchOption result ((node : ℕ) → candidate_at candidates.now node ≡ None)
+        (λ found. IsEarliest candidates.now found.0 found.1) }
+{
+    let mut best = None;
+    for (node, candidate) in candidates.iter().enumerate() {
+        best = earlier(best, node as u32, *candidate);
+    }
+    best
+}
+
+/// The earlier of what was found and the node's candidate.
+fn earlier(best: Option<(u32, u64)>, node: u32, candidate: Option<u64>) -> Option<(u32, u64)>
+    ensures { (candidates : List (Option ℕ)) → candidate_at candidates node ≡ candidate →
+        IsEarliestBelow candidates node best → IsEarliestBelow candidates (node + 1) result }
+{
+    let Some(time) = candidate else {
+        return best;
+    };
+    match best {
+        Some((other, least)) => {
+            if least <= time {
+                Some((other, least))
+            } else {
+                Some((node, time))
+            }
+        }
+        None => Some((node, time)),
+    }
+}

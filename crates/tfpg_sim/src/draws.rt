@@ -1,0 +1,112 @@
+//! What a simulation draws.
+
+ghost use Rattle.std.specs.Prelude.{◌≡◌, ◌≤◌, ◌<◌, ◌+◌, ◌^◌, ◌%◌, IfOk, OnOk, IfSome, length, All, option_map};
+ghost use Rattle.tfpg_base.specs.Times.{max_time};
+ghost use Rattle.tfpg_graph.specs.Graph.{lag_of};
+ghost use Rattle.tfpg_sim.specs.Draws.{generator, drawn, after_draw, delay_count, delay_of, after_edges, delays_from, after_lag, latenesses_from, delays, latenesses, IsSmall};
+
+use rand_core::utils::NextWord;
+use rand_pcg::Lcg64Xsh32;
+use std::alloc::Global;
+use tfpg_base::NoMemory;
+use tfpg_graph::{Edge, Graph, Kind};
+
+/// The stream of the generator from which a simulation draws.
+const STREAM: u64 = 2;
+
+/// How many delays an edge without a greatest one draws from.
+const OPEN_DELAYS: u64 = 1_000;
+
+/// The delay of each edge, and how late the alarm of each monitored node comes, in milliseconds.
+#[derive(Drop)]
+pub(crate) struct Draws {
+    pub(crate) delays: Vec<u64>,
+    pub(crate) latenesses: Vec<Option<u64>>,
+}
+
+/// Draws the delays and the latenesses by the number. Takes time and memory linear in the graph.
+pub(crate) fn draw(alloc: Global, graph: &Graph, number: u64) -> Result<Draws, NoMemory>
+    ensures delays { IfOk result (λ draws. draws.delays.items ≡ delays graph.now number) }
+    ensures latenesses { IfOk result (λ draws. draws.latenesses.items ≡ latenesses graph.now number) }
+    ensures small_delays { IfOk result (λ draws. All (λ delay. delay ≤ 2 ^ 42) draws.delays.items) }
+    ensures each_delay { IfOk result (λ draws. length draws.delays.items ≡ length graph.now.edges) }
+    ensures small_latenesses { IfOk result (λ draws. All IsSmall draws.latenesses.items) }
+    ensures each_lateness { IfOk result (λ draws. length draws.latenesses.items ≡ length graph.now.nodes) }
+{
+    let mut state = Lcg64Xsh32::new(number, STREAM);
+    let delays = draw_delays(alloc, graph, &mut state)?;
+    let latenesses = draw_latenesses(alloc, graph, &mut state)?;
+    Ok(Draws { delays, latenesses })
+}
+
+/// Draws the delay of each edge.
+fn draw_delays(alloc: Global, graph: &Graph, state: &mut Lcg64Xsh32) -> Result<Vec<u64>, NoMemory>
+    ensures delays { IfOk result (λ delays. delays.items ≡ delays_from state.old graph.now.edges) }
+    ensures small { IfOk result (λ delays. All (λ delay. delay ≤ 2 ^ 42) delays.items) }
+    ensures count { IfOk result (λ delays. length delays.items ≡ length graph.now.edges) }
+    ensures after { OnOk result (state.new ≡ after_edges state.old graph.now.edges) }
+{
+    let mut delays = Vec::new(alloc);
+    let _valid = graph.node_count();
+    for number in 0..graph.edge_count() {
+        delays.push(draw_delay(graph.edge(number), state))?;
+    }
+    Ok(delays)
+}
+
+/// Draws the delay of the edge.
+fn draw_delay(edge: Edge, state: &mut Lcg64Xsh32) -> u64
+    requires least { edge.tmin ≤ max_time }
+    requires greatest { IfSome edge.tmax (λ tmax. (edge.tmin ≤ tmax) × (tmax ≤ max_time)) }
+    ensures delay { result ≡ delay_of edge (drawn state.old) }
+    ensures small { result ≤ 2 ^ 42 }
+    ensures after { state.new ≡ after_draw state.old }
+{
+    let count = match edge.tmax {
+        Some(tmax) => tmax - edge.tmin + 1,
+        None => OPEN_DELAYS,
+    };
+    edge.tmin + draw_value(state) % count
+}
+
+/// Draws the lateness of each monitored node.
+fn draw_latenesses(
+    alloc: Global,
+    graph: &Graph,
+    state: &mut Lcg64Xsh32,
+) -> Result<Vec<Option<u64>>, NoMemory>
+    ensures latenesses { IfOk result (λ latenesses. latenesses.items ≡ latenesses_from state.old graph.now.nodes) }
+    ensures small { IfOk result (λ latenesses. All IsSmall latenesses.items) }
+    ensures count { IfOk result (λ latenesses. length latenesses.items ≡ length graph.now.nodes) }
+{
+    let mut latenesses = Vec::new(alloc);
+    for node in 0..graph.node_count() {
+        latenesses.push(draw_lateness(graph.kind(node), state))?;
+    }
+    Ok(latenesses)
+}
+
+/// Draws the lateness of a node of this kind, where it is monitored.
+fn draw_lateness(kind: Kind, state: &mut Lcg64Xsh32) -> Option<u64>
+    requires { IfSome (lag_of kind) (λ lag. lag ≤ max_time) }
+    ensures small { IsSmall result }
+    ensures lateness { result ≡ option_map (λ lag. drawn state.old % (lag + 1)) (lag_of kind) }
+    ensures after { state.new ≡ after_lag state.old (lag_of kind) }
+{
+    match kind {
+        Kind::Or { lag: Some(lag) } | Kind::And { lag: Some(lag) } => {
+            Some(draw_value(state) % (lag + 1))
+        }
+        Kind::Failure { .. } | Kind::Or { lag: None } | Kind::And { lag: None } => None,
+    }
+}
+
+/// Takes a draw: two words, the high half first.
+fn draw_value(state: &mut Lcg64Xsh32) -> u64
+    ensures value { result ≡ drawn state.old }
+    ensures after { state.new ≡ after_draw state.old }
+{
+    let high = u64::from(state.next_word());
+    let low = u64::from(state.next_word());
+    high * (1 << 32) + low
+}

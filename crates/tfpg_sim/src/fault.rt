@@ -1,0 +1,35 @@
+//! Why a script is not simulated.
+
+use std::alloc::{AllocError, AllocFailed};
+use tfpg_base::NoMemory;
+
+/// Why a script is not simulated.
+#[derive(Clone, Copy, Debug, PartialEq, Eq)]
+pub enum SimFault {
+    /// This line of the script is the first at fault. Lines count from 1.
+    BadScript { line: u64 },
+    /// Ran out of memory.
+    NoMemory,
+}
+
+impl From<NoMemory> for SimFault {
+    ghost use Rattle.std.specs.Prelude.{◌≡◌};
+    ghost use Rattle.tfpg_sim.specs.declared.fault.SimFault.TheVariants as fault;
+
+    ghost from_gives = { λ _ f. f ≡ fault.NoMemory };
+
+    fn from(_wanting: NoMemory) -> SimFault {
+        SimFault::NoMemory
+    }
+}
+
+impl<T: Drop> From<AllocFailed<T>> for SimFault {
+    ghost use Rattle.std.specs.Prelude.{◌≡◌};
+    ghost use Rattle.tfpg_sim.specs.declared.fault.SimFault.TheVariants as fault;
+
+    ghost from_gives = { λ _ f. f ≡ fault.NoMemory };
+
+    fn from(_wanting: AllocFailed<T>) -> SimFault {
+        SimFault::NoMemory
+    }
+}

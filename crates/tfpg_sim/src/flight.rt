@@ -1,0 +1,163 @@
+//! Propagations under way over the edges into one node, and when they land.
+
+ghost use Rattle.std.specs.Prelude.{◌≡◌, ◌≤◌, ◌+◌, ◌^◌, ◌==◌, ◌↔◌, ℕ, true, false, length, vec_len, All, IfOk, Some, None, slice_get, slice_index_or};
+ghost use Rattle.std.specs.Int.{bit_at};
+ghost use Rattle.tfpg_log.specs.Log.{Logbook};
+ghost use Rattle.tfpg_sim.specs.Flights.{IsReached, ReachedBy, ReachedByEither, LandsBy, IsFirstIn, pending_in};
+ghost use Rattle.tfpg_sim.specs.ModeSpans.{AreSpans};
+ghost use Rattle.tfpg_sim.specs.Simulation.{IsFirst};
+
+use std::alloc::Global;
+use tfpg_base::NoMemory;
+use tfpg_log::Span;
+
+/// A propagation over an edge whose source became active at `start`: it takes `delay` milliseconds, in which the mode must
+/// be one of `modes`.
+#[derive(Clone, Copy)]
+pub(crate) struct Flight {
+    pub(crate) modes: u64,
+    pub(crate) start: u64,
+    pub(crate) delay: u64,
+}
+
+/// The first instant up to the limit at which all the flights have landed, or some of them, by the spans of the modes up to
+/// there. A flight that is cut starts anew. Goes through the flights in each span.
+pub(crate) fn first_landing(
+    alloc: Global,
+    spans: &[Span],
+    flights: &[Flight],
+    needs_all: bool,
+) -> Result<Option<u64>, NoMemory>
+    requires spans { All (λ span. span.lo ≤ 2 ^ 42) spans.now }
+    requires flights { All (λ flight. (flight.start ≤ 2 ^ 42) × (flight.delay ≤ 2 ^ 42)) flights.now }
+    ensures { IfOk result (λ first. (log : Logbook) (limit : ℕ) → AreSpans log (limit + 1) 0 spans.now →
+        IsFirst (LandsBy needs_all log flights.now) limit first) }
+{
+    let mut pendings = nothing_pending(alloc, flights.len())?;
+    Ok(landing_in(spans, flights, needs_all, &mut pendings))
+}
+
+/// Nothing pending of so many flights.
+fn nothing_pending(alloc: Global, count: usize) -> Result<Vec<Option<u64>>, NoMemory>
+    ensures none { IfOk result (λ pendings. (place : ℕ) → slice_index_or pendings.items place None ≡ None) }
+    ensures len { IfOk result (λ pendings. vec_len pendings ≡ count) }
+{
+    let mut pendings = Vec::new(alloc);
+    for flight in 0..count {
+        pendings.push(None)?;
+    }
+    Ok(pendings)
+}
+
+/// The first landing, where nothing is pending before the first span.
+fn landing_in(
+    spans: &[Span],
+    flights: &[Flight],
+    needs_all: bool,
+    pendings: &mut [Option<u64>],
+) -> Option<u64>
+    requires room { length pendings.old ≡ length flights.now }
+    requires none { (place : ℕ) → slice_index_or pendings.old place None ≡ None }
+    requires spans { All (λ span. span.lo ≤ 2 ^ 42) spans.now }
+    requires flights { All (λ flight. (flight.start ≤ 2 ^ 42) × (flight.delay ≤ 2 ^ 42)) flights.now }
+    ensures { (log : Logbook) (limit : ℕ) → AreSpans log (limit + 1) 0 spans.now →
+        IsFirst (LandsBy needs_all log flights.now) limit result }
+{
+    for span in spans {
+        enter(*span, flights, pendings);
+        let first = first_in(*span, reached(pendings, needs_all));
+        if first.is_some() {
+            return first;
+        }
+    }
+    None
+}
+
+/// What is pending of each flight once the span has begun.
+fn enter(span: Span, flights: &[Flight], pendings: &mut [Option<u64>])
+    requires room { length pendings.old ≡ length flights.now }
+    requires span { span.lo ≤ 2 ^ 42 }
+    requires flights { All (λ flight. (flight.start ≤ 2 ^ 42) × (flight.delay ≤ 2 ^ 42)) flights.now }
+    ensures { (place : ℕ) (flight : Flight) → slice_get flights.now place ≡ Some flight →
+        slice_index_or pendings.new place None ≡ pending_in span flight (slice_index_or pendings.old place None) }
+{
+    for (place, flight) in flights.iter().enumerate() {
+        pendings[place] = pending_in(span, *flight, pendings[place]);
+    }
+}
+
+/// When the flight lands if its edge stays active, by what was pending before the span: a flight that goes on keeps its
+/// time, and one that was cut starts anew.
+fn pending_in(span: Span, flight: Flight, pending: Option<u64>) -> Option<u64>
+    requires span { span.lo ≤ 2 ^ 42 }
+    requires start { flight.start ≤ 2 ^ 42 }
+    requires delay { flight.delay ≤ 2 ^ 42 }
+    ensures { result ≡ pending_in span flight pending }
+{
+    if !has_mode(flight.modes, span.mode) {
+        return None;
+    }
+    match pending {
+        Some(arrival) => Some(arrival),
+        None => Some(span.lo.max(flight.start) + flight.delay),
+    }
+}
+
+/// Whether the set has the mode: its bit is set.
+fn has_mode(modes: u64, mode: u32) -> bool
+    ensures { result ≡ (bit_at modes mode == 1) }
+{
+    mode < 64 && modes >> mode & 1 == 1
+}
+
+/// The first instant of the span from the arrival on.
+fn first_in(span: Span, arrival: Option<u64>) -> Option<u64>
+    ensures { IsFirstIn (IsReached arrival) span.lo span.hi result }
+{
+    let first = arrival?.max(span.lo);
+    if first <= span.hi { Some(first) } else { None }
+}
+
+/// From when on all of them are reached, or some of them.
+fn reached(pendings: &[Option<u64>], needs_all: bool) -> Option<u64>
+    ensures { (instant : ℕ) → IsReached result instant ↔ ReachedBy needs_all pendings.now instant }
+{
+    if needs_all {
+        latest(pendings)
+    } else {
+        soonest(pendings)
+    }
+}
+
+/// From when on all of them are reached.
+fn latest(pendings: &[Option<u64>]) -> Option<u64>
+    ensures { (instant : ℕ) → IsReached result instant ↔ ReachedBy true pendings.now instant }
+{
+    let mut last = 0;
+    for pending in pendings {
+        last = (*pending)?.max(last);
+    }
+    Some(last)
+}
+
+/// From when on some of them is reached.
+fn soonest(pendings: &[Option<u64>]) -> Option<u64>
+    ensures { (instant : ℕ) → IsReached result instant ↔ ReachedBy false pendings.now instant }
+{
+    let mut first = None;
+    for pending in pendings {
+        first = sooner(first, *pending);
+    }
+    first
+}
+
+/// The lesser of two times, where there is one.
+fn sooner(one: Option<u64>, other: Option<u64>) -> Option<u64>
+    ensures { (instant : ℕ) → IsReached result instant ↔ ReachedByEither one other instant }
+{
+    match (one, other) {
+        (Some(a), Some(b)) => Some(a.min(b)),
+        (Some(a), None) => Some(a),
+        (None, b) => b,
+    }
+}

@@ -1,0 +1,20 @@
+//! What the definitions of this crate come to, as functions that do nothing: each says its law in its clause.
+
+ghost use Rattle.std.specs.Prelude.{ℕ, ◌≤◌, ◌<◌, List, length};
+ghost use Rattle.tfpg_base.specs.declared.activation.Activation.{Activation};
+ghost use Rattle.tfpg_graph.specs.Graph.{Tfpg};
+ghost use Rattle.tfpg_graph.specs.Valid.{IsValid};
+ghost use Rattle.tfpg_log.specs.Rules.{KeepsMay, KeepsMust};
+ghost use Rattle.tfpg_sim.specs.declared.entry.Entry.{Entry};
+ghost use Rattle.tfpg_sim.specs.Script.{time_so_far};
+ghost use Rattle.tfpg_sim.specs.Draws.{delays};
+ghost use Rattle.tfpg_sim.specs.Simulation.{IsSimulated, script_log};
+
+/// The simulated trace keeps the propagation rules at each instant up to the stop, in the modes of the script: since each
+/// delay lies between the least and the greatest one of its edge.
+pub fn a_simulated_trace_keeps_the_rules()
+    ensures { (graph : Tfpg) (entries : List Entry) (number : ℕ) (trace : List Activation) → IsValid graph →
+        IsSimulated graph entries (delays graph number) trace →
+        (node instant : ℕ) → node < length graph.nodes → instant ≤ time_so_far entries →
+        KeepsMay graph (script_log entries) trace node instant × KeepsMust graph (script_log entries) trace node instant }
+{}

@@ -1,0 +1,29 @@
+//! The simulator: logs with a known cause.
+//!
+//! - [`simulate`] makes the log of a script: the failure modes that it starts, and what they bring about.
+//! - [`Simulated`] is the set of these failure modes, the trace and the log.
+//! - [`a_simulated_trace_keeps_the_rules`] is a law: the trace keeps the propagation rules that explain a log.
+//! - [`SimFault`] says why there is none.
+#![tactic(auto)]
+
+mod alarms;
+mod arrival;
+mod candidates;
+mod draws;
+mod entry;
+mod fault;
+mod flight;
+mod laws;
+mod log_lines;
+mod mode_spans;
+mod script;
+mod script_line;
+mod simulated;
+mod simulation;
+mod started_set;
+mod trace;
+
+pub use fault::SimFault;
+pub use laws::a_simulated_trace_keeps_the_rules;
+pub use simulated::Simulated;
+pub use simulation::simulate;

@@ -1,0 +1,124 @@
+//! Reads a script.
+
+ghost use Rattle.std.specs.Prelude.{◌≡◌, ◌<◌, ◌≤◌, length, IfOk, IfErr};
+ghost use Rattle.std.specs.List.{list_any};
+ghost use Rattle.tfpg_base.specs.Lines.{parts_of, lines_of};
+ghost use Rattle.tfpg_sim.specs.Script.{has_stopped, time_so_far, starts, is_new, may_follow, next_entry, script_of, IsScript};
+ghost use Rattle.tfpg_sim.specs.ScriptAnswers.{IsFaultAt};
+
+use crate::SimFault;
+use crate::entry::Entry;
+use crate::script_line::read_entry;
+use std::alloc::Global;
+use tfpg_graph::Graph;
+
+/// How many lines a script has at most.
+const MAX_ENTRIES: usize = 8_192;
+
+/// How many of them may change the mode.
+const MAX_MODE_LINES: usize = 1_024;
+
+/// The lines of the script, of which the last is the stop, or the number of the first line at fault. Takes time linear in
+/// the text, but for look-ups by name, and for each start and each change of mode a walk over the lines before it, of
+/// which there are at most 65 and 1,025.
+pub(crate) fn read_script(alloc: Global, graph: &Graph, text: &[u8]) -> Result<Vec<Entry>, SimFault>
+    ensures read { IfOk result (λ entries. script_of graph.now text.now ≡ Ok entries.items) }
+    ensures script { IfOk result (λ entries. IsScript graph.now entries.items) }
+    ensures fault { IfErr result (IsFaultAt (script_of graph.now text.now)) }
+{
+    if text.is_empty() {
+        return Err(SimFault::BadScript { line: 1 });
+    }
+    let mut entries = Vec::new(alloc);
+    for line in without_last_line_end(text).split(|byte| *byte == b'\n') {
+        let Some(entry) = next_entry(graph, &entries, line) else {
+            return Err(SimFault::BadScript {
+                line: entries.len() as u64 + 1,
+            });
+        };
+        entries.push(entry)?;
+    }
+    if !has_stopped(&entries) {
+        return Err(SimFault::BadScript {
+            line: entries.len() as u64 + 1,
+        });
+    }
+    Ok(entries)
+}
+
+/// The text before a line end at its end.
+fn without_last_line_end(text: &[u8]) -> &[u8]
+    requires { 0 < length text.now }
+    ensures { lines_of text.now ≡ parts_of result.now }
+{
+    match text.strip_suffix(b"\n".as_slice()) {
+        Some(front) => front,
+        None => text,
+    }
+}
+
+/// What a line after these says, where it is right.
+fn next_entry(graph: &Graph, before: &[Entry], line: &[u8]) -> Option<Entry>
+    ensures { result ≡ next_entry graph.now before.now line.now }
+{
+    let entry = read_entry(graph, line)?;
+    if may_follow(before, entry) {
+        Some(entry)
+    } else {
+        None
+    }
+}
+
+/// Whether the line may come after these.
+fn may_follow(before: &[Entry], entry: Entry) -> bool
+    ensures { result ≡ may_follow before.now entry }
+{
+    before.len() < MAX_ENTRIES
+        && !has_stopped(before)
+        && time_so_far(before) <= entry.time()
+        && is_new(before, entry)
+}
+
+/// Whether the last line is the stop.
+fn has_stopped(entries: &[Entry]) -> bool
+    ensures { result ≡ has_stopped entries.now }
+{
+    match entries.last() {
+        Some(entry) => entry.is_stop(),
+        None => false,
+    }
+}
+
+/// The time of the last line, and 0 where there is none.
+fn time_so_far(entries: &[Entry]) -> u64
+    ensures { result ≡ time_so_far entries.now }
+{
+    match entries.last() {
+        Some(entry) => entry.time(),
+        None => 0,
+    }
+}
+
+/// Whether a start is the first of its failure mode, and a change of mode is not one too many.
+fn is_new(before: &[Entry], entry: Entry) -> bool
+    ensures { result ≡ is_new before.now entry }
+{
+    match entry {
+        Entry::Start { node, .. } => !has_started(before, node),
+        Entry::Mode { .. } => {
+            before
+                .iter()
+                .filter(|earlier| earlier.changes_mode())
+                .count()
+                < MAX_MODE_LINES
+        }
+        Entry::Sweep { .. } | Entry::Tick { .. } | Entry::Stop { .. } => true,
+    }
+}
+
+/// Whether one of the lines starts this failure mode.
+fn has_started(entries: &[Entry], failure: u32) -> bool
+    ensures { result ≡ list_any (starts failure) entries.now }
+{
+    entries.iter().any(|entry| entry.starts(failure))
+}

@@ -1,0 +1,41 @@
+//! The simulator.
+
+ghost use Rattle.std.specs.Prelude.{IfOk, IfErr};
+ghost use Rattle.tfpg_sim.specs.Script.{script_of};
+ghost use Rattle.tfpg_sim.specs.ScriptAnswers.{IsFaultAt};
+ghost use Rattle.tfpg_sim.specs.Simulated.{IsSimulationOf};
+
+use crate::alarms::log_events;
+use crate::draws::draw;
+use crate::fault::SimFault;
+use crate::log_lines::log_text;
+use crate::script::read_script;
+use crate::simulated::Simulated;
+use crate::started_set::started_set;
+use crate::trace::{last_time, trace_of};
+use std::alloc::Global;
+use tfpg_graph::Graph;
+
+/// Simulates the script on the graph, with delays and latenesses drawn by the number.
+///
+/// A script is refused with the number of its first line at fault. Goes through no instants: the trace costs, for each edge,
+/// the edges into its target times the changes of mode, and the log a walk over its lines for each alarm.
+pub fn simulate(
+    alloc: Global,
+    graph: &Graph,
+    script: &[u8],
+    number: u64,
+) -> Result<Simulated, SimFault>
+    ensures simulated { IfOk result (IsSimulationOf graph.now script.now number) }
+    ensures fault { IfErr result (IsFaultAt (script_of graph.now script.now)) }
+{
+    let _few = graph.node_count();
+    let entries = read_script(alloc, graph, script)?;
+    let draws = draw(alloc, graph, number)?;
+    let trace = trace_of(alloc, graph, &entries, &draws.delays)?;
+    let stop = last_time(&entries);
+    let events = log_events(alloc, &entries, &trace, &draws.latenesses, stop)?;
+    let log = log_text(alloc, graph, &events)?;
+    let set = started_set(graph, &entries);
+    Ok(Simulated { set, trace, log })
+}

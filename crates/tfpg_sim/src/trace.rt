@@ -1,0 +1,83 @@
+//! The trace of a script.
+//!
+//! The nodes become active one after the other, as the shortest paths of Dijkstra's algorithm: of all discrepancies that are
+//! not active yet, the one with the least first arrival is next. What becomes active at that time or later changes nothing
+//! before it.
+
+ghost use Rattle.std.specs.Prelude.{◌≡◌, ◌≤◌, ◌+◌, ◌^◌, ℕ, length, All, IfOk, OnOk};
+ghost use Rattle.tfpg_base.specs.Times.{max_time};
+ghost use Rattle.tfpg_base.specs.Trace.{time_of};
+ghost use Rattle.tfpg_graph.specs.Graph.{Tfpg};
+ghost use Rattle.tfpg_sim.specs.Script.{IsScript, time_so_far, time_of_entry};
+ghost use Rattle.tfpg_sim.specs.Simulation.{IsSimulated, start_of};
+ghost use Rattle.tfpg_sim.specs.Settling.{IsStart, with_start};
+
+use crate::candidates::{candidates_after, earliest, first_candidates};
+use crate::entry::Entry;
+use crate::mode_spans::spans_of;
+use std::alloc::Global;
+use tfpg_base::{NoMemory, Trace};
+use tfpg_graph::Graph;
+
+/// The trace of the script by these delays. Goes through no instants: the cost is that of the edges into each node times
+/// the edges into it and the changes of mode.
+pub(crate) fn trace_of(
+    alloc: Global,
+    graph: &Graph,
+    entries: &[Entry],
+    delays: &[u64],
+) -> Result<Trace, NoMemory>
+    requires script { IsScript graph.now entries.now }
+    requires each { length delays.now ≡ length graph.now.edges }
+    requires delays { All (λ delay. delay ≤ 2 ^ 42) delays.now }
+    ensures simulated { IfOk result (IsSimulated graph.now entries.now delays.now) }
+    ensures times { IfOk result (λ trace. All (λ activation. activation.time ≤ max_time) trace) }
+{
+    let stop = last_time(entries);
+    let spans = spans_of(alloc, entries, stop)?;
+    let mut trace = started(alloc, entries)?;
+    let _few = graph.node_count();
+    let mut candidates = first_candidates(alloc, graph, &spans, delays, &trace)?;
+    while let Some((node, time)) = earliest(&candidates) {
+        trace.set(node, time)?;
+        candidates = candidates_after(alloc, graph, &spans, delays, &trace, node, &candidates)?;
+    }
+    let _rising = trace.as_slice();
+    Ok(trace)
+}
+
+/// The time of the last line, and 0 where there is none.
+pub(crate) fn last_time(entries: &[Entry]) -> u64
+    ensures { result ≡ time_so_far entries.now }
+{
+    match entries.last() {
+        Some(entry) => entry.time(),
+        None => 0,
+    }
+}
+
+/// The trace of the failure modes that the script starts.
+fn started(alloc: Global, entries: &[Entry]) -> Result<Trace, NoMemory>
+    ensures times { IfOk result (λ trace. (graph : Tfpg) → IsScript graph entries.now →
+        (node : ℕ) → time_of trace node ≡ start_of entries.now node) }
+    ensures own { IfOk result (λ trace. (graph : Tfpg) (stop : ℕ) → IsScript graph entries.now →
+        All (λ entry. time_of_entry entry ≤ stop) entries.now → All (IsStart graph stop) trace) }
+{
+    let mut trace = Trace::new(alloc);
+    for entry in entries {
+        start(&mut trace, *entry)?;
+    }
+    Ok(trace)
+}
+
+/// Gives the failure mode that the line starts its time.
+fn start(trace: &mut Trace, entry: Entry) -> Result<(), NoMemory>
+    ensures { OnOk result (trace.new ≡ with_start entry trace.old) }
+{
+    match entry {
+        Entry::Start { time, node } => trace.set(node, time),
+        Entry::Mode { .. } | Entry::Sweep { .. } | Entry::Tick { .. } | Entry::Stop { .. } => Ok(
+            (),
+        ),
+    }
+}
