@@ -2,7 +2,7 @@
 use Rattle.std.proofs.Common.{◌≡◌, ℕ, zero, suc, ◌<◌, ◌≤◌, List, [], ◌∷◌, length, filter_map, Option, Some, None, option_map, option_and_then, slice_get, refl, sym, ap, ◌∙◌, arith, ⊎_elim}
 use Rattle.std.specs.List.{cons_option}
 use Rattle.std.specs.List.{Contains}
-use Rattle.tfpg_base.proofs.Elements.{Contains-head, Contains-tail, Contains-cons_cases, Contains-nil}
+use Rattle.tfpg_base.proofs.lists.Elements.{Contains-head, Contains-tail, Contains-cons_cases, Contains-nil}
 
 module _ {X Y : Type 0} where
   -- what an option was made of

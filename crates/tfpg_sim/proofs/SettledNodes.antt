@@ -4,7 +4,7 @@ use Rattle.std.specs.List.{Contains}
 use Rattle.std.proofs.lemmas.Bool.{eqb-true, eqb-false, eq-eqb}
 use Rattle.std.proofs.lemmas.List.{get_or_past}
 use Rattle.std.proofs.lemmas.List.Elements.{All-contains}
-use Rattle.tfpg_base.proofs.Elements.{All-from_members, Contains-tail}
+use Rattle.tfpg_base.proofs.lists.Elements.{All-from_members, Contains-tail}
 use Rattle.tfpg_base.specs.declared.activation.Activation.{Activation}
 use Rattle.tfpg_base.specs.Trace.{time_of, with_time}
 use Rattle.tfpg_base.proofs.Traces.{time_of-with_time, time_of-with_time_other}

@@ -5,7 +5,7 @@ use Rattle.tfpg_base.specs.Times.{max_time}
 use Rattle.std.proofs.lemmas.Bool.{cond-true, cond-false, lt-ltb, le-ltb, cond_both}
 use Rattle.std.proofs.lemmas.Bool.Decides.{nat_tests}
 use Rattle.std.proofs.lemmas.List.Elements.{filter_map-append, All-nil, All-cons, All-append, All-contains, Contains-append_left, Contains-append_right}
-use Rattle.tfpg_base.proofs.Elements.{All-from_members, Contains-head}
+use Rattle.tfpg_base.proofs.lists.Elements.{All-from_members, Contains-head}
 use Rattle.tfpg_log.specs.declared.span.Span.{Span}
 use Rattle.tfpg_log.specs.declared.event.Event.{Event}
 use Rattle.tfpg_log.specs.declared.event.Event.TheVariants as event

@@ -3,7 +3,7 @@ use Rattle.std.proofs.lemmas.Iterator.Consumers.{YieldsList-so_far, YieldsList-t
 use Rattle.std.proofs.lemmas.Iterator.Splits.{YieldsList-from_slice_split}
 use Rattle.std.proofs.lemmas.List.{map_push}
 use Rattle.tfpg_base.specs.Lines.{parts_of}
-use Rattle.tfpg_graph.proofs.WholeText.{lines_at}
+use Rattle.tfpg_graph.proofs.lemmas.reading.WholeText.{lines_at}
 use Rattle.tfpg_sim.specs.Script.{has_stopped, next_entry}
 use Rattle.tfpg_sim.specs.Script.{IsScript, read_lines, with_next}
 use Rattle.tfpg_sim.proofs.ScriptLines.{script_push, script_none}
