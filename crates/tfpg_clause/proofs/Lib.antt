@@ -17,4 +17,3 @@ pub mod FactsMet
 pub mod GivesTrace
 pub mod OwnModes
 pub mod PresentLeaf
-pub mod Comparing
