@@ -2,7 +2,7 @@
 
 ghost use Rattle.std.specs.Prelude.{◌≡◌, ◌↔◌, ◌<◌, ◌≤◌, length, All, IsTrue};
 ghost use Rattle.tfpg_graph.specs.Graph.{failures, is_monitored};
-ghost use Rattle.tfpg_graph.specs.Valid.{max_rarity};
+ghost use Rattle.tfpg_graph.specs.declared.limits.TheConstants.{MAX_RARITY};
 ghost use Rattle.tfpg_hyp.specs.Ranking.{rarity_at, cost_of, robustness_of, IsRankedBefore};
 
 use crate::place::{Fraction, Place};
@@ -72,7 +72,7 @@ pub fn before(a: &Place, b: &Place) -> bool
 fn rarity(graph: &Graph, place: u32) -> u64
     requires { place < length (failures graph.now) }
     ensures worth { result ≡ rarity_at graph.now place }
-    ensures small { result ≤ max_rarity }
+    ensures small { result ≤ MAX_RARITY }
 {
     // The count says that the graph is valid, and so the node is one of its nodes and its rarity is within the limit.
     let _count = graph.node_count();

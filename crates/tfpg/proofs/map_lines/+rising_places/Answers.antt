@@ -25,4 +25,4 @@ returns-in_ok-rising_places-in-Some-clause-found t c =
     let names : c.args.names.now ≡ c.in-Some.first.now ∷ c.in-Some.others.now = search rules in
     let found = c.in_ok-rising_places-in-Some.ensures.found in
     let more = places-more c.args.graph.now c.args.least c.in-Some.first.now.now (map (λ name. name.now) c.in-Some.others.now) c.in_ok-place-in-Some.place c.in_ok-rising_places-in-Some.field-0 (search rules) c.if-place-least.false found.0 found.1 in
-    rw c.with.ensures.members (more.0, more.1 ∙ sym (ap (map (λ name. name.now)) names))
+    rw c.with.ensures.list (more.0, more.1 ∙ sym (ap (map (λ name. name.now)) names))

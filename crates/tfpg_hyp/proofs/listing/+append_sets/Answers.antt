@@ -11,11 +11,11 @@ returns-then-count-size t c =
 
 pub append_sets-requires : goal.append_sets-requires
 append_sets-requires t c =
-    (omega arith, (omega (arith, c.requires.room), subst (All (λ place. place < c.args.least + 1)) (sym c.with.ensures.members) (All-with_member c.args.least c.args.members c.requires.below)))
+    (omega arith, (omega (arith, c.requires.room), subst (All (λ place. place < c.args.least + 1)) (sym c.with.ensures.list) (All-with_member c.args.least c.args.members c.requires.below)))
 
 pub returns : goal.returns
 returns t c =
     on_ok_weaker c.append_sets-2.result
     (appended-next c.args.sets.now.items c.append_sets.new.sets.items c.append_sets-2.new.sets.items c.args.members c.with.result c.args.count c.args.size c.args.least
-    (omega (arith, c.if-size-eq0.false, c.if-count-size.false)) (omega (arith, c.if-size-eq0.false)) c.requires.below c.with.ensures.members c.in_ok-append_sets.ensures)
+    (omega (arith, c.if-size-eq0.false, c.if-count-size.false)) (omega (arith, c.if-size-eq0.false)) c.requires.below c.with.ensures.list c.in_ok-append_sets.ensures)
     c.append_sets-2.ensures
