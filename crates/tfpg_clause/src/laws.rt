@@ -6,7 +6,6 @@ ghost use Rattle.tfpg_base.specs.declared.constraint.Constraint.{Constraint};
 ghost use Rattle.tfpg_graph.specs.Graph.{Tfpg, is_kind_at, is_failure};
 ghost use Rattle.tfpg_graph.specs.Reach.{IsReach};
 ghost use Rattle.tfpg_graph.specs.Valid.{IsValid};
-ghost use Rattle.tfpg_graph.specs.ZeroCycle.{HasZeroOrder};
 ghost use Rattle.tfpg_log.specs.Log.{Logbook, GoesOn, IsOf, IsOrdered, now_of};
 ghost use Rattle.tfpg_log.specs.Rules.{KeepsRules};
 ghost use Rattle.tfpg_log.specs.Explains.{Explains, ShowsAll, IsMember};
@@ -44,7 +43,7 @@ pub fn a_cycle_that_is_met_is_not_negative()
 /// - `clauses`: they meet each allowed clause, at every horizon up to now.
 pub fn traces_meet_facts_and_clauses()
     ensures facts { (graph : Tfpg) (log : Logbook) (set reach : List ℕ) (trace : List Activation) (numbers : List ℕ) →
-        HasZeroOrder graph → IsOf graph log → IsOrdered log → IsReach graph set reach →
+        IsValid graph → IsOf graph log → IsOrdered log → IsReach graph set reach →
         Explains graph log set trace → AreNumbersOf graph (now_of log) trace numbers →
         (reason : Reason) (stated : Constraint) → fact graph log reach reason ≡ Some stated → Meets numbers stated }
     ensures clauses { (graph : Tfpg) (log : Logbook) (set : List ℕ) (trace : List Activation) (numbers : List ℕ) →

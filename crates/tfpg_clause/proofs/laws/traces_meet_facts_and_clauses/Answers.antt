@@ -1,4 +1,5 @@
 use Rattle.tfpg_log.specs.Log.{now_of}
+use Rattle.tfpg_graph.proofs.lemmas.zero_cycle.ZeroRanks.{HasZeroOrder-valid}
 use Rattle.tfpg_clause.proofs.Agreed.{of_trace}
 use Rattle.tfpg_clause.proofs.RulesMet.{clause_is_met}
 use Rattle.tfpg_clause.proofs.FactsMet.{fact_is_met}
@@ -6,7 +7,8 @@ use Rattle.tfpg_clause.proofs.laws.traces_meet_facts_and_clauses.Goals as goal
 
 pub returns : goal.returns
 returns c = record {
-  facts = λ graph log set reach trace numbers order of ordered is_reach explains are. fact_is_met graph log set reach is_reach of ordered trace numbers order explains are;
+  facts = λ graph log set reach trace numbers valid of ordered is_reach explains are.
+      fact_is_met graph log set reach is_reach of ordered trace numbers (HasZeroOrder-valid graph valid) explains are;
   clauses = λ graph log set trace numbers valid explains are.
       clause_is_met graph log trace numbers valid (of_trace graph (now_of log) trace numbers explains.by_now are) explains.rules;
 }
