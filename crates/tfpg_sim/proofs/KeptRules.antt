@@ -40,7 +40,7 @@ delay_at : (graph : Tfpg) (number n : ℕ) (edge : Edge) → IsValid graph → s
     → (delay : ℕ) × (slice_get (delays graph number) n ≡ Some delay) × (edge.tmin ≤ delay) × ((m : ℕ) → edge.tmax ≡ Some m → delay ≤ m)
 delay_at graph number n edge valid at =
     let found = scan_at (λ (before : Lcg) (e : Edge). after_draw before) (λ before e. delay_of e (drawn before)) (generator number 2) graph.edges n edge at in
-    let own = All-item (IsValidEdge graph) graph.edges n edge valid.edges at in (
+    let own = All-item (IsValidEdge graph) graph.edges n edge valid.so_far.edges at in (
       delay_of edge (drawn found.0),
       found.1,
       omega arith,

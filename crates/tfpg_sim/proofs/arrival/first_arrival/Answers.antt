@@ -27,12 +27,12 @@ returns-in-Or c =
 pub returns-then-len-incoming : goal.returns-then-len-incoming
 returns-then-len-incoming c log limit are =
     no_arrival c.args.graph.now log c.args.delays.now c.args.trace.now c.requires.each c.args.node c.in-And.lag limit c.in-And.ensures
-    (omega (arith, ap length c.in_ok-flights.ensures, ap length c.incoming.ensures))
+    (omega (arith, ap length c.in_ok-flights.ensures, ap length c.incoming.ensures.edges))
 
 pub returns : goal.returns
 returns c =
     IfOk-weaker c.first_landing-in-And.result _ _ (λ first landing log limit are.
     and_arrival c.args.graph.now log c.args.delays.now c.args.trace.now c.requires.each c.args.node c.in-And.lag limit first c.in-And.ensures
-    (omega (arith, ap length c.in_ok-flights.ensures, ap length c.incoming.ensures))
+    (omega (arith, ap length c.in_ok-flights.ensures, ap length c.incoming.ensures.edges))
     (subst (λ flights. IsFirst (LandsBy true log flights) limit first) (c.deref-in-And.ensures.value ∙ c.in_ok-flights.ensures) (landing log limit are)))
     c.first_landing-in-And.ensures

@@ -6,7 +6,7 @@ use Rattle.tfpg_sim.proofs.arrival.flights_into.Goals as goal
 
 pub flight_over-requires-clause-number : goal.flight_over-requires-clause-number
 flight_over-requires-clause-number c =
-    in_graph c.args.graph.now c.args.node c.loop-number.number-index c.incoming-incoming.result.now c.incoming-incoming.ensures c.loop-number-test.true
+    in_graph c.args.graph.now c.args.node c.loop-number.number-index c.incoming-incoming.result.now c.incoming-incoming.ensures.edges c.loop-number-test.true
 
 pub loop-number-preserved : goal.loop-number-preserved
 loop-number-preserved c = grind (arith, common_steps, filter_map-append)

@@ -7,7 +7,7 @@ use Rattle.tfpg_sim.proofs.simulation.simulate.Goals as goal
 
 pub log_events-requires-clause-few : goal.log_events-requires-clause-few
 log_events-requires-clause-few c =
-    let few = c.node_count-few.ensures.valid.few_nodes in
+    let few = c.node_count-few.ensures.valid.so_far.few_nodes in
     omega (arith, ap length c.deref-5.ensures.value, c.in_ok-draws.ensures.each_lateness)
 
 pub returns-clause-simulated : goal.returns-clause-simulated

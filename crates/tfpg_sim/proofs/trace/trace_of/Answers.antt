@@ -47,7 +47,7 @@ pub candidates_after-requires-clause-times : goal.candidates_after-requires-clau
 candidates_after-requires-clause-times c = λ k d within.
     let at = goal.at.candidates_after-requires-clause-times c in
     let upto = subst (λ stop. stop ≤ max_time) (sym c.last_time-stop.ensures) (small c.args.graph.now c.args.entries.now c.requires.script) in
-    let all = subst (All (λ activation. activation.time ≤ c.last_time-stop.result)) (sym c.in_ok-set.ensures.ok)
+    let all = subst (All (λ activation. activation.time ≤ c.last_time-stop.result)) (sym c.in_ok-set.ensures.list)
     (times_after c.args.graph.now c.args.entries.now c.args.delays.now c.last_time-stop.result c.loop-node.trace c.loop-node.candidates.items
     c.in-Some.node c.in-Some.time c.loop-node.invariant (found at.In-Some)) in
     let one = all k d within in omega arith
@@ -56,7 +56,7 @@ pub loop-node-smaller : goal.loop-node-smaller
 loop-node-smaller c =
     let at = goal.at.loop-node-smaller c in
     let earliest = found at.In-Some in
-    subst (λ trace. waiting_count trace (length c.args.graph.now.nodes) < waiting_count c.loop-node.trace (length c.args.graph.now.nodes)) (sym c.in_ok-set.ensures.ok)
+    subst (λ trace. waiting_count trace (length c.args.graph.now.nodes) < waiting_count c.loop-node.trace (length c.args.graph.now.nodes)) (sym c.in_ok-set.ensures.list)
     (waiting_less c.loop-node.trace c.in-Some.node c.in-Some.time
     (is_absent c.args.graph.now (script_log c.args.entries.now) c.args.delays.now c.last_time-stop.result (start_of c.args.entries.now) c.loop-node.trace c.loop-node.candidates.items
     c.loop-node.invariant c.in-Some.node c.in-Some.time earliest)
@@ -69,13 +69,13 @@ loop-node-preserved c =
     let spans = subst (AreSpans (script_log c.args.entries.now) (c.last_time-stop.result + 1) 0) (sym c.deref-in-Some.ensures.value) c.in_ok-spans.ensures.spans in
     let absent = is_absent c.args.graph.now (script_log c.args.entries.now) c.args.delays.now c.last_time-stop.result (start_of c.args.entries.now) c.loop-node.trace c.loop-node.candidates.items
     c.loop-node.invariant c.in-Some.node c.in-Some.time earliest in
-    let known = c.in_ok-candidates-2.ensures (script_log c.args.entries.now) c.last_time-stop.result c.loop-node.trace c.in-Some.time spans c.in_ok-set.ensures.ok absent
+    let known = c.in_ok-candidates-2.ensures (script_log c.args.entries.now) c.last_time-stop.result c.loop-node.trace c.in-Some.time spans c.in_ok-set.ensures.list absent
     (subst (AreCandidates c.args.graph.now (script_log c.args.entries.now) c.args.delays.now c.last_time-stop.result c.loop-node.trace) (sym c.deref-in-Some-2.ensures.value) c.loop-node.invariant.known) in
     subst (λ trace. IsUnderWay c.args.graph.now (script_log c.args.entries.now) c.args.delays.now c.last_time-stop.result (start_of c.args.entries.now) trace c.in_ok-candidates-2.candidates.items)
-    (sym c.in_ok-set.ensures.ok)
+    (sym c.in_ok-set.ensures.list)
     (goes_on c.args.graph.now c.args.entries.now c.args.delays.now c.last_time-stop.result c.loop-node.trace c.loop-node.candidates.items c.in_ok-candidates-2.candidates.items
     c.in-Some.node c.in-Some.time c.loop-node.invariant earliest
-    (subst (λ trace. AreCandidates c.args.graph.now (script_log c.args.entries.now) c.args.delays.now c.last_time-stop.result trace c.in_ok-candidates-2.candidates.items) c.in_ok-set.ensures.ok known))
+    (subst (λ trace. AreCandidates c.args.graph.now (script_log c.args.entries.now) c.args.delays.now c.last_time-stop.result trace c.in_ok-candidates-2.candidates.items) c.in_ok-set.ensures.list known))
 
 pub returns-clause-simulated : goal.returns-clause-simulated
 returns-clause-simulated c =
