@@ -1,9 +1,9 @@
 -- A tree with another subtree in one of its places.
-use Rattle.std.proofs.Common.{◌≡◌, ◌⊎◌, ℕ, zero, suc, ◌+◌, List, [], ◌∷◌, ◌++◌, refl, sym, ap, subst, ◌∙◌, inl, inr, append_assoc}
+use Rattle.std.proofs.Common.{◌≡◌, ℕ, suc, ◌+◌, List, [], ◌∷◌, ◌++◌, refl, sym, ap, ◌∙◌, inl, inr, append_assoc}
 use Rattle.tfpg_evidence.specs.declared.clause_name.ClauseName.{ClauseName}
 use Rattle.tfpg_evidence.specs.declared.step.Step.TheVariants.{Split, Cycle}
 use Rattle.tfpg_clause.specs.Trees.{Tree, Leaf, Branch, Subtrees, NoMore, Next, PathSplit, StepPlace, how_many, places, places_from}
-use Rattle.tfpg_clause.proofs.ListCuts.{Past, Within, cut_twice, not_empty, no_end}
+use Rattle.tfpg_clause.proofs.ListCuts.{cut_twice, not_empty, no_end}
 
 -- a tree that begins with the same places and goes on with these
 pub record Grafted (path : List PathSplit) (front middle : List StepPlace) : Type 0 where
@@ -52,7 +52,7 @@ mutual
   graft_in path name seen number (Next tree others) front here back new same =
       let own : List PathSplit = path ++ record { name = name; seen = seen; alternative = number } ∷ [] in
       elim (cut_twice (places own tree) (places_from path name seen (number + 1) others) front (here ∷ back) same) [
-        inl past ↦
+        | inl past ↦
             let later = graft_in path name seen (number + 1) others past.mid here back new past.rest_is in
             record {
               subtrees = Next tree later.subtrees;
@@ -63,7 +63,7 @@ mutual
                   ∙ sym (append_assoc (places own tree) past.mid (places here.path new ++ later.rest))
                   ∙ ap (λ (ps : List StepPlace). ps ++ (places here.path new ++ later.rest)) (sym past.front_is);
             }
-      | inr within ↦
+        | inr within ↦
             let back_is : here ∷ back ≡ within.here ∷ (within.mid ++ places_from path name seen (number + 1) others) = within.back_is in
             let head : within.here ≡ here = cc in
             let within_tree = graft own tree front within.here within.mid new within.xs_is in

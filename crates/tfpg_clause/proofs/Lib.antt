@@ -23,3 +23,5 @@ pub mod TreeWalk
 pub mod Grafts
 pub mod TreeSteps
 pub mod TreesKept
+pub mod TraceNumbers
+pub mod NoTrace

@@ -1,5 +1,5 @@
 -- Lists that are cut in two ways, and what holds of each element.
-use Rattle.std.proofs.Common.{◌≡◌, ◌⊎◌, ℕ, suc, List, [], ◌∷◌, ◌++◌, refl, sym, ap, inl, inr}
+use Rattle.std.proofs.Common.{◌≡◌, ◌⊎◌, List, [], ◌∷◌, ◌++◌, refl, sym, ap, inl, inr}
 use Rattle.std.specs.Prelude.{All, map}
 use Rattle.std.proofs.lemmas.List.Elements.{All-nil, All-cons, All-head, All-tail}
 
@@ -23,10 +23,10 @@ cut_twice (x ∷ xs) ys (f ∷ front) back same =
     let head : f ≡ x = cc in
     let tail : xs ++ ys ≡ front ++ back = cc in
     elim (cut_twice xs ys front back tail) [
-      inl past ↦ let is : front ≡ xs ++ past.mid = past.front_is in
+      | inl past ↦ let is : front ≡ xs ++ past.mid = past.front_is in
           let whole : f ∷ front ≡ x ∷ (xs ++ past.mid) = cc in
           inl (record { mid = past.mid; front_is = whole; rest_is = past.rest_is })
-    | inr within ↦ let is : xs ≡ front ++ within.here ∷ within.mid = within.xs_is in
+      | inr within ↦ let is : xs ≡ front ++ within.here ∷ within.mid = within.xs_is in
           let whole : x ∷ xs ≡ f ∷ (front ++ within.here ∷ within.mid) = cc in
           inr (record { here = within.here; mid = within.mid; xs_is = whole; back_is = within.back_is })
     ]

@@ -1,5 +1,5 @@
 -- Each clause has an alternative.
-use Rattle.std.proofs.Common.{◌≡◌, ℕ, suc, ◌+◌, ◌<◌, ◌≤◌, List, [], ◌∷◌, ◌++◌, length, Bool, true, false, cond, Option, Some, None, refl, sym, ap, ◌∙◌, arith, length-append}
+use Rattle.std.proofs.Common.{◌≡◌, ℕ, ◌<◌, List, [], ◌∷◌, ◌++◌, length, Bool, true, false, Option, Some, None, arith, length-append}
 use Rattle.std.specs.Prelude.{IfSome, map, filter_map, option_map, option_and_then, slice_get, ◌&&◌, ◌==◌, nat_le, pos}
 use Rattle.std.specs.Bool.{then_some}
 use Rattle.std.specs.List.{list_all}

@@ -1,22 +1,21 @@
 -- One more right step makes a refutation or another partial tree of a partial tree.
-use Rattle.std.proofs.Common.{◌≡◌, ◌⊎◌, ℕ, zero, suc, ◌+◌, ◌-◌, ◌<◌, ◌≤◌, List, [], ◌∷◌, ◌++◌, length, take, Option, Some, None, refl, sym, ap, subst, ◌∙◌, inl, inr, arith, append_assoc, length-append}
-use Rattle.std.specs.Prelude.{All, map, slice_get, option_map}
-use Rattle.std.proofs.Math.Seq.{take-append_seam, take-length}
+use Rattle.std.proofs.Common.{◌≡◌, ℕ, zero, suc, ◌+◌, ◌-◌, ◌<◌, List, [], ◌∷◌, ◌++◌, length, take, Option, Some, None, refl, sym, ap, subst, ◌∙◌, arith, append_assoc, length-append}
+use Rattle.std.specs.Prelude.{All, slice_get, option_map}
+use Rattle.std.proofs.Math.Seq.{take-append_seam}
 use Rattle.std.proofs.lemmas.List.{length-map, take-map}
 use Rattle.std.proofs.lemmas.List.Elements.{All-nil, All-cons, All-append, All-head}
 use Rattle.tfpg_graph.specs.Graph.{Tfpg}
 use Rattle.tfpg_log.specs.Log.{Logbook, first_events}
 use Rattle.tfpg_evidence.specs.declared.clause_name.ClauseName.{ClauseName}
 use Rattle.tfpg_evidence.specs.declared.reason.Reason.{Reason}
-use Rattle.tfpg_evidence.specs.declared.step.Step.{Step}
 use Rattle.tfpg_evidence.specs.declared.step.Step.TheVariants.{Split, Cycle}
 use Rattle.tfpg_clause.specs.Clauses.{count_of}
-use Rattle.tfpg_clause.specs.Trees.{Judged, Tree, Leaf, Branch, Subtrees, NoMore, Next, PathSplit, StepPlace, how_many, places, places_from, places_of, steps_of, IsRight, IsRightStep, IsClosedLeaf, IsRefutation, IsPartial, IsPresentLeaf}
+use Rattle.tfpg_clause.specs.Trees.{Judged, Tree, Leaf, Branch, Subtrees, NoMore, Next, PathSplit, StepPlace, how_many, places_from, places_of, IsRight, IsRightStep, IsClosedLeaf, IsRefutation, IsPartial, IsPresentLeaf}
 use Rattle.tfpg_clause.proofs.ListCuts.{map_both, no_end, All-front, All-back}
-use Rattle.tfpg_clause.proofs.LeafPaths.{leaf_closed, leaf_next, leaf_after, after_both}
+use Rattle.tfpg_clause.proofs.LeafPaths.{leaf_closed, leaf_after, after_both}
 use Rattle.tfpg_clause.proofs.SomeAlternative.{some_alternative}
 use Rattle.tfpg_clause.proofs.TreeWalk.{steps_in, first_path, walk_tree}
-use Rattle.tfpg_clause.proofs.Grafts.{Grafted, graft}
+use Rattle.tfpg_clause.proofs.Grafts.{graft}
 
 -- A partial tree with its present leaf: the places of a tree, cut where the leaf is.
 pub record Cut (graph : Tfpg) (log : Logbook) (reach : List ℕ) (steps : List Judged) (path : List PathSplit) : Type 0 where
@@ -54,7 +53,7 @@ module _ (graph : Tfpg) (log : Logbook) (reach : List ℕ) where
   all_steps : (steps : List Judged) (partial : IsPartial graph log reach steps) → length steps < length (places_of partial.tree)
   all_steps steps partial =
       let all : length steps + length partial.more ≡ length (places_of partial.tree) =
-          sym (length-append steps partial.more) ∙ ap length partial.steps_are ∙ length-map (places_of partial.tree) step_in in
+      sym (length-append steps partial.more) ∙ ap length partial.steps_are ∙ length-map (places_of partial.tree) step_in in
       omega (arith, all, partial.unfinished)
 
   front_steps : (steps : List Judged) (partial : IsPartial graph log reach steps) → steps_in (take (length steps) (places_of partial.tree)) ≡ steps
@@ -64,23 +63,37 @@ module _ (graph : Tfpg) (log : Logbook) (reach : List ℕ) where
   -- a partial tree has a present leaf
   pub cut_of_partial : (steps : List Judged) → IsPartial graph log reach steps → (path : List PathSplit) × Cut graph log reach steps path
   cut_of_partial steps partial =
-      let cut = cut_before (places_of partial.tree) (length steps) (all_steps steps partial) in
-      (cut.here.path, record {
-        tree = partial.tree; front = take (length steps) (places_of partial.tree); here = cut.here; back = cut.back;
-        places_are = cut.is; steps_are = front_steps steps partial; right = partial.right; path_is = refl;
-      })
+      let cut = cut_before (places_of partial.tree) (length steps) (all_steps steps partial) in (
+        cut.here.path,
+        record {
+          tree = partial.tree;
+          front = take (length steps) (places_of partial.tree);
+          here = cut.here;
+          back = cut.back;
+          places_are = cut.is;
+          steps_are = front_steps steps partial;
+          right = partial.right;
+          path_is = refl;
+        },
+      )
 
   pub cut_of_leaf : (steps : List Judged) (path : List PathSplit) → IsPresentLeaf graph log reach steps path → Cut graph log reach steps path
   cut_of_leaf steps path leaf =
       let partial = leaf.partial in
       let cut = cut_before (places_of partial.tree) (length steps) (all_steps steps partial) in
       let there : option_map (λ (place : StepPlace). place.path) (slice_get (places_of partial.tree) (length steps)) ≡ Some cut.here.path =
-          ap (option_map (λ (place : StepPlace). place.path)) cut.got in
+      ap (option_map (λ (place : StepPlace). place.path)) cut.got in
       let same : Some cut.here.path ≡ Some path = sym there ∙ leaf.here in
       let path_same : cut.here.path ≡ path = cc in
       record {
-        tree = partial.tree; front = take (length steps) (places_of partial.tree); here = cut.here; back = cut.back;
-        places_are = cut.is; steps_are = front_steps steps partial; right = partial.right; path_is = path_same;
+        tree = partial.tree;
+        front = take (length steps) (places_of partial.tree);
+        here = cut.here;
+        back = cut.back;
+        places_are = cut.is;
+        steps_are = front_steps steps partial;
+        right = partial.right;
+        path_is = path_same;
       }
 
   leaf_of_front : (tree : Tree) (front : List StepPlace) (here : StepPlace) (back : List StepPlace) → places_of tree ≡ front ++ here ∷ back → All (IsRight graph log reach) front
@@ -95,7 +108,7 @@ module _ (graph : Tfpg) (log : Logbook) (reach : List ℕ) where
           steps_are = sym (map_both step_in front (here ∷ back)) ∙ ap steps_in (sym are);
           right =
               let first : take (length (steps_in front)) (places_of tree) ≡ front =
-                  ap (λ (n : ℕ). take n (places_of tree)) many ∙ ap (take (length front)) are ∙ take-append_seam front (here ∷ back) in
+              ap (λ (n : ℕ). take n (places_of tree)) many ∙ ap (take (length front)) are ∙ take-append_seam front (here ∷ back) in
               subst (All (IsRight graph log reach)) (sym first) right;
         };
         here =
@@ -125,8 +138,14 @@ module _ (graph : Tfpg) (log : Logbook) (reach : List ℕ) where
   -- no step: the leaf is the root
   pub first_cut : Cut graph log reach [] []
   first_cut = record {
-    tree = Leaf 0 []; front = []; here = record { path = []; step = record { seen = 0; step = Cycle [] }; subtrees = 0 }; back = [];
-    places_are = refl; steps_are = refl; right = All-nil (IsRight graph log reach); path_is = refl;
+    tree = Leaf 0 [];
+    front = [];
+    here = record { path = []; step = record { seen = 0; step = Cycle [] }; subtrees = 0 };
+    back = [];
+    places_are = refl;
+    steps_are = refl;
+    right = All-nil (IsRight graph log reach);
+    path_is = refl;
   }
 
   -- ---- a split
@@ -186,15 +205,21 @@ module _ (graph : Tfpg) (log : Logbook) (reach : List ℕ) where
       let right : All (IsRight graph log reach) front = All-append (IsRight graph log reach) cut.front (one ∷ []) cut.right (All-cons (IsRight graph log reach) one [] one_right (All-nil (IsRight graph log reach))) in
       let are : places_of grafted.tree ≡ front ++ grafted.rest = grafted.is ∙ sym (append_assoc cut.front (one ∷ []) grafted.rest) in
       let steps_are : steps_in front ≡ steps ++ record { seen = seen; step = Cycle reasons } ∷ [] =
-          map_both step_in cut.front (one ∷ []) ∙ ap (λ (s : List Judged). s ++ record { seen = seen; step = Cycle reasons } ∷ []) cut.steps_are in
-      (grafted.rest, record {
-        tree = grafted.tree; front = front; places_are = are; steps_are = steps_are; right = right;
-        path_is =
-            sym (ap (λ (leaf : Option (List PathSplit)). leaf_after graph log leaf (record { seen = seen; step = Cycle reasons } ∷ [])) (path_of_cut steps path cut))
-            ∙ sym (after_both graph log (Some []) steps (record { seen = seen; step = Cycle reasons } ∷ []))
-            ∙ ap (leaf_after graph log (Some [])) (sym steps_are)
-            ∙ walk_tree graph log reach [] grafted.tree front grafted.rest are right;
-      })
+      map_both step_in cut.front (one ∷ []) ∙ ap (λ (s : List Judged). s ++ record { seen = seen; step = Cycle reasons } ∷ []) cut.steps_are in (
+        grafted.rest,
+        record {
+          tree = grafted.tree;
+          front = front;
+          places_are = are;
+          steps_are = steps_are;
+          right = right;
+          path_is =
+              sym (ap (λ (leaf : Option (List PathSplit)). leaf_after graph log leaf (record { seen = seen; step = Cycle reasons } ∷ [])) (path_of_cut steps path cut))
+              ∙ sym (after_both graph log (Some []) steps (record { seen = seen; step = Cycle reasons } ∷ []))
+              ∙ ap (leaf_after graph log (Some [])) (sym steps_are)
+              ∙ walk_tree graph log reach [] grafted.tree front grafted.rest are right;
+        },
+      )
 
   finished : (steps : List Judged) (path : List PathSplit) (rest : List StepPlace) → ClosedTree steps path rest → leaf_closed graph log path ≡ None → IsRefutation graph log reach steps
   finished steps path [] closed none =

@@ -1,16 +1,15 @@
 -- Going through the places of a tree, the path of the present leaf is that of the next place.
-use Rattle.std.proofs.Common.{◌≡◌, ◌⊎◌, ℕ, zero, suc, ◌+◌, ◌<◌, ◌≤◌, List, [], ◌∷◌, ◌++◌, length, Option, Some, None, refl, sym, ap, subst, ◌∙◌, inl, inr, arith}
+use Rattle.std.proofs.Common.{◌≡◌, ℕ, suc, ◌+◌, ◌<◌, List, [], ◌∷◌, ◌++◌, Option, Some, sym, ap, subst, ◌∙◌, inl, inr, arith}
 use Rattle.std.specs.Prelude.{All, map}
 use Rattle.std.proofs.lemmas.List.Elements.{All-head, All-tail}
 use Rattle.tfpg_graph.specs.Graph.{Tfpg}
 use Rattle.tfpg_log.specs.Log.{Logbook, first_events}
 use Rattle.tfpg_evidence.specs.declared.clause_name.ClauseName.{ClauseName}
-use Rattle.tfpg_evidence.specs.declared.step.Step.{Step}
 use Rattle.tfpg_evidence.specs.declared.step.Step.TheVariants.{Split, Cycle}
 use Rattle.tfpg_clause.specs.Clauses.{count_of}
-use Rattle.tfpg_clause.specs.Trees.{Judged, Tree, Leaf, Branch, Subtrees, NoMore, Next, PathSplit, StepPlace, how_many, places, places_from, IsRight, IsRightStep}
-use Rattle.tfpg_clause.proofs.ListCuts.{Past, Within, cut_twice, map_both, no_end, All-front, All-back}
-use Rattle.tfpg_clause.proofs.LeafPaths.{count_at, leaf_closed, leaf_next, leaf_after, after_both, closed_more, closed_last, advanced}
+use Rattle.tfpg_clause.specs.Trees.{Judged, Tree, Leaf, Branch, Subtrees, NoMore, Next, PathSplit, StepPlace, how_many, places, places_from, IsRight}
+use Rattle.tfpg_clause.proofs.ListCuts.{cut_twice, map_both, no_end, All-front, All-back}
+use Rattle.tfpg_clause.proofs.LeafPaths.{leaf_closed, leaf_next, leaf_after, after_both, closed_more, closed_last}
 use Rattle.tfpg_clause.proofs.SomeAlternative.{some_alternative}
 
 -- the steps of some places
@@ -67,7 +66,7 @@ module _ (graph : Tfpg) (log : Logbook) (reach : List ℕ) where
     walk_from path name seen number count (Next tree others) front back same right is last some =
         let own : List PathSplit = path ++ record { name = name; seen = seen; alternative = number } ∷ [] in
         elim (cut_twice (places own tree) (places_from path name seen (number + 1) others) front back same) [
-          inl past ↦
+          | inl past ↦
               let split_right : All (IsRight graph log reach) (places own tree ++ past.mid) = subst (All (IsRight graph log reach)) past.front_is right in
               let own_right : All (IsRight graph log reach) (places own tree) = All-front (IsRight graph log reach) (places own tree) past.mid split_right in
               ap (λ (f : List StepPlace). after (Some own) (steps_in f)) past.front_is
@@ -76,8 +75,8 @@ module _ (graph : Tfpg) (log : Logbook) (reach : List ℕ) where
               ∙ ap (λ (leaf : Option (List PathSplit)). after leaf (steps_in past.mid)) (walk_tree own tree (places own tree) [] (sym (no_end (places own tree))) own_right)
               ∙ past_first path name seen number count others past.mid back is (omega arith) past.rest_is
               (λ more. walk_from path name seen (number + 1) count others past.mid back past.rest_is
-                (All-back (IsRight graph log reach) (places own tree) past.mid split_right) is (omega arith) more)
-        | inr within ↦
+              (All-back (IsRight graph log reach) (places own tree) past.mid split_right) is (omega arith) more)
+          | inr within ↦
               walk_tree own tree front (within.here ∷ within.mid) within.xs_is right
               ∙ sym (ap (first_path (leaf_closed graph log path)) within.back_is)
         ]

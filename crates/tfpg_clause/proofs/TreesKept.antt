@@ -17,7 +17,7 @@ use Rattle.tfpg_evidence.specs.declared.step.Step.{Step}
 use Rattle.tfpg_evidence.specs.declared.step.Step.TheVariants.{Split, Cycle}
 use Rattle.tfpg_clause.specs.Facts.{fact}
 use Rattle.tfpg_clause.specs.Clauses.{alternatives, count_of, item_at, constraint_at}
-use Rattle.tfpg_clause.specs.Trees.{Judged, PathSplit, StepPlace, picked, stated, IsClosedLeaf, IsRight, IsRightStep, IsRefutation, IsPartial, IsPresentLeaf}
+use Rattle.tfpg_clause.specs.Trees.{Judged, PathSplit, StepPlace, picked, stated, IsClosedLeaf, IsRight, IsRightStep, IsRefutation, IsPresentLeaf}
 use Rattle.tfpg_clause.proofs.Kept.{clause_stays, fact_stays}
 
 get_front : {X : Type 0} (xs ys : List X) (i : ℕ) (d : X) → i < length xs → get_or (xs ++ ys) i d ≡ get_or xs i d
@@ -69,6 +69,7 @@ each_stays one other stays (reason ∷ reasons) constraints hold = by (λ cs kep
         → option_map (λ (xs : List Constraint). c ∷ xs) found ≡ Some constraints → option_map (λ (xs : List Constraint). c ∷ xs) (each_of (map other reasons)) ≡ Some constraints
     rest_by c None none rest whole = cc
     rest_by c (Some cs) some rest whole = ap (option_map (λ (xs : List Constraint). c ∷ xs)) (rest cs some) ∙ whole
+
     by : ((cs : List Constraint) → each_of (map one reasons) ≡ Some cs → each_of (map other reasons) ≡ Some cs)
         → (found : Option Constraint) → one reason ≡ found → each_of (found ∷ map one reasons) ≡ Some constraints → each_of (other reason ∷ map other reasons) ≡ Some constraints
     by rest None none whole = cc
@@ -104,8 +105,8 @@ module _ (graph : Tfpg) (earlier later : Logbook) (ordered : IsOrdered later) (g
         (λ (taken : PathSplit). option_and_then (λ clause. constraint_at clause taken.alternative place) (alternatives graph (first_events earlier taken.seen) taken.name))
         (item_at path split) constraint at
         (λ taken there rest.
-          ap (option_and_then (λ (taken : PathSplit). option_and_then (λ clause. constraint_at clause taken.alternative place) (alternatives graph (first_events later taken.seen) taken.name))) there
-          ∙ of_clause_stays (λ clause. constraint_at clause taken.alternative place) taken.seen taken.name constraint rest)
+        ap (option_and_then (λ (taken : PathSplit). option_and_then (λ clause. constraint_at clause taken.alternative place) (alternatives graph (first_events later taken.seen) taken.name))) there
+        ∙ of_clause_stays (λ clause. constraint_at clause taken.alternative place) taken.seen taken.name constraint rest)
 
     fact_first : (seen : ℕ) (reason : Reason) (constraint : Constraint) → fact graph (first_events earlier seen) reach reason ≡ Some constraint
         → fact graph (first_events later seen) reach reason ≡ Some constraint

@@ -9,7 +9,7 @@ ghost use Rattle.tfpg_graph.specs.Valid.{IsValid};
 ghost use Rattle.tfpg_graph.specs.ZeroCycle.{HasZeroOrder};
 ghost use Rattle.tfpg_log.specs.Log.{Logbook, GoesOn, IsOf, IsOrdered, now_of};
 ghost use Rattle.tfpg_log.specs.Rules.{KeepsRules};
-ghost use Rattle.tfpg_log.specs.Explains.{Explains, ShowsAll, IsMember};
+ghost use Rattle.tfpg_log.specs.Explains.{Explains, Fits, ShowsAll, IsMember};
 ghost use Rattle.tfpg_evidence.specs.declared.clause_name.ClauseName.{ClauseName};
 ghost use Rattle.tfpg_evidence.specs.declared.reason.Reason.{Reason};
 ghost use Rattle.tfpg_clause.specs.Bounds.{Meets};
@@ -17,7 +17,7 @@ ghost use Rattle.tfpg_clause.specs.Facts.{fact};
 ghost use Rattle.tfpg_clause.specs.Clauses.{alternatives, MeetsClause};
 ghost use Rattle.tfpg_clause.specs.Order.{horizon_of};
 ghost use Rattle.tfpg_clause.specs.Cut.{cut, AreNumbers, AreNumbersOf};
-ghost use Rattle.tfpg_clause.specs.Trees.{IsCycle, sum_of};
+ghost use Rattle.tfpg_clause.specs.Trees.{IsCycle, IsRefutation, Judged, sum_of};
 
 /// What is allowed at a log stays allowed at each log that goes on from it, with the same constraints: `clause` says it of
 /// clauses, and `fact` of facts.
@@ -79,4 +79,12 @@ pub fn numbers_that_meet_all_give_a_trace()
         ((name : ClauseName) (clause : List (List Constraint)) → horizon_of name ≡ now_of log →
         alternatives graph log name ≡ Some clause → MeetsClause numbers clause) →
         Explains graph log set (cut (now_of log) numbers) }
+{}
+
+/// A refutation is sound and final: where steps are one at a log, for the reach of a set, no trace explains that log from the
+/// set, nor any log that goes on from it.
+pub fn a_refutation_leaves_no_trace()
+    ensures { (graph : Tfpg) (earlier log : Logbook) (set reach : List ℕ) (steps : List Judged) →
+        IsValid graph → HasZeroOrder graph → IsOf graph log → IsOrdered log → IsReach graph set reach →
+        GoesOn earlier log → IsRefutation graph earlier reach steps → Fits graph log set → ⊥ }
 {}
