@@ -25,3 +25,4 @@ pub mod TreeSteps
 pub mod TreesKept
 pub mod TraceNumbers
 pub mod NoTrace
+pub mod PresentLeaf

@@ -1,10 +1,11 @@
 -- The order of the clauses of one horizon, and the first that times violate.
-use Rattle.std.specs.Prelude.{◌≡◌, ◌⊎◌, ℕ, ◌<◌, List}
+use Rattle.std.specs.Prelude.{◌≡◌, ◌⊎◌, ℕ, ◌<◌, List, Some}
+use Rattle.tfpg_base.specs.declared.constraint.Constraint.{Constraint}
 use Rattle.tfpg_graph.specs.Graph.{Tfpg}
 use Rattle.tfpg_log.specs.Log.{Logbook, now_of}
 use Rattle.tfpg_evidence.specs.declared.clause_name.ClauseName.{ClauseName}
 use Rattle.tfpg_evidence.specs.declared.clause_name.ClauseName.TheVariants.{OrMay, AndMay, OrMust, AndMust}
-use Rattle.tfpg_clause.specs.Clauses.{Violates}
+use Rattle.tfpg_clause.specs.Clauses.{alternatives, MeetsClause, Violates}
 
 -- the rank of a kind of clause
 abbrev pub rank_of : ClauseName → ℕ
@@ -41,8 +42,16 @@ ComesBefore one other =
     ⊎ ((rank_of one ≡ rank_of other)
     × ((subject_of one < subject_of other) ⊎ ((subject_of one ≡ subject_of other) × (span_of one < span_of other))))
 
+-- The times meet the clause of the name, where it is allowed.
+abbrev pub MeetsNamed : Tfpg → Logbook → List ℕ → ClauseName → Type 0
+MeetsNamed graph log times name = (clause : List (List Constraint)) → alternatives graph log name ≡ Some clause → MeetsClause times clause
+
 -- Of the clauses with the horizon now it is the first that the times violate.
 pub record IsFirstViolated (graph : Tfpg) (log : Logbook) (times : List ℕ) (name : ClauseName) : Type 0 where
   pub at_now : horizon_of name ≡ now_of log
   pub violated : Violates graph log times name
-  pub first : (other : ClauseName) → horizon_of other ≡ now_of log → ComesBefore other name → Violates graph log times other → ⊥
+  pub first : (other : ClauseName) → horizon_of other ≡ now_of log → ComesBefore other name → MeetsNamed graph log times other
+
+-- The times meet each allowed clause with the horizon now.
+abbrev pub MeetAllNow : Tfpg → Logbook → List ℕ → Type 0
+MeetAllNow graph log times = (name : ClauseName) → horizon_of name ≡ now_of log → MeetsNamed graph log times name

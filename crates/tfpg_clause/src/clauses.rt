@@ -289,7 +289,7 @@ fn must_alternative_in(
 }
 
 /// The target of the edge, where it is an edge of the graph.
-fn target_of(graph: &Graph, edge: u32) -> Option<u32>
+pub(crate) fn target_of(graph: &Graph, edge: u32) -> Option<u32>
     ensures value { result ≡ option_map (λ e. e.target) (slice_get graph.now.edges edge) }
     ensures small { IfSome result (λ target. (target < 512) × (edge < length graph.now.edges)) }
 {
@@ -300,7 +300,7 @@ fn target_of(graph: &Graph, edge: u32) -> Option<u32>
 }
 
 /// The numbers of the edges into the node.
-fn edges_into(graph: &Graph, node: u32) -> &[u32]
+pub(crate) fn edges_into(graph: &Graph, node: u32) -> &[u32]
     requires { node < length graph.now.nodes }
     ensures value { result.now ≡ incoming graph.now node }
     ensures edges { All (λ edge. edge < length graph.now.edges) result.now }
@@ -311,7 +311,7 @@ fn edges_into(graph: &Graph, node: u32) -> &[u32]
 }
 
 /// Whether it is an OR node of the graph.
-fn is_or(graph: &Graph, node: u32) -> bool
+pub(crate) fn is_or(graph: &Graph, node: u32) -> bool
     ensures value { result ≡ is_kind_at is_or graph.now node }
     ensures within { IsTrue result → (node < length graph.now.nodes) × (node < 512) }
 {
@@ -319,7 +319,7 @@ fn is_or(graph: &Graph, node: u32) -> bool
 }
 
 /// Whether it is an AND node of the graph.
-fn is_and(graph: &Graph, node: u32) -> bool
+pub(crate) fn is_and(graph: &Graph, node: u32) -> bool
     ensures value { result ≡ is_kind_at is_and graph.now node }
     ensures within { IsTrue result → (node < length graph.now.nodes) × (node < 512) }
 {

@@ -17,7 +17,7 @@ ghost use Rattle.tfpg_clause.specs.Facts.{fact};
 ghost use Rattle.tfpg_clause.specs.Clauses.{alternatives, MeetsClause};
 ghost use Rattle.tfpg_clause.specs.Order.{horizon_of};
 ghost use Rattle.tfpg_clause.specs.Cut.{cut, AreNumbers, AreNumbersOf};
-ghost use Rattle.tfpg_clause.specs.Trees.{IsCycle, IsRefutation, Judged, sum_of};
+ghost use Rattle.tfpg_clause.specs.Trees.{Judged, PathSplit, IsCycle, sum_of, IsRefutation, IsPartial, IsPresentLeaf};
 
 /// What is allowed at a log stays allowed at each log that goes on from it, with the same constraints: `clause` says it of
 /// clauses, and `fact` of facts.
@@ -79,6 +79,15 @@ pub fn numbers_that_meet_all_give_a_trace()
         ((name : ClauseName) (clause : List (List Constraint)) → horizon_of name ≡ now_of log →
         alternatives graph log name ≡ Some clause → MeetsClause numbers clause) →
         Explains graph log set (cut (now_of log) numbers) }
+{}
+
+/// The next step of a partial tree stands at one leaf, whichever tree is chosen that begins with its steps: `there` says
+/// that it has a present leaf, and `only_one` that it has no other.
+pub fn a_partial_tree_has_one_present_leaf()
+    ensures there { (graph : Tfpg) (log : Logbook) (reach : List ℕ) (steps : List Judged) →
+        IsPartial graph log reach steps → (path : List PathSplit) × IsPresentLeaf graph log reach steps path }
+    ensures only_one { (graph : Tfpg) (log : Logbook) (reach : List ℕ) (steps : List Judged) (one other : List PathSplit) →
+        IsPresentLeaf graph log reach steps one → IsPresentLeaf graph log reach steps other → one ≡ other }
 {}
 
 /// A refutation is sound and final: where steps are one at a log, for the reach of a set, no trace explains that log from the

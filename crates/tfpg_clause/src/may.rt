@@ -91,7 +91,7 @@ fn arrival_at(
 
 /// The alternative that the failure arrives by the edge within the span, where it can: the edge's window began the least
 /// delay before the end of the span, or earlier.
-fn arrival(
+pub(crate) fn arrival(
     graph: &Graph,
     log: &Log,
     edge: u32,

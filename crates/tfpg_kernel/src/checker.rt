@@ -1,8 +1,10 @@
 //! The checker: the path to the present leaf, and how a step moves it.
 
-ghost use Rattle.std.specs.Prelude.{◌≡◌, ◌≤◌, ◌<◌, ◌+◌, ◌↔◌, List, [], ◌∷◌, ◌++◌, OnOk, false};
+ghost use Rattle.std.specs.Prelude.{◌≡◌, ◌≤◌, ◌<◌, ◌+◌, ◌↔◌, ℕ, List, [], ◌∷◌, ◌++◌, OnOk, false};
 ghost use Rattle.tfpg_graph.specs.Graph.{Tfpg};
-ghost use Rattle.tfpg_log.specs.Log.{Logbook, GoesOn, IsOf};
+ghost use Rattle.tfpg_graph.specs.Reach.{IsReach};
+ghost use Rattle.tfpg_log.specs.Log.{Logbook, GoesOn, IsOf, IsOrdered};
+ghost use Rattle.tfpg_log.specs.Explains.{Fits};
 ghost use Rattle.tfpg_evidence.specs.declared.step.Step.TheVariants.{Split, Cycle};
 ghost use Rattle.tfpg_clause.specs.Trees.{Judged, IsRefutation, IsPartial};
 ghost use Rattle.tfpg_kernel.specs.declared.taken.Taken.TheVariants.{Open, Closed, Bad};
@@ -74,7 +76,8 @@ impl Checker {
     ///
     /// The steps that were taken before are any that the checker represents, each judged by a log from which this one goes
     /// on. Closed comes exactly where they are a refutation with this step, Open exactly where they are a partial tree with
-    /// it, and Bad exactly where the step breaks a condition, with the first that it breaks. Then nothing is changed.
+    /// it, and Bad exactly where the step breaks a condition, with the first that it breaks. Then nothing is changed. After
+    /// Closed no trace explains the log, or one that goes on from it, from a set that reaches the checker's nodes.
     pub fn take(&mut self, graph: &Graph, log: &Log, step: &Step) -> Taken
         requires of { IsOf graph.now log.now }
         requires spare { 1 ≤ self.old.spare }
@@ -91,10 +94,15 @@ impl Checker {
         ensures represents { (earlier : Logbook) (steps : List Judged) → GoesOn earlier log.now →
             CheckerRepresents graph.now earlier self.old steps →
             CheckerRepresents graph.now log.now self.new (steps_after result steps log.now step.now) }
+        ensures no_trace { (earlier later : Logbook) (steps : List Judged) (set : List ℕ) → GoesOn earlier log.now →
+            CheckerRepresents graph.now earlier self.old steps → result ≡ Closed →
+            IsReach graph.now set self.old.reach → GoesOn log.now later → IsOf graph.now later → IsOrdered later →
+            Fits graph.now later set → ⊥ }
         ensures unchanged { (bad : BadStep) → result ≡ Bad bad → self.new ≡ self.old }
         ensures reach { self.new.reach ≡ self.old.reach }
         ensures spare { self.old.spare ≤ self.new.spare + 1 }
     {
+        let _valid = graph.node_count();
         let _ordered = log.len();
         if self.closed {
             return Taken::Bad(BadStep::AfterClosed);

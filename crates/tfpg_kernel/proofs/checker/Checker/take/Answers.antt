@@ -1,6 +1,8 @@
 use Rattle.std.proofs.Common.{ap, sym, ◌∙◌}
 use Rattle.tfpg_evidence.specs.declared.step.Step.TheVariants.{Split, Cycle}
 use Rattle.tfpg_kernel.specs.Checking.{Checking}
+use Rattle.tfpg_clause.proofs.NoTrace.{no_trace}
+use Rattle.tfpg_kernel.specs.Represents.{with_step}
 use Rattle.tfpg_kernel.proofs.Answering.{refused, still, answered, then_represents}
 use Rattle.tfpg_kernel.proofs.checker.Checker.take.Goals as goal
 
@@ -62,3 +64,19 @@ pub returns-in-Cycle-clause-represents : goal.returns-in-Cycle-clause-represents
 returns-in-Cycle-clause-represents c = λ earlier steps goes_on represents.
     then_represents c.args.graph.now c.args.log.now earlier c.len-ordered.ensures.ordered goes_on c.args.self.now steps represents c.args.step.now (Cycle c.as_slice.result.now) (cc)
     c.close.result c.close.new.self (sym (ap (λ (b : Checking). b.closed) c.self.view_is) ∙ c.if-self.false) c.close.ensures.reach c.close.ensures.moves
+
+pub returns-in-Split-clause-no_trace : goal.returns-in-Split-clause-no_trace
+returns-in-Split-clause-no_trace c = λ earlier later steps set goes_on represents closed is_reach later_on of ordered.
+    let answers =
+    answered c.args.graph.now c.args.log.now earlier c.len-ordered.ensures.ordered goes_on c.args.self.now steps represents c.args.step.now (Split c.in-Split.name) c.in-Split.is
+    c.split.result c.split.new.self (sym (ap (λ (b : Checking). b.closed) c.self.view_is) ∙ c.if-self.false) c.split.ensures.reach c.split.ensures.moves in
+    no_trace c.args.graph.now c.args.log.now later set c.args.self.now.reach (with_step steps c.args.log.now c.args.step.now) c.node_count-valid.ensures.valid c.node_count-valid.ensures.order of ordered is_reach
+    later_on (answers.closed.0 closed)
+
+pub returns-in-Cycle-clause-no_trace : goal.returns-in-Cycle-clause-no_trace
+returns-in-Cycle-clause-no_trace c = λ earlier later steps set goes_on represents closed is_reach later_on of ordered.
+    let answers =
+    answered c.args.graph.now c.args.log.now earlier c.len-ordered.ensures.ordered goes_on c.args.self.now steps represents c.args.step.now (Cycle c.as_slice.result.now) (cc)
+    c.close.result c.close.new.self (sym (ap (λ (b : Checking). b.closed) c.self.view_is) ∙ c.if-self.false) c.close.ensures.reach c.close.ensures.moves in
+    no_trace c.args.graph.now c.args.log.now later set c.args.self.now.reach (with_step steps c.args.log.now c.args.step.now) c.node_count-valid.ensures.valid c.node_count-valid.ensures.order of ordered is_reach
+    later_on (answers.closed.0 closed)
