@@ -16,4 +16,13 @@ pub mod RulesMet
 pub mod FactsMet
 pub mod GivesTrace
 pub mod OwnModes
+pub mod ListCuts
+pub mod LeafPaths
+pub mod SomeAlternative
+pub mod TreeWalk
+pub mod Grafts
+pub mod TreeSteps
+pub mod TreesKept
+pub mod TraceNumbers
+pub mod NoTrace
 pub mod PresentLeaf

@@ -8,7 +8,7 @@ ghost use Rattle.tfpg_graph.specs.Reach.{IsReach};
 ghost use Rattle.tfpg_graph.specs.Valid.{IsValid};
 ghost use Rattle.tfpg_log.specs.Log.{Logbook, GoesOn, IsOf, IsOrdered, now_of};
 ghost use Rattle.tfpg_log.specs.Rules.{KeepsRules};
-ghost use Rattle.tfpg_log.specs.Explains.{Explains, ShowsAll, IsMember};
+ghost use Rattle.tfpg_log.specs.Explains.{Explains, Fits, ShowsAll, IsMember};
 ghost use Rattle.tfpg_evidence.specs.declared.clause_name.ClauseName.{ClauseName};
 ghost use Rattle.tfpg_evidence.specs.declared.reason.Reason.{Reason};
 ghost use Rattle.tfpg_base.specs.Constraint.{Meets};
@@ -16,7 +16,7 @@ ghost use Rattle.tfpg_clause.specs.Facts.{fact};
 ghost use Rattle.tfpg_clause.specs.Clauses.{alternatives, MeetsClause};
 ghost use Rattle.tfpg_clause.specs.Order.{horizon_of};
 ghost use Rattle.tfpg_clause.specs.Cut.{cut, AreNumbers, AreNumbersOf};
-ghost use Rattle.tfpg_clause.specs.Trees.{Judged, PathSplit, IsPartial, IsPresentLeaf};
+ghost use Rattle.tfpg_clause.specs.Trees.{Judged, PathSplit, IsRefutation, IsPartial, IsPresentLeaf};
 ghost use Rattle.tfpg_base.specs.ConstraintCycle.{IsCycle, sum_of};
 
 /// What is allowed at a log stays allowed at each log that goes on from it, with the same constraints: `clause` says it of
@@ -88,4 +88,12 @@ pub fn a_partial_tree_has_one_present_leaf()
         IsPartial graph log reach steps → (path : List PathSplit) × IsPresentLeaf graph log reach steps path }
     ensures only_one { (graph : Tfpg) (log : Logbook) (reach : List ℕ) (steps : List Judged) (one other : List PathSplit) →
         IsPresentLeaf graph log reach steps one → IsPresentLeaf graph log reach steps other → one ≡ other }
+{}
+
+/// A refutation is sound and final: where steps are one at a log, for the reach of a set, no trace explains that log from the
+/// set, nor any log that goes on from it.
+pub fn a_refutation_leaves_no_trace()
+    ensures { (graph : Tfpg) (earlier log : Logbook) (set reach : List ℕ) (steps : List Judged) →
+        IsValid graph → HasZeroOrder graph → IsOf graph log → IsOrdered log → IsReach graph set reach →
+        GoesOn earlier log → IsRefutation graph earlier reach steps → Fits graph log set → ⊥ }
 {}

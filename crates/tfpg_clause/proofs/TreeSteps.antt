@@ -1,0 +1,310 @@
+-- One more right step makes a refutation or another partial tree of a partial tree.
+use Rattle.std.proofs.Common.{◌≡◌, ℕ, zero, suc, ◌+◌, ◌-◌, ◌<◌, List, [], ◌∷◌, ◌++◌, length, take, Option, Some, None, refl, sym, ap, subst, ◌∙◌, arith, append_assoc, length-append}
+use Rattle.std.specs.Prelude.{All, slice_get, option_map}
+use Rattle.std.proofs.Math.Seq.{take-append_seam}
+use Rattle.std.proofs.lemmas.List.{length-map, take-map}
+use Rattle.std.proofs.lemmas.List.Elements.{All-nil, All-cons, All-append, All-head}
+use Rattle.tfpg_graph.specs.Graph.{Tfpg}
+use Rattle.tfpg_log.specs.Log.{Logbook, first_events}
+use Rattle.tfpg_evidence.specs.declared.clause_name.ClauseName.{ClauseName}
+use Rattle.tfpg_evidence.specs.declared.reason.Reason.{Reason}
+use Rattle.tfpg_evidence.specs.declared.step.Step.TheVariants.{Split, Cycle}
+use Rattle.tfpg_clause.specs.Clauses.{count_of}
+use Rattle.tfpg_clause.specs.Trees.{Judged, Tree, Leaf, Branch, Subtrees, NoMore, Next, PathSplit, StepPlace, how_many, places_from, places_of, IsRight, IsRightStep, IsClosedLeaf, IsRefutation, IsPartial, IsPresentLeaf}
+use Rattle.tfpg_clause.proofs.ListCuts.{map_both, no_end, All-front, All-back}
+use Rattle.tfpg_clause.proofs.LeafPaths.{leaf_closed, leaf_after, after_both}
+use Rattle.tfpg_clause.proofs.SomeAlternative.{some_alternative}
+use Rattle.tfpg_clause.proofs.TreeWalk.{steps_in, first_path, walk_tree}
+use Rattle.tfpg_clause.proofs.Grafts.{graft}
+
+-- A partial tree with its present leaf: the places of a tree, cut where the leaf is.
+pub record Cut (graph : Tfpg) (log : Logbook) (reach : List ℕ) (steps : List Judged) (path : List PathSplit) : Type 0 where
+  pub tree : Tree
+  pub front : List StepPlace
+  pub here : StepPlace
+  pub back : List StepPlace
+  pub places_are : places_of tree ≡ front ++ here ∷ back
+  pub steps_are : steps_in front ≡ steps
+  pub right : All (IsRight graph log reach) front
+  pub path_is : here.path ≡ path
+
+-- a list cut before the element of a number
+record CutBefore {X : Type 0} (xs : List X) (n : ℕ) : Type 0 where
+  here : X
+  back : List X
+  is : xs ≡ take n xs ++ here ∷ back
+  got : slice_get xs n ≡ Some here
+
+cut_before : {X : Type 0} (xs : List X) (n : ℕ) → n < length xs → CutBefore xs n
+cut_before [] n within = absurd (omega arith)
+cut_before (x ∷ xs) zero within = record { here = x; back = xs; is = refl; got = refl }
+cut_before (x ∷ xs) (suc n) within =
+    let rest = cut_before xs n (omega arith) in
+    record { here = rest.here; back = rest.back; is = ap (λ ys. x ∷ ys) rest.is; got = rest.got }
+
+get_seam : {X : Type 0} (xs : List X) (y : X) (ys : List X) → slice_get (xs ++ y ∷ ys) (length xs) ≡ Some y
+get_seam [] y ys = refl
+get_seam (x ∷ xs) y ys = get_seam xs y ys
+
+module _ (graph : Tfpg) (log : Logbook) (reach : List ℕ) where
+  abbrev step_in : StepPlace → Judged
+  step_in place = place.step
+
+  all_steps : (steps : List Judged) (partial : IsPartial graph log reach steps) → length steps < length (places_of partial.tree)
+  all_steps steps partial =
+      let all : length steps + length partial.more ≡ length (places_of partial.tree) =
+      sym (length-append steps partial.more) ∙ ap length partial.steps_are ∙ length-map (places_of partial.tree) step_in in
+      omega (arith, all, partial.unfinished)
+
+  front_steps : (steps : List Judged) (partial : IsPartial graph log reach steps) → steps_in (take (length steps) (places_of partial.tree)) ≡ steps
+  front_steps steps partial =
+      sym (take-map step_in (length steps) (places_of partial.tree)) ∙ ap (take (length steps)) (sym partial.steps_are) ∙ take-append_seam steps partial.more
+
+  -- a partial tree has a present leaf
+  pub cut_of_partial : (steps : List Judged) → IsPartial graph log reach steps → (path : List PathSplit) × Cut graph log reach steps path
+  cut_of_partial steps partial =
+      let cut = cut_before (places_of partial.tree) (length steps) (all_steps steps partial) in (
+        cut.here.path,
+        record {
+          tree = partial.tree;
+          front = take (length steps) (places_of partial.tree);
+          here = cut.here;
+          back = cut.back;
+          places_are = cut.is;
+          steps_are = front_steps steps partial;
+          right = partial.right;
+          path_is = refl;
+        },
+      )
+
+  pub cut_of_leaf : (steps : List Judged) (path : List PathSplit) → IsPresentLeaf graph log reach steps path → Cut graph log reach steps path
+  cut_of_leaf steps path leaf =
+      let partial = leaf.partial in
+      let cut = cut_before (places_of partial.tree) (length steps) (all_steps steps partial) in
+      let there : option_map (λ (place : StepPlace). place.path) (slice_get (places_of partial.tree) (length steps)) ≡ Some cut.here.path =
+      ap (option_map (λ (place : StepPlace). place.path)) cut.got in
+      let same : Some cut.here.path ≡ Some path = sym there ∙ leaf.here in
+      let path_same : cut.here.path ≡ path = cc in
+      record {
+        tree = partial.tree;
+        front = take (length steps) (places_of partial.tree);
+        here = cut.here;
+        back = cut.back;
+        places_are = cut.is;
+        steps_are = front_steps steps partial;
+        right = partial.right;
+        path_is = path_same;
+      }
+
+  leaf_of_front : (tree : Tree) (front : List StepPlace) (here : StepPlace) (back : List StepPlace) → places_of tree ≡ front ++ here ∷ back → All (IsRight graph log reach) front
+      → IsPresentLeaf graph log reach (steps_in front) here.path
+  leaf_of_front tree front here back are right =
+      let many : length (steps_in front) ≡ length front = length-map front step_in in
+      record {
+        partial = record {
+          tree = tree;
+          more = steps_in (here ∷ back);
+          unfinished = omega arith;
+          steps_are = sym (map_both step_in front (here ∷ back)) ∙ ap steps_in (sym are);
+          right =
+              let first : take (length (steps_in front)) (places_of tree) ≡ front =
+              ap (λ (n : ℕ). take n (places_of tree)) many ∙ ap (take (length front)) are ∙ take-append_seam front (here ∷ back) in
+              subst (All (IsRight graph log reach)) (sym first) right;
+        };
+        here =
+            ap (option_map (λ (place : StepPlace). place.path))
+            (ap (λ (n : ℕ). slice_get (places_of tree) n) many ∙ ap (λ (ps : List StepPlace). slice_get ps (length front)) are ∙ get_seam front here back);
+      }
+
+  pub leaf_of_cut : (steps : List Judged) (path : List PathSplit) → Cut graph log reach steps path → IsPresentLeaf graph log reach steps path
+  leaf_of_cut steps path cut =
+      let leaf : IsPresentLeaf graph log reach (steps_in cut.front) cut.here.path = leaf_of_front cut.tree cut.front cut.here cut.back cut.places_are cut.right in
+      let of_steps : IsPresentLeaf graph log reach steps cut.here.path = subst (λ (s : List Judged). IsPresentLeaf graph log reach s cut.here.path) cut.steps_are leaf in
+      subst (λ (p : List PathSplit). IsPresentLeaf graph log reach steps p) cut.path_is of_steps
+
+  -- the path of the leaf is the one that the steps lead to
+  pub path_of_cut : (steps : List Judged) (path : List PathSplit) → Cut graph log reach steps path → leaf_after graph log (Some []) steps ≡ Some path
+  path_of_cut steps path cut =
+      ap (leaf_after graph log (Some [])) (sym cut.steps_are)
+      ∙ walk_tree graph log reach [] cut.tree cut.front (cut.here ∷ cut.back) cut.places_are cut.right
+      ∙ ap (λ (p : List PathSplit). Some p) cut.path_is
+
+  -- the steps of a refutation lead to no leaf
+  pub none_of_refutation : (steps : List Judged) → IsRefutation graph log reach steps → leaf_after graph log (Some []) steps ≡ None
+  none_of_refutation steps refutation =
+      ap (leaf_after graph log (Some [])) refutation.steps_are
+      ∙ walk_tree graph log reach [] refutation.tree (places_of refutation.tree) [] (sym (no_end (places_of refutation.tree))) refutation.right
+
+  -- no step: the leaf is the root
+  pub first_cut : Cut graph log reach [] []
+  first_cut = record {
+    tree = Leaf 0 [];
+    front = [];
+    here = record { path = []; step = record { seen = 0; step = Cycle [] }; subtrees = 0 };
+    back = [];
+    places_are = refl;
+    steps_are = refl;
+    right = All-nil (IsRight graph log reach);
+    path_is = refl;
+  }
+
+  -- ---- a split
+
+  some_leaves : ℕ → Subtrees
+  some_leaves zero = NoMore
+  some_leaves (suc n) = Next (Leaf 0 []) (some_leaves n)
+
+  so_many : (n : ℕ) → how_many (some_leaves n) ≡ n
+  unfolding some_leaves
+  so_many zero = refl
+  so_many (suc n) = ap (λ (k : ℕ). suc k) (so_many n)
+
+  pub split_step : (steps : List Judged) (path : List PathSplit) (seen : ℕ) (name : ClauseName) (count : ℕ) → Cut graph log reach steps path
+      → count_of graph (first_events log seen) name ≡ Some count
+      → Cut graph log reach (steps ++ record { seen = seen; step = Split name } ∷ []) (path ++ record { name = name; seen = seen; alternative = 1 } ∷ [])
+  split_step steps path seen name count cut is =
+      let some : 0 < count = some_alternative graph (first_events log seen) name count is in
+      let others : Subtrees = some_leaves (count - 1) in
+      let many : suc (how_many others) ≡ count = ap (λ (k : ℕ). suc k) (so_many (count - 1)) ∙ omega arith in
+      let new : Tree = Branch seen name (Next (Leaf 0 []) others) in
+      let grafted = graft [] cut.tree cut.front cut.here cut.back new cut.places_are in
+      let first : StepPlace = record { path = cut.here.path; step = record { seen = seen; step = Split name }; subtrees = suc (how_many others) } in
+      let own : List PathSplit = cut.here.path ++ record { name = name; seen = seen; alternative = 1 } ∷ [] in
+      let leaf : StepPlace = record { path = own; step = record { seen = 0; step = Cycle [] }; subtrees = 0 } in
+      let later : List StepPlace = places_from cut.here.path name seen (1 + 1) others ++ grafted.rest in
+      let first_right : IsRight graph log reach first = is ∙ ap (λ (k : ℕ). Some k) (sym many) in
+      record {
+        tree = grafted.tree;
+        front = cut.front ++ first ∷ [];
+        here = leaf;
+        back = later;
+        places_are = grafted.is ∙ sym (append_assoc cut.front (first ∷ []) (leaf ∷ later));
+        steps_are = map_both step_in cut.front (first ∷ []) ∙ ap (λ (s : List Judged). s ++ record { seen = seen; step = Split name } ∷ []) cut.steps_are;
+        right = All-append (IsRight graph log reach) cut.front (first ∷ []) cut.right (All-cons (IsRight graph log reach) first [] first_right (All-nil (IsRight graph log reach)));
+        path_is = ap (λ (p : List PathSplit). p ++ record { name = name; seen = seen; alternative = 1 } ∷ []) cut.path_is;
+      }
+
+  -- ---- a cycle
+
+  -- a tree after a leaf was closed, with the places that are left
+  record ClosedTree (steps : List Judged) (path : List PathSplit) (rest : List StepPlace) : Type 0 where
+    tree : Tree
+    front : List StepPlace
+    places_are : places_of tree ≡ front ++ rest
+    steps_are : steps_in front ≡ steps
+    right : All (IsRight graph log reach) front
+    path_is : leaf_closed graph log path ≡ first_path None rest
+
+  closed_tree : (steps : List Judged) (path : List PathSplit) (seen : ℕ) (reasons : List Reason) → Cut graph log reach steps path → IsClosedLeaf graph log reach path seen reasons
+      → (rest : List StepPlace) × ClosedTree (steps ++ record { seen = seen; step = Cycle reasons } ∷ []) path rest
+  closed_tree steps path seen reasons cut closed =
+      let grafted = graft [] cut.tree cut.front cut.here cut.back (Leaf seen reasons) cut.places_are in
+      let one : StepPlace = record { path = cut.here.path; step = record { seen = seen; step = Cycle reasons }; subtrees = 0 } in
+      let one_right : IsRight graph log reach one = subst (λ (p : List PathSplit). IsClosedLeaf graph log reach p seen reasons) (sym cut.path_is) closed in
+      let front : List StepPlace = cut.front ++ one ∷ [] in
+      let right : All (IsRight graph log reach) front = All-append (IsRight graph log reach) cut.front (one ∷ []) cut.right (All-cons (IsRight graph log reach) one [] one_right (All-nil (IsRight graph log reach))) in
+      let are : places_of grafted.tree ≡ front ++ grafted.rest = grafted.is ∙ sym (append_assoc cut.front (one ∷ []) grafted.rest) in
+      let steps_are : steps_in front ≡ steps ++ record { seen = seen; step = Cycle reasons } ∷ [] =
+      map_both step_in cut.front (one ∷ []) ∙ ap (λ (s : List Judged). s ++ record { seen = seen; step = Cycle reasons } ∷ []) cut.steps_are in (
+        grafted.rest,
+        record {
+          tree = grafted.tree;
+          front = front;
+          places_are = are;
+          steps_are = steps_are;
+          right = right;
+          path_is =
+              sym (ap (λ (leaf : Option (List PathSplit)). leaf_after graph log leaf (record { seen = seen; step = Cycle reasons } ∷ [])) (path_of_cut steps path cut))
+              ∙ sym (after_both graph log (Some []) steps (record { seen = seen; step = Cycle reasons } ∷ []))
+              ∙ ap (leaf_after graph log (Some [])) (sym steps_are)
+              ∙ walk_tree graph log reach [] grafted.tree front grafted.rest are right;
+        },
+      )
+
+  finished : (steps : List Judged) (path : List PathSplit) (rest : List StepPlace) → ClosedTree steps path rest → leaf_closed graph log path ≡ None → IsRefutation graph log reach steps
+  finished steps path [] closed none =
+      let all : places_of closed.tree ≡ closed.front = closed.places_are ∙ no_end closed.front in
+      record {
+        tree = closed.tree;
+        steps_are = sym closed.steps_are ∙ ap steps_in (sym all);
+        right = subst (All (IsRight graph log reach)) (sym all) closed.right;
+      }
+  finished steps path (here ∷ back) closed none = let same : Some here.path ≡ None = sym closed.path_is ∙ none in cc
+
+  goes_on : (steps : List Judged) (path next : List PathSplit) (rest : List StepPlace) → ClosedTree steps path rest → leaf_closed graph log path ≡ Some next → Cut graph log reach steps next
+  goes_on steps path next [] closed some = let same : None ≡ Some next = sym closed.path_is ∙ some in cc
+  goes_on steps path next (here ∷ back) closed some =
+      let same : Some here.path ≡ Some next = sym closed.path_is ∙ some in
+      let path_same : here.path ≡ next = cc in
+      record { tree = closed.tree; front = closed.front; here = here; back = back; places_are = closed.places_are; steps_are = closed.steps_are; right = closed.right; path_is = path_same }
+
+  pub last_cycle : (steps : List Judged) (path : List PathSplit) (seen : ℕ) (reasons : List Reason) → Cut graph log reach steps path → IsClosedLeaf graph log reach path seen reasons
+      → leaf_closed graph log path ≡ None → IsRefutation graph log reach (steps ++ record { seen = seen; step = Cycle reasons } ∷ [])
+  last_cycle steps path seen reasons cut closed none =
+      let tree = closed_tree steps path seen reasons cut closed in
+      finished (steps ++ record { seen = seen; step = Cycle reasons } ∷ []) path tree.0 tree.1 none
+
+  pub cycle_step : (steps : List Judged) (path next : List PathSplit) (seen : ℕ) (reasons : List Reason) → Cut graph log reach steps path → IsClosedLeaf graph log reach path seen reasons
+      → leaf_closed graph log path ≡ Some next → Cut graph log reach (steps ++ record { seen = seen; step = Cycle reasons } ∷ []) next
+  cycle_step steps path next seen reasons cut closed some =
+      let tree = closed_tree steps path seen reasons cut closed in
+      goes_on (steps ++ record { seen = seen; step = Cycle reasons } ∷ []) path next tree.0 tree.1 some
+
+  -- ---- the last step
+
+  -- the last of some right steps stands at the leaf that the steps before it lead to
+  pub record LastStep (steps : List Judged) (last : Judged) : Type 0 where
+    pub path : List PathSplit
+    pub leads : leaf_after graph log (Some []) steps ≡ Some path
+    pub subtrees : ℕ
+    pub right : IsRightStep graph log reach path last.seen subtrees last.step
+
+  record LastPlace (front : List StepPlace) (steps : List Judged) (last : Judged) : Type 0 where
+    before : List StepPlace
+    place : StepPlace
+    front_is : front ≡ before ++ place ∷ []
+    steps_are : steps_in before ≡ steps
+    last_is : place.step ≡ last
+
+  last_place : (front : List StepPlace) (steps : List Judged) (last : Judged) → steps_in front ≡ steps ++ last ∷ [] → LastPlace front steps last
+  last_place [] [] last same = cc
+  last_place [] (step ∷ steps) last same = cc
+  last_place (place ∷ []) [] last same = let is : place.step ≡ last = cc in record { before = []; place = place; front_is = refl; steps_are = refl; last_is = is }
+  last_place (place ∷ other ∷ front) [] last same = let none : other.step ∷ steps_in front ≡ [] = cc in cc
+  last_place (place ∷ front) (step ∷ steps) last same =
+      let head : place.step ≡ step = cc in
+      let tail : steps_in front ≡ steps ++ last ∷ [] = cc in
+      let rest = last_place front steps last tail in
+      record {
+        before = place ∷ rest.before;
+        place = rest.place;
+        front_is = ap (λ (ps : List StepPlace). place ∷ ps) rest.front_is;
+        steps_are = ap (λ (s : Judged). s ∷ steps_in rest.before) head ∙ ap (λ (s : List Judged). step ∷ s) rest.steps_are;
+        last_is = rest.last_is;
+      }
+
+  last_of : (tree : Tree) (front rest : List StepPlace) (steps : List Judged) (last : Judged) → places_of tree ≡ front ++ rest → All (IsRight graph log reach) front
+      → steps_in front ≡ steps ++ last ∷ [] → LastStep steps last
+  last_of tree front rest steps last are right same =
+      let at = last_place front steps last same in
+      let place = at.place in
+      let split_right : All (IsRight graph log reach) (at.before ++ place ∷ []) = subst (All (IsRight graph log reach)) at.front_is right in
+      let place_right : IsRight graph log reach place = All-head (IsRight graph log reach) place [] (All-back (IsRight graph log reach) at.before (place ∷ []) split_right) in
+      let split_are : places_of tree ≡ at.before ++ place ∷ rest = are ∙ ap (λ (f : List StepPlace). f ++ rest) at.front_is ∙ append_assoc at.before (place ∷ []) rest in
+      record {
+        path = place.path;
+        leads =
+            ap (leaf_after graph log (Some [])) (sym at.steps_are)
+            ∙ walk_tree graph log reach [] tree at.before (place ∷ rest) split_are (All-front (IsRight graph log reach) at.before (place ∷ []) split_right);
+        subtrees = place.subtrees;
+        right = subst (λ (s : Judged). IsRightStep graph log reach place.path s.seen place.subtrees s.step) at.last_is place_right;
+      }
+
+  pub last_of_refutation : (steps : List Judged) (last : Judged) → IsRefutation graph log reach (steps ++ last ∷ []) → LastStep steps last
+  last_of_refutation steps last refutation =
+      last_of refutation.tree (places_of refutation.tree) [] steps last (sym (no_end (places_of refutation.tree))) refutation.right (sym refutation.steps_are)
+
+  pub last_of_partial : (steps : List Judged) (last : Judged) → IsPartial graph log reach (steps ++ last ∷ []) → LastStep steps last
+  last_of_partial steps last partial =
+      let cut = cut_of_partial (steps ++ last ∷ []) partial in
+      last_of cut.1.tree cut.1.front (cut.1.here ∷ cut.1.back) steps last cut.1.places_are cut.1.right cut.1.steps_are

@@ -1,0 +1,149 @@
+-- Refutations and partial trees at a log are those at each log that goes on from it.
+use Rattle.std.proofs.Common.{◌≡◌, ℕ, zero, suc, ◌<◌, ◌≤◌, List, [], ◌∷◌, ◌++◌, length, take, drop, get_or, Option, Some, None, refl, sym, ap, subst, ◌∙◌, arith}
+use Rattle.std.specs.Prelude.{All, AllPairs, map, option_map, option_and_then}
+use Rattle.std.proofs.lemmas.List.{take-append-drop}
+use Rattle.std.proofs.lemmas.List.Elements.{All-take}
+use Rattle.std.proofs.lemmas.Option.{option_and_then_some}
+use Rattle.tfpg_base.specs.Choice.{each_of}
+use Rattle.tfpg_base.specs.declared.constraint.Constraint.{Constraint}
+use Rattle.tfpg_base.specs.Times.{max_time}
+use Rattle.tfpg_graph.specs.Graph.{Tfpg}
+use Rattle.tfpg_log.specs.declared.event.Event.{Event}
+use Rattle.tfpg_log.specs.Log.{Logbook, GoesOn, IsOrdered, first_events, time_of_event}
+use Rattle.tfpg_evidence.specs.declared.clause_name.ClauseName.{ClauseName}
+use Rattle.tfpg_evidence.specs.declared.reason.Reason.{Reason}
+use Rattle.tfpg_evidence.specs.declared.reason.Reason.TheVariants.{Zero, Top, Unreached, From, Upto, Quiet, Pick}
+use Rattle.tfpg_evidence.specs.declared.step.Step.{Step}
+use Rattle.tfpg_evidence.specs.declared.step.Step.TheVariants.{Split, Cycle}
+use Rattle.tfpg_clause.specs.Facts.{fact}
+use Rattle.tfpg_clause.specs.Clauses.{alternatives, count_of, item_at, constraint_at}
+use Rattle.tfpg_clause.specs.Trees.{Judged, PathSplit, StepPlace, picked, stated, IsClosedLeaf, IsRight, IsRightStep, IsRefutation, IsPresentLeaf}
+use Rattle.tfpg_clause.proofs.Kept.{clause_stays, fact_stays}
+
+get_front : {X : Type 0} (xs ys : List X) (i : ℕ) (d : X) → i < length xs → get_or (xs ++ ys) i d ≡ get_or xs i d
+get_front [] ys i d within = absurd (omega arith)
+get_front (x ∷ xs) ys zero d within = refl
+get_front (x ∷ xs) ys (suc i) d within = get_front xs ys i d (omega arith)
+
+longer : {X : Type 0} (xs ys : List X) (i : ℕ) → i < length xs → i < length (xs ++ ys)
+longer [] ys i within = absurd (omega arith)
+longer (x ∷ xs) ys zero within = omega arith
+longer (x ∷ xs) ys (suc i) within = let rest : i < length (xs ++ ys) = longer xs ys i (omega arith) in omega arith
+
+pairs_front : {X : Type 0} (R : X → X → Type 0) (xs ys : List X) → AllPairs R (xs ++ ys) → AllPairs R xs
+pairs_front R xs ys all i j d less within =
+    let first : R (get_or (xs ++ ys) i d) (get_or (xs ++ ys) j d) = all i j d less (longer xs ys j within) in
+    let second : R (get_or xs i d) (get_or (xs ++ ys) j d) = subst (λ x. R x (get_or (xs ++ ys) j d)) (get_front xs ys i d (omega arith)) first in
+    subst (λ y. R (get_or xs i d) y) (get_front xs ys j d within) second
+
+-- The first events of a log are in order.
+pub ordered_first : (log : Logbook) (seen : ℕ) → IsOrdered log → IsOrdered (first_events log seen)
+ordered_first log seen ordered = record {
+  in_order =
+      pairs_front (λ (earlier later : Event). time_of_event earlier ≤ time_of_event later) (take seen log.events) (drop seen log.events)
+      (subst (AllPairs (λ (earlier later : Event). time_of_event earlier ≤ time_of_event later)) (sym (take-append-drop seen log.events)) ordered.in_order);
+  in_range = All-take (λ (event : Event). time_of_event event ≤ max_time) seen log.events ordered.in_range;
+}
+
+take_more : {X : Type 0} (n : ℕ) (xs ys : List X) → (more : List X) × (take n (xs ++ ys) ≡ take n xs ++ more)
+take_more zero xs ys = ([], refl)
+take_more (suc n) [] ys = (take (suc n) ys, refl)
+take_more (suc n) (x ∷ xs) ys = let rest = take_more n xs ys in (rest.0, ap (λ zs. x ∷ zs) rest.1)
+
+-- The first events of a log that goes on go on from those of the earlier one.
+pub first_go_on : (earlier later : Logbook) (seen : ℕ) → GoesOn earlier later → GoesOn (first_events earlier seen) (first_events later seen)
+first_go_on earlier later seen goes_on =
+    let more = take_more seen earlier.events goes_on.0 in (more.0, ap (take seen) goes_on.1 ∙ more.1)
+
+-- The whole log goes on from its first events.
+pub first_to_whole : (log : Logbook) (seen : ℕ) → GoesOn (first_events log seen) log
+first_to_whole log seen = (drop seen log.events, sym (take-append-drop seen log.events))
+
+-- each of the values that there were is there
+pub each_stays : (one other : Reason → Option Constraint) → ((reason : Reason) (constraint : Constraint) → one reason ≡ Some constraint → other reason ≡ Some constraint)
+    → (reasons : List Reason) (constraints : List Constraint) → each_of (map one reasons) ≡ Some constraints → each_of (map other reasons) ≡ Some constraints
+each_stays one other stays [] constraints hold = hold
+each_stays one other stays (reason ∷ reasons) constraints hold = by (λ cs kept. each_stays one other stays reasons cs kept) (one reason) refl hold
+  where
+    rest_by : (c : Constraint) (found : Option (List Constraint)) → each_of (map one reasons) ≡ found → ((cs : List Constraint) → each_of (map one reasons) ≡ Some cs → each_of (map other reasons) ≡ Some cs)
+        → option_map (λ (xs : List Constraint). c ∷ xs) found ≡ Some constraints → option_map (λ (xs : List Constraint). c ∷ xs) (each_of (map other reasons)) ≡ Some constraints
+    rest_by c None none rest whole = cc
+    rest_by c (Some cs) some rest whole = ap (option_map (λ (xs : List Constraint). c ∷ xs)) (rest cs some) ∙ whole
+
+    by : ((cs : List Constraint) → each_of (map one reasons) ≡ Some cs → each_of (map other reasons) ≡ Some cs)
+        → (found : Option Constraint) → one reason ≡ found → each_of (found ∷ map one reasons) ≡ Some constraints → each_of (other reason ∷ map other reasons) ≡ Some constraints
+    by rest None none whole = cc
+    by rest (Some c) some whole =
+        ap (λ (o : Option Constraint). each_of (o ∷ map other reasons)) (stays reason c some)
+        ∙ rest_by c (each_of (map one reasons)) refl rest whole
+
+module _ (graph : Tfpg) (earlier later : Logbook) (ordered : IsOrdered later) (goes_on : GoesOn earlier later) where
+  clause_first : (seen : ℕ) (name : ClauseName) (clause : List (List Constraint)) → alternatives graph (first_events earlier seen) name ≡ Some clause
+      → alternatives graph (first_events later seen) name ≡ Some clause
+  clause_first seen = clause_stays graph (first_events earlier seen) (first_events later seen) (ordered_first later seen ordered) (first_go_on earlier later seen goes_on)
+
+  -- what is computed of an allowed clause stays
+  pub of_clause_stays : {X : Type 0} (f : List (List Constraint) → Option X) (seen : ℕ) (name : ClauseName) (x : X)
+      → option_and_then f (alternatives graph (first_events earlier seen) name) ≡ Some x → option_and_then f (alternatives graph (first_events later seen) name) ≡ Some x
+  of_clause_stays f seen name x at =
+      option_and_then_some f (alternatives graph (first_events earlier seen) name) x at (λ clause there rest. ap (option_and_then f) (clause_first seen name clause there) ∙ rest)
+
+  map_stays : {X Y : Type 0} (f : X → Y) (one other : Option X) (y : Y) → ((x : X) → one ≡ Some x → other ≡ Some x) → option_map f one ≡ Some y → option_map f other ≡ Some y
+  map_stays f one other y stays at = by one refl at
+    where
+      by : (found : Option _) → one ≡ found → option_map f found ≡ Some y → option_map f other ≡ Some y
+      by None none whole = cc
+      by (Some x) some whole = ap (option_map f) (stays x some) ∙ whole
+
+  pub count_stays : (seen : ℕ) (name : ClauseName) (count : ℕ) → count_of graph (first_events earlier seen) name ≡ Some count → count_of graph (first_events later seen) name ≡ Some count
+  count_stays seen name count at = map_stays length (alternatives graph (first_events earlier seen) name) (alternatives graph (first_events later seen) name) count (clause_first seen name) at
+
+  module _ (reach : List ℕ) where
+    picked_stays : (path : List PathSplit) (split place : ℕ) (constraint : Constraint) → picked graph earlier path split place ≡ Some constraint → picked graph later path split place ≡ Some constraint
+    picked_stays path split place constraint at =
+        option_and_then_some
+        (λ (taken : PathSplit). option_and_then (λ clause. constraint_at clause taken.alternative place) (alternatives graph (first_events earlier taken.seen) taken.name))
+        (item_at path split) constraint at
+        (λ taken there rest.
+        ap (option_and_then (λ (taken : PathSplit). option_and_then (λ clause. constraint_at clause taken.alternative place) (alternatives graph (first_events later taken.seen) taken.name))) there
+        ∙ of_clause_stays (λ clause. constraint_at clause taken.alternative place) taken.seen taken.name constraint rest)
+
+    fact_first : (seen : ℕ) (reason : Reason) (constraint : Constraint) → fact graph (first_events earlier seen) reach reason ≡ Some constraint
+        → fact graph (first_events later seen) reach reason ≡ Some constraint
+    fact_first seen = fact_stays graph (first_events earlier seen) (first_events later seen) (ordered_first later seen ordered) (first_go_on earlier later seen goes_on) reach
+
+    stated_stays : (path : List PathSplit) (seen : ℕ) (reason : Reason) (constraint : Constraint) → stated graph earlier reach path seen reason ≡ Some constraint
+        → stated graph later reach path seen reason ≡ Some constraint
+    stated_stays path seen (Pick split place) constraint at = picked_stays path split place constraint at
+    stated_stays path seen (Zero node) constraint at = at
+    stated_stays path seen (Top node) constraint at = at
+    stated_stays path seen (Unreached node horizon) constraint at = fact_first seen (Unreached node horizon) constraint at
+    stated_stays path seen (From event) constraint at = fact_first seen (From event) constraint at
+    stated_stays path seen (Upto event) constraint at = fact_first seen (Upto event) constraint at
+    stated_stays path seen (Quiet event node) constraint at = fact_first seen (Quiet event node) constraint at
+
+    closed_stays : (path : List PathSplit) (seen : ℕ) (reasons : List Reason) → IsClosedLeaf graph earlier reach path seen reasons → IsClosedLeaf graph later reach path seen reasons
+    closed_stays path seen reasons closed = record {
+      constraints = closed.constraints;
+      hold = each_stays (stated graph earlier reach path seen) (stated graph later reach path seen) (stated_stays path seen) reasons closed.constraints closed.hold;
+      cycle = closed.cycle;
+      negative = closed.negative;
+    }
+
+    step_stays : (path : List PathSplit) (seen subtrees : ℕ) (step : Step) → IsRightStep graph earlier reach path seen subtrees step → IsRightStep graph later reach path seen subtrees step
+    step_stays path seen subtrees (Split name) right = count_stays seen name subtrees right
+    step_stays path seen subtrees (Cycle reasons) right = closed_stays path seen reasons right
+
+    right_stays : (all : List StepPlace) → All (IsRight graph earlier reach) all → All (IsRight graph later reach) all
+    right_stays all right k d within = let place : StepPlace = get_or all k d in step_stays place.path place.step.seen place.subtrees place.step.step (right k d within)
+
+    -- A refutation stays one.
+    pub refutation_stays : (steps : List Judged) → IsRefutation graph earlier reach steps → IsRefutation graph later reach steps
+    refutation_stays steps refutation = record { tree = refutation.tree; steps_are = refutation.steps_are; right = right_stays _ refutation.right }
+
+    -- A partial tree keeps its present leaf.
+    pub leaf_stays : (steps : List Judged) (path : List PathSplit) → IsPresentLeaf graph earlier reach steps path → IsPresentLeaf graph later reach steps path
+    leaf_stays steps path leaf = record {
+      partial = record { tree = leaf.partial.tree; more = leaf.partial.more; unfinished = leaf.partial.unfinished; steps_are = leaf.partial.steps_are; right = right_stays _ leaf.partial.right };
+      here = leaf.here;
+    }

@@ -1,0 +1,9 @@
+use Rattle.tfpg_kernel.proofs.Answering.{represents_none}
+use Rattle.tfpg_kernel.proofs.checker.Checker.new.Goals as goal
+use Rattle.std.proofs.Common.{subst, sym, List, []}
+use Rattle.tfpg_kernel.specs.declared.frame.Frame.{Frame}
+use Rattle.tfpg_kernel.specs.Represents.{IsAtLeaf}
+
+pub returns-clause-represents : goal.returns-clause-represents
+returns-clause-represents c = λ graph log.
+    record { steps_are = subst (λ (frames : List Frame). IsAtLeaf graph log c.args.reach frames []) (sym c.new.ensures.items) (represents_none graph log c.args.reach) }

@@ -1,0 +1,45 @@
+use Rattle.std.proofs.Common.{◌≡◌, ℕ, zero, suc, ◌-◌, ◌<◌, ◌≤◌, length, take, get_or, List, [], ◌∷◌, Option, Some, ap, sym, subst, ◌∙◌, refl, arith}
+use Rattle.std.specs.Prelude.{slice_get, slice_set, IsSomeAnd}
+use Rattle.std.proofs.lemmas.Option.{slice_get-get_or}
+use Rattle.tfpg_kernel.specs.declared.frame.Frame.{Frame}
+use Rattle.tfpg_kernel.specs.inside.Paths.{path_after, IsUnfinished, HasNext, next_alternative}
+use Rattle.tfpg_kernel.proofs.FramePaths.{moved_on}
+use Rattle.tfpg_kernel.proofs.path.advance.Goals as goal
+
+get_take : (n i : ℕ) (path : List Frame) (d : Frame) → i < n → get_or (take n path) i d ≡ get_or path i d
+get_take zero i path d less = absurd (omega arith)
+get_take (suc n) i [] d less = refl
+get_take (suc n) zero (frame ∷ path) d less = refl
+get_take (suc n) (suc i) (frame ∷ path) d less = get_take n i path d (omega arith)
+
+module _ (path items : List Frame) (frame : Frame) where
+  last_frame : (before : ℕ) → suc before ≤ length path → items ≡ take (suc before) path → frame ≡ get_or items (suc before - 1) frame → slice_get path before ≡ Some frame
+  last_frame before within are is =
+      let number : suc before - 1 ≡ before = omega arith in
+      let there : frame ≡ get_or path before frame =
+      is ∙ ap (λ (n : ℕ). get_or items n frame) number ∙ ap (λ (fs : List Frame). get_or fs before frame) are ∙ get_take (suc before) before path frame (omega arith) in
+      slice_get-get_or path before frame (omega arith) ∙ ap (λ (f : Frame). Some f) (sym there)
+
+  pub left : (kept : ℕ) → (kept ≡ 0 → ⊥) → kept ≤ length path → items ≡ take kept path → HasNext path kept → frame ≡ get_or items (kept - 1) frame → frame.alternative < frame.alternatives
+  left zero some within are next is = absurd (some refl)
+  left (suc before) some within are next is = subst (λ (o : Option Frame). IsSomeAnd o IsUnfinished) (last_frame before within are is) next
+
+  pub moved : (kept : ℕ) → (kept ≡ 0 → ⊥) → kept ≤ length path → items ≡ take kept path → HasNext path kept → frame ≡ get_or items (kept - 1) frame
+      → path_after path ≡ path_after (take kept path) → path_after path ≡ Some (slice_set items (kept - 1) (next_alternative frame))
+  moved zero some within are next is same = absurd (some refl)
+  moved (suc before) some within are next is same =
+      let number : before ≡ suc before - 1 = omega arith in
+      same ∙ moved_on path before frame (last_frame before within are is) (left (suc before) some within are next is)
+      ∙ ap (λ (fs : List Frame). Some (slice_set fs before (next_alternative frame))) (sym are)
+      ∙ ap (λ (n : ℕ). Some (slice_set items n (next_alternative frame))) number
+
+pub overflow_add-deepest : goal.overflow_add-deepest
+overflow_add-deepest c =
+    let less = left c.args.path.now.items c.truncate.new.self.items c.index_mut-deepest.result.now c.unfinished-kept.result c.if-kept-eq0.false (rw (← c.deref.ensures.value) c.unfinished-kept.ensures.within)
+    c.truncate.ensures.items (rw (← c.deref.ensures.value) c.unfinished-kept.ensures.left) c.index_mut-deepest.ensures.value in
+    omega arith
+
+pub returns-clause-moved : goal.returns-clause-moved
+returns-clause-moved c =
+    moved c.args.path.now.items c.truncate.new.self.items c.index_mut-deepest.result.now c.unfinished-kept.result c.if-kept-eq0.false (rw (← c.deref.ensures.value) c.unfinished-kept.ensures.within)
+    c.truncate.ensures.items (rw (← c.deref.ensures.value) c.unfinished-kept.ensures.left) c.index_mut-deepest.ensures.value (rw (← c.deref.ensures.value) c.unfinished-kept.ensures.same)

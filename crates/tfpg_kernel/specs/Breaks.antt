@@ -1,0 +1,58 @@
+-- The six conditions of a step, and the first that it breaks.
+use Rattle.std.specs.Prelude.{◌≡◌, ◌⊎◌, ℕ, pos, ◌≤ℤ◌, List, map, Option, Some, None, is_none}
+use Rattle.std.specs.Bool.{then_some}
+use Rattle.tfpg_base.specs.Choice.{first_of, each_of}
+use Rattle.tfpg_base.specs.declared.constraint.Constraint.{Constraint}
+use Rattle.tfpg_graph.specs.Graph.{Tfpg}
+use Rattle.tfpg_log.specs.Log.{Logbook, first_events}
+use Rattle.tfpg_evidence.specs.declared.reason.Reason.{Reason}
+use Rattle.tfpg_evidence.specs.declared.reason.Reason.TheVariants.{Zero, Top, Unreached, From, Upto, Quiet, Pick}
+use Rattle.tfpg_evidence.specs.declared.step.Step.{Step}
+use Rattle.tfpg_evidence.specs.declared.step.Step.TheVariants.{Split, Cycle}
+use Rattle.tfpg_clause.specs.Clauses.{count_of}
+use Rattle.tfpg_clause.specs.Trees.{Judged, PathSplit, stated, IsRefutation, IsPresentLeaf}
+use Rattle.tfpg_base.specs.ConstraintCycle.{IsCycle, sum_of}
+use Rattle.tfpg_kernel.specs.declared.taken.BadStep.{BadStep}
+use Rattle.tfpg_kernel.specs.declared.taken.BadStep.TheVariants.{AfterClosed, NotAClause, NotAFact, NotOnPath, Unchained, NotNegative}
+
+-- what is wrong with a reason that states no constraint
+abbrev pub fault_of : Reason → BadStep
+fault_of (Pick split place) = NotOnPath
+fault_of (Zero node) = NotAFact
+fault_of (Top node) = NotAFact
+fault_of (Unreached node horizon) = NotAFact
+fault_of (From event) = NotAFact
+fault_of (Upto event) = NotAFact
+fault_of (Quiet event node) = NotAFact
+
+-- the fault of the first reason that states no constraint, where there is one
+abbrev pub reasons_fault : (Reason → Option Constraint) → List Reason → Option BadStep
+reasons_fault stated reasons = first_of (map (λ reason. then_some (is_none (stated reason)) (fault_of reason)) reasons)
+
+-- The constraints of a cycle break this condition, and none before it: they do not chain into a cycle; or their sum is not
+-- negative.
+abbrev pub ClosingBreaks : List Constraint → BadStep → Type 0
+ClosingBreaks constraints Unchained = IsCycle constraints → ⊥
+ClosingBreaks constraints NotNegative = IsCycle constraints × (pos 0 ≤ℤ sum_of constraints)
+ClosingBreaks constraints AfterClosed = ⊥
+ClosingBreaks constraints NotAClause = ⊥
+ClosingBreaks constraints NotAFact = ⊥
+ClosingBreaks constraints NotOnPath = ⊥
+
+-- The reasons of a cycle break this condition, and none before it: some reason states no constraint; or the constraints of all
+-- break it.
+abbrev pub CycleBreaks : (Reason → Option Constraint) → List Reason → BadStep → Type 0
+CycleBreaks stated reasons bad =
+    (reasons_fault stated reasons ≡ Some bad) ⊎ ((constraints : List Constraint) × (each_of (map stated reasons) ≡ Some constraints) × ClosingBreaks constraints bad)
+
+-- At a leaf of this path the step breaks this condition, and none before it, judged by the log of so many events.
+abbrev pub BreaksAt : Tfpg → Logbook → List ℕ → List PathSplit → ℕ → Step → BadStep → Type 0
+BreaksAt graph log reach path seen (Split name) bad = (bad ≡ NotAClause) × (count_of graph (first_events log seen) name ≡ None)
+BreaksAt graph log reach path seen (Cycle reasons) bad = CycleBreaks (stated graph log reach path seen) reasons bad
+
+-- The step that comes next after these steps breaks this condition, and none before it: they are a refutation already; or it
+-- breaks it at the present leaf.
+abbrev pub IsFirstBroken : Tfpg → Logbook → List ℕ → List Judged → Judged → BadStep → Type 0
+IsFirstBroken graph log reach steps next bad =
+    ((bad ≡ AfterClosed) × IsRefutation graph log reach steps)
+    ⊎ ((path : List PathSplit) × IsPresentLeaf graph log reach steps path × BreaksAt graph log reach path next.seen next.step bad)

@@ -1,0 +1,51 @@
+-- The constraints of a cycle one by one: where they begin and end, whether they are chained so far, and their sum.
+use Rattle.std.specs.Prelude.{ℕ, ◌==◌, ℤ, pos, negsuc, ◌+ℤ◌, ◌≤ℤ◌, neg_ℤ, List, fold, Bool, true, false, ◌&&◌, if◌then◌else◌, Option, Some, None}
+use Rattle.tfpg_base.specs.declared.constraint.Constraint.{Constraint}
+use Rattle.tfpg_kernel.specs.declared.chain.Chain.{Chain}
+use Rattle.tfpg_kernel.specs.declared.chain.Ends.{Ends}
+use Rattle.tfpg_kernel.specs.declared.taken.BadStep.{BadStep}
+use Rattle.tfpg_kernel.specs.declared.taken.BadStep.TheVariants.{Unchained, NotNegative}
+
+-- the number is not above the limit, and its opposite is not
+pub record IsWithin (limit : ℕ) (number : ℤ) : Type 0 where
+  pub low : neg_ℤ (pos limit) ≤ℤ number
+  pub high : number ≤ℤ pos limit
+
+-- the chain without a constraint
+abbrev pub new_chain : Chain
+new_chain = record { ends = None; unbroken = true; sum = pos 0 }
+
+-- whether a constraint begins where the ones before it end
+abbrev pub goes_on_from : Option Ends → ℕ → Bool
+goes_on_from None left = true
+goes_on_from (Some ends) left = ends.last == left
+
+-- where it ends with one more
+abbrev pub ends_with : Option Ends → Constraint → Ends
+ends_with None constraint = record { first = constraint.left; last = constraint.right }
+ends_with (Some ends) constraint = record { first = ends.first; last = constraint.right }
+
+-- the chain with one more constraint
+abbrev pub with_constraint : Chain → Constraint → Chain
+with_constraint chain constraint = record {
+  ends = Some (ends_with chain.ends constraint);
+  unbroken = chain.unbroken && goes_on_from chain.ends constraint.left;
+  sum = chain.sum +ℤ constraint.most;
+}
+
+-- the chain of some constraints
+abbrev pub chain_of : List Constraint → Chain
+chain_of constraints = fold with_constraint new_chain constraints
+
+abbrev pub is_round : Option Ends → Bool
+is_round None = false
+is_round (Some ends) = ends.first == ends.last
+
+abbrev pub is_negative : ℤ → Bool
+is_negative (pos n) = false
+is_negative (negsuc n) = true
+
+-- the first condition that the whole cycle breaks
+abbrev pub closing_fault : Chain → Option BadStep
+closing_fault chain =
+    if chain.unbroken && is_round chain.ends then (if is_negative chain.sum then None else Some NotNegative) else Some Unchained

@@ -1,0 +1,77 @@
+//! The constraints of a cycle, as far as its reasons were looked at.
+
+ghost use Rattle.std.specs.Prelude.{◌≡◌, ℕ, ◌+◌, ◌-◌, ◌*◌, ◌^◌};
+ghost use Rattle.tfpg_kernel.specs.inside.Chains.{IsWithin, new_chain, with_constraint, closing_fault};
+
+use crate::taken::BadStep;
+use tfpg_base::Constraint;
+
+/// Where constraints begin and end, whether each begins where the one before it ends, and the sum of their bounds.
+///
+/// A slice has less than 2^64 reasons and a bound is a number of 64 bits with a sign. So the sum of any list of reasons
+/// stays below 2^127 either way, and 128 bits hold it exactly.
+#[derive(Clone, Copy)]
+pub struct Chain {
+    pub ends: Option<Ends>,
+    pub unbroken: bool,
+    pub sum: i128,
+}
+
+/// The left side of the first constraint, and the right side of the last.
+#[derive(Clone, Copy)]
+pub struct Ends {
+    pub first: u32,
+    pub last: u32,
+}
+
+impl Chain {
+    /// The chain without a constraint.
+    pub const EMPTY: Chain = Chain {
+        ends: None,
+        unbroken: true,
+        sum: 0,
+    };
+
+    /// The chain with one more constraint at its end.
+    pub fn with(self, constraint: Constraint) -> Chain
+        requires { IsWithin (2 ^ 127 - 2 ^ 63) self.sum }
+        ensures chain { result ≡ with_constraint self constraint }
+        ensures small { (count : ℕ) → IsWithin (count * 2 ^ 63) self.sum → IsWithin ((count + 1) * 2 ^ 63) result.sum }
+    {
+        let sum = self.sum + i128::from(constraint.most);
+        match self.ends {
+            None => Chain {
+                ends: Some(Ends {
+                    first: constraint.left,
+                    last: constraint.right,
+                }),
+                unbroken: self.unbroken,
+                sum,
+            },
+            Some(ends) => Chain {
+                ends: Some(Ends {
+                    first: ends.first,
+                    last: constraint.right,
+                }),
+                unbroken: self.unbroken && ends.last == constraint.left,
+                sum,
+            },
+        }
+    }
+
+    /// The first of the last two conditions that the whole cycle breaks, where it breaks one.
+    pub fn fault(self) -> Option<BadStep>
+        ensures { result ≡ closing_fault self }
+    {
+        match self.ends {
+            Some(ends) if self.unbroken && ends.first == ends.last => {
+                if self.sum < 0 {
+                    None
+                } else {
+                    Some(BadStep::NotNegative)
+                }
+            }
+            _ => Some(BadStep::Unchained),
+        }
+    }
+}

@@ -1,0 +1,167 @@
+//! The checker: the path to the present leaf, and how a step moves it.
+
+ghost use Rattle.std.specs.Prelude.{◌≡◌, ◌≤◌, ◌<◌, ◌+◌, ◌↔◌, ℕ, List, [], ◌∷◌, ◌++◌, OnOk, false};
+ghost use Rattle.tfpg_graph.specs.Graph.{Tfpg};
+ghost use Rattle.tfpg_graph.specs.Reach.{IsReach};
+ghost use Rattle.tfpg_log.specs.Log.{Logbook, GoesOn, IsOf, IsOrdered};
+ghost use Rattle.tfpg_log.specs.Explains.{Fits};
+ghost use Rattle.tfpg_evidence.specs.declared.step.Step.TheVariants.{Split, Cycle};
+ghost use Rattle.tfpg_clause.specs.Trees.{Judged, IsRefutation, IsPartial};
+ghost use Rattle.tfpg_kernel.specs.declared.taken.Taken.TheVariants.{Open, Closed, Bad};
+ghost use Rattle.tfpg_kernel.specs.declared.taken.BadStep.{BadStep};
+ghost use Rattle.tfpg_kernel.specs.Breaks.{IsFirstBroken};
+ghost use Rattle.tfpg_kernel.specs.Represents.{CheckerRepresents, judged_by, with_step, steps_after};
+ghost use Rattle.tfpg_kernel.specs.inside.Paths.{Moves};
+
+use crate::cycle::check_cycle;
+use crate::frame::Frame;
+use crate::path::advance;
+use crate::taken::{BadStep, Taken};
+use std::alloc::Global;
+use std::marker::Model;
+use tfpg_base::NoMemory;
+use tfpg_clause::count;
+use tfpg_evidence::{ClauseName, Reason, Step};
+use tfpg_graph::{Graph, NodeSet};
+use tfpg_log::Log;
+
+/// Checks a refutation of a set of failure modes, step by step. It keeps the path to the present leaf, so its memory is
+/// that of the deepest path, at most 32 bytes a split.
+#[derive(Drop)]
+pub struct Checker {
+    reach: NodeSet,
+    path: Vec<Frame>,
+    closed: bool,
+}
+
+impl Model for Checker {
+    ghost use Rattle.std.specs.Prelude.{◌-◌, vec_len, vec_capacity};
+    ghost use Rattle.tfpg_kernel.specs.Checking.{Checking};
+
+    ghost Value = { Checking };
+
+    ghost view = { λ c. record {
+      reach = c.reach;
+      path = c.path.items;
+      closed = c.closed;
+      spare = vec_capacity c.path - vec_len c.path;
+    } };
+}
+
+impl Checker {
+    /// A checker that took no step, for a set of failure modes that reaches these nodes. It allocates nothing.
+    pub fn new(alloc: Global, reach: NodeSet) -> Checker
+        ensures represents { (graph : Tfpg) (log : Logbook) → CheckerRepresents graph log result [] }
+        ensures reach { result.reach ≡ reach }
+    {
+        Checker {
+            reach,
+            path: Vec::new(alloc),
+            closed: false,
+        }
+    }
+
+    /// Makes room for one more step. The checker is unchanged but for its room, also where memory ran out.
+    pub fn reserve(&mut self) -> Result<(), NoMemory>
+        ensures ok { OnOk result (1 ≤ self.new.spare) }
+        ensures spare { self.old.spare ≤ self.new.spare }
+        ensures same { self.new ≡ record self.old { spare = self.new.spare } }
+    {
+        self.path.reserve(1)?;
+        Ok(())
+    }
+
+    /// Takes the next step of the refutation, judged by all events of the log. It takes no memory, and costs what its
+    /// reasons cost, and the splits that it finishes.
+    ///
+    /// The steps that were taken before are any that the checker represents, each judged by a log from which this one goes
+    /// on. Closed comes exactly where they are a refutation with this step, Open exactly where they are a partial tree with
+    /// it, and Bad exactly where the step breaks a condition, with the first that it breaks. Then nothing is changed. After
+    /// Closed no trace explains the log, or one that goes on from it, from a set that reaches the checker's nodes.
+    pub fn take(&mut self, graph: &Graph, log: &Log, step: &Step) -> Taken
+        requires of { IsOf graph.now log.now }
+        requires spare { 1 ≤ self.old.spare }
+        ensures closed { (earlier : Logbook) (steps : List Judged) → GoesOn earlier log.now →
+            CheckerRepresents graph.now earlier self.old steps →
+            (result ≡ Closed) ↔ IsRefutation graph.now log.now self.old.reach (with_step steps log.now step.now) }
+        ensures open { (earlier : Logbook) (steps : List Judged) → GoesOn earlier log.now →
+            CheckerRepresents graph.now earlier self.old steps →
+            (result ≡ Open) ↔ IsPartial graph.now log.now self.old.reach (with_step steps log.now step.now) }
+        ensures bad { (earlier : Logbook) (steps : List Judged) → GoesOn earlier log.now →
+            CheckerRepresents graph.now earlier self.old steps → (bad : BadStep) →
+            (result ≡ Bad bad)
+            ↔ IsFirstBroken graph.now log.now self.old.reach steps (judged_by log.now step.now) bad }
+        ensures represents { (earlier : Logbook) (steps : List Judged) → GoesOn earlier log.now →
+            CheckerRepresents graph.now earlier self.old steps →
+            CheckerRepresents graph.now log.now self.new (steps_after result steps log.now step.now) }
+        ensures no_trace { (earlier later : Logbook) (steps : List Judged) (set : List ℕ) → GoesOn earlier log.now →
+            CheckerRepresents graph.now earlier self.old steps → result ≡ Closed →
+            IsReach graph.now set self.old.reach → GoesOn log.now later → IsOf graph.now later → IsOrdered later →
+            Fits graph.now later set → ⊥ }
+        ensures unchanged { (bad : BadStep) → result ≡ Bad bad → self.new ≡ self.old }
+        ensures reach { self.new.reach ≡ self.old.reach }
+        ensures spare { self.old.spare ≤ self.new.spare + 1 }
+    {
+        let _valid = graph.node_count();
+        let _ordered = log.len();
+        if self.closed {
+            return Taken::Bad(BadStep::AfterClosed);
+        }
+        match step {
+            Step::Split(name) => self.split(graph, log, *name),
+            Step::Cycle(reasons) => self.close(graph, log, reasons.as_slice()),
+        }
+    }
+
+    /// Splits the present leaf, where the name is allowed: the first alternative is the present leaf then.
+    fn split(&mut self, graph: &Graph, log: &Log, name: ClauseName) -> Taken
+        requires spare { 1 ≤ self.old.spare }
+        requires open { self.old.closed ≡ false }
+        ensures moves { Moves graph.now log.now self.old (Split name) result self.new }
+        ensures reach { self.new.reach ≡ self.old.reach }
+        ensures spare { self.old.spare ≤ self.new.spare + 1 }
+    {
+        match count(graph, log, name) {
+            Ok(alternatives) => {
+                self.enter(Frame {
+                    name,
+                    alternative: 1,
+                    alternatives,
+                });
+                Taken::Open
+            }
+            Err(_) => Taken::Bad(BadStep::NotAClause),
+        }
+    }
+
+    /// Puts a split at the end of the path, where there is room for it.
+    fn enter(&mut self, frame: Frame)
+        requires { 1 ≤ self.old.spare }
+        ensures path { self.new.path ≡ self.old.path ++ frame ∷ [] }
+        ensures closed { self.new.closed ≡ self.old.closed }
+        ensures reach { self.new.reach ≡ self.old.reach }
+        ensures spare { self.old.spare ≤ self.new.spare + 1 }
+    {
+        let _pushed = self.path.push(frame);
+    }
+
+    /// Closes the present leaf, where the reasons do: the next alternative of the deepest split that has one left is the
+    /// present leaf then.
+    fn close(&mut self, graph: &Graph, log: &Log, reasons: &[Reason]) -> Taken
+        requires of { IsOf graph.now log.now }
+        requires open { self.old.closed ≡ false }
+        ensures moves { Moves graph.now log.now self.old (Cycle reasons.now) result self.new }
+        ensures reach { self.new.reach ≡ self.old.reach }
+        ensures spare { self.old.spare ≤ self.new.spare }
+    {
+        if let Err(bad) = check_cycle(graph, log, &self.reach, &self.path, reasons) {
+            return Taken::Bad(bad);
+        }
+        if advance(&mut self.path) {
+            Taken::Open
+        } else {
+            self.closed = true;
+            Taken::Closed
+        }
+    }
+}

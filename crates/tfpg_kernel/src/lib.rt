@@ -1,0 +1,20 @@
+//! The checker of refutations.
+//!
+//! It stands apart from all that finds evidence, and is small, so that a reviewer can read it whole: what it calls of other
+//! crates is `count`, `constraint` and `fact`.
+//!
+//! - [`Checker`] takes the steps of a refutation one by one. It keeps the path to the present leaf and no step.
+//! - [`Taken`] is its answer: the tree is open, the tree is closed, or the step is bad, with the first cause, [`BadStep`].
+//! - [`Frame`] is what contracts see of a split on the path.
+#![tactic(auto)]
+
+mod chain;
+mod checker;
+mod cycle;
+mod frame;
+mod path;
+mod taken;
+
+pub use checker::Checker;
+pub use frame::Frame;
+pub use taken::{BadStep, Taken};

@@ -1,0 +1,30 @@
+//! The answers of the checker.
+
+/// What became of a step.
+#[derive(Clone, Copy, Debug, PartialEq, Eq)]
+pub enum Taken {
+    /// It is right, and the tree is not finished.
+    Open,
+    /// It is right, and closed the last leaf.
+    Closed,
+    /// It is not right, and the checker is unchanged.
+    Bad(BadStep),
+}
+
+/// The first condition that a step breaks, in this order, but that the reasons of a cycle are looked at one by one for the
+/// third and the fourth.
+#[derive(Clone, Copy, Debug, PartialEq, Eq)]
+pub enum BadStep {
+    /// The tree was closed before.
+    AfterClosed,
+    /// The name of the split is not allowed.
+    NotAClause,
+    /// A reason is no pick and no fact.
+    NotAFact,
+    /// A reason picks from a split that is not on the path, or a place that the alternative taken there does not have.
+    NotOnPath,
+    /// The reasons do not chain into a cycle, or there are none.
+    Unchained,
+    /// The sum of their bounds is 0 or more.
+    NotNegative,
+}
