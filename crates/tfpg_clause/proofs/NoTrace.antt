@@ -11,7 +11,7 @@ use Rattle.tfpg_base.specs.declared.activation.Activation.{Activation}
 use Rattle.tfpg_graph.specs.Graph.{Tfpg}
 use Rattle.tfpg_graph.specs.Reach.{IsReach}
 use Rattle.tfpg_graph.specs.Valid.{IsValid}
-use Rattle.tfpg_graph.specs.ZeroCycle.{HasZeroOrder}
+use Rattle.tfpg_graph.proofs.lemmas.zero_cycle.ZeroRanks.{HasZeroOrder-valid}
 use Rattle.tfpg_log.specs.Log.{Logbook, GoesOn, IsOf, IsOrdered, now_of, first_events}
 use Rattle.tfpg_log.specs.Explains.{Explains, Fits}
 use Rattle.tfpg_evidence.specs.declared.clause_name.ClauseName.{ClauseName}
@@ -176,13 +176,13 @@ module _ (graph : Tfpg) (log : Logbook) (reach : List ℕ) (ordered : IsOrdered 
       none place constraint (suc k) pick = cc
 
 -- Where steps are a refutation at a log, no trace explains a log that goes on from it.
-pub no_trace : (graph : Tfpg) (earlier log : Logbook) (set reach : List ℕ) (steps : List Judged) → IsValid graph → HasZeroOrder graph → IsOf graph log → IsOrdered log → IsReach graph set reach
+pub no_trace : (graph : Tfpg) (earlier log : Logbook) (set reach : List ℕ) (steps : List Judged) → IsValid graph → IsOf graph log → IsOrdered log → IsReach graph set reach
     → GoesOn earlier log → IsRefutation graph earlier reach steps → Fits graph log set → ⊥
-no_trace graph earlier log set reach steps valid order of ordered is_reach goes_on refutation fits =
+no_trace graph earlier log set reach steps valid of ordered is_reach goes_on refutation fits =
     let trace : List Activation = fits.0 in
     let explains : Explains graph log set trace = fits.1 in
     let numbers = numbers_of_trace graph log set trace ordered explains in
     no_refutation graph log reach ordered numbers.0
-    (λ reason constraint is. fact_is_met graph log set reach is_reach of ordered trace numbers.0 order explains numbers.1 reason constraint is)
+    (λ reason constraint is. fact_is_met graph log set reach is_reach of ordered trace numbers.0 (HasZeroOrder-valid graph valid) explains numbers.1 reason constraint is)
     (λ name clause is. clause_is_met graph log trace numbers.0 valid (of_trace graph (now_of log) trace numbers.0 explains.by_now numbers.1) explains.rules name clause is)
     steps (refutation_stays graph earlier log ordered goes_on reach steps refutation)

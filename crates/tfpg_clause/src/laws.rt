@@ -94,6 +94,6 @@ pub fn a_partial_tree_has_one_present_leaf()
 /// set, nor any log that goes on from it.
 pub fn a_refutation_leaves_no_trace()
     ensures { (graph : Tfpg) (earlier log : Logbook) (set reach : List ℕ) (steps : List Judged) →
-        IsValid graph → HasZeroOrder graph → IsOf graph log → IsOrdered log → IsReach graph set reach →
+        IsValid graph → IsOf graph log → IsOrdered log → IsReach graph set reach →
         GoesOn earlier log → IsRefutation graph earlier reach steps → Fits graph log set → ⊥ }
 {}

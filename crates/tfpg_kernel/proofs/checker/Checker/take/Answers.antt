@@ -70,7 +70,7 @@ returns-in-Split-clause-no_trace c = λ earlier later steps set goes_on represen
     let answers =
     answered c.args.graph.now c.args.log.now earlier c.len-ordered.ensures.ordered goes_on c.args.self.now steps represents c.args.step.now (Split c.in-Split.name) c.in-Split.is
     c.split.result c.split.new.self (sym (ap (λ (b : Checking). b.closed) c.self.view_is) ∙ c.if-self.false) c.split.ensures.reach c.split.ensures.moves in
-    no_trace c.args.graph.now c.args.log.now later set c.args.self.now.reach (with_step steps c.args.log.now c.args.step.now) c.node_count-valid.ensures.valid c.node_count-valid.ensures.order of ordered is_reach
+    no_trace c.args.graph.now c.args.log.now later set c.args.self.now.reach (with_step steps c.args.log.now c.args.step.now) c.node_count-valid.ensures.valid of ordered is_reach
     later_on (answers.closed.0 closed)
 
 pub returns-in-Cycle-clause-no_trace : goal.returns-in-Cycle-clause-no_trace
@@ -78,5 +78,5 @@ returns-in-Cycle-clause-no_trace c = λ earlier later steps set goes_on represen
     let answers =
     answered c.args.graph.now c.args.log.now earlier c.len-ordered.ensures.ordered goes_on c.args.self.now steps represents c.args.step.now (Cycle c.as_slice.result.now) (cc)
     c.close.result c.close.new.self (sym (ap (λ (b : Checking). b.closed) c.self.view_is) ∙ c.if-self.false) c.close.ensures.reach c.close.ensures.moves in
-    no_trace c.args.graph.now c.args.log.now later set c.args.self.now.reach (with_step steps c.args.log.now c.args.step.now) c.node_count-valid.ensures.valid c.node_count-valid.ensures.order of ordered is_reach
+    no_trace c.args.graph.now c.args.log.now later set c.args.self.now.reach (with_step steps c.args.log.now c.args.step.now) c.node_count-valid.ensures.valid of ordered is_reach
     later_on (answers.closed.0 closed)
