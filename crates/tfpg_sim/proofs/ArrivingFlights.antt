@@ -13,8 +13,8 @@ use Rattle.tfpg_graph.specs.declared.kind.Kind.TheVariants.{Or, And}
 use Rattle.tfpg_graph.specs.Graph.{Tfpg, kind_at, is_kind_at, is_or, is_and, incoming}
 use Rattle.tfpg_log.specs.Log.{Logbook}
 use Rattle.tfpg_sim.specs.declared.flight.Flight.{Flight}
-use Rattle.tfpg_sim.specs.Flights.{Lands, LandsBy}
-use Rattle.tfpg_sim.specs.Arrivals.{flight_over}
+use Rattle.tfpg_sim.specs.inside.Flights.{Lands, LandsBy}
+use Rattle.tfpg_sim.specs.inside.Arrivals.{flight_over}
 use Rattle.tfpg_sim.specs.Simulation.{Carries, Arrives, IsFirst}
 use Rattle.tfpg_sim.proofs.FilteredItems.{from_and_then, from_map, value_there, item_there, each_valued, some_valueless}
 

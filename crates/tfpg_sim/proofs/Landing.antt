@@ -5,8 +5,8 @@ use Rattle.std.proofs.lemmas.Option.{slice_get-get_or, slice_get_within}
 use Rattle.tfpg_log.specs.declared.span.Span.{Span}
 use Rattle.tfpg_log.specs.Log.{Logbook, mode_at}
 use Rattle.tfpg_sim.specs.declared.flight.Flight.{Flight}
-use Rattle.tfpg_sim.specs.Flights.{IsOpen, Lands, LandsBy, IsReached, ReachedBy, IsFirstIn, pending_in, IsPending, ArePending}
-use Rattle.tfpg_sim.specs.ModeSpans.{AreSpans}
+use Rattle.tfpg_sim.specs.inside.Flights.{IsOpen, Lands, LandsBy, IsReached, ReachedBy, IsFirstIn, pending_in, IsPending, ArePending}
+use Rattle.tfpg_sim.specs.inside.ModeSpans.{AreSpans}
 use Rattle.tfpg_sim.specs.Simulation.{IsFirst}
 
 module _ (log : Logbook) (flight : Flight) where

@@ -1,6 +1,6 @@
 -- When some or each of several times is reached, time by time.
 use Rattle.std.proofs.Common.{◌≡◌, ℕ, ◌+◌, ◌<◌, ◌≤◌, ◌↔◌, max, ◌⊎◌, inl, inr, ⊎_elim, List, get_or, Option, Some, None, sym, ap, subst, ◌∙◌, arith}
-use Rattle.tfpg_sim.specs.Flights.{IsReached, ReachedByEither}
+use Rattle.tfpg_sim.specs.inside.Flights.{IsReached, ReachedByEither}
 
 -- each of the first times is reached
 abbrev pub EachBelow : List (Option ℕ) → ℕ → ℕ → Type 0

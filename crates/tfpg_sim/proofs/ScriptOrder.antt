@@ -14,10 +14,11 @@ use Rattle.tfpg_base.proofs.Traces.{time_of-with_time, time_of-with_time_other}
 use Rattle.tfpg_graph.specs.Graph.{Tfpg}
 use Rattle.tfpg_sim.specs.declared.entry.Entry.{Entry}
 use Rattle.tfpg_sim.specs.declared.entry.Entry.TheVariants.{Start, Mode, Sweep, Tick, Stop}
-use Rattle.tfpg_sim.specs.Script.{time_of_entry, time_so_far, last_of, may_follow, is_new, starts, has_stopped, max_entries, IsEntryOf, IsScript}
+use Rattle.tfpg_sim.specs.Script.{time_of_entry, time_so_far, last_of, may_follow, is_new, starts, has_stopped, max_entries}
+use Rattle.tfpg_sim.specs.inside.Entries.{IsEntryOf, IsScript}
 use Rattle.tfpg_sim.specs.Simulation.{start_of}
 use Rattle.tfpg_sim.proofs.DrawLists.{take-next, All-item}
-use Rattle.tfpg_sim.specs.Settling.{IsStart, with_start}
+use Rattle.tfpg_sim.specs.inside.Settling.{IsStart, with_start}
 use Rattle.tfpg_sim.proofs.SettledNodes.{same_or_not}
 
 -- both of two tests that hold together

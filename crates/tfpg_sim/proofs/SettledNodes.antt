@@ -16,7 +16,7 @@ use Rattle.tfpg_trace.proofs.IncomingEdges.{item_among}
 use Rattle.tfpg_log.specs.Log.{Logbook}
 use Rattle.tfpg_sim.specs.Simulation.{Carries, Arrives, IsFirst}
 use Rattle.tfpg_sim.proofs.ArrivingFlights.{IsFirst-same}
-use Rattle.tfpg_sim.specs.Settling.{candidate_at, IsCandidate, AreCandidates, IsEarliest, IsEarliestBelow, IsUnderWay}
+use Rattle.tfpg_sim.specs.inside.Settling.{candidate_at, IsCandidate, AreCandidates, IsEarliest, IsEarliestBelow, IsUnderWay}
 
 -- two numbers are one or not
 pub same_or_not : (a b : ℕ) → (a ≡ b) ⊎ (a ≢ b)

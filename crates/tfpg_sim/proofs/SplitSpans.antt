@@ -14,7 +14,7 @@ use Rattle.tfpg_sim.specs.declared.entry.Entry.{Entry}
 use Rattle.tfpg_sim.specs.declared.entry.Entry.TheVariants.{Start, Mode, Sweep, Tick, Stop}
 use Rattle.tfpg_sim.specs.Script.{time_of_entry}
 use Rattle.tfpg_sim.specs.Simulation.{event_of_entry, script_log}
-use Rattle.tfpg_sim.specs.ModeSpans.{AreSpans, closed_by, current_after}
+use Rattle.tfpg_sim.specs.inside.ModeSpans.{AreSpans, closed_by, current_after}
 use Rattle.tfpg_sim.proofs.Landing.{spans_rise}
 
 -- what holds of all holds of the first of them, and of the last

@@ -9,7 +9,7 @@ use Rattle.tfpg_graph.specs.Graph.{Tfpg, Node, is_kind_at, is_failure}
 use Rattle.tfpg_sim.specs.declared.entry.Entry.{Entry}
 use Rattle.tfpg_sim.specs.Script.{time_so_far}
 use Rattle.tfpg_sim.specs.Simulation.{Arrives, IsFirst, IsSimulated, script_log, start_of}
-use Rattle.tfpg_sim.specs.Settling.{candidate_at, AreCandidates, IsEarliest, IsUnderWay, IsStart, waiting_count}
+use Rattle.tfpg_sim.specs.inside.Settling.{candidate_at, AreCandidates, IsEarliest, IsUnderWay, IsStart, waiting_count}
 use Rattle.tfpg_sim.proofs.ScriptOrder.{All-with_time, time_holds}
 use Rattle.tfpg_sim.proofs.SettledNodes.{settle, its_first, same_or_not}
 

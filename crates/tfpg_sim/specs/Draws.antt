@@ -1,6 +1,5 @@
 -- What a simulation draws: the delay of each edge, and how late each alarm comes.
-use Rattle.std.specs.Prelude.{ℕ, ◌+◌, ◌-◌, ◌*◌, ◌%◌, ◌^◌, List, fold, Option, Some, None, option_map, IfSome, ◌≤◌}
-use Rattle.tfpg_base.specs.Times.{max_time}
+use Rattle.std.specs.Prelude.{ℕ, ◌+◌, ◌-◌, ◌*◌, ◌%◌, ◌^◌, List, fold, Option, Some, None, option_map}
 use Rattle.std.specs.List.{scan}
 use Rattle.rand_pcg.specs.Lcg.{Lcg, started, increment_of}
 use Rattle.rand_pcg.specs.Pcg.{multiplier_64, pcg32}
@@ -56,7 +55,3 @@ delays graph number = delays_from (generator number 2) graph.edges
 -- the lateness of each node that is monitored, drawn after the delays
 abbrev pub latenesses : Tfpg → ℕ → List (Option ℕ)
 latenesses graph number = latenesses_from (after_edges (generator number 2) graph.edges) graph.nodes
-
--- a lateness is not too large
-abbrev pub IsSmall : Option ℕ → Type 0
-IsSmall lateness = IfSome lateness (λ late. late ≤ max_time)

@@ -1,11 +1,9 @@
+-- What the public contracts say.
 pub mod Script
 pub mod ScriptAnswers
 pub mod Draws
 pub mod Simulation
 pub mod SimulatedLog
 pub mod Simulated
--- What the contracts of the own parts of the crate cite, and no public contract does.
-pub mod Flights
-pub mod ModeSpans
-pub mod Arrivals
-pub mod Settling
+-- What the code and its proofs need besides. No public clause reaches it.
+pub mod inside

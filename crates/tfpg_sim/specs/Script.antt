@@ -106,19 +106,6 @@ abbrev pub may_follow : List Entry → Entry → Bool
 may_follow before entry =
     nat_lt (length before) max_entries && (not (has_stopped before) && (nat_le (time_so_far before) (time_of_entry entry) && is_new before entry))
 
--- The line names what the graph has, and its time is not too large.
-abbrev pub IsEntryOf : Tfpg → Entry → Type 0
-IsEntryOf graph (Start time node) = (time ≤ max_time) × IsTrue (is_kind_at is_failure graph node)
-IsEntryOf graph (Mode time mode) = (time ≤ max_time) × (mode < length graph.modes)
-IsEntryOf graph (Sweep time) = time ≤ max_time
-IsEntryOf graph (Tick time) = time ≤ max_time
-IsEntryOf graph (Stop time) = time ≤ max_time
-
--- These are lines of a script: each names what the graph has, and may come after those before it.
-pub record IsScript (graph : Tfpg) (entries : List Entry) : Type 0 where
-  pub own : All (IsEntryOf graph) entries
-  pub follows : (place : ℕ) (entry : Entry) → slice_get entries place ≡ Some entry → may_follow (take place entries) entry ≡ true
-
 -- what a line after these says, where it is right
 abbrev pub next_entry : Tfpg → List Entry → List ℕ → Option Entry
 next_entry graph before line = option_and_then (λ entry. then_some (may_follow before entry) entry) (entry_of graph line)

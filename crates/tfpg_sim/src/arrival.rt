@@ -3,8 +3,8 @@
 ghost use Rattle.std.specs.Prelude.{◌≡◌, ◌≤◌, ◌<◌, ◌+◌, ◌^◌, ℕ, length, not, false, All, IfOk, IsTrue, filter_map};
 ghost use Rattle.tfpg_graph.specs.Graph.{is_kind_at, is_failure, incoming};
 ghost use Rattle.tfpg_log.specs.Log.{Logbook};
-ghost use Rattle.tfpg_sim.specs.Arrivals.{flight_over};
-ghost use Rattle.tfpg_sim.specs.ModeSpans.{AreSpans};
+ghost use Rattle.tfpg_sim.specs.inside.Arrivals.{flight_over};
+ghost use Rattle.tfpg_sim.specs.inside.ModeSpans.{AreSpans};
 ghost use Rattle.tfpg_sim.specs.Simulation.{IsFirst, Arrives};
 
 use crate::flight::{Flight, first_landing};

@@ -5,8 +5,8 @@ ghost use Rattle.tfpg_base.specs.declared.activation.Activation.{Activation};
 ghost use Rattle.tfpg_base.specs.Trace.{time_of, with_time};
 ghost use Rattle.tfpg_graph.specs.Graph.{is_kind_at, is_failure};
 ghost use Rattle.tfpg_log.specs.Log.{Logbook};
-ghost use Rattle.tfpg_sim.specs.ModeSpans.{AreSpans};
-ghost use Rattle.tfpg_sim.specs.Settling.{IsCandidate, AreCandidates, IsEarliest, IsEarliestBelow, candidate_at};
+ghost use Rattle.tfpg_sim.specs.inside.ModeSpans.{AreSpans};
+ghost use Rattle.tfpg_sim.specs.inside.Settling.{IsCandidate, AreCandidates, IsEarliest, IsEarliestBelow, candidate_at};
 
 use crate::arrival::first_arrival;
 use std::alloc::Global;

@@ -3,7 +3,8 @@
 ghost use Rattle.std.specs.Prelude.{◌≡◌, ◌≤◌, ◌<◌, ◌+◌, ◌^◌, ◌%◌, IfOk, OnOk, IfSome, length, All, option_map};
 ghost use Rattle.tfpg_base.specs.Times.{max_time};
 ghost use Rattle.tfpg_graph.specs.Graph.{lag_of};
-ghost use Rattle.tfpg_sim.specs.Draws.{generator, drawn, after_draw, delay_count, delay_of, after_edges, delays_from, after_lag, latenesses_from, delays, latenesses, IsSmall};
+ghost use Rattle.tfpg_sim.specs.Draws.{generator, drawn, after_draw, delay_count, delay_of, after_edges, delays_from, after_lag, latenesses_from, delays, latenesses};
+ghost use Rattle.tfpg_sim.specs.inside.Entries.{IsSmall};
 
 use rand_core::utils::NextWord;
 use rand_pcg::Lcg64Xsh32;

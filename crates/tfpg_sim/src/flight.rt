@@ -3,8 +3,8 @@
 ghost use Rattle.std.specs.Prelude.{◌≡◌, ◌≤◌, ◌+◌, ◌^◌, ◌==◌, ◌↔◌, ℕ, true, false, length, vec_len, All, IfOk, Some, None, slice_get, slice_index_or};
 ghost use Rattle.std.specs.Int.{bit_at};
 ghost use Rattle.tfpg_log.specs.Log.{Logbook};
-ghost use Rattle.tfpg_sim.specs.Flights.{IsReached, ReachedBy, ReachedByEither, LandsBy, IsFirstIn, pending_in};
-ghost use Rattle.tfpg_sim.specs.ModeSpans.{AreSpans};
+ghost use Rattle.tfpg_sim.specs.inside.Flights.{IsReached, ReachedBy, ReachedByEither, LandsBy, IsFirstIn, pending_in};
+ghost use Rattle.tfpg_sim.specs.inside.ModeSpans.{AreSpans};
 ghost use Rattle.tfpg_sim.specs.Simulation.{IsFirst};
 
 use std::alloc::Global;

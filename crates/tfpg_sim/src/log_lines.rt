@@ -3,7 +3,8 @@
 ghost use Rattle.std.specs.Prelude.{◌≡◌, All, IfOk};
 ghost use Rattle.std.specs.List.{flat_map};
 ghost use Rattle.tfpg_base.specs.Append.{Appends};
-ghost use Rattle.tfpg_sim.specs.SimulatedLog.{event_line, log_text, IsNamed};
+ghost use Rattle.tfpg_sim.specs.SimulatedLog.{event_line, log_text};
+ghost use Rattle.tfpg_sim.specs.inside.Entries.{IsNamed};
 
 use itoa::Buffer;
 use std::alloc::Global;

@@ -4,7 +4,7 @@ ghost use Rattle.std.specs.Prelude.{◌≡◌, ◌≤◌, ◌+◌, ◌^◌, ◌+
 ghost use Rattle.tfpg_base.specs.Times.{max_time};
 ghost use Rattle.tfpg_sim.specs.Script.{time_of_entry};
 ghost use Rattle.tfpg_sim.specs.Simulation.{script_log};
-ghost use Rattle.tfpg_sim.specs.ModeSpans.{AreSpans, closed_by, current_after};
+ghost use Rattle.tfpg_sim.specs.inside.ModeSpans.{AreSpans, closed_by, current_after};
 
 use crate::entry::Entry;
 use std::alloc::Global;

@@ -3,7 +3,8 @@
 ghost use Rattle.std.specs.Prelude.{◌≡◌, ◌<◌, ◌≤◌, length, IfOk, IfErr};
 ghost use Rattle.std.specs.List.{list_any};
 ghost use Rattle.tfpg_base.specs.Lines.{parts_of, lines_of};
-ghost use Rattle.tfpg_sim.specs.Script.{has_stopped, time_so_far, starts, is_new, may_follow, next_entry, script_of, IsScript};
+ghost use Rattle.tfpg_sim.specs.Script.{has_stopped, time_so_far, starts, is_new, may_follow, next_entry, script_of};
+ghost use Rattle.tfpg_sim.specs.inside.Entries.{IsScript};
 ghost use Rattle.tfpg_sim.specs.ScriptAnswers.{IsFaultAt};
 
 use crate::SimFault;

@@ -8,9 +8,10 @@ ghost use Rattle.std.specs.Prelude.{◌≡◌, ◌≤◌, ◌+◌, ◌^◌, ℕ,
 ghost use Rattle.tfpg_base.specs.Times.{max_time};
 ghost use Rattle.tfpg_base.specs.Trace.{time_of};
 ghost use Rattle.tfpg_graph.specs.Graph.{Tfpg};
-ghost use Rattle.tfpg_sim.specs.Script.{IsScript, time_so_far, time_of_entry};
+ghost use Rattle.tfpg_sim.specs.Script.{time_so_far, time_of_entry};
+ghost use Rattle.tfpg_sim.specs.inside.Entries.{IsScript};
 ghost use Rattle.tfpg_sim.specs.Simulation.{IsSimulated, start_of};
-ghost use Rattle.tfpg_sim.specs.Settling.{IsStart, with_start};
+ghost use Rattle.tfpg_sim.specs.inside.Settling.{IsStart, with_start};
 
 use crate::candidates::{candidates_after, earliest, first_candidates};
 use crate::entry::Entry;

@@ -2,7 +2,7 @@ use Rattle.std.proofs.Common.{◌≤◌, ◌^◌, All, length, true, false, sym,
 use Rattle.std.proofs.lemmas.Result.{IfOk-weaker}
 use Rattle.tfpg_graph.specs.Graph.{incoming}
 use Rattle.tfpg_sim.specs.declared.flight.Flight.{Flight}
-use Rattle.tfpg_sim.specs.Flights.{LandsBy}
+use Rattle.tfpg_sim.specs.inside.Flights.{LandsBy}
 use Rattle.tfpg_sim.specs.Simulation.{IsFirst}
 use Rattle.tfpg_sim.proofs.ArrivingFlights.{flights_small, or_arrival, and_arrival, no_arrival}
 use Rattle.tfpg_sim.proofs.arrival.first_arrival.Goals as goal

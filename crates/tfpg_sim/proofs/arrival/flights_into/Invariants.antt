@@ -1,5 +1,5 @@
 use Rattle.std.proofs.Common.{◌≡◌, take, filter_map}
-use Rattle.tfpg_sim.specs.Arrivals.{flight_over}
+use Rattle.tfpg_sim.specs.inside.Arrivals.{flight_over}
 use Rattle.tfpg_sim.proofs.arrival.flights_into.Given as goal
 
 -- the flights over the edges so far

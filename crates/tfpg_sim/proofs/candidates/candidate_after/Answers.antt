@@ -1,6 +1,6 @@
 use Rattle.std.proofs.Common.{◌≡◌, ◌≢◌, Option, Bool, Some, None, true, false, not, refl, sym, ap, subst, ◌∙◌}
 use Rattle.std.specs.Option.{is_some}
-use Rattle.tfpg_sim.specs.Settling.{IsCandidate}
+use Rattle.tfpg_sim.specs.inside.Settling.{IsCandidate}
 use Rattle.tfpg_sim.proofs.SettledNodes.{keeps_candidate}
 use Rattle.tfpg_sim.proofs.candidates.candidate_after.Goals as goal
 

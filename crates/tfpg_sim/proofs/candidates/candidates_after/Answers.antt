@@ -1,6 +1,6 @@
 use Rattle.std.proofs.Common.{◌+◌, length, None, ap, ◌∙◌, arith}
 use Rattle.std.proofs.lemmas.List.{length_push}
-use Rattle.tfpg_sim.specs.Settling.{IsCandidate}
+use Rattle.tfpg_sim.specs.inside.Settling.{IsCandidate}
 use Rattle.tfpg_sim.proofs.PushedItems.{each_push}
 use Rattle.tfpg_sim.proofs.candidates.candidates_after.Goals as goal
 

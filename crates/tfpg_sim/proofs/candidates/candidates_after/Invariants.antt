@@ -2,8 +2,8 @@ use Rattle.std.proofs.Common.{◌≡◌, ℕ, ◌+◌, ◌<◌, List, length, No
 use Rattle.tfpg_base.specs.declared.activation.Activation.{Activation}
 use Rattle.tfpg_base.specs.Trace.{time_of, with_time}
 use Rattle.tfpg_log.specs.Log.{Logbook}
-use Rattle.tfpg_sim.specs.ModeSpans.{AreSpans}
-use Rattle.tfpg_sim.specs.Settling.{IsCandidate, AreCandidates, candidate_at}
+use Rattle.tfpg_sim.specs.inside.ModeSpans.{AreSpans}
+use Rattle.tfpg_sim.specs.inside.Settling.{IsCandidate, AreCandidates, candidate_at}
 use Rattle.tfpg_sim.proofs.candidates.candidates_after.Given as goal
 
 -- the candidates of the nodes so far

@@ -1,4 +1,4 @@
-use Rattle.tfpg_sim.specs.Settling.{IsEarliestBelow}
+use Rattle.tfpg_sim.specs.inside.Settling.{IsEarliestBelow}
 use Rattle.tfpg_sim.proofs.candidates.earliest.Given as goal
 
 -- the least of the candidates so far

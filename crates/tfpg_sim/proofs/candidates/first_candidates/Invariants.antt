@@ -1,7 +1,7 @@
 use Rattle.std.proofs.Common.{◌≡◌, ℕ, ◌+◌, ◌<◌, length}
 use Rattle.tfpg_log.specs.Log.{Logbook}
-use Rattle.tfpg_sim.specs.ModeSpans.{AreSpans}
-use Rattle.tfpg_sim.specs.Settling.{IsCandidate, candidate_at}
+use Rattle.tfpg_sim.specs.inside.ModeSpans.{AreSpans}
+use Rattle.tfpg_sim.specs.inside.Settling.{IsCandidate, candidate_at}
 use Rattle.tfpg_sim.proofs.candidates.first_candidates.Given as goal
 
 -- the candidates of the nodes so far

@@ -1,6 +1,7 @@
 use Rattle.std.proofs.Common.{All, length, subst, ◌++◌, ◌+◌, ◌%◌, ◌∷◌, [], option_map, sym, ap, ◌∙◌}
 use Rattle.tfpg_graph.specs.Graph.{lag_of}
-use Rattle.tfpg_sim.specs.Draws.{drawn, after_lag, IsSmall}
+use Rattle.tfpg_sim.specs.Draws.{drawn, after_lag}
+use Rattle.tfpg_sim.specs.inside.Entries.{IsSmall}
 use Rattle.tfpg_sim.proofs.DrawLists.{latenesses_from-more, after_nodes-more}
 use Rattle.tfpg_sim.proofs.draws.draw_latenesses.Goals as goal
 use Rattle.std.proofs.lemmas.List.{length_push}

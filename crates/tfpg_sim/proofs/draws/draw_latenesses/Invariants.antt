@@ -1,6 +1,7 @@
 use Rattle.std.proofs.Common.{◌≡◌, All, length, take, fold}
 use Rattle.tfpg_graph.specs.Graph.{lag_of}
-use Rattle.tfpg_sim.specs.Draws.{after_lag, latenesses_from, IsSmall}
+use Rattle.tfpg_sim.specs.Draws.{after_lag, latenesses_from}
+use Rattle.tfpg_sim.specs.inside.Entries.{IsSmall}
 use Rattle.tfpg_sim.proofs.draws.draw_latenesses.Given as goal
 
 -- the latenesses of the nodes so far

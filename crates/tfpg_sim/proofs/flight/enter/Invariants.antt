@@ -1,6 +1,6 @@
 use Rattle.std.proofs.Common.{◌≡◌, ℕ, ◌<◌, ◌≤◌, Some, None, get_or, length, slice_get}
 use Rattle.tfpg_sim.specs.declared.flight.Flight.{Flight}
-use Rattle.tfpg_sim.specs.Flights.{pending_in}
+use Rattle.tfpg_sim.specs.inside.Flights.{pending_in}
 use Rattle.tfpg_sim.proofs.flight.enter.Given as goal
 
 abbrev pub invariant-loop-place : goal.invariant-loop-place

@@ -1,5 +1,5 @@
 use Rattle.std.proofs.Common.{◌≡◌, ◌↔◌, length, refl, arith, subst}
-use Rattle.tfpg_sim.specs.Flights.{IsReached}
+use Rattle.tfpg_sim.specs.inside.Flights.{IsReached}
 use Rattle.tfpg_sim.proofs.ReachedTimes.{SomeBelow, some_more}
 use Rattle.tfpg_sim.proofs.flight.soonest.Goals as goal
 

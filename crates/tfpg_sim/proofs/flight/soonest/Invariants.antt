@@ -1,5 +1,5 @@
 use Rattle.std.proofs.Common.{ℕ, ◌↔◌}
-use Rattle.tfpg_sim.specs.Flights.{IsReached}
+use Rattle.tfpg_sim.specs.inside.Flights.{IsReached}
 use Rattle.tfpg_sim.proofs.ReachedTimes.{SomeBelow}
 use Rattle.tfpg_sim.proofs.flight.soonest.Given as goal
 

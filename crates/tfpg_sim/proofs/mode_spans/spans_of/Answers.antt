@@ -4,7 +4,7 @@ use Rattle.tfpg_log.specs.declared.span.Span.{Span}
 use Rattle.tfpg_sim.specs.declared.entry.Entry.{Entry}
 use Rattle.tfpg_sim.specs.declared.entry.Entry.TheVariants.{Start}
 use Rattle.tfpg_sim.specs.Simulation.{script_log}
-use Rattle.tfpg_sim.specs.ModeSpans.{AreSpans}
+use Rattle.tfpg_sim.specs.inside.ModeSpans.{AreSpans}
 use Rattle.tfpg_sim.proofs.SplitSpans.{IsSplit, split_next, split_last, split_past, earlier_all, small_more, small_after}
 use Rattle.tfpg_sim.proofs.mode_spans.spans_of.Goals as goal
 use Rattle.tfpg_sim.proofs.mode_spans.spans_of.Goals.{then-current-stop+in_ok-push, else-current-stop}

@@ -5,7 +5,8 @@ use Rattle.std.proofs.lemmas.List.{map_push}
 use Rattle.tfpg_base.specs.Lines.{parts_of}
 use Rattle.tfpg_graph.proofs.lemmas.reading.WholeText.{lines_at}
 use Rattle.tfpg_sim.specs.Script.{has_stopped, next_entry}
-use Rattle.tfpg_sim.specs.Script.{IsScript, read_lines, with_next}
+use Rattle.tfpg_sim.specs.Script.{read_lines, with_next}
+use Rattle.tfpg_sim.specs.inside.Entries.{IsScript}
 use Rattle.tfpg_sim.proofs.ScriptLines.{script_push, script_none}
 use Rattle.tfpg_sim.proofs.ReadLines.{read_lines-push, script_of-fault, script_of-stopped, script_of-missing}
 use Rattle.tfpg_sim.proofs.script.read_script.Goals as goal

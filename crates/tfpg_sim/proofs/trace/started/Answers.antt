@@ -4,7 +4,7 @@ use Rattle.std.proofs.lemmas.Option.{slice_get-get_or}
 use Rattle.tfpg_base.specs.Trace.{time_of}
 use Rattle.tfpg_sim.specs.declared.entry.Entry.TheVariants.{Start}
 use Rattle.tfpg_sim.specs.Simulation.{start_of}
-use Rattle.tfpg_sim.specs.Settling.{IsStart}
+use Rattle.tfpg_sim.specs.inside.Settling.{IsStart}
 use Rattle.tfpg_sim.proofs.ScriptOrder.{start_step, own_step}
 use Rattle.tfpg_sim.proofs.trace.started.Goals as goal
 

@@ -1,9 +1,10 @@
 use Rattle.std.proofs.Common.{◌≡◌, ℕ, ◌≤◌, All, take}
 use Rattle.tfpg_base.specs.Trace.{time_of}
 use Rattle.tfpg_graph.specs.Graph.{Tfpg}
-use Rattle.tfpg_sim.specs.Script.{IsScript, time_of_entry}
+use Rattle.tfpg_sim.specs.Script.{time_of_entry}
+use Rattle.tfpg_sim.specs.inside.Entries.{IsScript}
 use Rattle.tfpg_sim.specs.Simulation.{start_of}
-use Rattle.tfpg_sim.specs.Settling.{IsStart}
+use Rattle.tfpg_sim.specs.inside.Settling.{IsStart}
 use Rattle.tfpg_sim.proofs.trace.started.Given as goal
 
 -- the failure modes that the lines so far start

@@ -2,8 +2,8 @@ use Rattle.std.proofs.Common.{◌≡◌, ◌≤◌, ℕ, All, None, ◌<◌, ◌
 use Rattle.tfpg_base.specs.Times.{max_time}
 use Rattle.tfpg_sim.specs.Script.{time_of_entry}
 use Rattle.tfpg_sim.specs.Simulation.{script_log, start_of}
-use Rattle.tfpg_sim.specs.Settling.{IsUnderWay, AreCandidates, IsEarliest, candidate_at, waiting_count}
-use Rattle.tfpg_sim.specs.ModeSpans.{AreSpans}
+use Rattle.tfpg_sim.specs.inside.Settling.{IsUnderWay, AreCandidates, IsEarliest, candidate_at, waiting_count}
+use Rattle.tfpg_sim.specs.inside.ModeSpans.{AreSpans}
 use Rattle.tfpg_sim.proofs.ScriptOrder.{in_order, all_by_last, small}
 use Rattle.tfpg_sim.proofs.SettledNodes.{is_absent}
 use Rattle.tfpg_sim.proofs.WholeRuns.{begins, goes_on, ends, times_after, waiting_less}

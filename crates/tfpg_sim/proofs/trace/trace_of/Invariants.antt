@@ -1,6 +1,6 @@
 use Rattle.std.proofs.Common.{length}
 use Rattle.tfpg_sim.specs.Simulation.{script_log, start_of}
-use Rattle.tfpg_sim.specs.Settling.{IsUnderWay, waiting_count}
+use Rattle.tfpg_sim.specs.inside.Settling.{IsUnderWay, waiting_count}
 use Rattle.tfpg_sim.proofs.trace.trace_of.Given as goal
 
 -- the simulation is under way
