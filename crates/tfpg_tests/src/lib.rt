@@ -13,6 +13,8 @@ mod diff;
 #[cfg(test)]
 mod graph;
 #[cfg(test)]
+mod kernel;
+#[cfg(test)]
 mod log;
 #[cfg(test)]
 mod report;
