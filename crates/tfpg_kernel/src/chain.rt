@@ -11,29 +11,29 @@ use tfpg_base::Constraint;
 /// A slice has less than 2^64 reasons and a bound is a number of 64 bits with a sign. So the sum of any list of reasons
 /// stays below 2^127 either way, and 128 bits hold it exactly.
 #[derive(Clone, Copy)]
-pub struct Chain {
-    pub ends: Option<Ends>,
-    pub unbroken: bool,
-    pub sum: i128,
+pub(crate) struct Chain {
+    pub(crate) ends: Option<Ends>,
+    pub(crate) unbroken: bool,
+    pub(crate) sum: i128,
 }
 
 /// The left side of the first constraint, and the right side of the last.
 #[derive(Clone, Copy)]
-pub struct Ends {
-    pub first: u32,
-    pub last: u32,
+pub(crate) struct Ends {
+    pub(crate) first: u32,
+    pub(crate) last: u32,
 }
 
 impl Chain {
     /// The chain without a constraint.
-    pub const EMPTY: Chain = Chain {
+    pub(crate) const EMPTY: Chain = Chain {
         ends: None,
         unbroken: true,
         sum: 0,
     };
 
     /// The chain with one more constraint at its end.
-    pub fn with(self, constraint: Constraint) -> Chain
+    pub(crate) fn with(self, constraint: Constraint) -> Chain
         requires { IsWithin (2 ^ 127 - 2 ^ 63) self.sum }
         ensures chain { result ≡ with_constraint self constraint }
         ensures small { (count : ℕ) → IsWithin (count * 2 ^ 63) self.sum → IsWithin ((count + 1) * 2 ^ 63) result.sum }
@@ -60,7 +60,7 @@ impl Chain {
     }
 
     /// The first of the last two conditions that the whole cycle breaks, where it breaks one.
-    pub fn fault(self) -> Option<BadStep>
+    pub(crate) fn fault(self) -> Option<BadStep>
         ensures { result ≡ closing_fault self }
     {
         match self.ends {

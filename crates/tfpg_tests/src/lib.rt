@@ -15,6 +15,8 @@ mod graph;
 #[cfg(test)]
 mod hyp;
 #[cfg(test)]
+mod kernel;
+#[cfg(test)]
 mod log;
 #[cfg(test)]
 mod report;

@@ -1,0 +1,369 @@
+//! The public calls of `tfpg_kernel`: a refutation step by step, each cause of a bad step, and steps under logs that grow.
+
+ghost use Rattle.std.specs.Prelude.{IfOk};
+ghost use Rattle.tfpg_log.specs.Log.{IsOf};
+
+use std::alloc::Global;
+use std::process::Abort;
+use std::test::Fail;
+use tfpg_base::Set;
+use tfpg_evidence::{ClauseName, Reason, Reasons, Step};
+use tfpg_graph::{Graph, NodeSet, read};
+use tfpg_kernel::{BadStep, Checker, Taken};
+use tfpg_log::Log;
+
+/// A failure mode F with an edge to A, which is due after 3 at most, and an edge to E, which takes 9. Their numbers are 0 to 2.
+const GRAPH: &[u8] =
+    b"tfpg 1\nmode N\nfailure F 1\nor A watch 0\nor E watch 0\nedge F A 1 3 *\nedge F E 9 9 *\nend\n";
+
+/// E has an alarm and A has none: with F at 1 at the latest A would have been active by 4.
+const LINES: [&[u8]; 2] = [b"10 silent A", b"10 alarm E"];
+
+/// E becomes active where the failure arrives by its edge.
+const MAY: ClauseName = ClauseName::OrMay {
+    node: 2,
+    span: 0,
+    horizon: 10,
+};
+
+/// A is active once the failure is due by its edge.
+const MUST: ClauseName = ClauseName::OrMust {
+    edge: 0,
+    span: 0,
+    horizon: 10,
+};
+
+/// The two reasons that close the first alternative of the first split.
+const TOO_EARLY: [Reason; 2] = [
+    Reason::Pick { split: 1, place: 1 },
+    Reason::From { event: 2 },
+];
+
+/// A step: the name of a split, or the reasons of a cycle.
+struct Row {
+    name: &'static str,
+    split: Option<ClauseName>,
+    reasons: &'static [Reason],
+    answer: Taken,
+}
+
+/// The refutation of the set of F, and steps after it.
+const REFUTATION: [Row; 11] = [
+    Row {
+        name: "split on E",
+        split: Some(MAY),
+        reasons: &[],
+        answer: Taken::Open,
+    },
+    Row {
+        name: "E before 0",
+        split: None,
+        reasons: &TOO_EARLY,
+        answer: Taken::Open,
+    },
+    Row {
+        name: "E after 10",
+        split: None,
+        reasons: &[
+            Reason::Pick { split: 1, place: 1 },
+            Reason::Upto { event: 2 },
+        ],
+        answer: Taken::Open,
+    },
+    Row {
+        name: "split on A",
+        split: Some(MUST),
+        reasons: &[],
+        answer: Taken::Open,
+    },
+    Row {
+        name: "F too late for A",
+        split: None,
+        reasons: &[
+            Reason::Pick { split: 1, place: 1 },
+            Reason::Upto { event: 2 },
+            Reason::Pick { split: 2, place: 1 },
+        ],
+        answer: Taken::Open,
+    },
+    Row {
+        name: "A follows F",
+        split: None,
+        reasons: &[
+            Reason::Pick { split: 2, place: 1 },
+            Reason::Pick { split: 1, place: 1 },
+            Reason::Upto { event: 2 },
+            Reason::Quiet { event: 1, node: 1 },
+        ],
+        answer: Taken::Open,
+    },
+    Row {
+        name: "A by the time it is due",
+        split: None,
+        reasons: &[
+            Reason::Pick { split: 2, place: 1 },
+            Reason::Quiet { event: 1, node: 1 },
+        ],
+        answer: Taken::Closed,
+    },
+    Row {
+        name: "the first step once more",
+        split: Some(MAY),
+        reasons: &[],
+        answer: Taken::Bad(BadStep::AfterClosed),
+    },
+    Row {
+        name: "no clause after the end",
+        split: Some(ClauseName::OrMay {
+            node: 0,
+            span: 0,
+            horizon: 10,
+        }),
+        reasons: &[],
+        answer: Taken::Bad(BadStep::AfterClosed),
+    },
+    Row {
+        name: "no fact after the end",
+        split: None,
+        reasons: &[Reason::From { event: 1 }],
+        answer: Taken::Bad(BadStep::AfterClosed),
+    },
+    Row {
+        name: "no reason after the end",
+        split: None,
+        reasons: &[],
+        answer: Taken::Bad(BadStep::AfterClosed),
+    },
+];
+
+/// Steps that are bad in the first alternative of the first split, each with the first of its causes.
+const BAD: [Row; 13] = [
+    Row {
+        name: "a failure mode has no clause",
+        split: Some(ClauseName::OrMay {
+            node: 0,
+            span: 0,
+            horizon: 10,
+        }),
+        reasons: &[],
+        answer: Taken::Bad(BadStep::NotAClause),
+    },
+    Row {
+        name: "a horizon after now",
+        split: Some(ClauseName::OrMay {
+            node: 2,
+            span: 0,
+            horizon: 11,
+        }),
+        reasons: &[],
+        answer: Taken::Bad(BadStep::NotAClause),
+    },
+    Row {
+        name: "a silence is no alarm",
+        split: None,
+        reasons: &[Reason::From { event: 1 }],
+        answer: Taken::Bad(BadStep::NotAFact),
+    },
+    Row {
+        name: "an event past the end",
+        split: None,
+        reasons: &[
+            Reason::Pick { split: 1, place: 1 },
+            Reason::From { event: 3 },
+        ],
+        answer: Taken::Bad(BadStep::NotAFact),
+    },
+    Row {
+        name: "a split past the path",
+        split: None,
+        reasons: &[Reason::Pick { split: 2, place: 1 }],
+        answer: Taken::Bad(BadStep::NotOnPath),
+    },
+    Row {
+        name: "splits count from 1",
+        split: None,
+        reasons: &[Reason::Pick { split: 0, place: 1 }],
+        answer: Taken::Bad(BadStep::NotOnPath),
+    },
+    Row {
+        name: "a place past the alternative",
+        split: None,
+        reasons: &[Reason::Pick { split: 1, place: 2 }],
+        answer: Taken::Bad(BadStep::NotOnPath),
+    },
+    Row {
+        name: "no fact, and then a pick off the path",
+        split: None,
+        reasons: &[
+            Reason::From { event: 1 },
+            Reason::Pick { split: 2, place: 1 },
+        ],
+        answer: Taken::Bad(BadStep::NotAFact),
+    },
+    Row {
+        name: "a pick off the path, and then no fact",
+        split: None,
+        reasons: &[
+            Reason::Pick { split: 2, place: 1 },
+            Reason::From { event: 1 },
+        ],
+        answer: Taken::Bad(BadStep::NotOnPath),
+    },
+    Row {
+        name: "no reason",
+        split: None,
+        reasons: &[],
+        answer: Taken::Bad(BadStep::Unchained),
+    },
+    Row {
+        name: "not closed round",
+        split: None,
+        reasons: &[Reason::Pick { split: 1, place: 1 }],
+        answer: Taken::Bad(BadStep::Unchained),
+    },
+    Row {
+        name: "neither chained nor negative",
+        split: None,
+        reasons: &[Reason::Zero { node: 1 }, Reason::Top { node: 2 }],
+        answer: Taken::Bad(BadStep::Unchained),
+    },
+    Row {
+        name: "a sum of 0",
+        split: None,
+        reasons: &[Reason::From { event: 2 }, Reason::Upto { event: 2 }],
+        answer: Taken::Bad(BadStep::NotNegative),
+    },
+];
+
+/// The log of the lines.
+fn log_of(alloc: Global, graph: &Graph, lines: &[&[u8]]) -> Result<Log, Fail>
+    ensures { IfOk result (IsOf graph.now) }
+{
+    let mut log = Log::new(alloc);
+    for line in lines {
+        log.offer(graph, *line)?;
+    }
+    Ok(log)
+}
+
+/// The nodes that the failure mode reaches, where there is one.
+fn reach_of_first(graph: &Graph) -> Option<NodeSet> {
+    if graph.failure_count() == 0 {
+        return None;
+    }
+    Some(graph.reach(Set::empty().with(0)))
+}
+
+/// A step that splits, or closes a leaf.
+fn step_of(alloc: Global, split: Option<ClauseName>, reasons: &[Reason]) -> Result<Step, Fail> {
+    match split {
+        Some(name) => Ok(Step::Split(name)),
+        None => Ok(Step::Cycle(Reasons::from_vec(Vec::from_slice(alloc, reasons)?))),
+    }
+}
+
+/// The answer to a step, with room for it.
+fn answer_to(checker: &mut Checker, graph: &Graph, log: &Log, step: &Step) -> Result<Taken, Fail>
+    requires { IsOf graph.now log.now }
+{
+    checker.reserve()?;
+    Ok(checker.take(graph, log, step))
+}
+
+/// Takes the steps of the rows and compares the answers.
+fn go_through(
+    rt: &impl Abort,
+    alloc: Global,
+    checker: &mut Checker,
+    graph: &Graph,
+    log: &Log,
+    rows: &[Row],
+) -> Result<(), Fail>
+    requires { IsOf graph.now log.now }
+{
+    for row in rows {
+        let step = step_of(alloc, row.split, row.reasons)?;
+        let answer = answer_to(checker, graph, log, &step)?;
+        assert!(rt; answer == row.answer, "{}", row.name);
+    }
+    Ok(())
+}
+
+#[test]
+fn a_refutation_closes_at_its_last_step(rt: HostRuntime) -> Result<(), Fail> {
+    let graph = read(rt.alloc(), GRAPH)?;
+    let log = log_of(rt.alloc(), &graph, &LINES)?;
+    let reach = reach_of_first(&graph).ok_or("no failure mode")?;
+    let mut checker = Checker::new(rt.alloc(), reach);
+    go_through(&rt, rt.alloc(), &mut checker, &graph, &log, &REFUTATION)
+}
+
+#[test]
+fn the_first_cause_of_a_bad_step_is_named(rt: HostRuntime) -> Result<(), Fail> {
+    let graph = read(rt.alloc(), GRAPH)?;
+    let log = log_of(rt.alloc(), &graph, &LINES)?;
+    let reach = reach_of_first(&graph).ok_or("no failure mode")?;
+    let mut checker = Checker::new(rt.alloc(), reach);
+    assert_eq!(rt;
+        answer_to(&mut checker, &graph, &log, &Step::Split(MAY))?,
+        Taken::Open
+    );
+    go_through(&rt, rt.alloc(), &mut checker, &graph, &log, &BAD)
+}
+
+#[test]
+fn a_log_may_grow_between_steps(rt: HostRuntime) -> Result<(), Fail> {
+    let graph = read(rt.alloc(), GRAPH)?;
+    let first = log_of(rt.alloc(), &graph, &[LINES[0]])?;
+    let whole = log_of(rt.alloc(), &graph, &LINES)?;
+    let reach = reach_of_first(&graph).ok_or("no failure mode")?;
+    let mut checker = Checker::new(rt.alloc(), reach);
+    go_through(
+        &rt,
+        rt.alloc(),
+        &mut checker,
+        &graph,
+        &first,
+        &REFUTATION[..1],
+    )?;
+    let cycle = step_of(rt.alloc(), None, &TOO_EARLY)?;
+    let early = answer_to(&mut checker, &graph, &first, &cycle)?;
+    assert_eq!(rt; early, Taken::Bad(BadStep::NotAFact));
+    go_through(
+        &rt,
+        rt.alloc(),
+        &mut checker,
+        &graph,
+        &whole,
+        &REFUTATION[1..],
+    )
+}
+
+#[test]
+fn a_cycle_may_be_long_and_a_path_deep(rt: HostRuntime) -> Result<(), Fail> {
+    let graph = read(rt.alloc(), GRAPH)?;
+    let log = log_of(rt.alloc(), &graph, &LINES)?;
+    let reach = reach_of_first(&graph).ok_or("no failure mode")?;
+    let mut checker = Checker::new(rt.alloc(), reach);
+    for _ in 0..60 {
+        assert_eq!(rt;
+            answer_to(&mut checker, &graph, &log, &Step::Split(MAY))?,
+            Taken::Open
+        );
+    }
+    let mut reasons = Vec::new(rt.alloc());
+    for _ in 0..5_000 {
+        reasons.extend_from_slice(&TOO_EARLY)?;
+    }
+    let cycle = Step::Cycle(Reasons::from_vec(reasons));
+    // Three alternatives of the deepest split, and two more of each of the 58 between it and the first.
+    for _ in 0..119 {
+        assert_eq!(rt; answer_to(&mut checker, &graph, &log, &cycle)?, Taken::Open);
+    }
+    // The first split is in its second alternative, whose constraint does not chain with the other.
+    assert_eq!(rt;
+        answer_to(&mut checker, &graph, &log, &cycle)?,
+        Taken::Bad(BadStep::Unchained)
+    );
+    Ok(())
+}
