@@ -1,7 +1,7 @@
 use Rattle.std.proofs.Common.{◌<◌, length, take, All, subst, sym, ◌∙◌, arith}
 use Rattle.std.proofs.lemmas.List.{take_all}
 use Rattle.std.proofs.lemmas.List.Elements.{All-more}
-use Rattle.tfpg_tests.proofs.trace.is_of.Goals as goal
+use Rattle.tfpg_model_tests.proofs.trace.is_of.Goals as goal
 
 pub loop-activation-preserved : goal.loop-activation-preserved
 loop-activation-preserved c =

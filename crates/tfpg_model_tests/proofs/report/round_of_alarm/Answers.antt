@@ -7,7 +7,7 @@ use Rattle.tfpg_evidence.specs.declared.finding.Finding.{Finding}
 use Rattle.tfpg_evidence.specs.declared.round.Round.{Round}
 use Rattle.tfpg_evidence.specs.RoundOf.{Sizes, IsFindingOf, IsRankedIn, IsRoundOf, is_ranked}
 use Rattle.tfpg_report.proofs.Findings.{RiseByNumber, finding_numbered-at}
-use Rattle.tfpg_tests.proofs.report.round_of_alarm.Goals as goal
+use Rattle.tfpg_model_tests.proofs.report.round_of_alarm.Goals as goal
 
 -- three findings whose numbers rise
 rise_of_three : (a b d : Finding) → a.number < b.number → b.number < d.number → RiseByNumber (a ∷ b ∷ d ∷ [])

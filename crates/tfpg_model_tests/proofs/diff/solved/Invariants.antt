@@ -1,6 +1,6 @@
 -- There are as many bounds as variables.
 use Rattle.std.proofs.Common.{◌≡◌, length}
-use Rattle.tfpg_tests.proofs.diff.solved.Given as goal
+use Rattle.tfpg_model_tests.proofs.diff.solved.Given as goal
 
 abbrev pub invariant-loop-variable : goal.invariant-loop-variable
 invariant-loop-variable g l = length l.system.demands.bounds ≡ l.case.count
