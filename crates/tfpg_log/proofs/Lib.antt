@@ -1,5 +1,8 @@
 pub mod Events
 pub mod AlarmPlaces
+pub mod AlarmEvents
+pub mod NodesEvents
+pub mod LastQuiets
 pub mod ModeChanges
 pub mod Order
 pub mod Indexes
@@ -23,6 +26,7 @@ pub mod JointWindows
 pub mod JointAges
 pub mod SameModes
 pub mod PastKept
+pub mod SilenceTimes
 pub mod SpanChanges
 pub mod SpanStarts
 pub mod WindowStarts

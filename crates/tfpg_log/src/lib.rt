@@ -25,6 +25,7 @@ mod limits;
 mod log;
 mod log_line;
 mod mode_change;
+mod node_events;
 mod refusal;
 mod reply;
 mod span;
