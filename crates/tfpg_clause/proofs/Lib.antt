@@ -26,3 +26,5 @@ pub mod TreesKept
 pub mod TraceNumbers
 pub mod NoTrace
 pub mod PresentLeaf
+pub mod FramePaths
+pub mod LeafSteps

@@ -12,7 +12,8 @@ use Rattle.tfpg_evidence.specs.declared.step.Step.TheVariants.{Split, Cycle}
 use Rattle.tfpg_clause.specs.Clauses.{count_of}
 use Rattle.tfpg_clause.specs.Trees.{Judged, Tree, Leaf, Branch, Subtrees, NoMore, Next, PathSplit, StepPlace, how_many, places_from, places_of, IsRight, IsRightStep, IsClosedLeaf, IsRefutation, IsPartial, IsPresentLeaf}
 use Rattle.tfpg_clause.proofs.ListCuts.{map_both, no_end, All-front, All-back}
-use Rattle.tfpg_clause.proofs.LeafPaths.{leaf_closed, leaf_after, after_both}
+use Rattle.tfpg_clause.specs.Paths.{next_leaf, IsRightNext}
+use Rattle.tfpg_clause.proofs.LeafPaths.{leaf_after, after_both}
 use Rattle.tfpg_clause.proofs.SomeAlternative.{some_alternative}
 use Rattle.tfpg_clause.proofs.TreeWalk.{steps_in, first_path, walk_tree}
 use Rattle.tfpg_clause.proofs.Grafts.{graft}
@@ -135,6 +136,13 @@ module _ (graph : Tfpg) (log : Logbook) (reach : List ℕ) where
       ap (leaf_after graph log (Some [])) refutation.steps_are
       ∙ walk_tree graph log reach [] refutation.tree (places_of refutation.tree) [] (sym (no_end (places_of refutation.tree))) refutation.right
 
+  -- a refutation has no leaf left
+  pub no_partial : (steps : List Judged) → IsRefutation graph log reach steps → IsPartial graph log reach steps → ⊥
+  no_partial steps refutation partial =
+      let cut = cut_of_partial steps partial in
+      let both : None ≡ Some cut.0 = sym (none_of_refutation steps refutation) ∙ path_of_cut steps cut.0 cut.1 in
+      cc
+
   -- no step: the leaf is the root
   pub first_cut : Cut graph log reach [] []
   first_cut = record {
@@ -193,7 +201,7 @@ module _ (graph : Tfpg) (log : Logbook) (reach : List ℕ) where
     places_are : places_of tree ≡ front ++ rest
     steps_are : steps_in front ≡ steps
     right : All (IsRight graph log reach) front
-    path_is : leaf_closed graph log path ≡ first_path None rest
+    path_is : next_leaf graph log path ≡ first_path None rest
 
   closed_tree : (steps : List Judged) (path : List PathSplit) (seen : ℕ) (reasons : List Reason) → Cut graph log reach steps path → IsClosedLeaf graph log reach path seen reasons
       → (rest : List StepPlace) × ClosedTree (steps ++ record { seen = seen; step = Cycle reasons } ∷ []) path rest
@@ -221,7 +229,7 @@ module _ (graph : Tfpg) (log : Logbook) (reach : List ℕ) where
         },
       )
 
-  finished : (steps : List Judged) (path : List PathSplit) (rest : List StepPlace) → ClosedTree steps path rest → leaf_closed graph log path ≡ None → IsRefutation graph log reach steps
+  finished : (steps : List Judged) (path : List PathSplit) (rest : List StepPlace) → ClosedTree steps path rest → next_leaf graph log path ≡ None → IsRefutation graph log reach steps
   finished steps path [] closed none =
       let all : places_of closed.tree ≡ closed.front = closed.places_are ∙ no_end closed.front in
       record {
@@ -231,7 +239,7 @@ module _ (graph : Tfpg) (log : Logbook) (reach : List ℕ) where
       }
   finished steps path (here ∷ back) closed none = let same : Some here.path ≡ None = sym closed.path_is ∙ none in cc
 
-  goes_on : (steps : List Judged) (path next : List PathSplit) (rest : List StepPlace) → ClosedTree steps path rest → leaf_closed graph log path ≡ Some next → Cut graph log reach steps next
+  goes_on : (steps : List Judged) (path next : List PathSplit) (rest : List StepPlace) → ClosedTree steps path rest → next_leaf graph log path ≡ Some next → Cut graph log reach steps next
   goes_on steps path next [] closed some = let same : None ≡ Some next = sym closed.path_is ∙ some in cc
   goes_on steps path next (here ∷ back) closed some =
       let same : Some here.path ≡ Some next = sym closed.path_is ∙ some in
@@ -239,25 +247,18 @@ module _ (graph : Tfpg) (log : Logbook) (reach : List ℕ) where
       record { tree = closed.tree; front = closed.front; here = here; back = back; places_are = closed.places_are; steps_are = closed.steps_are; right = closed.right; path_is = path_same }
 
   pub last_cycle : (steps : List Judged) (path : List PathSplit) (seen : ℕ) (reasons : List Reason) → Cut graph log reach steps path → IsClosedLeaf graph log reach path seen reasons
-      → leaf_closed graph log path ≡ None → IsRefutation graph log reach (steps ++ record { seen = seen; step = Cycle reasons } ∷ [])
+      → next_leaf graph log path ≡ None → IsRefutation graph log reach (steps ++ record { seen = seen; step = Cycle reasons } ∷ [])
   last_cycle steps path seen reasons cut closed none =
       let tree = closed_tree steps path seen reasons cut closed in
       finished (steps ++ record { seen = seen; step = Cycle reasons } ∷ []) path tree.0 tree.1 none
 
   pub cycle_step : (steps : List Judged) (path next : List PathSplit) (seen : ℕ) (reasons : List Reason) → Cut graph log reach steps path → IsClosedLeaf graph log reach path seen reasons
-      → leaf_closed graph log path ≡ Some next → Cut graph log reach (steps ++ record { seen = seen; step = Cycle reasons } ∷ []) next
+      → next_leaf graph log path ≡ Some next → Cut graph log reach (steps ++ record { seen = seen; step = Cycle reasons } ∷ []) next
   cycle_step steps path next seen reasons cut closed some =
       let tree = closed_tree steps path seen reasons cut closed in
       goes_on (steps ++ record { seen = seen; step = Cycle reasons } ∷ []) path next tree.0 tree.1 some
 
   -- ---- the last step
-
-  -- the last of some right steps stands at the leaf that the steps before it lead to
-  pub record LastStep (steps : List Judged) (last : Judged) : Type 0 where
-    pub path : List PathSplit
-    pub leads : leaf_after graph log (Some []) steps ≡ Some path
-    pub subtrees : ℕ
-    pub right : IsRightStep graph log reach path last.seen subtrees last.step
 
   record LastPlace (front : List StepPlace) (steps : List Judged) (last : Judged) : Type 0 where
     before : List StepPlace
@@ -283,28 +284,29 @@ module _ (graph : Tfpg) (log : Logbook) (reach : List ℕ) where
         last_is = rest.last_is;
       }
 
+  -- the last of some right steps stands at the leaf of the steps before it
   last_of : (tree : Tree) (front rest : List StepPlace) (steps : List Judged) (last : Judged) → places_of tree ≡ front ++ rest → All (IsRight graph log reach) front
-      → steps_in front ≡ steps ++ last ∷ [] → LastStep steps last
+      → steps_in front ≡ steps ++ last ∷ [] → IsRightNext graph log reach steps last
   last_of tree front rest steps last are right same =
       let at = last_place front steps last same in
       let place = at.place in
       let split_right : All (IsRight graph log reach) (at.before ++ place ∷ []) = subst (All (IsRight graph log reach)) at.front_is right in
       let place_right : IsRight graph log reach place = All-head (IsRight graph log reach) place [] (All-back (IsRight graph log reach) at.before (place ∷ []) split_right) in
       let split_are : places_of tree ≡ at.before ++ place ∷ rest = are ∙ ap (λ (f : List StepPlace). f ++ rest) at.front_is ∙ append_assoc at.before (place ∷ []) rest in
+      let leaf : IsPresentLeaf graph log reach (steps_in at.before) place.path =
+      leaf_of_front tree at.before place rest split_are (All-front (IsRight graph log reach) at.before (place ∷ []) split_right) in
       record {
         path = place.path;
-        leads =
-            ap (leaf_after graph log (Some [])) (sym at.steps_are)
-            ∙ walk_tree graph log reach [] tree at.before (place ∷ rest) split_are (All-front (IsRight graph log reach) at.before (place ∷ []) split_right);
+        leaf = subst (λ (s : List Judged). IsPresentLeaf graph log reach s place.path) at.steps_are leaf;
         subtrees = place.subtrees;
         right = subst (λ (s : Judged). IsRightStep graph log reach place.path s.seen place.subtrees s.step) at.last_is place_right;
       }
 
-  pub last_of_refutation : (steps : List Judged) (last : Judged) → IsRefutation graph log reach (steps ++ last ∷ []) → LastStep steps last
+  pub last_of_refutation : (steps : List Judged) (last : Judged) → IsRefutation graph log reach (steps ++ last ∷ []) → IsRightNext graph log reach steps last
   last_of_refutation steps last refutation =
       last_of refutation.tree (places_of refutation.tree) [] steps last (sym (no_end (places_of refutation.tree))) refutation.right (sym refutation.steps_are)
 
-  pub last_of_partial : (steps : List Judged) (last : Judged) → IsPartial graph log reach (steps ++ last ∷ []) → LastStep steps last
+  pub last_of_partial : (steps : List Judged) (last : Judged) → IsPartial graph log reach (steps ++ last ∷ []) → IsRightNext graph log reach steps last
   last_of_partial steps last partial =
       let cut = cut_of_partial (steps ++ last ∷ []) partial in
       last_of cut.1.tree cut.1.front (cut.1.here ∷ cut.1.back) steps last cut.1.places_are cut.1.right cut.1.steps_are

@@ -9,7 +9,8 @@ use Rattle.tfpg_evidence.specs.declared.step.Step.TheVariants.{Split, Cycle}
 use Rattle.tfpg_clause.specs.Clauses.{count_of}
 use Rattle.tfpg_clause.specs.Trees.{Judged, Tree, Leaf, Branch, Subtrees, NoMore, Next, PathSplit, StepPlace, how_many, places, places_from, IsRight}
 use Rattle.tfpg_clause.proofs.ListCuts.{cut_twice, map_both, no_end, All-front, All-back}
-use Rattle.tfpg_clause.proofs.LeafPaths.{leaf_closed, leaf_next, leaf_after, after_both, closed_more, closed_last}
+use Rattle.tfpg_clause.specs.Paths.{next_leaf}
+use Rattle.tfpg_clause.proofs.LeafPaths.{leaf_next, leaf_after, after_both, closed_more, closed_last}
 use Rattle.tfpg_clause.proofs.SomeAlternative.{some_alternative}
 
 -- the steps of some places
@@ -29,8 +30,8 @@ module _ (graph : Tfpg) (log : Logbook) (reach : List ℕ) where
   past_first : (path : List PathSplit) (name : ClauseName) (seen number count : ℕ) (others : Subtrees) (mid back : List StepPlace)
       → count_of graph (first_events log seen) name ≡ Some count → number + suc (how_many others) ≡ count + 1
       → places_from path name seen (number + 1) others ≡ mid ++ back
-      → (0 < how_many others → after (Some (path ++ record { name = name; seen = seen; alternative = number + 1 } ∷ [])) (steps_in mid) ≡ first_path (leaf_closed graph log path) back)
-      → after (leaf_closed graph log (path ++ record { name = name; seen = seen; alternative = number } ∷ [])) (steps_in mid) ≡ first_path (leaf_closed graph log path) back
+      → (0 < how_many others → after (Some (path ++ record { name = name; seen = seen; alternative = number + 1 } ∷ [])) (steps_in mid) ≡ first_path (next_leaf graph log path) back)
+      → after (next_leaf graph log (path ++ record { name = name; seen = seen; alternative = number } ∷ [])) (steps_in mid) ≡ first_path (next_leaf graph log path) back
   past_first path name seen number count NoMore [] [] is last same next =
       closed_last graph log path (record { name = name; seen = seen; alternative = number }) count is (omega arith)
   past_first path name seen number count NoMore [] (b ∷ back) is last same next = absurd cc
@@ -41,14 +42,14 @@ module _ (graph : Tfpg) (log : Logbook) (reach : List ℕ) where
 
   mutual
     pub walk_tree : (path : List PathSplit) (tree : Tree) (front back : List StepPlace) → places path tree ≡ front ++ back → All (IsRight graph log reach) front
-        → after (Some path) (steps_in front) ≡ first_path (leaf_closed graph log path) back
-    walk_tree path (Leaf seen reasons) [] back same right = ap (first_path (leaf_closed graph log path)) same
+        → after (Some path) (steps_in front) ≡ first_path (next_leaf graph log path) back
+    walk_tree path (Leaf seen reasons) [] back same right = ap (first_path (next_leaf graph log path)) same
     walk_tree path (Leaf seen reasons) (f ∷ []) [] same right =
         let head : record { path = path; step = record { seen = seen; step = Cycle reasons }; subtrees = 0 } ≡ f = cc in
         ap (λ (p : StepPlace). leaf_next graph log path p.step.seen p.step.step) (sym head)
     walk_tree path (Leaf seen reasons) (f ∷ []) (b ∷ back) same right = absurd cc
     walk_tree path (Leaf seen reasons) (f ∷ g ∷ front) back same right = absurd cc
-    walk_tree path (Branch seen name subtrees) [] back same right = ap (first_path (leaf_closed graph log path)) same
+    walk_tree path (Branch seen name subtrees) [] back same right = ap (first_path (next_leaf graph log path)) same
     walk_tree path (Branch seen name subtrees) (f ∷ front) back same right =
         let first : StepPlace = record { path = path; step = record { seen = seen; step = Split name }; subtrees = how_many subtrees } in
         let head : f ≡ first = cc in
@@ -61,7 +62,7 @@ module _ (graph : Tfpg) (log : Logbook) (reach : List ℕ) where
     walk_from : (path : List PathSplit) (name : ClauseName) (seen number count : ℕ) (subtrees : Subtrees) (front back : List StepPlace)
         → places_from path name seen number subtrees ≡ front ++ back → All (IsRight graph log reach) front
         → count_of graph (first_events log seen) name ≡ Some count → number + how_many subtrees ≡ count + 1 → 0 < how_many subtrees
-        → after (Some (path ++ record { name = name; seen = seen; alternative = number } ∷ [])) (steps_in front) ≡ first_path (leaf_closed graph log path) back
+        → after (Some (path ++ record { name = name; seen = seen; alternative = number } ∷ [])) (steps_in front) ≡ first_path (next_leaf graph log path) back
     walk_from path name seen number count NoMore front back same right is last some = absurd (omega arith)
     walk_from path name seen number count (Next tree others) front back same right is last some =
         let own : List PathSplit = path ++ record { name = name; seen = seen; alternative = number } ∷ [] in
@@ -78,5 +79,5 @@ module _ (graph : Tfpg) (log : Logbook) (reach : List ℕ) where
               (All-back (IsRight graph log reach) (places own tree) past.mid split_right) is (omega arith) more)
           | inr within ↦
               walk_tree own tree front (within.here ∷ within.mid) within.xs_is right
-              ∙ sym (ap (first_path (leaf_closed graph log path)) within.back_is)
+              ∙ sym (ap (first_path (next_leaf graph log path)) within.back_is)
         ]

@@ -17,7 +17,7 @@ use Rattle.tfpg_evidence.specs.declared.step.Step.{Step}
 use Rattle.tfpg_evidence.specs.declared.step.Step.TheVariants.{Split, Cycle}
 use Rattle.tfpg_clause.specs.Facts.{fact}
 use Rattle.tfpg_clause.specs.Clauses.{alternatives, count_of, item_at, constraint_at}
-use Rattle.tfpg_clause.specs.Trees.{Judged, PathSplit, StepPlace, picked, stated, IsClosedLeaf, IsRight, IsRightStep, IsRefutation, IsPresentLeaf}
+use Rattle.tfpg_clause.specs.Trees.{Judged, PathSplit, StepPlace, picked, stated, IsClosedLeaf, IsRight, IsRightStep, IsRefutation, IsPartial, IsPresentLeaf}
 use Rattle.tfpg_clause.proofs.Kept.{clause_stays, fact_stays}
 
 get_front : {X : Type 0} (xs ys : List X) (i : ℕ) (d : X) → i < length xs → get_or (xs ++ ys) i d ≡ get_or xs i d
@@ -58,6 +58,16 @@ first_go_on earlier later seen goes_on =
 -- The whole log goes on from its first events.
 pub first_to_whole : (log : Logbook) (seen : ℕ) → GoesOn (first_events log seen) log
 first_to_whole log seen = (drop seen log.events, sym (take-append-drop seen log.events))
+
+take_on : {X : Type 0} (n m : ℕ) (xs : List X) → n ≤ m → (more : List X) × (take m xs ≡ take n xs ++ more)
+take_on zero m xs up = (take m xs, refl)
+take_on (suc n) zero xs up = absurd (omega arith)
+take_on (suc n) (suc m) [] up = ([], refl)
+take_on (suc n) (suc m) (x ∷ xs) up = let rest = take_on n m xs (omega arith) in (rest.0, ap (λ zs. x ∷ zs) rest.1)
+
+-- More first events go on from fewer.
+pub more_go_on : (log : Logbook) (seen more : ℕ) → seen ≤ more → GoesOn (first_events log seen) (first_events log more)
+more_go_on log seen more up = take_on seen more log.events up
 
 -- each of the values that there were is there
 pub each_stays : (one other : Reason → Option Constraint) → ((reason : Reason) (constraint : Constraint) → one reason ≡ Some constraint → other reason ≡ Some constraint)
@@ -122,6 +132,23 @@ module _ (graph : Tfpg) (earlier later : Logbook) (ordered : IsOrdered later) (g
     stated_stays path seen (Upto event) constraint at = fact_first seen (Upto event) constraint at
     stated_stays path seen (Quiet event node) constraint at = fact_first seen (Quiet event node) constraint at
 
+    fact_later : (seen more : ℕ) (reason : Reason) (constraint : Constraint) → seen ≤ more → fact graph (first_events earlier seen) reach reason ≡ Some constraint
+        → fact graph (first_events later more) reach reason ≡ Some constraint
+    fact_later seen more reason constraint up at =
+        fact_stays graph (first_events later seen) (first_events later more) (ordered_first later more ordered) (more_go_on later seen more up) reach reason constraint
+        (fact_first seen reason constraint at)
+
+    -- also where it is judged by more events
+    pub stated_later : (path : List PathSplit) (seen more : ℕ) (reason : Reason) (constraint : Constraint) → seen ≤ more → stated graph earlier reach path seen reason ≡ Some constraint
+        → stated graph later reach path more reason ≡ Some constraint
+    stated_later path seen more (Pick split place) constraint up at = picked_stays path split place constraint at
+    stated_later path seen more (Zero node) constraint up at = at
+    stated_later path seen more (Top node) constraint up at = at
+    stated_later path seen more (Unreached node horizon) constraint up at = fact_later seen more (Unreached node horizon) constraint up at
+    stated_later path seen more (From event) constraint up at = fact_later seen more (From event) constraint up at
+    stated_later path seen more (Upto event) constraint up at = fact_later seen more (Upto event) constraint up at
+    stated_later path seen more (Quiet event node) constraint up at = fact_later seen more (Quiet event node) constraint up at
+
     closed_stays : (path : List PathSplit) (seen : ℕ) (reasons : List Reason) → IsClosedLeaf graph earlier reach path seen reasons → IsClosedLeaf graph later reach path seen reasons
     closed_stays path seen reasons closed = record {
       constraints = closed.constraints;
@@ -141,9 +168,12 @@ module _ (graph : Tfpg) (earlier later : Logbook) (ordered : IsOrdered later) (g
     pub refutation_stays : (steps : List Judged) → IsRefutation graph earlier reach steps → IsRefutation graph later reach steps
     refutation_stays steps refutation = record { tree = refutation.tree; steps_are = refutation.steps_are; right = right_stays _ refutation.right }
 
+    -- A partial tree stays one.
+    pub partial_stays : (steps : List Judged) → IsPartial graph earlier reach steps → IsPartial graph later reach steps
+    partial_stays steps partial =
+        record { tree = partial.tree; more = partial.more; unfinished = partial.unfinished; steps_are = partial.steps_are; right = right_stays _ partial.right }
+
     -- A partial tree keeps its present leaf.
     pub leaf_stays : (steps : List Judged) (path : List PathSplit) → IsPresentLeaf graph earlier reach steps path → IsPresentLeaf graph later reach steps path
-    leaf_stays steps path leaf = record {
-      partial = record { tree = leaf.partial.tree; more = leaf.partial.more; unfinished = leaf.partial.unfinished; steps_are = leaf.partial.steps_are; right = right_stays _ leaf.partial.right };
-      here = leaf.here;
-    }
+    unfolding partial_stays
+    leaf_stays steps path leaf = record { partial = partial_stays steps leaf.partial; here = leaf.here }

@@ -8,5 +8,6 @@ pub mod Clauses
 pub mod Order
 pub mod Cut
 pub mod Trees
+pub mod Paths
 -- what proofs alone need
 pub mod inside

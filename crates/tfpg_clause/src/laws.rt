@@ -19,6 +19,13 @@ ghost use Rattle.tfpg_clause.specs.Cut.{cut, AreNumbers, AreNumbersOf};
 ghost use Rattle.tfpg_clause.specs.Trees.{Judged, PathSplit, IsRefutation, IsPartial, IsPresentLeaf};
 ghost use Rattle.tfpg_base.specs.ConstraintCycle.{IsCycle, sum_of};
 
+mod tree_laws;
+
+pub use tree_laws::{
+    a_partial_tree_grows, a_refutation_is_finished, a_tree_stays, frames_are_at_the_present_leaf,
+    frames_follow_the_path, the_last_step_of_a_tree_is_right,
+};
+
 /// What is allowed at a log stays allowed at each log that goes on from it, with the same constraints: `clause` says it of
 /// clauses, and `fact` of facts.
 pub fn what_is_allowed_stays_allowed()

@@ -2,7 +2,9 @@
 //!
 //! - [`fact`] is the constraint that a reason states, where it is a fact of the log and of a set with this reach.
 //! - [`NotAFact`] says that it is none.
-//! - [`laws`] ties facts, clauses and refutations to the traces that explain a log.
+//! - [`Frame`] is a split on the path to the present leaf of a partial tree, as a program keeps it; [`advance`] moves the path
+//!   on once the leaf is closed, and [`stated`] and [`picked`] look up what a reason states there.
+//! - [`laws`] ties facts, clauses and refutations to the traces that explain a log, and says how trees grow.
 //!
 //! Its definitions, in `specs/`, say which constraints are facts of a log and a reach, which clauses every trace meets,
 //! and which lists of steps refute a set of failure modes.
@@ -16,6 +18,8 @@ mod facts;
 pub mod laws;
 mod may;
 mod must;
+mod path;
 
 pub use clauses::{NotAClause, constraint, count};
 pub use facts::{NotAFact, fact};
+pub use path::{Frame, advance, picked, stated};

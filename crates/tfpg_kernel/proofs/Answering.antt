@@ -12,21 +12,23 @@ use Rattle.tfpg_evidence.specs.declared.reason.Reason.{Reason}
 use Rattle.tfpg_evidence.specs.declared.step.Step.{Step}
 use Rattle.tfpg_evidence.specs.declared.step.Step.TheVariants.{Split, Cycle}
 use Rattle.tfpg_clause.specs.Clauses.{count_of}
-use Rattle.tfpg_clause.specs.Trees.{Judged, PathSplit, stated, IsClosedLeaf, IsRightStep, IsRefutation, IsPartial, IsPresentLeaf}
+use Rattle.tfpg_clause.specs.Trees.{Judged, PathSplit, stated, IsRightStep, IsRefutation, IsPartial}
 use Rattle.tfpg_base.specs.ConstraintCycle.{IsCycle, sum_of}
-use Rattle.tfpg_clause.proofs.LeafPaths.{leaf_after}
-use Rattle.tfpg_clause.proofs.TreeSteps.{Cut, cut_of_partial, cut_of_leaf, leaf_of_cut, path_of_cut, none_of_refutation, first_cut, split_step, last_cycle, cycle_step, LastStep, last_of_refutation, last_of_partial}
-use Rattle.tfpg_clause.proofs.TreesKept.{refutation_stays, leaf_stays}
-use Rattle.tfpg_kernel.specs.declared.frame.Frame.{Frame}
+use Rattle.tfpg_clause.proofs.PresentLeaf.{one_leaf}
+use Rattle.tfpg_clause.proofs.TreeSteps.{no_partial, last_of_refutation, last_of_partial}
+use Rattle.tfpg_clause.proofs.LeafSteps.{frames_begin, frames_split, frames_go, frames_end, frames_remain}
+use Rattle.tfpg_clause.proofs.FramePaths.{whole_log, states_same}
+use Rattle.tfpg_clause.proofs.TreesKept.{refutation_stays}
+use Rattle.tfpg_clause.specs.declared.path.Frame.{Frame}
 use Rattle.tfpg_kernel.specs.declared.taken.Taken.{Taken}
 use Rattle.tfpg_kernel.specs.declared.taken.Taken.TheVariants.{Open, Closed, Bad}
 use Rattle.tfpg_kernel.specs.declared.taken.BadStep.{BadStep}
 use Rattle.tfpg_kernel.specs.declared.taken.BadStep.TheVariants.{AfterClosed, NotAClause, NotAFact, NotOnPath, Unchained, NotNegative}
 use Rattle.tfpg_kernel.specs.Checking.{Checking}
 use Rattle.tfpg_kernel.specs.Breaks.{fault_of, reasons_fault, ClosingBreaks, CycleBreaks, BreaksAt, IsFirstBroken}
-use Rattle.tfpg_kernel.specs.Represents.{AreFramesOf, IsAtLeaf, Represented, CheckerRepresents, judged_by, with_step, steps_after}
-use Rattle.tfpg_kernel.specs.inside.Paths.{stated_by, IsClosedBy, new_frame, GoesTo, BreaksBy, Moves}
-use Rattle.tfpg_kernel.proofs.FramePaths.{both_go, frames_push, whole_log, states_same, frames_stay}
+use Rattle.tfpg_clause.specs.Paths.{judged_by, with_step, IsRightNext, IsAtLeaf, new_frame, stated_by}
+use Rattle.tfpg_kernel.specs.Represents.{Represented, CheckerRepresents, steps_after}
+use Rattle.tfpg_kernel.specs.inside.Paths.{GoesTo, BreaksBy, Moves}
 
 -- ---- a step breaks one condition first, and none where it is right
 
@@ -95,27 +97,18 @@ module _ (graph : Tfpg) (log : Logbook) (reach : List ℕ) where
   breaks_wrong path seen subtrees (Split name) bad breaks right = let both : None ≡ Some subtrees = sym breaks.1 ∙ right in cc
   breaks_wrong path seen subtrees (Cycle reasons) bad breaks right = cycle_wrong (stated graph log reach path seen) reasons bad breaks right.constraints right.hold right.cycle right.negative
 
-  path_of_leaf : (steps : List Judged) (path : List PathSplit) → IsPresentLeaf graph log reach steps path → leaf_after graph log (Some []) steps ≡ Some path
-  path_of_leaf steps path leaf = path_of_cut graph log reach steps path (cut_of_leaf graph log reach steps path leaf)
-
-  one_state : (steps : List Judged) (path : List PathSplit) → IsRefutation graph log reach steps → leaf_after graph log (Some []) steps ≡ Some path → ⊥
-  one_state steps path refutation leads = let both : None ≡ Some path = sym (none_of_refutation graph log reach steps refutation) ∙ leads in cc
-
-  one_path : (steps : List Judged) (one other : List PathSplit) → leaf_after graph log (Some []) steps ≡ Some one → leaf_after graph log (Some []) steps ≡ Some other → one ≡ other
-  one_path steps one other a b = let both : Some one ≡ Some other = sym a ∙ b in cc
-
   broken_unique : (steps : List Judged) (next : Judged) (one other : BadStep) → IsFirstBroken graph log reach steps next one → IsFirstBroken graph log reach steps next other → one ≡ other
   broken_unique steps next one other (inl a) (inl b) = a.0 ∙ sym b.0
-  broken_unique steps next one other (inl a) (inr b) = absurd (one_state steps b.0 a.1 (path_of_leaf steps b.0 b.1))
-  broken_unique steps next one other (inr a) (inl b) = absurd (one_state steps a.0 b.1 (path_of_leaf steps a.0 a.1))
+  broken_unique steps next one other (inl a) (inr b) = absurd (no_partial graph log reach steps a.1 b.1.partial)
+  broken_unique steps next one other (inr a) (inl b) = absurd (no_partial graph log reach steps b.1 a.1.partial)
   broken_unique steps next one other (inr a) (inr b) =
-      let same : a.0 ≡ b.0 = one_path steps a.0 b.0 (path_of_leaf steps a.0 a.1) (path_of_leaf steps b.0 b.1) in
+      let same : a.0 ≡ b.0 = one_leaf graph log reach steps a.0 b.0 a.1 b.1 in
       breaks_unique b.0 next.seen next.step one other (subst (λ (p : List PathSplit). BreaksAt graph log reach p next.seen next.step one) same a.2) b.2
 
-  broken_wrong : (steps : List Judged) (next : Judged) (bad : BadStep) → IsFirstBroken graph log reach steps next bad → LastStep graph log reach steps next → ⊥
-  broken_wrong steps next bad (inl a) last = one_state steps last.path a.1 last.leads
+  broken_wrong : (steps : List Judged) (next : Judged) (bad : BadStep) → IsFirstBroken graph log reach steps next bad → IsRightNext graph log reach steps next → ⊥
+  broken_wrong steps next bad (inl a) last = no_partial graph log reach steps a.1 last.leaf.partial
   broken_wrong steps next bad (inr a) last =
-      let same : a.0 ≡ last.path = one_path steps a.0 last.path (path_of_leaf steps a.0 a.1) last.leads in
+      let same : a.0 ≡ last.path = one_leaf graph log reach steps a.0 last.path a.1 last.leaf in
       breaks_wrong last.path next.seen last.subtrees next.step bad (subst (λ (p : List PathSplit). BreaksAt graph log reach p next.seen next.step bad) same a.2) last.right
 
   -- the three sides of an answer
@@ -124,24 +117,17 @@ module _ (graph : Tfpg) (log : Logbook) (reach : List ℕ) where
     pub opened : (result ≡ Open) ↔ IsPartial graph log reach (steps ++ next ∷ [])
     pub bad : (cause : BadStep) → (result ≡ Bad cause) ↔ IsFirstBroken graph log reach steps next cause
 
-  answers_open : (steps : List Judged) (next : Judged) (path : List PathSplit) → Cut graph log reach (steps ++ next ∷ []) path → Answers steps next Open
-  answers_open steps next path cut =
-      let partial : IsPartial graph log reach (steps ++ next ∷ []) = (leaf_of_cut graph log reach (steps ++ next ∷ []) path cut).partial in
-      record {
-        closed = (λ same. cc, λ refutation. absurd (one_state (steps ++ next ∷ []) path refutation (path_of_cut graph log reach (steps ++ next ∷ []) path cut)));
-        opened = (λ same. partial, λ is. refl);
-        bad = λ cause. (λ same. cc, λ broken. absurd (broken_wrong steps next cause broken (last_of_partial graph log reach steps next partial)));
-      }
-
-  no_partial : (steps : List Judged) → IsRefutation graph log reach steps → IsPartial graph log reach steps → ⊥
-  no_partial steps refutation partial =
-      let cut = cut_of_partial graph log reach steps partial in
-      one_state steps cut.0 refutation (path_of_cut graph log reach steps cut.0 cut.1)
+  answers_open : (steps : List Judged) (next : Judged) → IsPartial graph log reach (steps ++ next ∷ []) → Answers steps next Open
+  answers_open steps next partial = record {
+    closed = (λ same. cc, λ refutation. absurd (no_partial graph log reach (steps ++ next ∷ []) refutation partial));
+    opened = (λ same. partial, λ is. refl);
+    bad = λ cause. (λ same. cc, λ broken. absurd (broken_wrong steps next cause broken (last_of_partial graph log reach steps next partial)));
+  }
 
   answers_closed : (steps : List Judged) (next : Judged) → IsRefutation graph log reach (steps ++ next ∷ []) → Answers steps next Closed
   answers_closed steps next refutation = record {
     closed = (λ same. refutation, λ is. refl);
-    opened = (λ same. cc, λ partial. absurd (no_partial (steps ++ next ∷ []) refutation partial));
+    opened = (λ same. cc, λ partial. absurd (no_partial graph log reach (steps ++ next ∷ []) refutation partial));
     bad = λ cause. (λ same. cc, λ broken. absurd (broken_wrong steps next cause broken (last_of_refutation graph log reach steps next refutation)));
   }
 
@@ -158,60 +144,23 @@ module _ (graph : Tfpg) (log : Logbook) (reach : List ℕ) where
 -- ---- a checker that is not closed
 
 module _ (graph : Tfpg) (log : Logbook) (ordered : IsOrdered log) (reach : List ℕ) (frames : List Frame) (steps : List Judged) (at : IsAtLeaf graph log reach frames steps) where
-  cut_here : Cut graph log reach steps at.path
-  cut_here = cut_of_leaf graph log reach steps at.path at.leaf
-
   states_are : stated_by graph log reach frames ≡ stated graph log reach at.path (length log.events)
-  states_are = λ i reason. states_same graph log ordered reach at.path frames at.frames reason i
+  states_are = λ i reason. states_same graph log ordered reach at.path frames at.frames_are reason i
 
-  closed_here : (reasons : List Reason) → IsClosedBy (stated_by graph log reach frames) reasons → IsClosedLeaf graph log reach at.path (length log.events) reasons
-  closed_here reasons closed = record {
-    constraints = closed.constraints;
-    hold = ap (λ (f : Reason → Option Constraint). each_of (map f reasons)) (sym states_are) ∙ closed.hold;
-    cycle = closed.cycle;
-    negative = closed.negative;
-  }
+  -- the step is right, and the tree is not finished
+  goes : (step : Step) (after : List Frame) → GoesTo graph log reach frames step (Some after) → IsAtLeaf graph log reach after (with_step steps log step)
+  goes (Split name) after to =
+      let same : after ≡ frames ++ new_frame name to.0 ∷ [] = let both = to.2 in cc in
+      subst (λ (f : List Frame). IsAtLeaf graph log reach f (with_step steps log (Split name))) (sym same) (frames_split graph log reach frames steps name to.0 at to.1)
+  goes (Cycle reasons) after to = frames_go graph log reach ordered frames steps reasons at to.0 after (sym to.1)
+
+  -- the step is right, and the tree is finished
+  ends : (step : Step) → GoesTo graph log reach frames step None → IsRefutation graph log reach (with_step steps log step)
+  ends (Split name) to = let both = to.2 in absurd (let no : None ≡ Some (frames ++ new_frame name to.0 ∷ []) = both in cc)
+  ends (Cycle reasons) to = frames_end graph log reach ordered frames steps reasons at to.0 (sym to.1)
 
   count_here : (name : ClauseName) (count : Option ℕ) → count_of graph log name ≡ count → count_of graph (first_events log (length log.events)) name ≡ count
   count_here name count is = ap (λ (l : Logbook). count_of graph l name) (whole_log graph log) ∙ is
-
-  -- the step is right, and the tree is not finished
-  record Goes (step : Step) (after : List Frame) : Type 0 where
-    path : List PathSplit
-    cut : Cut graph log reach (with_step steps log step) path
-    are : AreFramesOf graph log path after
-
-  goes : (step : Step) (after : List Frame) → GoesTo graph log reach frames step (Some after) → Goes step after
-  goes (Split name) after to =
-      let same : after ≡ frames ++ new_frame name to.0 ∷ [] = let both = to.2 in cc in
-      let split : PathSplit = record { name = name; seen = length log.events; alternative = 1 } in
-      let count = count_here name (Some to.0) to.1 in
-      record {
-        path = at.path ++ split ∷ [];
-        cut = split_step graph log reach steps at.path (length log.events) name to.0 cut_here count;
-        are = subst (AreFramesOf graph log (at.path ++ split ∷ [])) (sym same)
-            (frames_push graph log at.path frames split (new_frame name to.0) at.frames (record { name = refl; alternative = refl; alternatives = count }));
-      }
-  goes (Cycle reasons) after to =
-      elim (both_go graph log at.path frames at.frames) [
-        | inl none ↦ absurd (let both : Some after ≡ None = to.1 ∙ none.1 in cc)
-        | inr both ↦
-            let either : Some after ≡ Some both.after = to.1 ∙ both.after_is in
-            let same : both.after ≡ after = cc in
-            record {
-              path = both.next;
-              cut = cycle_step graph log reach steps at.path both.next (length log.events) reasons cut_here (closed_here reasons to.0) both.next_is;
-              are = subst (AreFramesOf graph log both.next) same both.are;
-            }
-      ]
-
-  ends : (step : Step) → GoesTo graph log reach frames step None → IsRefutation graph log reach (with_step steps log step)
-  ends (Split name) to = let both = to.2 in absurd (let no : None ≡ Some (frames ++ new_frame name to.0 ∷ []) = both in cc)
-  ends (Cycle reasons) to =
-      elim (both_go graph log at.path frames at.frames) [
-        | inl none ↦ last_cycle graph log reach steps at.path (length log.events) reasons cut_here (closed_here reasons to.0) none.0
-        | inr both ↦ absurd (let either : None ≡ Some both.after = to.1 ∙ both.after_is in cc)
-      ]
 
   broken : (step : Step) (cause : BadStep) → BreaksBy graph log reach frames step cause → IsFirstBroken graph log reach steps (judged_by log step) cause
   broken (Split name) cause breaks = inr (at.path, at.leaf, (breaks.0, count_here name None breaks.1))
@@ -220,8 +169,7 @@ module _ (graph : Tfpg) (log : Logbook) (ordered : IsOrdered log) (reach : List 
   pub answers_of : (step : Step) (result : Taken) (old new : Checking) → old.reach ≡ reach → old.path ≡ frames → Moves graph log old step result new → Answers graph log reach steps (judged_by log step) result
   answers_of step Open old new same_reach same_path moves =
       let to : GoesTo graph log reach frames step (Some new.path) = subst (λ (f : List Frame). GoesTo graph log reach f step (Some new.path)) same_path (subst (λ (r : List ℕ). GoesTo graph log r old.path step (Some new.path)) same_reach moves.0) in
-      let gone = goes step new.path to in
-      answers_open graph log reach steps (judged_by log step) gone.path gone.cut
+      answers_open graph log reach steps (judged_by log step) (goes step new.path to).leaf.partial
   answers_of step Closed old new same_reach same_path moves =
       let to : GoesTo graph log reach frames step None = subst (λ (f : List Frame). GoesTo graph log reach f step None) same_path (subst (λ (r : List ℕ). GoesTo graph log r old.path step None) same_reach moves.0) in
       answers_closed graph log reach steps (judged_by log step) (ends step to)
@@ -234,8 +182,7 @@ module _ (graph : Tfpg) (log : Logbook) (ordered : IsOrdered log) (reach : List 
       → Moves graph log old step result new → Represented graph log new.reach new.path (steps_after result steps log step) new.closed
   represents_of step Open old new same_reach same_path open_old kept moves =
       let to : GoesTo graph log reach frames step (Some new.path) = subst (λ (f : List Frame). GoesTo graph log reach f step (Some new.path)) same_path (subst (λ (r : List ℕ). GoesTo graph log r old.path step (Some new.path)) same_reach moves.0) in
-      let gone = goes step new.path to in
-      let leaf : IsAtLeaf graph log reach new.path (with_step steps log step) = record { path = gone.path; leaf = leaf_of_cut graph log reach (with_step steps log step) gone.path gone.cut; frames = gone.are } in
+      let leaf : IsAtLeaf graph log reach new.path (with_step steps log step) = goes step new.path to in
       subst (λ (r : List ℕ). Represented graph log r new.path (with_step steps log step) new.closed) (sym (kept ∙ same_reach))
       (subst (λ (b : Bool). Represented graph log reach new.path (with_step steps log step) b) (sym moves.1) leaf)
   represents_of step Closed old new same_reach same_path open_old kept moves =
@@ -253,12 +200,11 @@ module _ (graph : Tfpg) (log : Logbook) (ordered : IsOrdered log) (reach : List 
 pub represented_stays : (graph : Tfpg) (earlier later : Logbook) → IsOrdered later → GoesOn earlier later → (reach : List ℕ) (frames : List Frame) (steps : List Judged) (closed : Bool)
     → Represented graph earlier reach frames steps closed → Represented graph later reach frames steps closed
 represented_stays graph earlier later ordered goes_on reach frames steps true is = refutation_stays graph earlier later ordered goes_on reach steps is
-represented_stays graph earlier later ordered goes_on reach frames steps false is =
-    record { path = is.path; leaf = leaf_stays graph earlier later ordered goes_on reach steps is.path is.leaf; frames = frames_stay graph earlier later ordered goes_on is.path frames is.frames }
+represented_stays graph earlier later ordered goes_on reach frames steps false is = frames_remain graph earlier later reach frames steps ordered goes_on is
 
 -- A new checker represents no step.
 pub represents_none : (graph : Tfpg) (log : Logbook) (reach : List ℕ) → IsAtLeaf graph log reach [] []
-represents_none graph log reach = record { path = []; leaf = leaf_of_cut graph log reach [] [] (first_cut graph log reach); frames = tt }
+represents_none = frames_begin
 
 -- ---- what `take` ends with
 

@@ -1,6 +1,6 @@
 -- What contracts see of a checker.
 use Rattle.std.specs.Prelude.{ℕ, List, Bool}
-use Rattle.tfpg_kernel.specs.declared.frame.Frame.{Frame}
+use Rattle.tfpg_clause.specs.declared.path.Frame.{Frame}
 
 -- A checker: the nodes that the set reaches, the splits on the path to the present leaf from the root on, whether the tree is
 -- closed, and for how many more splits on the path there is room.

@@ -13,10 +13,8 @@
 mod chain;
 mod checker;
 mod cycle;
-mod frame;
-mod path;
 mod taken;
 
 pub use checker::Checker;
-pub use frame::Frame;
 pub use taken::{BadStep, Taken};
+pub use tfpg_clause::Frame;

@@ -13,7 +13,7 @@ use Rattle.tfpg_kernel.specs.declared.chain.Chain.{Chain}
 use Rattle.tfpg_kernel.specs.declared.taken.BadStep.{BadStep}
 use Rattle.tfpg_kernel.specs.Breaks.{fault_of, reasons_fault, CycleBreaks}
 use Rattle.tfpg_kernel.specs.inside.Chains.{chain_of, with_constraint, closing_fault}
-use Rattle.tfpg_kernel.specs.inside.Paths.{stated_by}
+use Rattle.tfpg_clause.specs.Paths.{stated_by}
 use Rattle.tfpg_kernel.proofs.Chained.{chain_push, closes, breaks, first_fault, each_more}
 use Rattle.tfpg_kernel.proofs.cycle.check_cycle.Goals as goal
 
@@ -56,7 +56,7 @@ returns-in_err-constraint c =
     let error = err_from_is_err_and c.from_residual.result c.from_residual.ensures.1 in
     let broken : CycleBreaks states c.args.reasons.now error.0 =
     at_fault states c.args.reasons.now c.loop-reason.reason-index (Zero 0) error.0 c.loop-reason.invariant.constraints c.loop-reason-test.true c.loop-reason.invariant.hold
-    (sym c.stated.ensures ∙ c.in_err-constraint.was ∙ ap (λ (bad : BadStep). Err bad) (sym error.2)) in
+    (sym c.stated_or_fault.ensures ∙ c.in_err-constraint.was ∙ ap (λ (bad : BadStep). Err bad) (sym error.2)) in
     rw error.1 broken
 
 pub loop-reason-preserved : goal.loop-reason-preserved
@@ -65,7 +65,7 @@ loop-reason-preserved c =
     let before = c.loop-reason.invariant in
     record {
       constraints = before.constraints ++ c.in_ok-constraint.constraint ∷ [];
-      hold = one_more states c.args.reasons.now c.loop-reason.reason-index (Zero 0) c.in_ok-constraint.constraint before.constraints c.loop-reason-test.true before.hold (sym c.stated.ensures ∙ c.in_ok-constraint.was);
+      hold = one_more states c.args.reasons.now c.loop-reason.reason-index (Zero 0) c.in_ok-constraint.constraint before.constraints c.loop-reason-test.true before.hold (sym c.stated_or_fault.ensures ∙ c.in_ok-constraint.was);
       chain = c.with-chain.ensures.chain ∙ ap (λ (chain : Chain). with_constraint chain c.in_ok-constraint.constraint) before.chain ∙ sym (chain_push before.constraints c.in_ok-constraint.constraint);
       small = c.with-chain.ensures.small c.loop-reason.reason-index before.small;
     }

@@ -1,7 +1,7 @@
 use Rattle.std.proofs.Common.{◌≡◌, ◌*◌, ◌^◌, take, List, map, Some}
 use Rattle.tfpg_base.specs.Choice.{each_of}
 use Rattle.tfpg_base.specs.declared.constraint.Constraint.{Constraint}
-use Rattle.tfpg_kernel.specs.inside.Paths.{stated_by}
+use Rattle.tfpg_clause.specs.Paths.{stated_by}
 use Rattle.tfpg_kernel.specs.inside.Chains.{IsWithin, chain_of}
 use Rattle.tfpg_kernel.proofs.cycle.check_cycle.Given as goal
 

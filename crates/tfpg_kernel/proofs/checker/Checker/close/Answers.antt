@@ -1,9 +1,9 @@
 use Rattle.std.proofs.Common.{List, ap, subst, refl, ◌∙◌}
 use Rattle.std.specs.Prelude.{ℕ}
 use Rattle.tfpg_kernel.specs.Checking.{Checking}
-use Rattle.tfpg_kernel.specs.declared.frame.Frame.{Frame}
+use Rattle.tfpg_clause.specs.declared.path.Frame.{Frame}
 use Rattle.tfpg_kernel.specs.Breaks.{CycleBreaks}
-use Rattle.tfpg_kernel.specs.inside.Paths.{stated_by}
+use Rattle.tfpg_clause.specs.Paths.{stated_by}
 use Rattle.tfpg_kernel.proofs.checker.Checker.close.Goals as goal
 
 pub returns-in-Err-clause-moves : goal.returns-in-Err-clause-moves

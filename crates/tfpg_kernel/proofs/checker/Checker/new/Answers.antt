@@ -1,8 +1,8 @@
 use Rattle.tfpg_kernel.proofs.Answering.{represents_none}
 use Rattle.tfpg_kernel.proofs.checker.Checker.new.Goals as goal
 use Rattle.std.proofs.Common.{subst, sym, List, []}
-use Rattle.tfpg_kernel.specs.declared.frame.Frame.{Frame}
-use Rattle.tfpg_kernel.specs.Represents.{IsAtLeaf}
+use Rattle.tfpg_clause.specs.declared.path.Frame.{Frame}
+use Rattle.tfpg_clause.specs.Paths.{IsAtLeaf}
 
 pub returns-clause-represents : goal.returns-clause-represents
 returns-clause-represents c = λ graph log.

@@ -2,7 +2,7 @@ use Rattle.std.proofs.Common.{ap, sym, ◌∙◌}
 use Rattle.tfpg_evidence.specs.declared.step.Step.TheVariants.{Split, Cycle}
 use Rattle.tfpg_kernel.specs.Checking.{Checking}
 use Rattle.tfpg_clause.proofs.NoTrace.{no_trace}
-use Rattle.tfpg_kernel.specs.Represents.{with_step}
+use Rattle.tfpg_clause.specs.Paths.{with_step}
 use Rattle.tfpg_kernel.proofs.Answering.{refused, still, answered, then_represents}
 use Rattle.tfpg_kernel.proofs.checker.Checker.take.Goals as goal
 

@@ -1,6 +1,6 @@
 use Rattle.std.proofs.Common.{◌≡◌, ◌≤◌, take, length}
-use Rattle.tfpg_kernel.specs.inside.Paths.{path_after}
-use Rattle.tfpg_kernel.proofs.path.unfinished.Given as goal
+use Rattle.tfpg_clause.specs.Paths.{path_after}
+use Rattle.tfpg_clause.proofs.path.unfinished.Given as goal
 
 abbrev pub invariant-loop-kept : goal.invariant-loop-kept
 invariant-loop-kept l = record { within : l.kept ≤ length l.path; same : path_after l.path ≡ path_after (take l.kept l.path) }

@@ -1,10 +1,11 @@
 use Rattle.std.proofs.Common.{◌≡◌, ℕ, zero, suc, ◌-◌, ◌<◌, ◌≤◌, length, take, get_or, List, [], ◌∷◌, Option, Some, ap, sym, subst, ◌∙◌, refl, arith}
 use Rattle.std.specs.Prelude.{slice_get, slice_set, IsSomeAnd}
 use Rattle.std.proofs.lemmas.Option.{slice_get-get_or}
-use Rattle.tfpg_kernel.specs.declared.frame.Frame.{Frame}
-use Rattle.tfpg_kernel.specs.inside.Paths.{path_after, IsUnfinished, HasNext, next_alternative}
-use Rattle.tfpg_kernel.proofs.FramePaths.{moved_on}
-use Rattle.tfpg_kernel.proofs.path.advance.Goals as goal
+use Rattle.tfpg_clause.specs.declared.path.Frame.{Frame}
+use Rattle.tfpg_clause.specs.Paths.{path_after, next_alternative}
+use Rattle.tfpg_clause.specs.inside.Frames.{IsUnfinished, HasNext}
+use Rattle.tfpg_clause.proofs.FramePaths.{moved_on}
+use Rattle.tfpg_clause.proofs.path.advance.Goals as goal
 
 get_take : (n i : ℕ) (path : List Frame) (d : Frame) → i < n → get_or (take n path) i d ≡ get_or path i d
 get_take zero i path d less = absurd (omega arith)

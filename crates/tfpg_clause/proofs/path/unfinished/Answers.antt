@@ -2,10 +2,11 @@ use Rattle.std.proofs.Common.{◌≡◌, ℕ, zero, suc, ◌-◌, ◌<◌, ◌�
 use Rattle.std.specs.Prelude.{IsSomeAnd}
 use Rattle.std.proofs.lemmas.Option.{slice_get-get_or}
 use Rattle.tfpg_evidence.specs.declared.clause_name.ClauseName.TheVariants.{OrMay}
-use Rattle.tfpg_kernel.specs.declared.frame.Frame.{Frame}
-use Rattle.tfpg_kernel.specs.inside.Paths.{path_after, IsUnfinished, HasNext}
-use Rattle.tfpg_kernel.proofs.FramePaths.{shorter}
-use Rattle.tfpg_kernel.proofs.path.unfinished.Goals as goal
+use Rattle.tfpg_clause.specs.declared.path.Frame.{Frame}
+use Rattle.tfpg_clause.specs.Paths.{path_after}
+use Rattle.tfpg_clause.specs.inside.Frames.{IsUnfinished, HasNext}
+use Rattle.tfpg_clause.proofs.FramePaths.{shorter}
+use Rattle.tfpg_clause.proofs.path.unfinished.Goals as goal
 
 -- what the code reads past the end
 abbrev none : Frame

@@ -1,5 +1,5 @@
--- The frames of a checker are those of the path of the present leaf.
-use Rattle.std.proofs.Common.{◌≡◌, ◌⊎◌, ℕ, zero, suc, ◌+◌, ◌<◌, ◌≤◌, List, [], ◌∷◌, ◌++◌, length, take, get_or, Bool, true, false, Option, Some, None, refl, sym, ap, ◌∙◌, inl, inr, arith}
+-- The frames that a program keeps are those of the path to the present leaf.
+use Rattle.std.proofs.Common.{◌≡◌, ◌⊎◌, ℕ, zero, suc, ◌+◌, ◌<◌, ◌≤◌, List, [], ◌∷◌, ◌++◌, length, take, get_or, Bool, true, false, Option, Some, None, refl, sym, ap, subst, ◌∙◌, inl, inr, arith}
 use Rattle.std.specs.Prelude.{nat_lt, slice_get, slice_set, option_map, option_and_then}
 use Rattle.std.specs.Option.{option_or}
 use Rattle.std.specs.Bool.{then_some}
@@ -15,11 +15,9 @@ use Rattle.tfpg_clause.specs.Facts.{fact}
 use Rattle.tfpg_clause.specs.Clauses.{alternatives, constraint_at}
 use Rattle.tfpg_clause.specs.Trees.{PathSplit, picked, stated}
 use Rattle.tfpg_clause.proofs.Kept.{clause_stays}
-use Rattle.tfpg_clause.proofs.LeafPaths.{advanced, is_more, count_at, leaf_closed}
 use Rattle.tfpg_clause.proofs.TreesKept.{count_stays, first_to_whole}
-use Rattle.tfpg_kernel.specs.declared.frame.Frame.{Frame}
-use Rattle.tfpg_kernel.specs.Represents.{IsFrameOf, AreFramesOf}
-use Rattle.tfpg_kernel.specs.inside.Paths.{framed, stated_by, next_alternative, path_after}
+use Rattle.tfpg_clause.specs.declared.path.Frame.{Frame}
+use Rattle.tfpg_clause.specs.Paths.{count_at, has_more, advanced, next_leaf, IsFrameOf, AreFramesOf, framed, stated_by, next_alternative, path_after}
 
 less_is : (a b : ℕ) → a < b → nat_lt a b ≡ true
 less_is a b less = grind (arith, nat_tests)
@@ -82,22 +80,22 @@ module _ (graph : Tfpg) (log : Logbook) where
   pub record BothGo (path : List PathSplit) (frames : List Frame) : Type 0 where
     pub next : List PathSplit
     pub after : List Frame
-    pub next_is : leaf_closed graph log path ≡ Some next
+    pub next_is : next_leaf graph log path ≡ Some next
     pub after_is : path_after frames ≡ Some after
     pub are : AreFramesOf graph log next after
 
   abbrev Going : List PathSplit → List Frame → Type 0
-  Going path frames = ((leaf_closed graph log path ≡ None) × (path_after frames ≡ None)) ⊎ BothGo path frames
+  Going path frames = ((next_leaf graph log path ≡ None) × (path_after frames ≡ None)) ⊎ BothGo path frames
 
   -- the deepest splits have none left
   this_one : (split : PathSplit) (path : List PathSplit) (frame : Frame) (frames : List Frame) → IsFrameOf graph log split frame
-      → leaf_closed graph log path ≡ None → path_after frames ≡ None → Going (split ∷ path) (frame ∷ frames)
+      → next_leaf graph log path ≡ None → path_after frames ≡ None → Going (split ∷ path) (frame ∷ frames)
   this_one split path frame frames same none_path none_frames = by (nat_lt frame.alternative frame.alternatives) refl
     where
-      path_is : leaf_closed graph log (split ∷ path) ≡ then_some (nat_lt frame.alternative frame.alternatives) (advanced split ∷ [])
+      path_is : next_leaf graph log (split ∷ path) ≡ then_some (nat_lt frame.alternative frame.alternatives) (advanced split ∷ [])
       path_is =
-          ap (λ (o : Option (List PathSplit)). option_or (option_map (λ (p : List PathSplit). split ∷ p) o) (then_some (is_more split.alternative (count_at graph log split)) (advanced split ∷ []))) none_path
-          ∙ ap (λ (c : Option ℕ). then_some (is_more split.alternative c) (advanced split ∷ [])) same.alternatives
+          ap (λ (o : Option (List PathSplit)). option_or (option_map (λ (p : List PathSplit). split ∷ p) o) (then_some (has_more split.alternative (count_at graph log split)) (advanced split ∷ []))) none_path
+          ∙ ap (λ (c : Option ℕ). then_some (has_more split.alternative c) (advanced split ∷ [])) same.alternatives
           ∙ ap (λ (n : ℕ). then_some (nat_lt n frame.alternatives) (advanced split ∷ [])) (sym same.alternative)
 
       frames_is : path_after (frame ∷ frames) ≡ then_some (nat_lt frame.alternative frame.alternatives) (next_alternative frame ∷ [])
@@ -123,10 +121,30 @@ module _ (graph : Tfpg) (log : Logbook) where
         | inr both ↦ inr (record {
           next = split ∷ both.next;
           after = frame ∷ both.after;
-          next_is = ap (λ (o : Option (List PathSplit)). option_or (option_map (λ (p : List PathSplit). split ∷ p) o) (then_some (is_more split.alternative (count_at graph log split)) (advanced split ∷ []))) both.next_is;
+          next_is = ap (λ (o : Option (List PathSplit)). option_or (option_map (λ (p : List PathSplit). split ∷ p) o) (then_some (has_more split.alternative (count_at graph log split)) (advanced split ∷ []))) both.next_is;
           after_is = ap (with_first frame) both.after_is;
           are = (are.0, both.are);
         })
+      ]
+
+  -- by the frames there is a next leaf, and so by the path
+  pub goes_too : (path : List PathSplit) (frames after : List Frame) → AreFramesOf graph log path frames → path_after frames ≡ Some after
+      → (next : List PathSplit) × (next_leaf graph log path ≡ Some next) × AreFramesOf graph log next after
+  goes_too path frames after are is =
+      elim (both_go path frames are) [
+        | inl none ↦ let both : None ≡ Some after = sym none.1 ∙ is in absurd cc
+        | inr both ↦
+            let either : Some both.after ≡ Some after = sym both.after_is ∙ is in
+            let same : both.after ≡ after = cc in
+            (both.next, both.next_is, subst (AreFramesOf graph log both.next) same both.are)
+      ]
+
+  -- by the frames there is none, and so by the path
+  pub ends_too : (path : List PathSplit) (frames : List Frame) → AreFramesOf graph log path frames → path_after frames ≡ None → next_leaf graph log path ≡ None
+  ends_too path frames are is =
+      elim (both_go path frames are) [
+        | inl none ↦ none.0
+        | inr both ↦ let either : None ≡ Some both.after = sym is ∙ both.after_is in absurd cc
       ]
 
   -- ---- what reasons state

@@ -1,0 +1,94 @@
+//! The path to the present leaf of a partial tree, as a program keeps it.
+
+ghost use Rattle.std.specs.Prelude.{◌≡◌, ◌≤◌, ◌<◌, ◌-◌, take, length, vec_len, vec_capacity, slice_get, Some, None};
+ghost use Rattle.std.specs.Bool.{MatchBool};
+ghost use Rattle.tfpg_log.specs.Log.{IsOf};
+ghost use Rattle.tfpg_clause.specs.Paths.{path_after, framed, stated_by};
+ghost use Rattle.tfpg_clause.specs.inside.Frames.{HasNext};
+
+use crate::clauses::constraint;
+use crate::facts::fact;
+use tfpg_base::Constraint;
+use tfpg_evidence::{ClauseName, Reason};
+use tfpg_graph::{Graph, NodeSet};
+use tfpg_log::Log;
+
+/// A split on the path, with the number of the alternative in whose subtree the present leaf stands, counted from 1, and
+/// how many alternatives there are.
+#[derive(Clone, Copy, Debug, PartialEq, Eq, Drop)]
+pub struct Frame {
+    pub name: ClauseName,
+    pub alternative: u32,
+    pub alternatives: u32,
+}
+
+/// Moves the path to the next alternative of the deepest split that has one left, and returns whether there is one. Where
+/// none has, the tree is finished. Takes no memory, and goes through the splits that it drops.
+pub fn advance(path: &mut Vec<Frame>) -> bool
+    ensures moved { MatchBool result (path_after path.old.items ≡ Some path.new.items) (path_after path.old.items ≡ None) }
+    ensures shorter { vec_len path.new ≤ vec_len path.old }
+    ensures capacity { vec_capacity path.new ≡ vec_capacity path.old }
+{
+    let kept = unfinished(path);
+    path.truncate(kept);
+    if kept == 0 {
+        return false;
+    }
+    let deepest = &mut path[kept - 1];
+    // It is read so that the proof knows that it fits.
+    let _alternatives = deepest.alternatives;
+    deepest.alternative += 1;
+    true
+}
+
+/// How many splits there are up to the deepest that has an alternative left.
+fn unfinished(path: &[Frame]) -> usize
+    ensures within { result ≤ length path.now }
+    ensures same { path_after path.now ≡ path_after (take result path.now) }
+    ensures left { HasNext path.now result }
+{
+    let mut kept = path.len();
+    while kept > 0 && path[kept - 1].alternative >= path[kept - 1].alternatives {
+        kept -= 1;
+    }
+    kept
+}
+
+/// The constraint that the reason states at the leaf of this path, where it states one: a fact of the log and of a set that
+/// reaches these nodes, or a constraint of an alternative on the path. The cost is that of [`fact`] or [`constraint`].
+pub fn stated(
+    graph: &Graph,
+    log: &Log,
+    reach: &NodeSet,
+    path: &[Frame],
+    reason: Reason,
+) -> Option<Constraint>
+    requires of { IsOf graph.now log.now }
+    ensures { result ≡ stated_by graph.now log.now reach.now path.now reason }
+{
+    match reason {
+        Reason::Pick { split, place } => picked(graph, log, path, split, place),
+        _ => fact(graph, log, reach, reason).ok(),
+    }
+}
+
+/// The constraint in this place of the alternative taken at this split of the path, both counted from 1, where there is one.
+/// The cost is that of [`constraint`].
+pub fn picked(
+    graph: &Graph,
+    log: &Log,
+    path: &[Frame],
+    split: u64,
+    place: u32,
+) -> Option<Constraint>
+    ensures { result ≡ framed graph.now log.now path.now split place }
+{
+    if split == 0 {
+        return None;
+    }
+    let frame = path.get((split - 1) as usize).copied()?;
+    match constraint(graph, log, frame.name, frame.alternative, place) {
+        Ok(found) => found,
+        Err(_) => None,
+    }
+}
