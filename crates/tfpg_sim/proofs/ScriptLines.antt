@@ -18,7 +18,7 @@ use Rattle.tfpg_sim.specs.inside.Entries.{IsEntryOf, IsScript}
 use Rattle.tfpg_sim.proofs.FilteredItems.{from_and_then, from_map}
 
 -- what a value that was tested is
-from_test : {X : Type 0} (b : Bool) (x y : X) → then_some b x ≡ Some y → (b ≡ true) × (x ≡ y)
+pub from_test : {X : Type 0} (b : Bool) (x y : X) → then_some b x ≡ Some y → (b ≡ true) × (x ≡ y)
 from_test true x y is = (refl, let same : x ≡ y = cc in same)
 from_test false x y is = absurd (let none : None ≡ Some y = is in cc)
 

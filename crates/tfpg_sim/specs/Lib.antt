@@ -4,6 +4,7 @@ pub mod ScriptAnswers
 pub mod Draws
 pub mod Simulation
 pub mod SimulatedLog
+pub mod AcceptedLog
 pub mod Simulated
 -- What the code and its proofs need besides. No public clause reaches it.
 pub mod inside

@@ -4,8 +4,14 @@ ghost use Rattle.std.specs.Prelude.{ℕ, ◌≤◌, ◌<◌, List, length};
 ghost use Rattle.tfpg_base.specs.declared.activation.Activation.{Activation};
 ghost use Rattle.tfpg_graph.specs.Graph.{Tfpg};
 ghost use Rattle.tfpg_graph.specs.Valid.{IsValid};
+ghost use Rattle.tfpg_base.specs.Lines.{lines_of};
+ghost use Rattle.tfpg_log.specs.Explains.{Explains};
+ghost use Rattle.tfpg_log.specs.LogOfLines.{log_of_lines};
 ghost use Rattle.tfpg_log.specs.Rules.{KeepsMay, KeepsMust};
 ghost use Rattle.tfpg_sim.specs.declared.entry.Entry.{Entry};
+ghost use Rattle.tfpg_sim.specs.declared.simulated.Simulated.{Simulated};
+ghost use Rattle.tfpg_sim.specs.AcceptedLog.{AreAccepted};
+ghost use Rattle.tfpg_sim.specs.Simulated.{IsSimulationOf};
 ghost use Rattle.tfpg_sim.specs.Script.{time_so_far};
 ghost use Rattle.tfpg_sim.specs.Draws.{delays};
 ghost use Rattle.tfpg_sim.specs.Simulation.{IsSimulated, script_log};
@@ -17,4 +23,14 @@ pub fn a_simulated_trace_keeps_the_rules()
         IsSimulated graph entries (delays graph number) trace →
         (node instant : ℕ) → node < length graph.nodes → instant ≤ time_so_far entries →
         KeepsMay graph (script_log entries) trace node instant × KeepsMust graph (script_log entries) trace node instant }
+{}
+
+/// The lines of a simulated log are all accepted, in their order, and the simulated trace explains their log from the
+/// simulated set.
+pub fn a_simulated_log_is_accepted_and_explained()
+    ensures accepted { (graph : Tfpg) (script : List ℕ) (number : ℕ) (simulated : Simulated) → IsValid graph →
+        IsSimulationOf graph script number simulated → AreAccepted graph (lines_of simulated.log) }
+    ensures explained { (graph : Tfpg) (script : List ℕ) (number : ℕ) (simulated : Simulated) → IsValid graph →
+        IsSimulationOf graph script number simulated →
+        Explains graph (log_of_lines graph (lines_of simulated.log)) simulated.set simulated.trace }
 {}

@@ -3,6 +3,8 @@
 //! - [`simulate`] makes the log of a script: the failure modes that it starts, and what they bring about.
 //! - [`Simulated`] is the set of these failure modes, the trace and the log.
 //! - [`a_simulated_trace_keeps_the_rules`] is a law: the trace keeps the propagation rules that explain a log.
+//! - [`a_simulated_log_is_accepted_and_explained`] is another: each line of the log is accepted, and the trace explains the
+//!   log from the set.
 //! - [`SimFault`] says why there is none.
 #![tactic(auto)]
 
@@ -24,6 +26,6 @@ mod started_set;
 mod trace;
 
 pub use fault::SimFault;
-pub use laws::a_simulated_trace_keeps_the_rules;
+pub use laws::{a_simulated_log_is_accepted_and_explained, a_simulated_trace_keeps_the_rules};
 pub use simulated::Simulated;
 pub use simulation::simulate;
