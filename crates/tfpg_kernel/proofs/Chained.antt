@@ -3,13 +3,12 @@ use Rattle.std.proofs.Common.{◌≡◌, ℕ, ◌+◌, ◌*◌, ◌^◌, ◌<◌
 use Rattle.std.specs.Prelude.{ℤ, pos, negsuc, ◌+ℤ◌, ◌<ℤ◌, ◌≤ℤ◌, neg_ℤ, fold, map, is_none, option_map, ◌&&◌, ◌==◌}
 use Rattle.std.specs.Bool.{then_some}
 use Rattle.std.proofs.lemmas.Int.{ints}
+use Rattle.std.proofs.lemmas.List.{map-append}
 use Rattle.std.proofs.lemmas.Bool.Decides.{nat_tests}
 use Rattle.tfpg_base.specs.Choice.{first_of, each_of}
 use Rattle.tfpg_base.specs.declared.constraint.Constraint.{Constraint}
 use Rattle.tfpg_evidence.specs.declared.reason.Reason.{Reason}
 use Rattle.tfpg_base.specs.ConstraintCycle.{IsChainTo, IsCycle, sum_of}
-use Rattle.tfpg_clause.proofs.EachOf.{each_push}
-use Rattle.tfpg_clause.proofs.ListCuts.{map_both}
 use Rattle.tfpg_kernel.specs.declared.chain.Chain.{Chain}
 use Rattle.tfpg_kernel.specs.declared.taken.BadStep.{BadStep}
 use Rattle.tfpg_kernel.specs.declared.taken.BadStep.TheVariants.{Unchained, NotNegative}
@@ -141,7 +140,21 @@ first_fault stated (r ∷ front) reason rest constraints hold none = by (λ cs k
     by next (Some c) is (Some cs) are whole =
         ap (λ (o : Option Constraint). first_of (then_some (is_none o) (fault_of r) ∷ map (λ (x : Reason). then_some (is_none (stated x)) (fault_of x)) (front ++ reason ∷ rest))) is ∙ next cs are
 
+-- one more value that is there
+each_push : {X : Type 0} (options : List (Option X)) (xs : List X) (x : X) → each_of options ≡ Some xs → each_of (options ++ Some x ∷ []) ≡ Some (xs ++ x ∷ [])
+each_push [] [] x at = refl
+each_push [] (y ∷ ys) x at = absurd cc
+each_push (None ∷ options) xs x at = absurd cc
+each_push (Some y ∷ options) xs x at = by (λ ys are. each_push options ys x are) (each_of options) refl at
+  where
+    by : ((ys : List _) → each_of options ≡ Some ys → each_of (options ++ Some x ∷ []) ≡ Some (ys ++ x ∷ []))
+        → (others : Option (List _)) → each_of options ≡ others → option_map (λ (ys : List _). y ∷ ys) others ≡ Some xs → each_of (Some y ∷ (options ++ Some x ∷ [])) ≡ Some (xs ++ x ∷ [])
+    by rest None are whole = absurd cc
+    by rest (Some ys) are whole =
+        let same : y ∷ ys ≡ xs = cc in
+        ap (option_map (λ (zs : List _). y ∷ zs)) (rest ys are) ∙ ap (λ (zs : List _). Some (zs ++ x ∷ [])) same
+
 pub each_more : (stated : Reason → Option Constraint) (front : List Reason) (reason : Reason) (constraints : List Constraint) (c : Constraint)
     → each_of (map stated front) ≡ Some constraints → stated reason ≡ Some c → each_of (map stated (front ++ reason ∷ [])) ≡ Some (constraints ++ c ∷ [])
 each_more stated front reason constraints c hold is =
-    ap each_of (map_both stated front (reason ∷ [])) ∙ ap (λ (o : Option Constraint). each_of (map stated front ++ o ∷ [])) is ∙ each_push (map stated front) constraints c hold
+    ap each_of (map-append stated front (reason ∷ [])) ∙ ap (λ (o : Option Constraint). each_of (map stated front ++ o ∷ [])) is ∙ each_push (map stated front) constraints c hold

@@ -12,13 +12,16 @@ ghost use Rattle.tfpg_kernel.specs.declared.taken.BadStep.{BadStep};
 ghost use Rattle.tfpg_kernel.specs.Breaks.{IsFirstBroken};
 ghost use Rattle.tfpg_clause.specs.Paths.{judged_by, with_step};
 ghost use Rattle.tfpg_kernel.specs.Represents.{CheckerRepresents, steps_after};
+ghost use Rattle.tfpg_kernel.specs.inside.Answers.{IsAnswer};
 ghost use Rattle.tfpg_kernel.specs.inside.Paths.{Moves};
 
+use crate::answers::moves_are_answers;
 use crate::cycle::check_cycle;
 use crate::taken::{BadStep, Taken};
 use std::alloc::Global;
 use std::marker::Model;
 use tfpg_base::NoMemory;
+use tfpg_clause::laws::{a_refutation_leaves_no_trace, frames_are_at_the_present_leaf};
 use tfpg_clause::{Frame, advance, count};
 use tfpg_evidence::{ClauseName, Reason, Step};
 use tfpg_graph::{Graph, NodeSet};
@@ -53,6 +56,8 @@ impl Checker {
         ensures represents { (graph : Tfpg) (log : Logbook) → CheckerRepresents graph log result [] }
         ensures reach { result.reach ≡ reach }
     {
+        // A law: no frame is at the present leaf where there is no step.
+        frames_are_at_the_present_leaf();
         Checker {
             reach,
             path: Vec::new(alloc),
@@ -102,7 +107,24 @@ impl Checker {
         ensures spare { self.old.spare ≤ self.new.spare + 1 }
     {
         let _valid = graph.node_count();
+        // A law: what a closed tree is worth.
+        a_refutation_leaves_no_trace();
+        self.answer(graph, log, step)
+    }
+
+    /// Takes the step, or returns the first condition that it breaks.
+    fn answer(&mut self, graph: &Graph, log: &Log, step: &Step) -> Taken
+        requires of { IsOf graph.now log.now }
+        requires spare { 1 ≤ self.old.spare }
+        ensures answer { (earlier : Logbook) (steps : List Judged) → GoesOn earlier log.now →
+            CheckerRepresents graph.now earlier self.old steps →
+            IsAnswer graph.now log.now self.old.reach steps step.now result self.new }
+        ensures unchanged { (bad : BadStep) → result ≡ Bad bad → self.new ≡ self.old }
+        ensures reach { self.new.reach ≡ self.old.reach }
+        ensures spare { self.old.spare ≤ self.new.spare + 1 }
+    {
         let _ordered = log.len();
+        moves_are_answers();
         if self.closed {
             return Taken::Bad(BadStep::AfterClosed);
         }

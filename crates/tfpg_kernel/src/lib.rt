@@ -1,7 +1,7 @@
 //! The checker of refutations.
 //!
 //! It stands apart from all that finds evidence, and is small, so that a reviewer can read it whole: what it calls of other
-//! crates is `count`, `constraint` and `fact`.
+//! crates is `count`, `stated` and `advance`, and laws, which do nothing.
 //!
 //! - [`Checker`] takes the steps of a refutation one by one. It keeps the path to the present leaf and no step.
 //! - [`Taken`] is its answer: the tree is open, the tree is closed, or the step is bad, with the first cause, [`BadStep`].
@@ -10,6 +10,7 @@
 //! What a closed tree is worth is a clause of [`Checker::take`]: no trace explains the log, nor one that goes on from it.
 #![tactic(auto)]
 
+mod answers;
 mod chain;
 mod checker;
 mod cycle;

@@ -1,0 +1,82 @@
+-- A step breaks one condition first, and none where it is right.
+use Rattle.std.proofs.Common.{◌≡◌, ℕ, List, [], ◌∷◌, Option, Some, None, refl, sym, ap, subst, ◌∙◌, inl, inr, arith}
+use Rattle.std.specs.Prelude.{map, option_map, is_none, pos, ◌<ℤ◌}
+use Rattle.std.specs.Bool.{then_some}
+use Rattle.std.proofs.lemmas.Int.{ints}
+use Rattle.tfpg_base.specs.Choice.{first_of, each_of}
+use Rattle.tfpg_base.specs.declared.constraint.Constraint.{Constraint}
+use Rattle.tfpg_base.specs.ConstraintCycle.{IsCycle, sum_of}
+use Rattle.tfpg_graph.specs.Graph.{Tfpg}
+use Rattle.tfpg_log.specs.Log.{Logbook}
+use Rattle.tfpg_evidence.specs.declared.reason.Reason.{Reason}
+use Rattle.tfpg_evidence.specs.declared.step.Step.{Step}
+use Rattle.tfpg_evidence.specs.declared.step.Step.TheVariants.{Split, Cycle}
+use Rattle.tfpg_clause.specs.Trees.{PathSplit, stated, IsRightStep}
+use Rattle.tfpg_kernel.specs.declared.taken.BadStep.{BadStep}
+use Rattle.tfpg_kernel.specs.declared.taken.BadStep.TheVariants.{AfterClosed, NotAClause, NotAFact, NotOnPath, Unchained, NotNegative}
+use Rattle.tfpg_kernel.specs.Breaks.{fault_of, reasons_fault, ClosingBreaks, CycleBreaks, BreaksAt}
+
+closing_unique : (constraints : List Constraint) (one other : BadStep) → ClosingBreaks constraints one → ClosingBreaks constraints other → one ≡ other
+closing_unique constraints Unchained Unchained a b = refl
+closing_unique constraints Unchained NotNegative a b = absurd (a b.0)
+closing_unique constraints NotNegative Unchained a b = absurd (b a.0)
+closing_unique constraints NotNegative NotNegative a b = refl
+closing_unique constraints Unchained AfterClosed a b = absurd b
+closing_unique constraints Unchained NotAClause a b = absurd b
+closing_unique constraints Unchained NotAFact a b = absurd b
+closing_unique constraints Unchained NotOnPath a b = absurd b
+closing_unique constraints NotNegative AfterClosed a b = absurd b
+closing_unique constraints NotNegative NotAClause a b = absurd b
+closing_unique constraints NotNegative NotAFact a b = absurd b
+closing_unique constraints NotNegative NotOnPath a b = absurd b
+closing_unique constraints AfterClosed other a b = absurd a
+closing_unique constraints NotAClause other a b = absurd a
+closing_unique constraints NotAFact other a b = absurd a
+closing_unique constraints NotOnPath other a b = absurd a
+
+closing_wrong : (constraints : List Constraint) (bad : BadStep) → ClosingBreaks constraints bad → IsCycle constraints → sum_of constraints <ℤ pos 0 → ⊥
+closing_wrong constraints Unchained breaks cycle negative = breaks cycle
+closing_wrong constraints NotNegative breaks cycle negative = let not = breaks.1 in omega (arith, ints)
+closing_wrong constraints AfterClosed breaks cycle negative = breaks
+closing_wrong constraints NotAClause breaks cycle negative = breaks
+closing_wrong constraints NotAFact breaks cycle negative = breaks
+closing_wrong constraints NotOnPath breaks cycle negative = breaks
+
+-- where each reason states a constraint, none is at fault
+no_fault : (states : Reason → Option Constraint) (reasons : List Reason) (constraints : List Constraint) → each_of (map states reasons) ≡ Some constraints → reasons_fault states reasons ≡ None
+no_fault states [] constraints hold = refl
+no_fault states (r ∷ reasons) constraints hold = by (λ cs kept. no_fault states reasons cs kept) (states r) refl (each_of (map states reasons)) refl hold
+  where
+    by : ((cs : List Constraint) → each_of (map states reasons) ≡ Some cs → reasons_fault states reasons ≡ None)
+        → (one : Option Constraint) → states r ≡ one → (others : Option (List Constraint)) → each_of (map states reasons) ≡ others → each_of (one ∷ map states reasons) ≡ Some constraints
+        → reasons_fault states (r ∷ reasons) ≡ None
+    by next None is others are whole = cc
+    by next (Some c) is None are whole = let none_at : option_map (λ (xs : List Constraint). c ∷ xs) None ≡ Some constraints = ap (option_map (λ (xs : List Constraint). c ∷ xs)) (sym are) ∙ whole in cc
+    by next (Some c) is (Some cs) are whole =
+        ap (λ (o : Option Constraint). first_of (then_some (is_none o) (fault_of r) ∷ map (λ (x : Reason). then_some (is_none (states x)) (fault_of x)) reasons)) is ∙ next cs are
+
+cycle_unique : (states : Reason → Option Constraint) (reasons : List Reason) (one other : BadStep) → CycleBreaks states reasons one → CycleBreaks states reasons other → one ≡ other
+cycle_unique states reasons one other (inl a) (inl b) = cc
+cycle_unique states reasons one other (inl a) (inr b) = let none = no_fault states reasons b.0 b.1 in cc
+cycle_unique states reasons one other (inr a) (inl b) = let none = no_fault states reasons a.0 a.1 in cc
+cycle_unique states reasons one other (inr a) (inr b) =
+    let both : Some a.0 ≡ Some b.0 = sym a.1 ∙ b.1 in
+    let same : a.0 ≡ b.0 = cc in
+    closing_unique b.0 one other (subst (λ (cs : List Constraint). ClosingBreaks cs one) same a.2) b.2
+
+cycle_wrong : (states : Reason → Option Constraint) (reasons : List Reason) (bad : BadStep) → CycleBreaks states reasons bad
+    → (constraints : List Constraint) → each_of (map states reasons) ≡ Some constraints → IsCycle constraints → sum_of constraints <ℤ pos 0 → ⊥
+cycle_wrong states reasons bad (inl a) constraints hold cycle negative = let none = no_fault states reasons constraints hold in cc
+cycle_wrong states reasons bad (inr a) constraints hold cycle negative =
+    let both : Some a.0 ≡ Some constraints = sym a.1 ∙ hold in
+    let same : a.0 ≡ constraints = cc in
+    closing_wrong constraints bad (subst (λ (cs : List Constraint). ClosingBreaks cs bad) same a.2) cycle negative
+
+module _ (graph : Tfpg) (log : Logbook) (reach : List ℕ) where
+  pub breaks_unique : (path : List PathSplit) (seen : ℕ) (step : Step) (one other : BadStep) → BreaksAt graph log reach path seen step one → BreaksAt graph log reach path seen step other → one ≡ other
+  breaks_unique path seen (Split name) one other a b = a.0 ∙ sym b.0
+  breaks_unique path seen (Cycle reasons) one other a b = cycle_unique (stated graph log reach path seen) reasons one other a b
+
+  pub breaks_wrong : (path : List PathSplit) (seen subtrees : ℕ) (step : Step) (bad : BadStep) → BreaksAt graph log reach path seen step bad → IsRightStep graph log reach path seen subtrees step → ⊥
+  breaks_wrong path seen subtrees (Split name) bad breaks right = let both : None ≡ Some subtrees = sym breaks.1 ∙ right in cc
+  breaks_wrong path seen subtrees (Cycle reasons) bad breaks right = cycle_wrong (stated graph log reach path seen) reasons bad breaks right.constraints right.hold right.cycle right.negative
