@@ -21,14 +21,14 @@ use Rattle.tfpg_clause.proofs.Agreed.{of_cut}
 use Rattle.tfpg_clause.proofs.RulesMet.{may_holds, must_holds, kind_within, clause_is_met, rules_are_kept}
 
 -- the kind of a name
-kind_of : ClauseName → ClauseKind
+pub kind_of : ClauseName → ClauseKind
 kind_of (OrMay node span horizon) = kind.OrMay
 kind_of (AndMay edge span horizon) = kind.AndMay
 kind_of (OrMust edge span horizon) = kind.OrMust
 kind_of (AndMust node span horizon) = kind.AndMust
 
 -- Each name is that of its kind, its node or edge, its span and its horizon,
-name_is : (name : ClauseName) → named (kind_of name) (subject_of name) (span_of name) (horizon_of name) ≡ name
+pub name_is : (name : ClauseName) → named (kind_of name) (subject_of name) (span_of name) (horizon_of name) ≡ name
 unfolding kind_of
 name_is (OrMay node span horizon) = refl
 name_is (AndMay edge span horizon) = refl
@@ -36,7 +36,7 @@ name_is (OrMust edge span horizon) = refl
 name_is (AndMust node span horizon) = refl
 
 -- and has the rank of its kind.
-rank_is : (name : ClauseName) → rank_of name ≡ place_of (kind_of name)
+pub rank_is : (name : ClauseName) → rank_of name ≡ place_of (kind_of name)
 unfolding kind_of
 rank_is (OrMay node span horizon) = refl
 rank_is (AndMay edge span horizon) = refl
@@ -44,7 +44,7 @@ rank_is (OrMust edge span horizon) = refl
 rank_is (AndMust node span horizon) = refl
 
 -- kinds of one place are the same
-same_kind : (one other : ClauseKind) → place_of one ≡ place_of other → one ≡ other
+pub same_kind : (one other : ClauseKind) → place_of one ≡ place_of other → one ≡ other
 same_kind kind.OrMay kind.OrMay is = refl
 same_kind kind.OrMay kind.AndMay is = absurd (omega arith)
 same_kind kind.OrMay kind.OrMust is = absurd (omega arith)
