@@ -5,7 +5,7 @@ use Rattle.std.proofs.lemmas.Option.{same_Some, none-some}
 use Rattle.std.proofs.lemmas.List.Elements.{All-head, All-tail, Contains-push_cases}
 use Rattle.tfpg_base.specs.declared.constraint.Constraint.{Constraint}
 use Rattle.tfpg_base.specs.Choice.{each_of}
-use Rattle.tfpg_base.proofs.lists.Elements.{Contains-nil}
+use Rattle.tfpg_base.proofs.lists.Elements.{Contains-nil, Contains-take}
 use Rattle.tfpg_diff.specs.declared.why.Why.{Why}
 use Rattle.tfpg_diff.specs.declared.why.Why.TheVariants.{Floor, Ceiling, Given}
 use Rattle.tfpg_diff.specs.declared.bounds.Bounds.{Bounds}
@@ -14,7 +14,6 @@ use Rattle.tfpg_diff.specs.declared.demand.Demand.{Demand}
 use Rattle.tfpg_diff.specs.Demands.{Demands, Bounded, ceiling_of, floor_of, picked}
 use Rattle.tfpg_diff.specs.Cycle.{constraints_of, IsNegativeCycle, NamesNegativeCycle}
 use Rattle.tfpg_diff.specs.Named.{AreDemandsNamed, IsCycleOf}
-use Rattle.tfpg_diff.proofs.Lists.{Contains-take}
 use Rattle.tfpg_diff.proofs.Fresh.{widest_from}
 use Rattle.tfpg_base.specs.Times.{never}
 use Rattle.tfpg_diff.specs.State.{widest, unbounded_from, raised, lowered, changed_at, with_floor, with_ceiling, with_pick, popped_to}

@@ -4,7 +4,7 @@ use Rattle.std.specs.List.{find, AllByRecursion}
 use Rattle.std.specs.Option.{option_map}
 use Rattle.std.proofs.lemmas.List.Elements.{All-from_recursion}
 use Rattle.tfpg_graph.specs.Graph.{numbers_from}
-use Rattle.tfpg_graph.proofs.Positions.{position-cons}
+use Rattle.tfpg_base.proofs.lists.Positions.{position-cons}
 
 module _ {X : Type 0} (p : X → Bool) where
   -- one more item that passes has the next number

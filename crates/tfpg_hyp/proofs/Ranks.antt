@@ -13,12 +13,12 @@ use Rattle.tfpg_graph.specs.declared.kind.Kind.TheVariants.{Failure}
 use Rattle.tfpg_graph.specs.Graph.{Tfpg, Node, failures, failure_at, is_failure, is_monitored, kind_at, lag_of}
 use Rattle.tfpg_graph.specs.Valid.{IsValid, HasValidNumber}
 use Rattle.tfpg_graph.proofs.Numbered.{All-below-numbers_from}
-use Rattle.tfpg_graph.proofs.AtNumbers.{All-at}
+use Rattle.tfpg_base.proofs.lists.Elements.{All-at}
 use Rattle.tfpg_log.specs.Log.{Logbook, alarm_of}
 use Rattle.tfpg_base.specs.Set.{IsSet}
 use Rattle.tfpg_hyp.specs.declared.place.Fraction.{Fraction}
 use Rattle.tfpg_hyp.specs.Ranking.{rarity_at, cost_of, robustness_of, monitored_in, alarmed_in}
-use Rattle.tfpg_hyp.proofs.Below.{below, below-zero, below-member, below-absent, below-all}
+use Rattle.tfpg_base.proofs.lists.Below.{below, below-zero, below-member, below-absent, below-all}
 
 -- ---- failure modes
 

@@ -14,10 +14,10 @@ use Rattle.tfpg_base.specs.Lines.{with_line_end, longest_line, HasNoLineEnd}
 use Rattle.tfpg_base.specs.Times.{max_time}
 use Rattle.tfpg_base.specs.Words.{line_of, is_letter, is_name, is_name_byte, is_number}
 use Rattle.tfpg_base.proofs.Numbers.{is_number-decimal}
-use Rattle.tfpg_base.proofs.Separators.{Lacks, name_lacks, decimal_lacks}
+use Rattle.tfpg_base.proofs.Separators.{Lacks, name_lacks, decimal_lacks, slice_split-join}
 use Rattle.tfpg_graph.specs.Graph.{Tfpg, node_named, mode_named, is_monitored}
 use Rattle.tfpg_graph.specs.Valid.{IsValid}
-use Rattle.tfpg_graph.proofs.lemmas.reading.LinesSay.{IsWord, IsWord-name, slice_split-join}
+use Rattle.tfpg_graph.proofs.lemmas.reading.LinesSay.{IsWord, IsWord-name}
 use Rattle.tfpg_graph.proofs.lemmas.reading.SpelledEdges.{is_name-name_of, node_named-name_of}
 use Rattle.tfpg_graph.proofs.lemmas.reading.SpelledValues.{position-named}
 use Rattle.tfpg_log.specs.declared.event.Event.{Event}

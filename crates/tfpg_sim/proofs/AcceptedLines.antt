@@ -6,7 +6,7 @@ use Rattle.std.proofs.lemmas.Bool.{ne_eqb, cond-false}
 use Rattle.std.proofs.lemmas.List.Elements.{All-head, All-tail, All-contains, All-cons, All-nil, Contains-append_right}
 use Rattle.std.proofs.lemmas.List.Sums.{sum_by-append, sum_by-cons}
 use Rattle.tfpg_base.proofs.lists.Elements.{Contains-head}
-use Rattle.tfpg_base.proofs.LinesOf.{lines_of-behind}
+use Rattle.tfpg_base.proofs.LinesOf.{lines_of-after as lines_of-behind}
 use Rattle.tfpg_base.specs.declared.activation.Activation.{Activation}
 use Rattle.tfpg_base.specs.Lines.{lines_of, with_line_end, HasNoLineEnd}
 use Rattle.tfpg_graph.specs.Graph.{Tfpg}

@@ -1,4 +1,3 @@
-pub mod Lines
 pub mod StatementLines
 pub mod Names
 pub mod WithoutCause

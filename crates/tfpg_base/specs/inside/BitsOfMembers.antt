@@ -1,24 +1,12 @@
--- How 64 bits keep a set, and that the bits can be had back from its members.
-use Rattle.std.specs.Prelude.{◌≡◌, ℕ, zero, suc, ◌+◌, ◌*◌, ◌%◌, ◌<◌, ◌^◌, List, [], ◌∷◌, ◌++◌, ◌==◌, if◌then◌else◌, sum_by}
+-- The bits that keep a set can be had back from its members.
+use Rattle.std.specs.Prelude.{◌≡◌, ℕ, zero, suc, ◌+◌, ◌*◌, ◌%◌, ◌<◌, ◌^◌, [], ◌∷◌, ◌==◌, if◌then◌else◌}
 use Rattle.std.specs.Int.{bit_at}
 use Rattle.std.proofs.Common.{sym, ap, ◌∙◌, zero-add, add-one}
 use Rattle.std.proofs.Math.Nat.{add_comm, zero-mul, one-mul, mod-one, mod-eq_of_lt, not-suc-le-zero, le_of_suc-le-suc}
 use Rattle.std.proofs.Math.Pow.{mod-pow-add}
 use Rattle.std.proofs.lemmas.List.Sums.{sum_by-append}
 use Rattle.std.proofs.lemmas.Nat.Bits.{bit_at-lt}
-
--- the places of the ones among the lowest bits, rising
-unfoldable pub ones_below : ℕ → ℕ → List ℕ
-ones_below zero bits = []
-ones_below (suc count) bits = ones_below count bits ++ (if bit_at bits count == 1 then count ∷ [] else [])
-
--- the members of the set that 64 bits keep
-unfoldable pub members_of : ℕ → List ℕ
-members_of bits = ones_below 64 bits
-
--- the number of which these are the places of the ones
-abbrev pub bits_of : List ℕ → ℕ
-bits_of members = sum_by (λ place. 2 ^ place) members
+use Rattle.tfpg_base.specs.SetBits.{ones_below, members_of, bits_of}
 
 -- one bit is worth the power of two of its place
 bits_of-one : (bit place : ℕ) → bit < 2 → bits_of (if bit == 1 then place ∷ [] else []) ≡ bit * 2 ^ place

@@ -1,14 +1,9 @@
 -- The first place at which a test passes.
-use Rattle.std.proofs.Common.{◌≡◌, ◌≢◌, ℕ, suc, ◌+◌, ◌<◌, Bool, true, false, cond, not, nat_lt, List, [], ◌∷◌, ◌++◌, length, map, get_or, set, slice_get, Option, Some, None, position, All, refl, ap, sym, ◌∙◌, arith}
+use Rattle.std.proofs.Common.{◌≡◌, ℕ, zero, suc, ◌+◌, ◌<◌, Bool, true, false, cond, not, nat_lt, List, [], ◌∷◌, ◌++◌, length, map, get_or, Option, Some, None, position, All, refl, ap, sym, ◌∙◌, arith}
 use Rattle.std.specs.List.{position_or_len, AllByRecursion}
 use Rattle.std.specs.Option.{option_map}
-use Rattle.std.specs.Str.{bytes_eq}
-use Rattle.std.specs.Cmp.Lexicographic.{nat_list_eq_equiv}
-use Rattle.std.proofs.lemmas.List.{length-map, length_push, length-set, get_or_append_left, get_or_push, get_or-set_same, get_or-set_other}
-use Rattle.std.proofs.lemmas.Option.{slice_get-get_or}
+use Rattle.std.proofs.lemmas.List.{length-map}
 use Rattle.std.proofs.lemmas.List.Elements.{All-from_recursion, All-head, All-tail}
-use Rattle.std.proofs.lemmas.Slice.Eq.{bytes_eq-Decides}
-use Rattle.std.proofs.lemmas.Bool.{false≢true}
 use Rattle.std.proofs.lemmas.Bool.Decides.{nat_tests}
 
 cond_first : (m n : ℕ) → 0 < m → cond (nat_lt 0 m) (Some n) None ≡ Some n
@@ -17,7 +12,7 @@ cond_first m n some = grind (arith, nat_tests)
 cond_next : (n m : ℕ) → cond (nat_lt (1 + n) (suc m)) (Some (1 + n)) None ≡ option_map suc (cond (nat_lt n m) (Some n) None)
 cond_next n m = grind (arith, nat_tests)
 
--- the first place of a list with one more in front
+-- the first place of a list with one more at its head
 pub position-cons : {X : Type 0} (p : X → Bool) (x : X) (xs : List X) → position p (x ∷ xs) ≡ cond (p x) (Some 0) (option_map suc (position p xs))
 position-cons p x xs = by (p x) (position_or_len p xs) (length xs)
   where
@@ -69,14 +64,6 @@ each_fails p (x ∷ xs) none = let first = position-cons_none p x xs none in (fi
 pub All-none : {X : Type 0} (p : X → Bool) (xs : List X) → position p xs ≡ None → All (λ x. p x ≡ false) xs
 All-none p xs none = All-from_recursion _ xs (each_fails p xs none)
 
--- equal bytes, the other way round
-pub bytes_eq-swapped : (xs ys : List ℕ) → bytes_eq xs ys ≡ bytes_eq ys xs
-bytes_eq-swapped xs ys = nat_list_eq_equiv.symm xs ys
-
--- bytes that are not equal differ
-pub bytes_eq-false : (xs ys : List ℕ) → bytes_eq xs ys ≡ false → xs ≢ ys
-bytes_eq-false xs ys fails same = false≢true (sym fails ∙ (bytes_eq-Decides xs ys).1 same)
-
 -- where each fails, there is no place
 pub position-All_fail : {X : Type 0} (p : X → Bool) (xs : List X) → All (λ x. p x ≡ false) xs → position p xs ≡ None
 position-All_fail p [] fail = refl
@@ -84,24 +71,14 @@ position-All_fail p (x ∷ xs) fail =
     position-cons p x xs
     ∙ (λ i. cond (All-head (λ y. p y ≡ false) x xs fail i) (Some 0) (option_map suc (position-All_fail p xs (All-tail (λ y. p y ≡ false) x xs fail) i)))
 
-module _ {X : Type 0} (xs : List X) (y : X) where
-  -- what is read before a new last item is what was read
-  pub slice_get-push_before : (i : ℕ) → i < length xs → slice_get (xs ++ y ∷ []) i ≡ slice_get xs i
-  slice_get-push_before i within =
-      slice_get-get_or (xs ++ y ∷ []) i y (omega (arith, length_push xs y)) ∙ ap Some (get_or_append_left xs (y ∷ []) y i within) ∙ sym (slice_get-get_or xs i y within)
-
-  -- and at its place it is read
-  pub slice_get-push_last : (i : ℕ) → i ≡ length xs → slice_get (xs ++ y ∷ []) i ≡ Some y
-  slice_get-push_last i last =
-      slice_get-get_or (xs ++ y ∷ []) i y (omega (arith, length_push xs y)) ∙ ap Some (get_or_push xs y y i (sym last))
-
-module _ {X : Type 0} (xs : List X) (i j : ℕ) (y : X) (within : j < length xs) where
-  -- what was written is read
-  pub slice_get-set_same : j ≡ i → slice_get (set xs i y) j ≡ Some y
-  slice_get-set_same same =
-      slice_get-get_or (set xs i y) j y (omega (arith, length-set xs i y)) ∙ ap Some (ap (λ k. get_or (set xs i y) k y) same ∙ get_or-set_same xs i y y (omega arith))
-
-  -- elsewhere nothing changed
-  pub slice_get-set_other : j ≢ i → slice_get (set xs i y) j ≡ slice_get xs j
-  slice_get-set_other differs =
-      slice_get-get_or (set xs i y) j y (omega (arith, length-set xs i y)) ∙ ap Some (get_or-set_other xs i j y y differs) ∙ sym (slice_get-get_or xs j y within)
+-- where what stands at a number passes and nothing before it does, this is the first index
+pub position-at : {X : Type 0} (p : X → Bool) (xs : List X) (number : ℕ) (d : X) → number < length xs
+    → p (get_or xs number d) ≡ true
+    → ((earlier : ℕ) → earlier < number → p (get_or xs earlier d) ≡ false) → position p xs ≡ Some number
+position-at p [] number d within passes fail = absurd (omega arith)
+position-at p (x ∷ xs) zero d within passes fail =
+    position-cons p x xs ∙ ap (λ b. cond b (Some 0) (option_map suc (position p xs))) passes
+position-at p (x ∷ xs) (suc number) d within passes fail =
+    position-cons p x xs
+    ∙ (λ i. cond (fail 0 (omega arith) i) (Some 0)
+    (option_map suc (position-at p xs number d (omega arith) passes (λ earlier before. fail (suc earlier) (omega arith)) i)))

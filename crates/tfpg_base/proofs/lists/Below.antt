@@ -4,7 +4,7 @@ use Rattle.std.specs.List.{Contains, filter}
 use Rattle.std.proofs.lemmas.Bool.{lt-ltb, le-ltb, cases_eq, cond-true, cond-false, cond_both, ltb-true, ltb-false}
 use Rattle.std.proofs.lemmas.List.Elements.{All-contains}
 use Rattle.tfpg_base.proofs.lists.Elements.{AllPairs-head, AllPairs-tail, Contains-head, Contains-tail, Contains-cons_cases, Contains-nil}
-use Rattle.tfpg_base.proofs.Sets.{Rises}
+use Rattle.tfpg_base.proofs.lists.Ordered.{Rises}
 
 -- the members below a number
 abbrev pub below : ℕ → List ℕ → List ℕ

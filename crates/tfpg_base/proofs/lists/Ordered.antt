@@ -1,5 +1,5 @@
 -- Lists in which each element is related to all later ones.
-use Rattle.std.proofs.Common.{◌≡◌, List, [], ◌∷◌, ◌++◌, ⊎_elim, refl, arith, sym, ◌∙◌, subst}
+use Rattle.std.proofs.Common.{◌≡◌, ℕ, ◌<◌, ◌≤◌, List, [], ◌∷◌, ◌++◌, ⊎_elim, refl, arith, sym, ◌∙◌, subst}
 use Rattle.std.specs.List.{AllPairs, Contains}
 use Rattle.std.proofs.lemmas.List.Elements.{All-contains, Contains-append_cases}
 use Rattle.tfpg_base.proofs.lists.Elements.{AllPairs-head, AllPairs-tail, AllPairs-cons, All-from_members, Contains-head, Contains-tail, Contains-cons_cases, Contains-nil}
@@ -38,3 +38,16 @@ module _ {X : Type 0} (R : X → X → Type 0) where
         (Contains-cons_cases y ys x (to x (Contains-head x xs))) in
         let rests = same_in_order xs ys (AllPairs-tail R x xs first) (AllPairs-tail R y ys second) (in_rest x y xs ys heads first to) (in_rest y x ys xs (sym heads) second from) in
         cc
+
+-- the numbers rise strictly
+abbrev pub Rises : List ℕ → Type 0
+Rises members = AllPairs (λ earlier later. earlier < later) members
+
+-- a member of a rising list is no less than its head
+pub least_first : (first : ℕ) (others : List ℕ) (place : ℕ) → Rises (first ∷ others) → Contains (first ∷ others) place → first ≤ place
+least_first first others place rising member =
+    ⊎_elim (λ is. omega (arith, is)) (λ after. omega (arith, All-contains (λ later. first < later) others place (AllPairs-head ◌<◌ first others rising) after)) (Contains-cons_cases first others place member)
+
+-- Rising lists with the same members are equal.
+pub same_from_members : (xs ys : List ℕ) → Rises xs → Rises ys → ((place : ℕ) → Contains xs place → Contains ys place) → ((place : ℕ) → Contains ys place → Contains xs place) → xs ≡ ys
+same_from_members xs ys rises_x rises_y to from = same_in_order (λ earlier later. earlier < later) (λ x y above below. omega arith) xs ys rises_x rises_y to from
