@@ -9,6 +9,8 @@ use Rattle.tfpg.specs.declared.fault.FetchFault.{FetchFault}
 use Rattle.tfpg.specs.declared.fault.FetchFault.TheVariants as fetch
 use Rattle.tfpg.specs.declared.fault.StreamFault.{StreamFault}
 use Rattle.tfpg.specs.declared.fault.StreamFault.TheVariants as streams
+use Rattle.tfpg.specs.declared.map.NoMap.{NoMap}
+use Rattle.tfpg.specs.declared.map.NoMap.TheVariants as maps
 
 -- the fault of fetching that a fault of the shelf is
 abbrev pub fetch_fault_of_shelf : ShelfFault → FetchFault
@@ -25,3 +27,8 @@ fetch_fault_of_refusal refusal.NoMemory = fetch.NoMemory
 abbrev pub stream_fault_of_lines : LineFault → StreamFault
 stream_fault_of_lines lines.ReadFault = streams.ReadFault
 stream_fault_of_lines lines.TooMuchInput = streams.TooMuchInput
+
+-- why the input gives no map, where this is the fault of the reader of lines
+abbrev pub no_map_of_lines : LineFault → NoMap
+no_map_of_lines lines.ReadFault = maps.ReadFault
+no_map_of_lines lines.TooMuchInput = maps.TooMuchInput
