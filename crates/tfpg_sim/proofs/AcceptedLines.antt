@@ -5,6 +5,8 @@ use Rattle.std.specs.List.{flat_map}
 use Rattle.std.proofs.lemmas.Bool.{ne_eqb, cond-false}
 use Rattle.std.proofs.lemmas.List.Elements.{All-head, All-tail, All-contains, All-cons, All-nil, Contains-append_right}
 use Rattle.std.proofs.lemmas.List.Sums.{sum_by-append, sum_by-cons}
+use Rattle.std.proofs.lemmas.List.{take-map}
+use Rattle.std.proofs.lemmas.Option.{slice_get-map}
 use Rattle.tfpg_base.proofs.lists.Elements.{Contains-head}
 use Rattle.tfpg_base.proofs.LinesOf.{lines_of-after as lines_of-behind}
 use Rattle.tfpg_base.specs.declared.activation.Activation.{Activation}
@@ -24,6 +26,7 @@ use Rattle.tfpg_sim.specs.SimulatedLog.{event_line, log_text}
 use Rattle.tfpg_sim.specs.inside.Entries.{IsScript}
 use Rattle.tfpg_sim.proofs.AcceptedEvents.{IsUnalarmed, IsNext, line_said, event_line-said, is_accepted, is_short, is_clean}
 use Rattle.tfpg_sim.proofs.AlarmTimes.{length-latenesses, lateness_within, alarmed_at}
+use Rattle.tfpg_sim.proofs.FilteredItems.{from_map}
 use Rattle.tfpg_sim.proofs.LoggedEvents.{IsLogged, AreLogged}
 use Rattle.tfpg_sim.proofs.PutAlarms.{IsOther, Precedes, AreInOrder, before_each, not_later}
 use Rattle.tfpg_sim.proofs.ScriptOrder.{small}
@@ -37,15 +40,8 @@ cut_at (y ∷ xs) zero x at = let same : y ≡ x = cc in ap (λ z. z ∷ xs) sam
 cut_at (y ∷ xs) (suc n) x at = ap (λ zs. y ∷ zs) (cut_at xs n x at)
 
 -- the image of an item
-pub image_at : {X Y : Type 0} (f : X → Y) (xs : List X) (n : ℕ) (y : Y) → slice_get (map f xs) n ≡ Some y → (x : X) × (slice_get xs n ≡ Some x) × (f x ≡ y)
-image_at f [] n y at = absurd (let none : None ≡ Some y = at in cc)
-image_at f (x ∷ xs) zero y at = (x, refl, let same : f x ≡ y = cc in same)
-image_at f (x ∷ xs) (suc n) y at = image_at f xs n y at
-
-take-map : {X Y : Type 0} (f : X → Y) (n : ℕ) (xs : List X) → take n (map f xs) ≡ map f (take n xs)
-take-map f zero xs = refl
-take-map f (suc n) [] = refl
-take-map f (suc n) (x ∷ xs) = ap (λ ys. f x ∷ ys) (take-map f n xs)
+image_at : {X Y : Type 0} (f : X → Y) (xs : List X) (n : ℕ) (y : Y) → slice_get (map f xs) n ≡ Some y → (x : X) × (slice_get xs n ≡ Some x) × (f x ≡ y)
+image_at f xs n y at = from_map f (slice_get xs n) y (sym (slice_get-map f xs n) ∙ at)
 
 -- lines with their line ends
 ended_lines : {X : Type 0} (whole line : X → List ℕ) (xs : List X) → ((x : X) → whole x ≡ with_line_end (line x)) → flat_map whole xs ≡ flat_map with_line_end (map line xs)

@@ -20,3 +20,5 @@ pub mod AlarmTimes
 pub mod ShownEvents
 pub mod AcceptedLines
 pub mod ExplainedLogs
+pub mod GeneratedGraphs
+pub mod GraphTexts
