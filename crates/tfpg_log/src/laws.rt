@@ -46,7 +46,8 @@ pub fn a_log_of_lines_is_of_its_graph()
 pub fn an_alarm_event_is_the_first_alarm()
     ensures event { (log : Logbook) (node number : ℕ) → alarm_event log node ≡ Some number →
         (time : ℕ) × (event_at log number ≡ Some (Event.Alarm time node)) × (alarm_of log node ≡ Some time) }
-    ensures first { (log : Logbook) (node number time : ℕ) → event_at log number ≡ Some (Event.Alarm time node) →
+    ensures first { (log : Logbook) (node number time : ℕ) →
+        event_at log number ≡ Some (Event.Alarm time node) →
         (first : ℕ) × (alarm_event log node ≡ Some first) × (first ≤ number) }
     ensures there { (log : Logbook) (node time : ℕ) → alarm_of log node ≡ Some time →
         (number : ℕ) × (alarm_event log node ≡ Some number) }

@@ -27,9 +27,9 @@ use tfpg_graph::Graph;
 
 /// The events that were accepted so far, numbered from 1, and with them the time. A new log is of every graph.
 ///
-/// No look-up takes memory. Each takes constant time, but for those of the mode and the span of an instant, which take time
-/// in the logarithm of the number of mode changes, and those of windows, which go through the spans of the window, and for
-/// all edges into a node at once also through these edges.
+/// No look-up takes memory, and most take constant time. Those of the mode and of the span of an instant take time in the
+/// logarithm of the number of mode changes. Those of windows go through the spans of the window, and for all edges into a
+/// node at once also through these edges.
 #[derive(Debug, Drop)]
 pub struct Log {
     events: Vec<Event>,
@@ -52,7 +52,8 @@ impl Model for Log {
 
     ghost view = { λ log. record { events = log.events.items } };
 
-    ghost invariant = { λ log. IsLogIndex log.events.items log.nodes.items log.last_sweep log.changes.items log.change_count };
+    ghost invariant = { λ log. IsLogIndex
+        log.events.items log.nodes.items log.last_sweep log.changes.items log.change_count };
 }
 
 impl Log {
@@ -125,7 +126,8 @@ impl Log {
     /// The number of the span of an instant, in milliseconds: how many times the mode changed from one instant to the
     /// next up to it. There is none of an instant after now. Takes time in the logarithm of the number of mode changes.
     pub fn span_of(&self, instant: u64) -> Option<u32>
-        ensures { result ≡ (if nat_le instant (now_of self.now) then Some (span_number self.now instant) else None) }
+        ensures { result ≡ (if nat_le instant (now_of self.now)
+            then Some (span_number self.now instant) else None) }
     {
         if instant > self.now() {
             return None;
@@ -180,9 +182,9 @@ impl Log {
         }
     }
 
-    /// The number of the last event that silences the node, where one does: its own silence, or a sweep, where the node is
-    /// monitored and no event before is an alarm of it. As times never fall, no event that silences it has a later time.
-    /// The node may be any number.
+    /// The number of the last event that is a silence of the node, where there is one: its own silence, or a sweep, where
+    /// the node is monitored and no event before is an alarm of it. Times never fall, so no other silence of the node has a
+    /// later time. The node may be any number.
     pub fn last_quiet(&self, graph: &Graph, node: u32) -> Option<u32>
         ensures { IsLastQuiet graph.now self.now node result }
     {
@@ -243,7 +245,7 @@ impl Log {
         }
     }
 
-    /// The number of the last sweep that silences the node: the last one, or the last one before its alarm.
+    /// The number of the last sweep that is a silence of the node: the last one of all, or before its alarm, if it has one.
     fn last_swept(&self, graph: &Graph, node: u32) -> Option<u32>
         ensures { IsLast (IsSwept graph.now self.now node) result }
     {
@@ -267,7 +269,8 @@ impl Log {
 
     /// Whether a sweep of this number is a silence of the node.
     fn is_swept(&self, graph: &Graph, number: u32, node: u32) -> bool
-        ensures { result ≡ (is_monitored graph.now node && is_none (alarm_among (take (number - 1) self.now.events) node)) }
+        ensures { result ≡ (is_monitored graph.now node
+            && is_none (alarm_among (take (number - 1) self.now.events) node)) }
     {
         has_monitor(graph, node) && self.is_without_alarm(number.saturating_sub(1), node)
     }
