@@ -16,6 +16,7 @@ use Rattle.tfpg_log.specs.inside.NodeEvents.{IsLast, IsSweep, IsNodeEvents, AreS
 use Rattle.tfpg_log.proofs.Events.{now-with_event}
 use Rattle.tfpg_log.proofs.Order.{ordered-with_event}
 use Rattle.tfpg_log.proofs.AlarmPlaces.{alarm_place_other}
+use Rattle.tfpg_log.proofs.FirstAlarms.{first_alarms_kept}
 use Rattle.tfpg_log.proofs.NodesEvents.{node_kept, node_silenced, node_alarmed, last_sweep_kept, last_sweep_new}
 use Rattle.tfpg_log.proofs.ModeChanges.{mode_after-push, mode_before_change, mode_after_change, changes-push}
 use Rattle.tfpg_log.proofs.SpanChanges.{times_rise, spans_with_change, begun_with_change, one_more_change}
@@ -41,8 +42,9 @@ indexed_by : (events : List Event) (nodes longer : List NodeEvents) (sweep last 
     → length events < MAX_EVENTS → now_of (log_of events) ≤ time_of_event event → time_of_event event ≤ max_time → is_mode_change event ≡ false
     → ((held instant : ℕ) → mode_after held (event ∷ []) instant ≡ held)
     → AreNodesEvents events event longer → IsLast (IsSweep (with_event (log_of events) event)) last
+    → ((at node : ℕ) → event ≡ Alarm at node → alarm_among events node ≡ None)
     → IsLogIndex (events ++ event ∷ []) longer last changes count
-indexed_by events nodes longer sweep last changes count event index room not_back in_range uncounted no_change own swept = record {
+indexed_by events nodes longer sweep last changes count event index room not_back in_range uncounted no_change own swept first = record {
   few = omega (arith, length_push events event, room);
   own = own;
   swept = swept;
@@ -52,6 +54,7 @@ indexed_by events nodes longer sweep last changes count event index room not_bac
   in_order = index.in_order;
   by_now = omega (arith, index.by_now, not_back, now-with_event (log_of events) event);
   ordered = ordered-with_event (log_of events) event index.ordered not_back in_range;
+  first_alarms = first_alarms_kept (log_of events) event index.first_alarms first;
 }
 
 -- an event of no node leaves what is kept of each
@@ -82,6 +85,7 @@ module _ (events : List Event) (nodes : List NodeEvents) (sweep : Option ℕ) (c
       indexed_by events nodes nodes sweep sweep changes count (Tick time) index room not_back in_range refl (λ held instant. refl)
       (own_kept events nodes (Tick time) index.own (λ node. refl) (λ node t e. absurd cc))
       (last_sweep_kept (log_of events) (Tick time) sweep (λ t e. absurd cc) index.swept)
+      (λ t n e. absurd cc)
 
   -- A sweep is the last.
   pub indexed_sweep : (number : ℕ) → number ≡ suc (length events) → IsLogIndex (events ++ Sweep time ∷ []) nodes (Some number) changes count
@@ -89,6 +93,7 @@ module _ (events : List Event) (nodes : List NodeEvents) (sweep : Option ℕ) (c
       indexed_by events nodes nodes sweep (Some number) changes count (Sweep time) index room not_back in_range refl (λ held instant. refl)
       (own_kept events nodes (Sweep time) index.own (λ node. refl) (λ node t e. absurd cc))
       (last_sweep_new (log_of events) time number at)
+      (λ t n e. absurd cc)
 
   -- A change of mode may begin a span, and is counted.
   pub indexed_mode : (mode : ℕ) → IsLogIndex (events ++ Mode time mode ∷ []) nodes sweep (with_change changes time mode) (count + 1)
@@ -107,6 +112,7 @@ module _ (events : List Event) (nodes : List NodeEvents) (sweep : Option ℕ) (c
         in_order = times_rise (with_change changes time mode) spans.rise;
         by_now = omega (arith, begun_with_change (mode_after 0 events) changes time mode index.spans last, now-with_event (log_of events) (Mode time mode));
         ordered = ordered-with_event (log_of events) (Mode time mode) index.ordered not_back in_range;
+        first_alarms = first_alarms_kept (log_of events) (Mode time mode) index.first_alarms (λ t n e. absurd cc);
       }
 
   module _ (longer : List NodeEvents) (same : AreSameOfNodes longer nodes) (node : ℕ) (lt : node < length longer) (before : NodeEvents) (is : IsNodeEvents (log_of events) node before)
@@ -121,6 +127,7 @@ module _ (events : List Event) (nodes : List NodeEvents) (sweep : Option ℕ) (c
         (node_silenced (log_of events) time number at node before is)
         (λ other apart. (refl, λ t e. (let it : node ≡ other = cc in apart (sym it)))))
         (last_sweep_kept (log_of events) (Silent time node) sweep (λ t e. absurd cc) index.swept)
+        (λ t n e. absurd cc)
 
     -- The first alarm of a node has its number, and the last sweep so far is the last before it.
     pub indexed_alarm : alarm_among events node ≡ None
@@ -133,6 +140,7 @@ module _ (events : List Event) (nodes : List NodeEvents) (sweep : Option ℕ) (c
         (node_alarmed (log_of events) time number at node before is sweep first index.swept)
         (λ other apart. (other_alarm other apart, λ t e. absurd cc)))
         (last_sweep_kept (log_of events) (Alarm time node) sweep (λ t e. absurd cc) index.swept)
+        (λ t n e. (let it : node ≡ n = cc in subst (λ (m : ℕ). alarm_among events m ≡ None) it first))
       where
         other_alarm : (other : ℕ) → (other ≡ node → ⊥) → alarm_place (Alarm time node ∷ []) other ≡ None
         other_alarm other apart = elim (eqb_tells node other) [

@@ -5,6 +5,7 @@ pub mod NodesEvents
 pub mod LastQuiets
 pub mod ModeChanges
 pub mod Order
+pub mod FirstAlarms
 pub mod Indexes
 pub mod LogLines
 pub mod Judgements

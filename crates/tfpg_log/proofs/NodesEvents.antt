@@ -24,7 +24,7 @@ last_at P last holds upto = (holds, λ later above also. absurd (omega (arith, a
 
 -- ---- the events of a log with one more
 
-new_or_old : (xs : List Event) (y x : Event) (k : ℕ) → slice_get (xs ++ y ∷ []) k ≡ Some x → (slice_get xs k ≡ Some x) ⊎ ((k ≡ length xs) × (y ≡ x))
+pub new_or_old : (xs : List Event) (y x : Event) (k : ℕ) → slice_get (xs ++ y ∷ []) k ≡ Some x → (slice_get xs k ≡ Some x) ⊎ ((k ≡ length xs) × (y ≡ x))
 new_or_old [] y x zero e = let is : y ≡ x = cc in inr (refl, is)
 new_or_old [] y x (suc k) e = absurd cc
 new_or_old (z ∷ zs) y x zero e = inl e

@@ -24,10 +24,10 @@ silence_time graph before (Tick own) node time e = absurd cc
 silence_time graph before (Mode own mode) node time e = absurd cc
 
 -- the event of a number that silences a node
-record IsSilenceAt (log : Logbook) (number time : ℕ) : Type 0 where
-  event : Event
-  there : event_at log number ≡ Some event
-  at : time ≡ time_of_event event
+pub record IsSilenceAt (log : Logbook) (number time : ℕ) : Type 0 where
+  pub event : Event
+  pub there : event_at log number ≡ Some event
+  pub at : time ≡ time_of_event event
 
 module _ (graph : Tfpg) (log : Logbook) (node : ℕ) where
   by_event : (number time : ℕ) (event : Option Event) → event_at log number ≡ event
@@ -35,7 +35,7 @@ module _ (graph : Tfpg) (log : Logbook) (node : ℕ) where
   by_event number time None there e = absurd cc
   by_event number time (Some event) there e = record { event = event; there = there; at = silence_time graph (take (number - 1) log.events) event node time e }
 
-  silence_at : (number time : ℕ) → quiet_at graph log number node ≡ Some time → IsSilenceAt log number time
+  pub silence_at : (number time : ℕ) → quiet_at graph log number node ≡ Some time → IsSilenceAt log number time
   silence_at number time e = by_event number time (event_at log number) refl e
 
 -- an event of a log is not later than one after it

@@ -108,10 +108,14 @@ impl Log {
         }
     }
 
-    /// The number of the event that is the node's first alarm, where it has one. The node may be any number.
+    /// The number of the event that is the node's first alarm, where it has one. No other event is an alarm of it, since a
+    /// log takes no second one. The node may be any number.
     pub fn alarm_event(&self, node: u32) -> Option<u32>
-        ensures { result ≡ alarm_event self.now node }
+        ensures first { result ≡ alarm_event self.now node }
+        ensures only { (number time : ℕ) → event_at self.now number ≡ Some (Event.Alarm time node) →
+            result ≡ Some number }
     {
+        let _no_second = &self.events;
         self.node_events(node).alarm
     }
 

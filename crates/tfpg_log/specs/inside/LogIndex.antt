@@ -1,15 +1,19 @@
 -- What a log keeps beside its events: which of them bound when each node became active, the last sweep, and the changes
 -- that begin its spans.
-use Rattle.std.specs.Prelude.{◌≡◌, ℕ, ◌+◌, ◌≤◌, List, length, count_by, Option, None}
+use Rattle.std.specs.Prelude.{◌≡◌, ℕ, ◌+◌, ◌≤◌, List, length, count_by, Option, Some, None}
 use Rattle.std.specs.List.Sorted.{IsNonDecreasingBy}
 use Rattle.tfpg_log.specs.declared.event.Event.{Event}
 use Rattle.tfpg_log.specs.declared.event.Event.TheVariants.{Alarm, Silent, Sweep, Tick, Mode}
 use Rattle.tfpg_log.specs.declared.mode_change.ModeChange.{ModeChange}
-use Rattle.tfpg_log.specs.Log.{Logbook, IsOrdered, now_of, alarm_of, is_mode_change, mode_after}
+use Rattle.tfpg_log.specs.Log.{Logbook, IsOrdered, now_of, event_at, alarm_of, alarm_event, is_mode_change, mode_after}
 use Rattle.tfpg_log.specs.declared.limits.TheConstants.{MAX_EVENTS}
 use Rattle.tfpg_log.specs.declared.node_events.NodeEvents.{NodeEvents}
 use Rattle.tfpg_log.specs.inside.NodeEvents.{IsLast, IsSweep, IsNodeEvents, events_of}
 use Rattle.tfpg_log.specs.inside.SpanIndex.{begin_of_span, BeginSpans}
+
+-- No node has a second alarm: each alarm is the first of its node.
+abbrev pub AreFirstAlarms : Logbook → Type 0
+AreFirstAlarms log = (number time node : ℕ) → event_at log number ≡ Some (Alarm time node) → alarm_event log node ≡ Some number
 
 -- The index of the events: for each node those that bound when it became active, the last sweep, the changes of mode that
 -- begin the spans, and how many events are changes of mode.
@@ -23,6 +27,7 @@ pub record IsLogIndex (events : List Event) (nodes : List NodeEvents) (sweep : O
   pub in_order : IsNonDecreasingBy (λ (change : ModeChange). change.time) changes
   pub by_now : begin_of_span changes (length changes) ≤ now_of (record { events = events }) + 1
   pub ordered : IsOrdered (record { events = events })
+  pub first_alarms : AreFirstAlarms (record { events = events })
 
 -- the event is no second alarm of its node
 abbrev pub IsNoSecondAlarm : Logbook → Event → Type 0
