@@ -40,8 +40,14 @@ impl<'a> MemorySource<'a> {
     /// numbers. Takes no memory.
     pub fn new(bytes: &'a [u8], most: usize, failing: &'a [u64]) -> MemorySource<'a>
         requires { 0 < most }
-        ensures { result ≡
-            record { left = bytes.now; most = most; failing = failing.now; calls = 0; faults = 0; ended = false } }
+        ensures { result ≡ record {
+          left = bytes.now;
+          most = most;
+          failing = failing.now;
+          calls = 0;
+          faults = 0;
+          ended = false;
+        } }
     {
         MemorySource {
             bytes: BytesLeft::new(bytes),
