@@ -10,7 +10,7 @@ use Rattle.std.proofs.lemmas.List.Sums.{sum_by-append, sum_by-cons, length-filte
 use Rattle.std.proofs.lemmas.List.Elements.{All-contains, filter-append}
 use Rattle.std.proofs.lemmas.Option.{slice_get_past, same_Some}
 use Rattle.tfpg_graph.specs.declared.kind.Kind.TheVariants.{Failure}
-use Rattle.tfpg_graph.specs.Graph.{Tfpg, Node, failures, failure_at, is_failure, is_monitored, kind_at, lag_of}
+use Rattle.tfpg_graph.specs.Graph.{Tfpg, Node, is_monitored, kind_at, lag_of}
 use Rattle.tfpg_graph.specs.Valid.{IsValid, HasValidNumber}
 use Rattle.tfpg_base.proofs.lists.Elements.{All-at}
 use Rattle.tfpg_log.specs.Log.{Logbook, alarm_of}

@@ -32,3 +32,4 @@ pub mod Ending
 pub mod WholeText
 pub mod LinesCounted
 pub mod OneFault
+pub mod FoundNames

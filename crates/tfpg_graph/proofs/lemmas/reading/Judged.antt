@@ -1,8 +1,7 @@
 -- The tests of a line, group by group, come to what the definition of causes says of all of them.
-use Rattle.std.proofs.Common.{◌≡◌, List, [], ◌∷◌, ◌++◌, Option, Some, None, Result, Ok, Err, refl, ap, subst}
+use Rattle.std.proofs.Common.{◌≡◌, Option, Some, None, Result, Ok, Err, ap, subst}
 use Rattle.std.specs.Option.{option_map}
 use Rattle.tfpg_graph.specs.declared.cause.GraphCause.{GraphCause}
-use Rattle.tfpg_base.specs.Choice.{first_of}
 use Rattle.tfpg_graph.specs.inside.reading.Turns.{cause_or_value, ReadAs}
 
 module _ {X Y : Type 0} where

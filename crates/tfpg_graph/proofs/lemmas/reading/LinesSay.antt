@@ -2,10 +2,9 @@
 use Rattle.std.proofs.Common.{◌≡◌, ℕ, ◌<◌, ◌≤◌, ◌^◌, ◌==◌, true, false, not, cond, List, [], ◌∷◌, ◌++◌, length, IsTrue, Option, Some, None, IfSome, codes, refl, ap, ◌∙◌, arith}
 use Rattle.std.specs.Prelude.{decimal}
 use Rattle.std.specs.Option.{option_map}
-use Rattle.std.specs.List.{AllByRecursion, list_any, list_all, join_with_byte, slice_split}
-use Rattle.std.proofs.lemmas.Bool.{and_parts, not-true, eq-eqb, ne_eqb, le-ltb, false≢true, or_from}
+use Rattle.std.specs.List.{AllByRecursion, list_any, list_all, join_with_byte}
+use Rattle.std.proofs.lemmas.Bool.{and_parts, not-true, ne_eqb, le-ltb, false≢true, or_from}
 use Rattle.std.proofs.lemmas.List.Elements.{All-nil, All-cons, All-append}
-use Rattle.std.proofs.lemmas.List.Splits.{slice_split_none, slice_split_at}
 use Rattle.tfpg_base.specs.Words.{line_of, is_name, is_number}
 use Rattle.tfpg_base.specs.Lines.{longest_line}
 use Rattle.tfpg_base.proofs.Numbers.{is_number-decimal}
