@@ -23,7 +23,8 @@ pub(crate) fn check_cycle(
     reasons: &[Reason],
 ) -> Result<(), BadStep>
     requires of { IsOf graph.now log.now }
-    ensures { MatchResult result (λ _. IsClosedBy (stated_by graph.now log.now reach.now path.now) reasons.now)
+    ensures { MatchResult result
+        (λ _. IsClosedBy (stated_by graph.now log.now reach.now path.now) reasons.now)
         (CycleBreaks (stated_by graph.now log.now reach.now path.now) reasons.now) }
 {
     let mut chain = Chain::EMPTY;
