@@ -240,6 +240,11 @@ fn assert_looks_up(rt: &impl Abort, graph: &Graph, log: &Log) {
     assert_eq!(rt; log.alarm_of(1), None);
     assert_eq!(rt; log.alarm_of(3), Some(10));
     assert_eq!(rt; log.alarm_of(4), None);
+    assert_eq!(rt; log.alarm_event(1), None);
+    assert_eq!(rt; log.alarm_event(3), Some(2));
+    assert_eq!(rt; log.last_quiet(graph, 1), Some(4));
+    assert_eq!(rt; log.last_quiet(graph, 2), None);
+    assert_eq!(rt; log.last_quiet(graph, 3), Some(1));
 }
 
 #[test]

@@ -1,6 +1,6 @@
-//! When a discrepancy must be active, span by span. In one span an edge that is due stays due, so the first instant at
-//! which it is due says from when on it is. How long it was active when the span begins follows from its gap: the last
-//! instant before the span at which it was not.
+//! When a discrepancy must be active, span by span. In one span an edge that is due stays due, so it is enough to find the
+//! first instant at which it is. How long the edge has been active when the span begins follows from its gap, the last
+//! instant before the span at which it was not active.
 
 ghost use Rattle.std.specs.Prelude.{◌≡◌, ◌<◌, ◌≤◌, ◌+◌, ℕ, length, Option, Some, None, min};
 ghost use Rattle.tfpg_log.specs.Log.{Logbook, now_of};
@@ -27,7 +27,8 @@ pub(crate) fn due_in_span(graph: &Graph, trace: &Trace, start: &SpanStart<'_>) -
     requires { HasGaps graph.now start.now.node start.now.gaps.now }
     ensures { (log : Logbook) (number : ℕ) →
         StartsSpan graph.now log start.now.node number start.now.span start.now.gaps.now →
-        Begins (MustBeActive graph.now log trace.now start.now.node) start.now.span.lo start.now.span.hi result }
+        Begins (MustBeActive graph.now log trace.now start.now.node)
+        start.now.span.lo start.now.span.hi result }
 {
     match graph.kind(start.node) {
         Kind::Failure { .. } => None,

@@ -10,8 +10,8 @@ ghost use Rattle.tfpg_trace.specs.FirstFault.{IsVerdict};
 
 /// Each trace has a verdict, and has no other. The log and the set may be any.
 pub fn a_trace_has_one_verdict()
-    ensures some { (graph : Tfpg) (log : Logbook) (set : List ℕ) (trace : List Activation) → IsTraceOf graph trace →
-        (said : Verdict) × IsVerdict graph log set trace said }
-    ensures one { (graph : Tfpg) (log : Logbook) (set : List ℕ) (trace : List Activation) (one other : Verdict) →
-        IsVerdict graph log set trace one → IsVerdict graph log set trace other → one ≡ other }
+    ensures some { (graph : Tfpg) (log : Logbook) (set : List ℕ) (trace : List Activation) →
+        IsTraceOf graph trace → (said : Verdict) × IsVerdict graph log set trace said }
+    ensures one { (graph : Tfpg) (log : Logbook) (set : List ℕ) (trace : List Activation) →
+        (one other : Verdict) → IsVerdict graph log set trace one → IsVerdict graph log set trace other → one ≡ other }
 {}
