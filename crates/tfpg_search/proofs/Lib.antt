@@ -6,3 +6,5 @@ mod Stating
 mod Conflicts
 mod Calls
 mod Fresh
+-- The facts of a log.
+mod StatedBounds

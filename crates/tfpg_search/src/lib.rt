@@ -3,4 +3,5 @@
 
 mod add_fault;
 mod closing;
+mod fact_bounds;
 mod leaf_system;
