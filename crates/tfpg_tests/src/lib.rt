@@ -7,6 +7,8 @@
 #[cfg(test)]
 mod clause;
 #[cfg(test)]
+mod clause_path;
+#[cfg(test)]
 mod hyp;
 #[cfg(test)]
 mod kernel;
