@@ -156,10 +156,10 @@ module _ (graph : Tfpg) (before now : SourceState) (lines lines' : Buffered) (ma
   met_end e = reads_all graph before now lines lines' map input under (subst (λ (x : Line). Continues under.reading under.reading.ended now input (Ok x) lines') e continues)
 
   -- a line that is too long
-  pub met_long : l ≡ line.TooLong → (number : ℕ) → number ≡ lines'.number → LacksMap graph before input (none.Refused number)
-  met_long e number is =
+  pub met_long : l ≡ line.TooLong → (f : NoMap) → f ≡ none.Refused lines'.number → LacksMap graph before input f
+  met_long e f is =
       let met = Continues-too_long under.reading now input lines' under.goes_on (subst (λ (x : Line). Continues under.reading under.reading.ended now input (Ok x) lines') e continues) in
-      subst (λ (n : ℕ). LacksMap graph before input (none.Refused n)) (sym is)
+      subst (LacksMap graph before input) (sym is)
       (lacks_by_line graph before now lines lines' map input under met.0 (no_map-long graph under.reading.given met.0.first met.1))
 
   -- a text
@@ -179,10 +179,10 @@ module _ (graph : Tfpg) (before now : SourceState) (lines lines' : Buffered) (ma
         (reads under.reading.given under.read (subst (λ (t : List ℕ). length t ≤ longest_line) along met_text.1)))
 
     -- that is faulty
-    pub met_faulty : ((given : List (List ℕ)) → MapRepresents graph map given → BeginsMap graph (given ++ text ∷ []) → ⊥) → (number : ℕ) → number ≡ lines'.number
-        → LacksMap graph before input (none.Refused number)
-    met_faulty fails number is =
-        subst (λ (n : ℕ). LacksMap graph before input (none.Refused n)) (sym is)
+    pub met_faulty : ((given : List (List ℕ)) → MapRepresents graph map given → BeginsMap graph (given ++ text ∷ []) → ⊥) → (f : NoMap) → f ≡ none.Refused lines'.number
+        → LacksMap graph before input f
+    met_faulty fails f is =
+        subst (LacksMap graph before input) (sym is)
         (lacks_by_line graph before now lines lines' map input under met_text.0
         (subst (λ (t : List ℕ). BeginsMap graph (under.reading.given ++ t ∷ []) → ⊥) (sym along) (fails under.reading.given under.read)))
 

@@ -1,12 +1,8 @@
 -- The ends that the faults of a run lead to.
-use Rattle.std.specs.Prelude.{Result, Ok, Err}
 use Rattle.tfpg.specs.declared.fault.FetchFault.{FetchFault}
 use Rattle.tfpg.specs.declared.fault.FetchFault.TheVariants as fetch
 use Rattle.tfpg.specs.declared.fault.StreamFault.{StreamFault}
 use Rattle.tfpg.specs.declared.fault.StreamFault.TheVariants as streams
-use Rattle.tfpg.specs.declared.map.NoMap.{NoMap}
-use Rattle.tfpg.specs.declared.map.NoMap.TheVariants as maps
-use Rattle.tfpg.specs.declared.end.CheckCause.TheVariants.{BadMap}
 use Rattle.tfpg.specs.declared.end.End.{End}
 use Rattle.tfpg.specs.declared.end.End.TheVariants as ends
 
@@ -23,15 +19,3 @@ end_of_stream_fault streams.ReadFault = ends.ReadFault
 end_of_stream_fault streams.WriteFault = ends.WriteFault
 end_of_stream_fault streams.TooMuchInput = ends.TooMuchInput
 end_of_stream_fault streams.NoMemory = ends.NoMemory
-
--- the end of a run whose input gives no map
-abbrev pub end_of_no_map : NoMap → End
-end_of_no_map (maps.Refused line) = ends.NotAccepted line BadMap
-end_of_no_map maps.ReadFault = ends.ReadFault
-end_of_no_map maps.TooMuchInput = ends.TooMuchInput
-end_of_no_map maps.NoMemory = ends.NoMemory
-
--- the end of a run whose work has this result
-abbrev pub end_of_work : Result (Unit {0}) End → End
-end_of_work (Ok done) = ends.Done
-end_of_work (Err end) = end

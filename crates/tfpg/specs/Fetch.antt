@@ -2,8 +2,6 @@
 use Rattle.std.specs.Prelude.{◌≡◌, ◌⊎◌, ℕ, ◌≤◌, List, [], ◌∷◌, ◌++◌, length, take, Option, Some, None, IfSome}
 use Rattle.tfpg_base.specs.Lines.{lines_of}
 use Rattle.tfpg_base.specs.Outside.{ShelfState, Rose, Gives, PassesLimit, longest_file}
-use Rattle.tfpg_base.specs.declared.outside.ShelfFault.{ShelfFault}
-use Rattle.tfpg_base.specs.declared.outside.ShelfFault.TheVariants as shelf
 use Rattle.tfpg_graph.specs.declared.cause.GraphFault.{GraphFault}
 use Rattle.tfpg_graph.specs.Graph.{Tfpg}
 use Rattle.tfpg_graph.specs.Text.{Spells}
@@ -44,12 +42,6 @@ pub record GivesGraphAndLog (shelf : ShelfState) (graph_name log_name : List ℕ
   pub text : List ℕ
   pub file : HasFile shelf log_name text
   pub of_lines : log ≡ log_of_lines graph (lines_of text)
-
--- Why the file of this name was not fetched: the shelf failed; the file has more than 2^24 bytes; or memory ran out.
-abbrev pub IsFileFault : ShelfState → ShelfState → List ℕ → ShelfFault → Type 0
-IsFileFault before now name shelf.Failed = Rose before.faults now.faults
-IsFileFault before now name shelf.TooLong = IsTooLong before name
-IsFileFault before now name shelf.NoMemory = Unit {0}
 
 -- Why there is no graph of the file of this name: the shelf failed; the file has more than 2^24 bytes; this is the
 -- first fault of its text; or memory ran out.

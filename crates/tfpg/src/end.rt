@@ -6,7 +6,8 @@ ghost use Rattle.tfpg_base.specs.Append.{Appends};
 ghost use Rattle.tfpg_base.specs.Words.{line_of};
 ghost use Rattle.tfpg.specs.Ends.{check_cause_name, graph_cause_name, line_of_end, status_of, usage_name};
 ghost use Rattle.tfpg.specs.declared.end.End.TheVariants as ends;
-ghost use Rattle.tfpg.specs.EndsOf.{end_of_fetch_fault, end_of_no_map, end_of_stream_fault};
+ghost use Rattle.tfpg.specs.EndsOf.{end_of_fetch_fault, end_of_stream_fault};
+ghost use Rattle.tfpg.specs.inside.Faults.{end_of_no_map};
 
 use crate::fault::{FetchFault, StreamFault};
 use crate::map::NoMap;

@@ -6,7 +6,8 @@ ghost use Rattle.tfpg_base.specs.Outside.{NotesName};
 ghost use Rattle.tfpg_graph.specs.Valid.{IsValid};
 ghost use Rattle.tfpg_log.specs.Log.{IsOf};
 ghost use Rattle.tfpg_log.specs.LogOfLines.{log_after, log_of_lines};
-ghost use Rattle.tfpg.specs.Fetch.{HasFile, GivesGraph, GivesGraphAndLog, IsFileFault, IsFetchFault, IsFilesFault, AsksFor, AsksInOrder};
+ghost use Rattle.tfpg.specs.Fetch.{HasFile, GivesGraph, GivesGraphAndLog, IsFetchFault, IsFilesFault, AsksFor, AsksInOrder};
+ghost use Rattle.tfpg.specs.inside.Faults.{IsFileFault};
 
 use crate::fault::FetchFault;
 use std::alloc::Global;

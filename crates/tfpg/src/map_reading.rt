@@ -1,6 +1,6 @@
 //! Reading the map of the input, line by line.
 
-ghost use Rattle.std.specs.Prelude.{◌<◌, IfOk, IfErr, All, length};
+ghost use Rattle.std.specs.Prelude.{◌<◌, ◌≡◌, IfOk, IfErr, All, length};
 ghost use Rattle.tfpg_base.specs.Outside.{SourceState};
 ghost use Rattle.tfpg.specs.inside.MapReading.{IsReadingMap, ReadsOn, LacksMap, ReadsMap, ReturnsMap};
 
@@ -50,16 +50,21 @@ fn take_line<S: Source>(
 {
     match lines.next(input)? {
         Line::End => Ok(MapTurn::Ended),
-        Line::TooLong => Err(NoMap::Refused {
-            line: lines.number(),
-        }),
+        Line::TooLong => Err(refused(lines)),
         Line::Text => match reader.take(graph, lines.text()) {
             Ok(()) => Ok(MapTurn::Read),
-            Err(MapFault::BadMap) => Err(NoMap::Refused {
-                line: lines.number(),
-            }),
+            Err(MapFault::BadMap) => Err(refused(lines)),
             Err(MapFault::NoMemory) => Err(NoMap::NoMemory),
         },
+    }
+}
+
+/// The line that was returned last is faulty.
+fn refused(lines: &Lines) -> NoMap
+    ensures { result ≡ NoMap.Refused lines.now.number }
+{
+    NoMap::Refused {
+        line: lines.number(),
     }
 }
 

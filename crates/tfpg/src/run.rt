@@ -2,7 +2,7 @@
 
 ghost use Rattle.std.specs.Prelude.{◌≡◌, ◌∷◌, [], map, string_bytes, OnOk, IfErr};
 ghost use Rattle.tfpg.specs.Command.{asked_by};
-ghost use Rattle.tfpg.specs.EndsOf.{end_of_work};
+ghost use Rattle.tfpg.specs.inside.Faults.{end_of_work};
 ghost use Rattle.tfpg.specs.Fetch.{AsksOnly, AsksFor, AsksInOrder};
 ghost use Rattle.tfpg.specs.Run.{RunEnds, StopsAt, ExplainEnds};
 ghost use Rattle.tfpg.specs.Streams.{streams};
