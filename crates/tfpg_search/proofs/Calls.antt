@@ -13,7 +13,7 @@ use Rattle.tfpg_diff.specs.State.{widest, with_floor, with_ceiling, with_pick, p
 use Rattle.tfpg_diff.specs.inside.Kept.{demands_of}
 use Rattle.tfpg_diff.specs.Cycle.{NamesNegativeCycle}
 use Rattle.tfpg_diff.proofs.Bounding.{under, over}
-use Rattle.tfpg_diff.proofs.Lists.{slice_get-set_same, slice_get-set_other}
+use Rattle.tfpg_base.proofs.lists.Written.{slice_get-set_same, slice_get-set_other}
 use Rattle.tfpg_diff.proofs.Updates.{with_floor-tighter, with_ceiling-tighter}
 use Rattle.tfpg_search.specs.declared.add_fault.AddFault.{AddFault}
 use Rattle.tfpg_search.specs.Leaf.{Leaf, pick_reasons, IsStated}

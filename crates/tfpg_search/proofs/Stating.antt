@@ -14,7 +14,7 @@ use Rattle.tfpg_diff.specs.Demands.{Demands, Bounded}
 use Rattle.tfpg_diff.specs.State.{with_pick, popped_to}
 use Rattle.tfpg_diff.specs.inside.Kept.{demands_of}
 use Rattle.tfpg_diff.proofs.Changes.{Bounded-set}
-use Rattle.tfpg_diff.proofs.Lists.{slice_get-set_other}
+use Rattle.tfpg_base.proofs.lists.Written.{slice_get-set_other}
 use Rattle.tfpg_search.specs.Leaf.{Leaf, named_by, pick_reasons, AreBoundsStated, IsStated}
 use Rattle.tfpg_search.specs.inside.Tags.{IsTagged}
 use Rattle.tfpg_search.proofs.Lists.{slice_get-take, slice_get-taken, slice_get-before, slice_get-last, slice_get-push_cases}
