@@ -8,3 +8,4 @@ mod Calls
 mod Fresh
 -- The facts of a log.
 mod StatedBounds
+mod FactsAdded

@@ -31,17 +31,6 @@ module _ {X : Type 0} where
   slice_get-taken (suc n) (y ∷ xs) zero x at = (omega arith, at)
   slice_get-taken (suc n) (y ∷ xs) (suc i) x at = let rest = slice_get-taken n xs i x at in (omega (arith, rest.0), rest.1)
 
-  -- what is read before a new last item
-  pub slice_get-before : (xs : List X) (y : X) (i : ℕ) → i < length xs → slice_get (xs ++ y ∷ []) i ≡ slice_get xs i
-  slice_get-before [] y i before = absurd (omega arith)
-  slice_get-before (x ∷ xs) y zero before = refl
-  slice_get-before (x ∷ xs) y (suc i) before = slice_get-before xs y i (omega arith)
-
-  -- the new last item
-  pub slice_get-last : (xs : List X) (y : X) → slice_get (xs ++ y ∷ []) (length xs) ≡ Some y
-  slice_get-last [] y = refl
-  slice_get-last (x ∷ xs) y = slice_get-last xs y
-
   -- what is read of a list with a new last item
   pub slice_get-push_cases : (xs : List X) (y : X) (i : ℕ) (x : X) → slice_get (xs ++ y ∷ []) i ≡ Some x →
       (slice_get xs i ≡ Some x) ⊎ ((i ≡ length xs) × (y ≡ x))

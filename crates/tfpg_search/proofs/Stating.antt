@@ -14,10 +14,10 @@ use Rattle.tfpg_diff.specs.Demands.{Demands, Bounded}
 use Rattle.tfpg_diff.specs.State.{with_pick, popped_to}
 use Rattle.tfpg_diff.specs.inside.Kept.{demands_of}
 use Rattle.tfpg_diff.proofs.Changes.{Bounded-set}
-use Rattle.tfpg_base.proofs.lists.Written.{slice_get-set_other}
+use Rattle.tfpg_base.proofs.lists.Written.{slice_get-set_other, slice_get-push_before, slice_get-push_last}
 use Rattle.tfpg_search.specs.Leaf.{Leaf, named_by, pick_reasons, AreBoundsStated, IsStated}
 use Rattle.tfpg_search.specs.inside.Tags.{IsTagged}
-use Rattle.tfpg_search.proofs.Lists.{slice_get-take, slice_get-taken, slice_get-before, slice_get-last, slice_get-push_cases}
+use Rattle.tfpg_search.proofs.Lists.{slice_get-take, slice_get-taken, slice_get-push_cases}
 
 -- the system with these demands and reasons
 abbrev pub leaf_of : Demands → List Reason → Leaf
@@ -122,18 +122,18 @@ module _ (fact stated : Reason → Option Constraint) (demands : Demands) (reaso
       record {
         wider = is_stated.wider;
         bounds = AreBoundsStated-same fact demands (demands.picks ++ pick ∷ []) reasons (reasons ++ reason ∷ []) tagged
-            (λ place before. slice_get-before reasons reason place (let o = tagged.one_each in omega arith))
+            (λ place before. slice_get-push_before reasons reason place (let o = tagged.one_each in omega arith))
             is_stated.bounds;
         picks = λ k p at.
             ap (λ (rs : List Reason). option_and_then stated (slice_get rs k)) (pick_reasons-push demands reasons tagged constraint tag reason)
             ∙ ⊎_elim
             (λ (was : slice_get demands.picks k ≡ Some p).
-            ap (option_and_then stated) (slice_get-before old reason k
+            ap (option_and_then stated) (slice_get-push_before old reason k
             (let inside = slice_get_within demands.picks k p was in let many = length-pick_reasons demands reasons tagged in omega arith))
             ∙ is_stated.picks k p was)
             (λ (last : (k ≡ length demands.picks) × (pick ≡ p)).
             ap (λ (n : ℕ). option_and_then stated (slice_get (old ++ reason ∷ []) n)) (last.0 ∙ sym (length-pick_reasons demands reasons tagged))
-            ∙ ap (option_and_then stated) (slice_get-last old reason)
+            ∙ ap (option_and_then stated) (slice_get-push_last old reason)
             ∙ states ∙ ap (λ (q : Pick). Some q.constraint) last.1)
             (slice_get-push_cases demands.picks pick k p at);
       }

@@ -104,6 +104,7 @@ impl LeafSystem {
         requires tighter { (bounds : Bounds) → Bounded self.old.demands node bounds → bounds.floor < least }
         ensures ok { OnOk result (self.new.demands ≡ with_floor self.old.demands node least node) }
         ensures err { OnErr result (self.new ≡ self.old) }
+        ensures nodes { length self.new.demands.bounds ≡ length self.old.demands.bounds }
         ensures reasons { pick_reasons self.new ≡ pick_reasons self.old }
         ensures stated { (fact stated : Reason → Option Constraint) → IsStated fact stated self.old →
             fact reason ≡ Some (at_least node least) → IsStated fact stated self.new }
@@ -137,6 +138,7 @@ impl LeafSystem {
         ensures ok { OnOk result
             (self.new.demands ≡ with_ceiling self.old.demands node most (length self.old.demands.bounds + node)) }
         ensures err { OnErr result (self.new ≡ self.old) }
+        ensures nodes { length self.new.demands.bounds ≡ length self.old.demands.bounds }
         ensures reasons { pick_reasons self.new ≡ pick_reasons self.old }
         ensures stated { (fact stated : Reason → Option Constraint) → IsStated fact stated self.old →
             fact reason ≡ Some (at_most node (pos most)) → IsStated fact stated self.new }

@@ -1,6 +1,7 @@
 //! The search of one hypothesis.
 #![tactic(auto)]
 
+mod add_facts;
 mod add_fault;
 mod closing;
 mod fact_bounds;
