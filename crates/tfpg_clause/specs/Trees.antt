@@ -1,6 +1,6 @@
 -- Refutations: trees of clauses, each leaf of which is closed by a cycle of constraints that cannot all hold. One walk over a
 -- tree gives its places in the order of the steps, and what is said of trees is said of these.
-use Rattle.std.specs.Prelude.{◌≡◌, ℕ, suc, ◌+◌, ◌<◌, ℤ, pos, ◌+ℤ◌, ◌<ℤ◌, List, [], ◌∷◌, ◌++◌, length, take, map, fold, All, Bool, true, false, Option, Some, option_map, option_and_then, slice_get}
+use Rattle.std.specs.Prelude.{◌≡◌, ℕ, suc, ◌+◌, ◌<◌, pos, ◌<ℤ◌, List, [], ◌∷◌, ◌++◌, length, take, map, All, Bool, true, false, Option, Some, option_map, option_and_then, slice_get}
 use Rattle.tfpg_base.specs.Choice.{each_of}
 use Rattle.tfpg_base.specs.ConstraintCycle.{IsCycle, sum_of}
 use Rattle.tfpg_base.specs.declared.constraint.Constraint.{Constraint}
