@@ -1,8 +1,9 @@
 -- What is allowed at a log stays allowed at each log that goes on from it.
-use Rattle.std.proofs.Common.{◌-◌, not, ltb, take, ◌≡◌, ℕ, zero, suc, ◌+◌, ◌≤◌, Bool, true, false, ◌&&◌, cond, leb, List, [], ◌∷◌, ◌++◌, length, max, Option, Some, None, refl, ap, ◌∙◌, arith, pos}
+use Rattle.std.proofs.Common.{◌-◌, not, ltb, take, ◌≡◌, ℕ, zero, suc, ◌+◌, ◌≤◌, Bool, true, false, ◌&&◌, cond, eqb, leb, List, [], ◌∷◌, ◌++◌, length, max, Option, Some, None, refl, ap, ◌∙◌, arith, pos}
 use Rattle.std.specs.Prelude.{nat_le, slice_get, map, filter_map, option_map, option_and_then}
 use Rattle.std.specs.Bool.{then_some}
-use Rattle.std.proofs.lemmas.Bool.{leb-true, le-leb}
+use Rattle.std.specs.List.{list_all}
+use Rattle.std.proofs.lemmas.Bool.{leb-true, le-leb, eqb-true, and_parts}
 use Rattle.std.proofs.lemmas.Option.{option_and_then_some, slice_get_within}
 use Rattle.tfpg_base.specs.Choice.{each_of}
 use Rattle.tfpg_base.specs.declared.constraint.Constraint.{Constraint}
@@ -17,8 +18,9 @@ use Rattle.tfpg_log.proofs.PastKept.{spans_kept, windows_kept, joints_kept, now_
 use Rattle.tfpg_evidence.specs.declared.clause_name.ClauseName.{ClauseName}
 use Rattle.tfpg_evidence.specs.declared.clause_name.ClauseName.TheVariants.{OrMay, AndMay, OrMust, AndMust}
 use Rattle.tfpg_clause.specs.Bounds.{at_most, at_least, at_least_after}
-use Rattle.tfpg_clause.specs.Clauses.{outside_span, due_over, must_in, may_by, must_by, and_may, or_must, alternatives}
+use Rattle.tfpg_clause.specs.Clauses.{outside_span, due_over, must_in, must_alternatives, may_by, must_by, and_may, or_must, alternatives}
 use Rattle.tfpg_clause.specs.declared.due.Due.{Due}
+use Rattle.tfpg_clause.proofs.Dues.{passed, fits}
 use Rattle.tfpg_clause.specs.Order.{horizon_of}
 use Rattle.tfpg_clause.specs.Facts.{fact, from_alarm, upto_alarm}
 use Rattle.tfpg_evidence.specs.declared.reason.Reason.{Reason}
@@ -67,11 +69,11 @@ module _ (graph : Tfpg) (earlier later : Logbook) (ordered : IsOrdered later) (g
 
 -- Where something has a value up to now alone, a value says that the horizon is not after now.
 before_now : {X : Type 0} (horizon now : ℕ) (here : Option X) (x : X) → cond (leb horizon now) here None ≡ Some x → horizon ≤ now
-before_now horizon now here x at = leb-true horizon now (passed (leb horizon now) here x at)
+before_now horizon now here x at = leb-true horizon now (held (leb horizon now) here x at)
   where
-    passed : {X : Type 0} (b : Bool) (here : Option X) (x : X) → cond b here None ≡ Some x → b ≡ true
-    passed true here x at = refl
-    passed false here x at = absurd cc
+    held : {X : Type 0} (b : Bool) (here : Option X) (x : X) → cond b here None ≡ Some x → b ≡ true
+    held true here x at = refl
+    held false here x at = absurd cc
 
 -- Where there is a span, or a window, the horizon is not after now.
 pub span_by_now : (log : Logbook) (number horizon : ℕ) (span : Span) → span_at log number horizon ≡ Some span → horizon ≤ now_of log
@@ -90,12 +92,17 @@ may_by_now : (log : Logbook) (holds : Bool) (target : ℕ) (edges : List Edge) (
     → may_by log holds target edges number horizon ≡ Some clause → horizon ≤ now_of log
 may_by_now log holds target edges number horizon clause at = some_span log number horizon _ clause at
 
--- there is a must clause only where there is the window
+-- there is a must clause only where there is the window, and where it begins with the span
 pub must_has_window : (log : Logbook) (holds : Bool) (target : ℕ) (edges : List Edge) (window : Option Window) (number horizon : ℕ) (clause : List (List Constraint))
-    → must_by log holds target edges window number horizon ≡ Some clause → (w : Window) × (window ≡ Some w)
+    → must_by log holds target edges window number horizon ≡ Some clause → (w : Window) × (window ≡ Some w) × (w.first ≡ number)
 must_has_window log true target edges window number horizon clause at =
     option_and_then_some _ (each_of (map (due_over log number horizon) edges)) clause at
-    (λ dues are rest. option_and_then_some _ window clause rest (λ w there others. (w, there)))
+    (λ dues are rest. option_and_then_some _ window clause rest (λ w there others. (w, there, begins_so w dues others)))
+  where
+    begins_so : (w : Window) (dues : List Due) → must_in target number w dues ≡ Some clause → w.first ≡ number
+    begins_so w dues at =
+        eqb-true w.first number
+        (and_parts (eqb w.first number) (list_all (fits w.hi) dues) (passed (eqb w.first number && list_all (fits w.hi) dues) (must_alternatives target w.hi dues) clause at).0).0
 must_has_window log false target edges window number horizon clause at = absurd cc
 
 -- an allowed name has a horizon up to now

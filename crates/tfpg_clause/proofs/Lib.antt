@@ -11,8 +11,16 @@ pub mod Members
 pub mod LastDue
 pub mod Agreed
 pub mod MayClauses
+pub mod MustAlternatives
 pub mod MustClauses
 pub mod RulesMet
+pub mod SpanNumbers
+pub mod MaySpans
+pub mod Families
+pub mod MustMet
+pub mod MustSpans
+pub mod MustFamilies
+pub mod FirstOfAll
 pub mod FactsMet
 pub mod GivesTrace
 pub mod OwnModes

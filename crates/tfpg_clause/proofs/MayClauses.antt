@@ -4,7 +4,7 @@ use Rattle.std.proofs.Common.{◌≡◌, ℕ, ◌+◌, ◌<◌, ◌≤◌, Bool,
 use Rattle.std.specs.Prelude.{All, Contains, filter_map, ◌-ℤ◌, option_and_then}
 use Rattle.std.specs.Bool.{then_some}
 use Rattle.std.proofs.lemmas.Bool.{cases_lt, le-leb}
-use Rattle.std.proofs.lemmas.List.Elements.{All-cons, All-nil, All-contains}
+use Rattle.std.proofs.lemmas.List.Elements.{All-cons, All-nil, All-contains, Contains-append_right}
 use Rattle.std.proofs.lemmas.Option.{option_and_then_some}
 use Rattle.tfpg_base.specs.declared.activation.Activation.{Activation}
 use Rattle.tfpg_base.specs.declared.constraint.Constraint.{Constraint}
@@ -27,6 +27,36 @@ use Rattle.tfpg_clause.proofs.Members.{had_there, had_from}
 use Rattle.tfpg_clause.proofs.Agreed.{Agree}
 use Rattle.tfpg_clause.proofs.Found.{may_found}
 use Rattle.tfpg_clause.proofs.Dues.{passed}
+
+-- the alternatives that the target becomes active before the span, and after it
+abbrev pub before_span : ℕ → Span → List Constraint
+before_span target span = at_most target (pos span.lo -ℤ pos 1) ∷ []
+
+abbrev pub after_span : ℕ → Span → List Constraint
+after_span target span = at_least target (span.hi + 1) ∷ []
+
+-- A may clause is met by one of these in a span that does not hold the number of its target, and in any where it is met by
+-- another alternative.
+pub met_outside : (numbers : List ℕ) (target : ℕ) (span : Span) (arrivals : List (List Constraint))
+    → (span.lo ≤ get_or numbers target 0 → get_or numbers target 0 ≤ span.hi → MeetsClause numbers arrivals)
+    → MeetsClause numbers (outside_span target span ++ arrivals)
+met_outside numbers target span arrivals inside = by (cases_lt (get_or numbers target 0) span.lo) (cases_lt span.hi (get_or numbers target 0))
+  where
+    by : (get_or numbers target 0 < span.lo) ⊎ (span.lo ≤ get_or numbers target 0) → (span.hi < get_or numbers target 0) ⊎ (get_or numbers target 0 ≤ span.hi)
+        → MeetsClause numbers (outside_span target span ++ arrivals)
+    by (inl before) till = (
+      before_span target span,
+      Contains-head (before_span target span) (after_span target span ∷ arrivals),
+      All-cons (Meets numbers) (at_most target (pos span.lo -ℤ pos 1)) [] (met_before numbers target span.lo before) (All-nil _),
+    )
+    by (inr from) (inl after) = (
+      after_span target span,
+      Contains-tail (before_span target span) (after_span target span ∷ arrivals) (after_span target span) (Contains-head (after_span target span) arrivals),
+      All-cons (Meets numbers) (at_least target (span.hi + 1)) [] (met_at_least numbers target (span.hi + 1) (omega (arith, after))) (All-nil _),
+    )
+    by (inr from) (inr till) =
+        let met = inside from till in
+        (met.0, Contains-append_right (before_span target span ∷ after_span target span ∷ []) arrivals met.0 met.1, met.2)
 
 module _ (log : Logbook) (trace : List Activation) (numbers : List ℕ) (count : ℕ) (agree : Agree count (now_of log) trace numbers) where
   -- Where the target becomes active, the failure arrives by one of these edges.
@@ -78,29 +108,16 @@ module _ (log : Logbook) (trace : List Activation) (numbers : List ℕ) (count :
         (λ (span : Span). then_some holds (outside_span target span ++ filter_map (arrival log number horizon span) edges)) (span_at log number horizon) clause allowed
         (λ span at rest.
         let parts = passed holds (outside_span target span ++ filter_map (arrival log number horizon span) edges) clause rest in
-        subst (MeetsClause numbers) parts.1 (by span at (cases_lt (get_or numbers target 0) span.lo) (cases_lt span.hi (get_or numbers target 0))))
+        subst (MeetsClause numbers) parts.1 (by span at))
       where
-        by : (span : Span) → span_at log number horizon ≡ Some span → (get_or numbers target 0 < span.lo) ⊎ (span.lo ≤ get_or numbers target 0)
-            → (span.hi < get_or numbers target 0) ⊎ (get_or numbers target 0 ≤ span.hi)
-            → MeetsClause numbers (outside_span target span ++ filter_map (arrival log number horizon span) edges)
-        by span at (inl before) till =
-            (at_most target (pos span.lo -ℤ pos 1) ∷ [], Contains-head (at_most target (pos span.lo -ℤ pos 1) ∷ []) ((at_least target (span.hi + 1) ∷ []) ∷ filter_map (arrival log number horizon span) edges), All-cons (Meets numbers) (at_most target (pos span.lo -ℤ pos 1)) [] (met_before numbers target span.lo before) (All-nil _))
-        by span at (inr from) (inl after) = (
-          at_least target (span.hi + 1) ∷ [],
-          Contains-tail (at_most target (pos span.lo -ℤ pos 1) ∷ []) ((at_least target (span.hi + 1) ∷ []) ∷ filter_map (arrival log number horizon span) edges) (at_least target (span.hi + 1) ∷ [])
-              (Contains-head (at_least target (span.hi + 1) ∷ []) (filter_map (arrival log number horizon span) edges)),
-          All-cons (Meets numbers) (at_least target (span.hi + 1)) [] (met_at_least numbers target (span.hi + 1) (omega (arith, after))) (All-nil _),
-        )
-        by span at (inr from) (inr till) =
+        by : (span : Span) → span_at log number horizon ≡ Some span → MeetsClause numbers (outside_span target span ++ filter_map (arrival log number horizon span) edges)
+        by span at =
+            met_outside numbers target span (filter_map (arrival log number horizon span) edges)
+            (λ from till.
             let is = is_span log number horizon span at in
             let now : get_or numbers target 0 ≤ now_of log = omega (arith, till, is.run.in_range, upto) in
             let arrives = rule (get_or numbers target 0) now (agree.early target within now) in
-            let found = arrives_in horizon span at upto arrives.0 arrives.1 from till arrives.2 in (
-              found.0,
-              Contains-tail (at_most target (pos span.lo -ℤ pos 1) ∷ []) ((at_least target (span.hi + 1) ∷ []) ∷ filter_map (arrival log number horizon span) edges) found.0
-                  (Contains-tail (at_least target (span.hi + 1) ∷ []) (filter_map (arrival log number horizon span) edges) found.0 found.1),
-              found.2,
-            )
+            arrives_in horizon span at upto arrives.0 arrives.1 from till arrives.2)
 
     -- an alternative by an edge says that the failure arrives
     arrived_from : (horizon : ℕ) (span : Span) → span_at log number horizon ≡ Some span → horizon ≤ now_of log → All (λ (edge : Edge). edge.source < count) edges → (alternative : List Constraint)

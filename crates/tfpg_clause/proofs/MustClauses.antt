@@ -1,18 +1,18 @@
 -- Must clauses and the must rule, of some edges and a window that they have in common: the clause is met where the target is
 -- active once all edges are due, and the target is so where the clause is met.
-use Rattle.std.proofs.Common.{◌≡◌, ℕ, ◌+◌, ◌-◌, ◌<◌, ◌≤◌, Bool, true, false, ◌&&◌, eqb, List, [], ◌∷◌, ◌++◌, get_or, Option, Some, None, refl, sym, ap, subst, ◌∙◌, ◌⊎◌, inl, inr, arith, pos}
+use Rattle.std.proofs.Common.{◌≡◌, ℕ, ◌+◌, ◌-◌, ◌<◌, ◌≤◌, Bool, true, false, ◌&&◌, eqb, List, [], ◌∷◌, get_or, Option, Some, None, refl, sym, ap, subst, ◌∙◌, ◌⊎◌, inl, inr, arith, pos}
 use Rattle.std.specs.Prelude.{All, Contains, map, option_map, option_and_then}
 use Rattle.std.specs.Bool.{then_some}
 use Rattle.std.specs.List.{list_all}
 use Rattle.tfpg_base.specs.Choice.{each_of}
 use Rattle.std.proofs.lemmas.Bool.{cases_lt, le-leb, leb-true, and_parts, eq-eqb, and_from}
-use Rattle.std.proofs.lemmas.List.Elements.{All-cons, All-nil, All-contains, Contains-append_left, Contains-append_right, Contains-append_cases}
+use Rattle.std.proofs.lemmas.List.Elements.{All-cons, All-nil, All-contains}
 use Rattle.std.proofs.lemmas.List.Sums.{AllPass-from_list_all, list_all-from_AllPass}
 use Rattle.std.proofs.lemmas.Option.{option_and_then_some}
 use Rattle.tfpg_base.specs.declared.activation.Activation.{Activation}
 use Rattle.tfpg_base.specs.declared.constraint.Constraint.{Constraint}
 use Rattle.tfpg_base.specs.Trace.{time_of}
-use Rattle.tfpg_base.proofs.lists.Elements.{All-from_members, Contains-head}
+use Rattle.tfpg_base.proofs.lists.Elements.{All-from_members}
 use Rattle.tfpg_graph.specs.declared.edge.Edge.{Edge}
 use Rattle.tfpg_log.specs.declared.span.Window.{Window}
 use Rattle.tfpg_log.specs.Log.{Logbook, now_of}
@@ -25,10 +25,11 @@ use Rattle.tfpg_clause.specs.Bounds.{at_most, at_least, at_most_after}
 use Rattle.tfpg_base.specs.Constraint.{Meets}
 use Rattle.tfpg_clause.specs.Clauses.{due_over, must_in, must_by, must_alternatives, starts_late, follows_in_time, latest_of, MeetsClause}
 use Rattle.tfpg_clause.proofs.Bounded.{met_at_most, met_at_least, met_at_most_after, says_at_most, says_at_least, says_at_most_after}
-use Rattle.tfpg_clause.proofs.Members.{each_from, each_to, each_there, mapped_to, mapped_from, only_one}
+use Rattle.tfpg_clause.proofs.Members.{each_from, each_to, each_there}
 use Rattle.tfpg_clause.proofs.Agreed.{Agree, active_from, active_only}
 use Rattle.tfpg_clause.proofs.Found.{must_found}
 use Rattle.tfpg_clause.proofs.Dues.{passed, fits}
+use Rattle.tfpg_clause.proofs.MustAlternatives.{late_there, follows_there, last_there, alternative_cases}
 use Rattle.tfpg_clause.proofs.LastDue.{since_source, last_due, upto_last, last_within, reached, some_late, by_latest, latest_upto}
 
 -- A window that the edges have in common round a span: it lies in the window of each, and begins with that of some edge or at 0.
@@ -131,27 +132,6 @@ module _ (log : Logbook) (trace : List Activation) (numbers : List ℕ) (count :
           let of = due_of log number horizon edge.0 due edge.2 in
           ap (λ node. get_or numbers node 0) (of.target ∙ All-contains (λ (e : Edge). e.target ≡ target) edges edge.0 own edge.1)
 
-      first_group : List (List Constraint)
-      first_group = map (starts_late window.hi) ds
-
-      -- one of the first alternatives,
-      late_there : (due : Due) → Contains ds due → Contains (must_alternatives target window.hi ds) (starts_late window.hi due)
-      late_there due member =
-          Contains-append_left (map (starts_late window.hi) ds ++ map follows_in_time ds) ((at_most target (pos (latest_of ds)) ∷ []) ∷ []) (starts_late window.hi due)
-          (Contains-append_left (map (starts_late window.hi) ds) (map follows_in_time ds) (starts_late window.hi due) (mapped_to (starts_late window.hi) ds due member))
-
-      -- one of the next,
-      follows_there : (due : Due) → Contains ds due → Contains (must_alternatives target window.hi ds) (follows_in_time due)
-      follows_there due member =
-          Contains-append_left (map (starts_late window.hi) ds ++ map follows_in_time ds) ((at_most target (pos (latest_of ds)) ∷ []) ∷ []) (follows_in_time due)
-          (Contains-append_right (map (starts_late window.hi) ds) (map follows_in_time ds) (follows_in_time due) (mapped_to follows_in_time ds due member))
-
-      -- and the last
-      last_there : Contains (must_alternatives target window.hi ds) (at_most target (pos (latest_of ds)) ∷ [])
-      last_there =
-          Contains-append_right (map (starts_late window.hi) ds ++ map follows_in_time ds) ((at_most target (pos (latest_of ds)) ∷ []) ∷ []) (at_most target (pos (latest_of ds)) ∷ [])
-          (Contains-head (at_most target (pos (latest_of ds)) ∷ []) [])
-
       -- The alternatives are met where the rule holds at the instants of the window, and the window has room for all.
       met_alternatives : target < count → All (λ (edge : Edge). edge.source < count) edges → horizon ≤ now_of log → ((due : Due) → Contains ds due → due.by ≤ window.hi)
           → ((instant : ℕ) → window.lo ≤ instant → instant ≤ window.hi → ActiveOnce target edges instant) → MeetsClause numbers (must_alternatives target window.hi ds)
@@ -160,7 +140,7 @@ module _ (log : Logbook) (trace : List Activation) (numbers : List ℕ) (count :
             let edge = edge_of late.0 late.1 in
             let of = due_of log number horizon edge.0 late.0 edge.2 in (
               starts_late window.hi late.0,
-              late_there late.0 late.1,
+              late_there target window.hi ds late.0 late.1,
               All-cons (Meets numbers) (at_least late.0.source (window.hi - late.0.tmax + 1)) []
                   (met_at_least numbers late.0.source (window.hi - late.0.tmax + 1) (omega (arith, late.2, room late.0 late.1, of.by))) (All-nil _),
             )
@@ -195,7 +175,7 @@ module _ (log : Logbook) (trace : List Activation) (numbers : List ℕ) (count :
 
               by_last : get_or numbers target 0 ≤ latest_of ds → MeetsClause numbers (must_alternatives target window.hi ds)
               by_last early =
-                  (at_most target (pos (latest_of ds)) ∷ [], last_there, All-cons (Meets numbers) (at_most target (pos (latest_of ds))) [] (met_at_most numbers target (latest_of ds) early) (All-nil _))
+                  (at_most target (pos (latest_of ds)) ∷ [], last_there target window.hi ds, All-cons (Meets numbers) (at_most target (pos (latest_of ds))) [] (met_at_most numbers target (latest_of ds) early) (All-nil _))
 
               chosen : (get_or numbers target 0 ≤ 0) ⊎ ((due : Due) × Contains ds due × ((get_or numbers target 0 ≤ due.by) ⊎ (get_or numbers target 0 ≤ since_source numbers due)))
                   → MeetsClause numbers (must_alternatives target window.hi ds)
@@ -203,7 +183,7 @@ module _ (log : Logbook) (trace : List Activation) (numbers : List ℕ) (count :
               chosen (inr (due, member, inl by_window)) = by_last (omega (arith, by_window, by_latest ds due member))
               chosen (inr (due, member, inr by_source)) = (
                 follows_in_time due,
-                follows_there due member,
+                follows_there target window.hi ds due member,
                 All-cons (Meets numbers) (at_most_after due.target due.source due.tmax) []
                     (met_at_most_after numbers due.target due.source due.tmax (omega (arith, by_source, target_is due member))) (All-nil _),
               )
@@ -212,23 +192,18 @@ module _ (log : Logbook) (trace : List Activation) (numbers : List ℕ) (count :
       by_alternatives : (instant : ℕ) → instant ≤ window.hi → ((due : Due) → Contains ds due → (due.by ≤ instant) × (since_source numbers due ≤ instant))
           → MeetsClause numbers (must_alternatives target window.hi ds) → get_or numbers target 0 ≤ instant
       by_alternatives instant till past met =
-          elim (Contains-append_cases (map (starts_late window.hi) ds ++ map follows_in_time ds) ((at_most target (pos (latest_of ds)) ∷ []) ∷ []) met.0 met.1) [
-            | inl groups ↦ elim (Contains-append_cases (map (starts_late window.hi) ds) (map follows_in_time ds) met.0 groups) [
-              | inl first ↦ (
-                  let due = mapped_from (starts_late window.hi) ds met.0 first in
-                  let all : All (Meets numbers) (starts_late window.hi due.0) = subst (All (Meets numbers)) (sym due.2) met.2 in
-                  let late = says_at_least numbers due.0.source (window.hi - due.0.tmax + 1) (all 0 (at_most target (pos 0)) (omega arith)) in
-                  absurd (omega (arith, late, (past due.0 due.1).1, till))
-                  )
-              | inr next ↦ (
-                  let due = mapped_from follows_in_time ds met.0 next in
-                  let all : All (Meets numbers) (follows_in_time due.0) = subst (All (Meets numbers)) (sym due.2) met.2 in
-                  let soon = says_at_most_after numbers due.0.target due.0.source due.0.tmax (all 0 (at_most target (pos 0)) (omega arith)) in
-                  omega (arith, soon, target_is due.0 due.1, (past due.0 due.1).1)
-                  )
-            ]
-            | inr last ↦ (
-                let same : (at_most target (pos (latest_of ds)) ∷ []) ≡ met.0 = only_one (at_most target (pos (latest_of ds)) ∷ []) met.0 last in
+          elim (alternative_cases target window.hi ds met.0 met.1) [
+            | inl late ↦ (
+                let all : All (Meets numbers) (starts_late window.hi late.0) = subst (All (Meets numbers)) (sym late.2) met.2 in
+                let starts = says_at_least numbers late.0.source (window.hi - late.0.tmax + 1) (all 0 (at_most target (pos 0)) (omega arith)) in
+                absurd (omega (arith, starts, (past late.0 late.1).1, till))
+                )
+            | inr (inl soon) ↦ (
+                let all : All (Meets numbers) (follows_in_time soon.0) = subst (All (Meets numbers)) (sym soon.2) met.2 in
+                let follows = says_at_most_after numbers soon.0.target soon.0.source soon.0.tmax (all 0 (at_most target (pos 0)) (omega arith)) in
+                omega (arith, follows, target_is soon.0 soon.1, (past soon.0 soon.1).1)
+                )
+            | inr (inr same) ↦ (
                 let all : All (Meets numbers) (at_most target (pos (latest_of ds)) ∷ []) = subst (All (Meets numbers)) (sym same) met.2 in
                 omega (arith, says_at_most numbers target (latest_of ds) (all 0 (at_most target (pos 0)) (omega arith)), latest_upto instant ds (λ due member. (past due member).0))
                 )

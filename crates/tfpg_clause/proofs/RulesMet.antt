@@ -102,14 +102,14 @@ pub edge_into : (graph : Tfpg) (k : ℕ) (edge : Edge) → slice_get graph.edges
 edge_into graph k edge at = kept (λ (e : Edge). eqb e.target edge.target) graph.edges k edge at (eq-eqb edge.target edge.target refl)
 
 -- there is a clause only where its test holds
-may_holds : (log : Logbook) (holds : Bool) (target : ℕ) (edges : List Edge) (number horizon : ℕ) (clause : List (List Constraint))
+pub may_holds : (log : Logbook) (holds : Bool) (target : ℕ) (edges : List Edge) (number horizon : ℕ) (clause : List (List Constraint))
     → may_by log holds target edges number horizon ≡ Some clause → holds ≡ true
 may_holds log holds target edges number horizon clause allowed =
     option_and_then_some
     (λ (span : Span). then_some holds (outside_span target span ++ filter_map (arrival log number horizon span) edges)) (span_at log number horizon) clause allowed
     (λ span at rest. (passed holds (outside_span target span ++ filter_map (arrival log number horizon span) edges) clause rest).0)
 
-must_holds : (log : Logbook) (holds : Bool) (target : ℕ) (edges : List Edge) (window : Option Window) (number horizon : ℕ) (clause : List (List Constraint))
+pub must_holds : (log : Logbook) (holds : Bool) (target : ℕ) (edges : List Edge) (window : Option Window) (number horizon : ℕ) (clause : List (List Constraint))
     → must_by log holds target edges window number horizon ≡ Some clause → holds ≡ true
 must_holds log true target edges window number horizon clause allowed = refl
 must_holds log false target edges window number horizon clause allowed = absurd cc

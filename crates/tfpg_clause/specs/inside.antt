@@ -1,3 +1,4 @@
 pub mod Ranges
 pub mod Alternatives
 pub mod Frames
+pub mod FirstSpan

@@ -2,6 +2,8 @@
 //!
 //! - [`fact`] is the constraint that a reason states, where it is a fact of the log and of a set with this reach.
 //! - [`NotAFact`] says that it is none.
+//! - [`count`] and [`constraint`] are the alternatives of a clause and their constraints, where the clause is allowed.
+//! - [`violated`] is the first clause with the horizon now that some times violate.
 //! - [`Frame`] is a split on the path to the present leaf of a partial tree, as a program keeps it; [`advance`] moves the path
 //!   on once the leaf is closed, and [`stated`] and [`picked`] look up what a reason states there.
 //! - [`laws`] ties facts, clauses and refutations to the traces that explain a log, and says how trees grow.
@@ -12,14 +14,20 @@
 
 mod alternative;
 mod bounds;
+mod clause_kind;
 mod clauses;
 mod due;
 mod facts;
+mod first_clause;
 pub mod laws;
 mod may;
+mod may_violated;
+mod meets;
 mod must;
+mod must_violated;
 mod path;
 
 pub use clauses::{NotAClause, constraint, count};
 pub use facts::{NotAFact, fact};
+pub use first_clause::violated;
 pub use path::{Frame, advance, picked, stated};

@@ -101,7 +101,7 @@ pub(crate) fn latest_due(
 }
 
 /// The source becomes active too late for the failure to be due within a window that ends here.
-fn starts_late(hi: u64, due: Due) -> Alternative
+pub(crate) fn starts_late(hi: u64, due: Due) -> Alternative
     requires due { IsSmallDue due }
     requires hi { hi ≤ max_time }
     ensures { constraints_in result ≡ starts_late hi due }
@@ -110,7 +110,7 @@ fn starts_late(hi: u64, due: Due) -> Alternative
 }
 
 /// The target becomes active at most the greatest delay after the source.
-fn follows_in_time(due: Due) -> Alternative
+pub(crate) fn follows_in_time(due: Due) -> Alternative
     requires { IsSmallDue due }
     ensures { constraints_in result ≡ follows_in_time due }
 {

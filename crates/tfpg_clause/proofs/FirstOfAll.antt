@@ -1,0 +1,233 @@
+-- The first violated clause of all kinds.
+use Rattle.std.proofs.Common.{◌≡◌, ℕ, zero, suc, ◌+◌, ◌<◌, ◌≤◌, List, [], ◌∷◌, length, get_or, Option, Some, None, refl, sym, ap, subst, ◌∙◌, ◌⊎◌, inl, inr, arith}
+use Rattle.std.specs.Prelude.{MatchOption, ◌↔◌, slice_get}
+use Rattle.std.proofs.lemmas.Bool.{cases_lt, cases_eq}
+use Rattle.std.proofs.lemmas.Option.{option_and_then_some, slice_get_within}
+use Rattle.tfpg_base.specs.declared.constraint.Constraint.{Constraint}
+use Rattle.tfpg_graph.specs.Graph.{Tfpg, is_kind_at, is_or, is_and, edges_into}
+use Rattle.tfpg_graph.specs.Valid.{IsValid}
+use Rattle.tfpg_log.specs.Log.{Logbook, now_of}
+use Rattle.tfpg_log.specs.Rules.{KeepsRules}
+use Rattle.tfpg_log.specs.Spans.{joint_of}
+use Rattle.tfpg_evidence.specs.declared.clause_name.ClauseName.{ClauseName}
+use Rattle.tfpg_evidence.specs.declared.clause_name.ClauseName.TheVariants.{OrMay, AndMay, OrMust, AndMust}
+use Rattle.tfpg_clause.specs.declared.clause_kind.ClauseKind.{ClauseKind}
+use Rattle.tfpg_clause.specs.declared.clause_kind.ClauseKind.TheVariants as kind
+use Rattle.tfpg_clause.specs.Clauses.{alternatives, and_may, or_must}
+use Rattle.tfpg_clause.specs.Cut.{cut, AreNumbers}
+use Rattle.tfpg_clause.specs.Order.{horizon_of, subject_of, span_of, rank_of, ComesBefore, MeetsNamed, IsFirstViolated, MeetAllNow}
+use Rattle.tfpg_clause.specs.inside.FirstSpan.{MeetsIfAny, MeetsEach, IsFirstOfKind, MeetsKind, clauses_of, named, place_of, subject_count}
+use Rattle.tfpg_clause.proofs.Agreed.{of_cut}
+use Rattle.tfpg_clause.proofs.RulesMet.{may_holds, must_holds, kind_within, clause_is_met, rules_are_kept}
+
+-- the kind of a name
+kind_of : ClauseName → ClauseKind
+kind_of (OrMay node span horizon) = kind.OrMay
+kind_of (AndMay edge span horizon) = kind.AndMay
+kind_of (OrMust edge span horizon) = kind.OrMust
+kind_of (AndMust node span horizon) = kind.AndMust
+
+-- Each name is that of its kind, its node or edge, its span and its horizon,
+name_is : (name : ClauseName) → named (kind_of name) (subject_of name) (span_of name) (horizon_of name) ≡ name
+unfolding kind_of
+name_is (OrMay node span horizon) = refl
+name_is (AndMay edge span horizon) = refl
+name_is (OrMust edge span horizon) = refl
+name_is (AndMust node span horizon) = refl
+
+-- and has the rank of its kind.
+rank_is : (name : ClauseName) → rank_of name ≡ place_of (kind_of name)
+unfolding kind_of
+rank_is (OrMay node span horizon) = refl
+rank_is (AndMay edge span horizon) = refl
+rank_is (OrMust edge span horizon) = refl
+rank_is (AndMust node span horizon) = refl
+
+-- kinds of one place are the same
+same_kind : (one other : ClauseKind) → place_of one ≡ place_of other → one ≡ other
+same_kind kind.OrMay kind.OrMay is = refl
+same_kind kind.OrMay kind.AndMay is = absurd (omega arith)
+same_kind kind.OrMay kind.OrMust is = absurd (omega arith)
+same_kind kind.OrMay kind.AndMust is = absurd (omega arith)
+same_kind kind.AndMay kind.OrMay is = absurd (omega arith)
+same_kind kind.AndMay kind.AndMay is = refl
+same_kind kind.AndMay kind.OrMust is = absurd (omega arith)
+same_kind kind.AndMay kind.AndMust is = absurd (omega arith)
+same_kind kind.OrMust kind.OrMay is = absurd (omega arith)
+same_kind kind.OrMust kind.AndMay is = absurd (omega arith)
+same_kind kind.OrMust kind.OrMust is = refl
+same_kind kind.OrMust kind.AndMust is = absurd (omega arith)
+same_kind kind.AndMust kind.OrMay is = absurd (omega arith)
+same_kind kind.AndMust kind.AndMay is = absurd (omega arith)
+same_kind kind.AndMust kind.OrMust is = absurd (omega arith)
+same_kind kind.AndMust kind.AndMust is = refl
+
+module _ (own : ClauseKind) (subject span horizon : ℕ) where
+  named_subject : subject_of (named own subject span horizon) ≡ subject
+  named_subject = by own
+    where
+      by : (k : ClauseKind) → subject_of (named k subject span horizon) ≡ subject
+      by kind.OrMay = refl
+      by kind.AndMay = refl
+      by kind.OrMust = refl
+      by kind.AndMust = refl
+
+  named_span : span_of (named own subject span horizon) ≡ span
+  named_span = by own
+    where
+      by : (k : ClauseKind) → span_of (named k subject span horizon) ≡ span
+      by kind.OrMay = refl
+      by kind.AndMay = refl
+      by kind.OrMust = refl
+      by kind.AndMust = refl
+
+  named_horizon : horizon_of (named own subject span horizon) ≡ horizon
+  named_horizon = by own
+    where
+      by : (k : ClauseKind) → horizon_of (named k subject span horizon) ≡ horizon
+      by kind.OrMay = refl
+      by kind.AndMay = refl
+      by kind.OrMust = refl
+      by kind.AndMust = refl
+
+  named_rank : rank_of (named own subject span horizon) ≡ place_of own
+  named_rank = by own
+    where
+      by : (k : ClauseKind) → rank_of (named k subject span horizon) ≡ place_of k
+      by kind.OrMay = refl
+      by kind.AndMay = refl
+      by kind.OrMust = refl
+      by kind.AndMust = refl
+
+-- all kinds, in their order
+abbrev pub all_kinds : List ClauseKind
+all_kinds = kind.OrMay ∷ kind.AndMay ∷ kind.OrMust ∷ kind.AndMust ∷ []
+
+module _ (graph : Tfpg) (log : Logbook) (times : List ℕ) where
+  -- a node or an edge past the last has no clause
+  none_past : (kind : ClauseKind) (subject span : ℕ) (all : List (List Constraint)) → subject_count graph kind ≤ subject → clauses_of graph log kind subject span ≡ Some all → ⊥
+  none_past kind.OrMay subject span all past at =
+      omega (arith, past, kind_within graph is_or subject (may_holds log (is_kind_at is_or graph subject) subject (edges_into graph subject) span (now_of log) all at))
+  none_past kind.AndMay subject span all past at =
+      option_and_then_some (λ e. and_may graph log e span (now_of log)) (slice_get graph.edges subject) all at (λ e there rest. omega (arith, past, slice_get_within graph.edges subject e there))
+  none_past kind.OrMust subject span all past at =
+      option_and_then_some (λ e. or_must graph log e span (now_of log)) (slice_get graph.edges subject) all at (λ e there rest. omega (arith, past, slice_get_within graph.edges subject e there))
+  none_past kind.AndMust subject span all past at =
+      omega
+      (arith, past, kind_within graph is_and subject (must_holds log (is_kind_at is_and graph subject) subject (edges_into graph subject) (joint_of graph log subject span (now_of log)) span (now_of log) all at))
+
+  -- The clauses of a kind are met where those of its nodes or edges are.
+  pub kind_met : (kind : ClauseKind) → ((subject : ℕ) → subject < subject_count graph kind → MeetsEach times (clauses_of graph log kind subject)) → MeetsKind graph log times kind
+  kind_met kind each subject = elim (cases_lt subject (subject_count graph kind)) [
+    | inl within ↦ each subject within
+    | inr past ↦ (λ span all at. absurd (none_past kind subject span all past at))
+  ]
+
+  -- The clauses of one more node or edge, or of one more kind.
+  pub subjects_more : (kind : ClauseKind) (subject : ℕ) → ((other : ℕ) → other < subject → MeetsEach times (clauses_of graph log kind other)) → MeetsEach times (clauses_of graph log kind subject)
+      → (other : ℕ) → other < subject + 1 → MeetsEach times (clauses_of graph log kind other)
+  subjects_more kind subject before here other below = elim (cases_eq other subject) [
+    | inl same ↦ subst (λ s. MeetsEach times (clauses_of graph log kind s)) (sym same) here
+    | inr apart ↦ before other (omega (arith, below, apart))
+  ]
+
+  kinds_more : (place : ℕ) (kind : ClauseKind) → place_of kind ≡ place → ((other : ClauseKind) → place_of other < place → MeetsKind graph log times other) → MeetsKind graph log times kind
+      → (other : ClauseKind) → place_of other < place + 1 → MeetsKind graph log times other
+  kinds_more place kind is before here other below = elim (cases_eq (place_of other) place) [
+    | inl same ↦ subst (MeetsKind graph log times) (sym (same_kind other kind (same ∙ sym is))) here
+    | inr apart ↦ before other (omega (arith, below, apart))
+  ]
+
+  met_named : (kind : ClauseKind) (subject span : ℕ) (name : ClauseName) → named kind subject span (now_of log) ≡ name → MeetsIfAny times (clauses_of graph log kind subject span)
+      → MeetsNamed graph log times name
+  met_named kind subject span name is met = subst (MeetsNamed graph log times) is met
+
+  -- the name by its parts, where its horizon is now
+  own_name : (name : ClauseName) → horizon_of name ≡ now_of log → named (kind_of name) (subject_of name) (span_of name) (now_of log) ≡ name
+  own_name name at_now = ap (λ h. named (kind_of name) (subject_of name) (span_of name) h) (sym at_now) ∙ name_is name
+
+  -- All clauses are met where those of each kind are.
+  all_met : ((kind : ClauseKind) → MeetsKind graph log times kind) → MeetAllNow graph log times
+  all_met each name at_now =
+      met_named (kind_of name) (subject_of name) (span_of name) name (own_name name at_now) (each (kind_of name) (subject_of name) (span_of name))
+
+  -- The first of a kind is the first of all, where those of each kind before are met.
+  first_of_all : (kind : ClauseKind) (name : ClauseName) → ((other : ClauseKind) → place_of other < place_of kind → MeetsKind graph log times other)
+      → IsFirstOfKind graph log times kind name → IsFirstViolated graph log times name
+  first_of_all kind name before is = record {
+    at_now = ap horizon_of is.is ∙ named_horizon kind is.subject is.span (now_of log);
+    violated = record {
+      clause = is.first.violated.all;
+      allowed = ap (alternatives graph log) is.is ∙ is.first.violated.there;
+      not_met = is.first.violated.not_met;
+    };
+    first = λ other at_now comes.
+        met_named (kind_of other) (subject_of other) (span_of other) other (own_name other at_now) (by other comes);
+  }
+    where
+      rank : rank_of name ≡ place_of kind
+      rank = ap rank_of is.is ∙ named_rank kind is.subject is.span (now_of log)
+
+      subject : subject_of name ≡ is.subject
+      subject = ap subject_of is.is ∙ named_subject kind is.subject is.span (now_of log)
+
+      span : span_of name ≡ is.span
+      span = ap span_of is.is ∙ named_span kind is.subject is.span (now_of log)
+
+      by : (other : ClauseName) → ComesBefore other name → MeetsIfAny times (clauses_of graph log (kind_of other) (subject_of other) (span_of other))
+      by other (inl earlier) = before (kind_of other) (omega (arith, earlier, rank, rank_is other)) (subject_of other) (span_of other)
+      by other (inr (same, rest)) =
+          let own : kind_of other ≡ kind = same_kind (kind_of other) kind (sym (rank_is other) ∙ same ∙ rank) in
+          subst (λ k. MeetsIfAny times (clauses_of graph log k (subject_of other) (span_of other))) (sym own) (within rest)
+        where
+          within : (subject_of other < subject_of name) ⊎ ((subject_of other ≡ subject_of name) × (span_of other < span_of name))
+              → MeetsIfAny times (clauses_of graph log kind (subject_of other) (span_of other))
+          within (inl lesser) = is.before (subject_of other) (omega (arith, lesser, subject)) (span_of other)
+          within (inr (equal, early)) =
+              subst (λ s. MeetsIfAny times (clauses_of graph log kind s (span_of other))) (sym (equal ∙ subject)) (is.first.before (span_of other) (omega (arith, early, span)))
+
+  -- Nothing is violated exactly where the times, cut at now, keep the rules.
+  pub none_where_kept : IsValid graph → AreNumbers graph times → (result : Option ClauseName) → MatchOption result (MeetAllNow graph log times) (IsFirstViolated graph log times)
+      → (result ≡ None) ↔ KeepsRules graph log (cut (now_of log) times)
+  none_where_kept valid are None met = (
+    λ none. rules_are_kept graph log (cut (now_of log) times) times valid (of_cut (length graph.nodes) (now_of log) times are.one_each) (λ name clause at_now allowed. met name at_now clause allowed),
+    λ kept. refl,
+  )
+  none_where_kept valid are (Some name) first = (
+    λ none. absurd cc,
+    λ kept.
+        absurd
+        (first.violated.not_met
+        (clause_is_met graph log (cut (now_of log) times) times valid (of_cut (length graph.nodes) (now_of log) times are.one_each) kept name first.violated.clause first.violated.allowed)),
+  )
+
+  -- ---- the kinds in their places
+
+  -- as the kind in a place has that place,
+  in_place : (place : ℕ) → place < 4 → place_of (get_or all_kinds place kind.OrMay) ≡ place
+  in_place zero within = refl
+  in_place (suc zero) within = refl
+  in_place (suc (suc zero)) within = refl
+  in_place (suc (suc (suc zero))) within = refl
+  in_place (suc (suc (suc (suc more)))) within = absurd (omega arith)
+
+  -- the first of that kind is the first of all, where those in the places before are met;
+  pub first_in_place : (place : ℕ) (name : ClauseName) → place < 4 → ((other : ClauseKind) → place_of other < place → MeetsKind graph log times other)
+      → IsFirstOfKind graph log times (get_or all_kinds place kind.OrMay) name → IsFirstViolated graph log times name
+  first_in_place place name within before is =
+      first_of_all (get_or all_kinds place kind.OrMay) name (λ other earlier. before other (omega (arith, earlier, in_place place within))) is
+
+  -- with that kind, one more is met;
+  pub kind_in_place : (place : ℕ) → place < 4 → ((other : ClauseKind) → place_of other < place → MeetsKind graph log times other)
+      → MeetsKind graph log times (get_or all_kinds place kind.OrMay) → (other : ClauseKind) → place_of other < place + 1 → MeetsKind graph log times other
+  kind_in_place place within before here = kinds_more place (get_or all_kinds place kind.OrMay) (in_place place within) before here
+
+  -- and after the last, all are.
+  pub met_in_places : (place : ℕ) → 4 ≤ place → ((other : ClauseKind) → place_of other < place → MeetsKind graph log times other) → MeetAllNow graph log times
+  met_in_places place past before = all_met (λ kind. before kind (omega (arith, four kind, past)))
+    where
+      four : (k : ClauseKind) → place_of k < 4
+      four kind.OrMay = omega arith
+      four kind.AndMay = omega arith
+      four kind.OrMust = omega arith
+      four kind.AndMust = omega arith

@@ -1,0 +1,20 @@
+use Rattle.std.proofs.Common.{refl, arith}
+use Rattle.std.proofs.lemmas.Bool.{false≢true}
+use Rattle.tfpg_clause.proofs.MaySpans.{arrived_by, none_arrived}
+use Rattle.tfpg_clause.proofs.may_violated.has_arrived.Goals as goal
+
+pub returns-then-arrives : goal.returns-then-arrives
+returns-then-arrives c = (
+  λ yes. arrived_by c.args.graph.now c.args.log.now c.args.times.now c.args.number c.args.horizon c.args.span c.args.edges.now c.loop-edge.edge-index c.loop-edge-test.true
+      (c.arrives.ensures.0 c.if-arrives.true),
+  λ met. refl,
+)
+
+pub returns : goal.returns
+returns c = (
+  λ yes. absurd (false≢true yes),
+  λ met.
+      absurd
+      (none_arrived c.args.graph.now c.args.log.now c.args.times.now c.args.number c.args.horizon c.args.span c.args.edges.now
+      (λ k within. c.loop-edge.invariant k (omega arith)) met),
+)

@@ -1,0 +1,107 @@
+//! The first span in which times violate a may clause.
+//!
+//! A clause that a node becomes active only where the failure arrives is met by its first two alternatives in each span but
+//! the one that holds the node's time. So that span alone is looked at.
+
+ghost use Rattle.std.specs.Prelude.{◌≡◌, ◌<◌, ◌≤◌, ◌↔◌, length, All, IsTrue, IsSomeAnd, option_and_then, slice_get};
+ghost use Rattle.tfpg_base.specs.Times.{never};
+ghost use Rattle.tfpg_base.specs.Constraint.{Meets};
+ghost use Rattle.tfpg_log.specs.Log.{now_of};
+ghost use Rattle.tfpg_clause.specs.Clauses.{or_may, and_may, MeetsClause};
+ghost use Rattle.tfpg_clause.specs.Cut.{AreNumbers};
+ghost use Rattle.tfpg_clause.specs.inside.Alternatives.{arrival_over, arrivals_over};
+ghost use Rattle.tfpg_clause.specs.inside.FirstSpan.{FindsFirst, may_over};
+ghost use Rattle.tfpg_clause.specs.inside.Ranges.{IsSmallSpan};
+
+use crate::clauses::{edges_into, is_and, is_or, target_of};
+use crate::facts::now;
+use crate::may::{arrival, find_span};
+use crate::meets::meets;
+use tfpg_graph::Graph;
+use tfpg_log::{Log, Span};
+
+/// The first span in which the times violate the clause that an OR node becomes active only where the failure arrives.
+pub(crate) fn or_may_violated(graph: &Graph, log: &Log, times: &[u64], node: u32) -> Option<u32>
+    requires { AreNumbers graph.now times.now }
+    ensures { FindsFirst times.now (λ number. or_may graph.now log.now node number (now_of log.now)) result }
+{
+    if !is_or(graph, node) {
+        return None;
+    }
+    may_violated(graph, log, times, node, edges_into(graph, node))
+}
+
+/// The first span in which the times violate the clause that an AND node becomes active only where the failure arrives by
+/// the edge.
+pub(crate) fn and_may_violated(graph: &Graph, log: &Log, times: &[u64], edge: u32) -> Option<u32>
+    requires { AreNumbers graph.now times.now }
+    ensures { FindsFirst times.now
+        (λ number. option_and_then (λ e. and_may graph.now log.now e number (now_of log.now)) (slice_get graph.now.edges edge)) result }
+{
+    let target = target_of(graph, edge)?;
+    if !is_and(graph, target) {
+        return None;
+    }
+    may_violated(graph, log, times, target, &[edge])
+}
+
+/// The first span in which the times violate the clause that the node becomes active only where the failure arrives by one
+/// of these edges.
+fn may_violated(graph: &Graph, log: &Log, times: &[u64], node: u32, edges: &[u32]) -> Option<u32>
+    requires node { node < length times.now }
+    requires edges { All (λ edge. edge < length graph.now.edges) edges.now }
+    requires in_range { All (λ time. time ≤ never) times.now }
+    ensures { FindsFirst times.now (may_over graph.now log.now node edges.now (now_of log.now)) result }
+{
+    let horizon = now(log);
+    let number = log.span_of(times[node as usize])?;
+    let span = find_span(log, number, horizon)?;
+    if has_arrived(graph, log, times, edges, number, horizon, span) {
+        return None;
+    }
+    Some(number)
+}
+
+/// Whether the failure arrives by one of these edges within the span, at the times.
+fn has_arrived(
+    graph: &Graph,
+    log: &Log,
+    times: &[u64],
+    edges: &[u32],
+    number: u32,
+    horizon: u64,
+    span: Span,
+) -> bool
+    requires edges { All (λ edge. edge < length graph.now.edges) edges.now }
+    requires in_range { All (λ time. time ≤ never) times.now }
+    requires small { IsSmallSpan span }
+    ensures { IsTrue result ↔ MeetsClause times.now (arrivals_over graph.now log.now number horizon span edges.now) }
+{
+    for edge in edges {
+        if arrives(graph, log, times, *edge, number, horizon, span) {
+            return true;
+        }
+    }
+    false
+}
+
+/// Whether the failure arrives by the edge within the span, at the times.
+fn arrives(
+    graph: &Graph,
+    log: &Log,
+    times: &[u64],
+    edge: u32,
+    number: u32,
+    horizon: u64,
+    span: Span,
+) -> bool
+    requires edge { edge < length graph.now.edges }
+    requires in_range { All (λ time. time ≤ never) times.now }
+    requires small { IsSmallSpan span }
+    ensures { IsTrue result ↔ IsSomeAnd (arrival_over graph.now log.now number horizon span edge) (All (Meets times.now)) }
+{
+    match arrival(graph, log, edge, number, horizon, span) {
+        Some(alternative) => meets(times, alternative),
+        None => false,
+    }
+}

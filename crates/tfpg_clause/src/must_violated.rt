@@ -1,0 +1,205 @@
+//! The first span in which times violate a must clause.
+//!
+//! Only the first span of a window has a must clause. So once a window was looked at, the spans after it come next.
+
+ghost use Rattle.std.specs.Prelude.{◌≡◌, ◌<◌, ◌≤◌, ◌↔◌, ◌⊎◌, ℕ, List, length, All, Contains, IsTrue, IsSomeAnd, Some, option_and_then, slice_get};
+ghost use Rattle.tfpg_base.specs.Times.{max_time, never};
+ghost use Rattle.tfpg_base.specs.Constraint.{Meets};
+ghost use Rattle.tfpg_graph.specs.Graph.{is_kind_at, is_or, is_and};
+ghost use Rattle.tfpg_log.specs.Log.{now_of};
+ghost use Rattle.tfpg_clause.specs.Clauses.{or_must, and_must};
+ghost use Rattle.tfpg_clause.specs.Cut.{AreNumbers};
+ghost use Rattle.tfpg_clause.specs.inside.Alternatives.{due_by_number};
+ghost use Rattle.tfpg_clause.specs.inside.FirstSpan.{FindsFirst, MeetsUpTo, MeetsIfAny, must_over, IsExcused};
+ghost use Rattle.tfpg_clause.specs.inside.Ranges.{IsSmallWindow};
+
+use crate::clauses::{edges_into, is_and, is_or, target_of};
+use crate::facts::now;
+use crate::meets::meets;
+use crate::must::{due_over, find_joint, find_window, follows_in_time, latest_due, starts_late};
+use tfpg_graph::Graph;
+use tfpg_log::{Log, Window};
+
+/// The first span in which the times violate the clause that an OR node is active once the failure is due by the edge.
+pub(crate) fn or_must_violated(graph: &Graph, log: &Log, times: &[u64], edge: u32) -> Option<u32>
+    requires { AreNumbers graph.now times.now }
+    ensures { FindsFirst times.now
+        (λ number. option_and_then (λ e. or_must graph.now log.now e number (now_of log.now)) (slice_get graph.now.edges edge)) result }
+{
+    let target = target_of(graph, edge)?;
+    if !is_or(graph, target) {
+        return None;
+    }
+    let last = log.span_of(now(log))?;
+    let mut number = 0;
+    while let Some(until) = or_must_met_up_to(graph, log, times, edge, target, number) {
+        if until >= last {
+            return None;
+        }
+        number = until + 1;
+    }
+    Some(number)
+}
+
+/// The first span in which the times violate the clause that an AND node is active once the failure is due by all edges.
+pub(crate) fn and_must_violated(graph: &Graph, log: &Log, times: &[u64], node: u32) -> Option<u32>
+    requires { AreNumbers graph.now times.now }
+    ensures { FindsFirst times.now (λ number. and_must graph.now log.now node number (now_of log.now)) result }
+{
+    if !is_and(graph, node) {
+        return None;
+    }
+    let last = log.span_of(now(log))?;
+    let mut number = 0;
+    while let Some(until) = and_must_met_up_to(graph, log, times, node, number) {
+        if until >= last {
+            return None;
+        }
+        number = until + 1;
+    }
+    Some(number)
+}
+
+/// A span up to which the times meet the must clauses of the edge into an OR node, from the span of this number on, or none
+/// where they violate that of the span itself.
+fn or_must_met_up_to(
+    graph: &Graph,
+    log: &Log,
+    times: &[u64],
+    edge: u32,
+    target: u32,
+    number: u32,
+) -> Option<u32>
+    requires edge { edge < length graph.now.edges }
+    requires target { IsSomeAnd (slice_get graph.now.edges edge) (λ e. e.target ≡ target) }
+    requires or_node { IsTrue (is_kind_at is_or graph.now target) }
+    requires numbers { AreNumbers graph.now times.now }
+    ensures { MeetsUpTo times.now
+        (λ span. option_and_then (λ e. or_must graph.now log.now e span (now_of log.now)) (slice_get graph.now.edges edge))
+        number result }
+{
+    let horizon = now(log);
+    match find_window(graph, log, edge, number, horizon) {
+        None => Some(number),
+        Some(window) => {
+            if is_must_met(graph, log, times, target, &[edge], window, horizon, number) {
+                log.span_of(window.hi)
+            } else {
+                None
+            }
+        }
+    }
+}
+
+/// A span up to which the times meet the must clauses of an AND node, from the span of this number on, or none where they
+/// violate that of the span itself.
+fn and_must_met_up_to(
+    graph: &Graph,
+    log: &Log,
+    times: &[u64],
+    node: u32,
+    number: u32,
+) -> Option<u32>
+    requires node { node < length graph.now.nodes }
+    requires and_node { IsTrue (is_kind_at is_and graph.now node) }
+    requires numbers { AreNumbers graph.now times.now }
+    ensures { MeetsUpTo times.now (λ span. and_must graph.now log.now node span (now_of log.now)) number result }
+{
+    let horizon = now(log);
+    match find_joint(graph, log, node, number, horizon) {
+        None => Some(number),
+        Some(window) => {
+            if is_must_met(
+                graph,
+                log,
+                times,
+                node,
+                edges_into(graph, node),
+                window,
+                horizon,
+                number,
+            ) {
+                log.span_of(window.hi)
+            } else {
+                None
+            }
+        }
+    }
+}
+
+/// Whether the times meet the clause that the node is active once the failure is due by all these edges, in this window,
+/// where the span of this number has that clause.
+fn is_must_met(
+    graph: &Graph,
+    log: &Log,
+    times: &[u64],
+    node: u32,
+    edges: &[u32],
+    window: Window,
+    horizon: u64,
+    number: u32,
+) -> bool
+    requires node { node < length times.now }
+    requires edges { All (λ edge. edge < length graph.now.edges) edges.now }
+    requires in_range { All (λ time. time ≤ never) times.now }
+    requires small { IsSmallWindow window }
+    ensures { IsTrue result ↔ MeetsIfAny times.now (must_over graph.now log.now node edges.now window horizon number) }
+{
+    if window.first != number {
+        return true;
+    }
+    match latest_due(graph, log, edges, window.hi, number, horizon) {
+        Some(latest) => {
+            times[node as usize] <= latest
+                || is_excused(graph, log, times, edges, window.hi, number, horizon)
+        }
+        None => true,
+    }
+}
+
+/// Whether by one of these edges the failure starts too late to be due in a window that ends here, or the target follows
+/// the source in time.
+fn is_excused(
+    graph: &Graph,
+    log: &Log,
+    times: &[u64],
+    edges: &[u32],
+    hi: u64,
+    number: u32,
+    horizon: u64,
+) -> bool
+    requires edges { All (λ edge. edge < length graph.now.edges) edges.now }
+    requires in_range { All (λ time. time ≤ never) times.now }
+    requires hi { hi ≤ max_time }
+    ensures { IsTrue result ↔
+        ((edge : ℕ) × Contains edges.now edge × IsSomeAnd (due_by_number graph.now log.now number horizon edge) (IsExcused times.now hi)) }
+{
+    for edge in edges {
+        if is_excused_by(graph, log, times, *edge, hi, number, horizon) {
+            return true;
+        }
+    }
+    false
+}
+
+/// Whether by the edge the failure starts too late to be due in a window that ends here, or the target follows the source
+/// in time.
+fn is_excused_by(
+    graph: &Graph,
+    log: &Log,
+    times: &[u64],
+    edge: u32,
+    hi: u64,
+    number: u32,
+    horizon: u64,
+) -> bool
+    requires edge { edge < length graph.now.edges }
+    requires in_range { All (λ time. time ≤ never) times.now }
+    requires hi { hi ≤ max_time }
+    ensures { IsTrue result ↔ IsSomeAnd (due_by_number graph.now log.now number horizon edge) (IsExcused times.now hi) }
+{
+    match due_over(graph, log, edge, number, horizon) {
+        Some(due) => meets(times, starts_late(hi, due)) || meets(times, follows_in_time(due)),
+        None => false,
+    }
+}
