@@ -1,10 +1,14 @@
 pub mod Refused
+pub mod LogTexts
 pub mod EmptySet
 pub mod EmptyRounds
 pub mod Reporting
 pub mod Putting
 pub mod Answering
+pub mod InputLines
 pub mod Turns
+pub mod MapCourse
+pub mod Judged
 pub mod Whole
 pub mod MapWords
 pub mod MapTexts

@@ -19,12 +19,11 @@ use Rattle.tfpg_base.specs.Times.{max_time}
 use Rattle.tfpg_base.specs.Words.{words_of, line_of, is_name, is_name_byte, number_of, number_up_to}
 use Rattle.tfpg_base.proofs.lists.Elements.{AllPairs-head, AllPairs-tail, AllPairs-cons}
 use Rattle.tfpg_base.proofs.Numbers.{number_of-decimal, decimal-number_of}
-use Rattle.tfpg_base.proofs.Separators.{Lacks, name_lacks, decimal_lacks, join_with_byte-words_of}
+use Rattle.tfpg_base.proofs.Separators.{Lacks, name_lacks, decimal_lacks, join_with_byte-words_of, slice_split-join}
 use Rattle.tfpg_graph.specs.Graph.{Tfpg, name_at, node_named, failures, failure_at, place_of_failure, is_failure}
 use Rattle.tfpg_graph.specs.Valid.{IsValid}
-use Rattle.tfpg_graph.proofs.lemmas.reading.LinesSay.{slice_split-join}
 use Rattle.tfpg_graph.proofs.lemmas.declared.Named.{named_found}
-use Rattle.tfpg_graph.proofs.lemmas.reading.SpelledValues.{position-at}
+use Rattle.tfpg_base.proofs.lists.Positions.{position-at}
 use Rattle.tfpg_graph.proofs.lemmas.reading.SpelledEdges.{is_name-name_of, node_named-name_of}
 use Rattle.tfpg_trace.proofs.NumberedItems.{IsItemOf, item_of, one_place}
 use Rattle.tfpg_report.specs.Blocks.{set_word, name_word}

@@ -18,7 +18,7 @@ use Rattle.tfpg_base.proofs.LinesOf.{take-lines_of, lines_of-append}
 use Rattle.tfpg_base.proofs.Taking.{Takes-append, Takes-nothing}
 use Rattle.tfpg_base.proofs.ReadingOn.{GaveLine, Continues-turn, Continues-text, Continues-too_long}
 use Rattle.tfpg_graph.specs.Graph.{Tfpg}
-use Rattle.tfpg_graph.proofs.Positions.{slice_get-push_before, slice_get-push_last}
+use Rattle.tfpg_base.proofs.lists.Written.{slice_get-push_before, slice_get-push_at as slice_get-push_last}
 use Rattle.tfpg_log.specs.Log.{Logbook}
 use Rattle.tfpg_log.specs.LogOfLines.{new_log, log_after, log_of_lines}
 use Rattle.tfpg_evidence.specs.declared.round.Round.{Round}
@@ -31,10 +31,12 @@ use Rattle.tfpg.specs.declared.fault.StreamFault.{StreamFault}
 use Rattle.tfpg.specs.declared.fault.StreamFault.TheVariants as faults
 use Rattle.tfpg.specs.inside.Faults.{stream_fault_of_lines}
 use Rattle.tfpg.specs.ForNow.{budget, LosesNone, OpensNone}
-use Rattle.tfpg.specs.Run.{Streams, HasLeft, HasNoFault, BeginsReportOfInput, Diagnoses}
+use Rattle.tfpg.specs.Run.{BeginsReportOfInput, Diagnoses}
+use Rattle.tfpg.specs.Streams.{Streams, HasLeft, HasNoFault}
 use Rattle.tfpg.specs.inside.Diagnoser.{DiagnoserRepresents, HasBlock}
 use Rattle.tfpg.specs.inside.Course.{IsUnderWay}
 use Rattle.tfpg.proofs.Answering.{block_of_long_line}
+use Rattle.tfpg.proofs.InputLines.{rest_of, rest_is_left, front_of_input, front_is_within, came_to_end, front_before, front_with, few_lines}
 use Rattle.tfpg.proofs.Putting.{Puts-append, Puts-same_held}
 
 -- ---- one block more
@@ -98,52 +100,6 @@ report_text-push graph k b blocks block =
 All-push : {X : Type 0} (P : X → Type 0) (xs : List X) (x : X) → AllByRecursion P xs → P x → AllByRecursion P (xs ++ x ∷ [])
 All-push P [] x are is = (is, tt)
 All-push P (first ∷ others) x are is = (are.0, All-push P others x are.1 is)
-
--- ---- the lines of the input
-
--- the bytes that the input has left, where they are known
-abbrev rest_of : SourceState → List ℕ
-rest_of input = unwrap_or input.left []
-
--- it has those left
-rest_is_left : (input : SourceState) → HasLeft input (rest_of input)
-rest_is_left input = by input.left
-  where
-    by : (left : Option (List ℕ)) → IfSome left (λ known. unwrap_or left [] ≡ known)
-    by None = tt
-    by (Some known) = refl
-
--- at its end it has none left
-rest_at_end : (input : SourceState) → IsAtEnd input → rest_of input ≡ []
-rest_at_end input end = by input.left end.left
-  where
-    by : (left : Option (List ℕ)) → IfSome left (λ rest. rest ≡ []) → unwrap_or left [] ≡ []
-    by None h = refl
-    by (Some known) h = h
-
-module _ (reading : Reading) (first : List ℕ) (input : SourceState) (next : IsNext reading first (IsAtEnd input)) where
-  -- a line that has come whole is a line of the bytes whatever follows
-  front_of_whole_line : (rest : List ℕ) → next_whole reading ≡ Some first → take (length reading.given + 1) (lines_of (reading.taken ++ rest)) ≡ reading.given ++ first ∷ []
-  front_of_whole_line rest whole =
-      let all : take max_bytes reading.taken ≡ reading.taken = take_all max_bytes reading.taken next.few in
-      let there : slice_get (whole_lines reading.taken) (length reading.given) ≡ Some first = sym (ap (λ (bytes : List ℕ). slice_get (whole_lines bytes) (length reading.given)) all) ∙ whole in
-      let within : length reading.given + 1 ≤ length (whole_lines reading.taken) = omega (arith, slice_get_within (whole_lines reading.taken) (length reading.given) first there) in
-      ap (take (length reading.given + 1)) (lines_of-append reading.taken rest)
-      ∙ take-append-le (length reading.given + 1) (whole_lines reading.taken) (lines_of (last_part reading.taken ++ rest)) within
-      ∙ sym (take-append-le (length reading.given + 1) (whole_lines reading.taken) (line_of_part (last_part reading.taken)) within)
-      ∙ next.front
-
-  -- the lines that were read are the first of the input
-  front_of_input : take (length reading.given + 1) (lines_of (reading.taken ++ rest_of input)) ≡ reading.given ++ first ∷ []
-  front_of_input = by next.whole
-    where
-      by : (next_whole reading ≡ Some first) ⊎ IsAtEnd input → take (length reading.given + 1) (lines_of (reading.taken ++ rest_of input)) ≡ reading.given ++ first ∷ []
-      by (inl whole) = front_of_whole_line (rest_of input) whole
-      by (inr end) = ap (λ (rest : List ℕ). take (length reading.given + 1) (lines_of (reading.taken ++ rest))) (rest_at_end input end)
-          ∙ ap (λ (bytes : List ℕ). take (length reading.given + 1) (lines_of bytes)) (append-nil reading.taken) ∙ next.front
-
-front_is_within : (lines given : List (List ℕ)) → take (length given) lines ≡ given → length given ≤ length lines
-front_is_within lines given e = let same : length (take (length given) lines) ≡ length given = ap length e in omega (arith, same, length-take (length given) lines)
 
 -- what is written so far begins the report
 begins : (graph : Tfpg) (input : SourceState) (taken : List ℕ) (given : List (List ℕ)) (blocks : List Block) → take (length given) (lines_of (taken ++ rest_of input)) ≡ given
@@ -215,33 +171,6 @@ ends_by_fault graph before now lines lines' diagnoser input fault.TooMuchInput u
       );
     }
 
--- What holds where a call has found the end, after which no more was taken than may be.
-record CameToEnd (reading : Reading) (before after : SourceState) : Type 0 where
-  more : List ℕ
-  takes : Takes before after more
-  few : length (reading.taken ++ more) ≤ max_bytes
-  all : lines_of (reading.taken ++ more) ≡ reading.given
-  end : IsAtEnd after
-  no_fault : after.faults ≡ before.faults
-
-came_to_end : (reading : Reading) (before after : SourceState) (old reader : Buffered) → length reading.taken ≤ max_bytes
-    → (reading.ended ≡ None) ⊎ ((reading.ended ≡ Some (Ok line.End)) × IsAtEnd before) → LinesRepresent old reading → Continues reading reading.ended before after (Ok line.End) reader
-    → CameToEnd reading before after
-came_to_end reading before after old reader few goes_on represents continues = go reading.ended refl goes_on continues
-  where
-    go : (ended : Option (Result Line LineFault)) → reading.ended ≡ ended → (ended ≡ None) ⊎ ((ended ≡ Some (Ok line.End)) × IsAtEnd before)
-        → Continues reading ended before after (Ok line.End) reader → CameToEnd reading before after
-    go None was is turn = record { more = turn.more; takes = turn.takes; few = turn.returns.2; all = turn.returns.0; end = turn.returns.1; no_fault = turn.faults }
-    go (Some answer) was (inl is) turn = absurd cc
-    go (Some answer) was (inr is) turn = record {
-      more = [];
-      takes = subst (λ source. Takes before source []) (sym turn.1) (Takes-nothing before);
-      few = omega (arith, few, ap length (append-nil reading.taken));
-      all = ap lines_of (append-nil reading.taken) ∙ represents.all_given (was ∙ is.0);
-      end = subst IsAtEnd (sym turn.1) is.1;
-      no_fault = ap (λ (source : SourceState). source.faults) turn.1;
-    }
-
 -- the end of the input ends the diagnosis
 pub ends_done : (graph : Tfpg) (before now : Streams) (lines lines' : Buffered) (diagnoser : Diagnoser) (input : SourceState)
     → (under : IsUnderWay graph before now lines diagnoser) → Continues under.reading under.reading.ended now.input input (Ok line.End) lines'
@@ -266,16 +195,6 @@ ends_done graph before now lines lines' diagnoser input under continues =
     }
 
 -- ---- a line that was read
-
-front_before : (lines given : List (List ℕ)) (first : List ℕ) → take (length given + 1) lines ≡ given ++ first ∷ [] → take (length given) lines ≡ given
-front_before lines given first e =
-    let shorter : take (length given) (take (length given + 1) lines) ≡ take (length given) lines = take-take (length given) (length given + 1) lines (omega arith) in
-    sym shorter ∙ ap (take (length given)) e ∙ take_at given (first ∷ []) (length given) refl
-
-front_with : (lines given : List (List ℕ)) (first : List ℕ) → take (length given + 1) lines ≡ given ++ first ∷ [] → take (length (given ++ first ∷ [])) lines ≡ given ++ first ∷ []
-front_with lines given first e =
-    let more : length (given ++ first ∷ []) ≡ length given + 1 = omega (arith, length-append given (first ∷ [])) in
-    ap (λ (n : ℕ). take n lines) more ∙ e
 
 module _ (graph : Tfpg) (before now : Streams) (lines : Buffered) (diagnoser : Diagnoser) (input : SourceState) (reader : Buffered)
     (under : IsUnderWay graph before now lines diagnoser) (gave : GaveLine under.reading now.input input reader) where
@@ -432,22 +351,6 @@ stopped_by (Err x) F R P e f r h = subst P (sym e) (h f r)
 
 -- ---- the whole course
 
-short_part : (part : List ℕ) → length (line_of_part part) ≤ 1
-short_part [] = omega arith
-short_part (byte ∷ bytes) = omega arith
-
-few_lines : (bytes : List ℕ) → length (lines_of bytes) ≤ length bytes + 1
-few_lines bytes =
-    let parts = slice_split ends_line bytes in
-    omega (
-      arith,
-      length-append (whole_lines bytes) (line_of_part (last_part bytes)),
-      length-take (length parts - 1) parts,
-      short_part (last_part bytes),
-      length-slice_split ends_line bytes,
-      count_by-le-length ends_line bytes,
-    )
-
 -- no more lines are read than bytes may be taken, but for a last one
 pub few_given : (graph : Tfpg) (before now : Streams) (lines : Buffered) (diagnoser : Diagnoser) → IsUnderWay graph before now lines diagnoser → lines.number ≤ 2 ^ 32 + 1
 few_given graph before now lines diagnoser under =
@@ -503,7 +406,3 @@ module _ (graph : Tfpg) (before : Streams) where
     none_open = tt;
     ends = (rose, begins graph before.input [] [] [] refl (AreBlocks-none graph 0 budget) front rest (append-nil (head_text 0 budget) ∙ sym is ∙ parts));
   }
-
--- one line on, fewer are left
-pub falls_short : (number after : ℕ) → number ≤ 2 ^ 32 + 1 → after ≡ number + 1 → 2 ^ 32 + 2 - after < 2 ^ 32 + 2 - number
-falls_short number after le e = omega arith

@@ -1,5 +1,5 @@
--- The words of the command line, and the one shape of them so far.
-use Rattle.std.specs.Prelude.{ℕ, List, [], ◌∷◌, Bool, false, ◌&&◌, ◌==◌, if◌then◌else◌, Option, Some, None, codes, bytes_eq}
+-- The words of the command line, and the two shapes of them so far.
+use Rattle.std.specs.Prelude.{ℕ, List, [], ◌∷◌, Bool, false, ◌&&◌, ◌||◌, not, ◌==◌, if◌then◌else◌, codes, bytes_eq}
 
 -- A word that begins with a hyphen and has another byte is an option, and never a name. The hyphen alone is a word like any other.
 abbrev pub is_option_word : List ℕ → Bool
@@ -7,13 +7,21 @@ is_option_word [] = false
 is_option_word (first ∷ []) = false
 is_option_word (first ∷ second ∷ others) = first == 45
 
--- For now: the name of the graph, where the words are `diagnose`, `--k`, `0` and a name.
-abbrev pub graph_word : List (List ℕ) → Option (List ℕ)
-graph_word [] = None
-graph_word (command ∷ []) = None
-graph_word (command ∷ option ∷ []) = None
-graph_word (command ∷ option ∷ value ∷ []) = None
-graph_word (command ∷ option ∷ value ∷ name ∷ []) =
-    if bytes_eq command (codes "diagnose") && (bytes_eq option (codes "--k") && bytes_eq value (codes "0"))
-    then (if is_option_word name then None else Some name) else None
-graph_word (command ∷ option ∷ value ∷ name ∷ more ∷ others) = None
+-- What words ask for: a diagnosis, over the graph in the file of this name; a verdict on a map, over the graph and the log
+-- in the files of these names; or nothing that is built yet.
+pub data Asked : Type 0 where
+  Diagnose : (graph : List ℕ) → Asked
+  Explain : (graph log : List ℕ) → Asked
+  NotBuilt : Asked
+
+-- For now: `explain` and two names, or `diagnose`, `--k`, `0` and a name.
+abbrev pub asked_by : List (List ℕ) → Asked
+asked_by [] = NotBuilt
+asked_by (command ∷ []) = NotBuilt
+asked_by (command ∷ graph ∷ []) = NotBuilt
+asked_by (command ∷ graph ∷ log ∷ []) =
+    if bytes_eq command (codes "explain") && (not (is_option_word graph) && not (is_option_word log)) then Explain graph log else NotBuilt
+asked_by (command ∷ option ∷ value ∷ graph ∷ []) =
+    if bytes_eq command (codes "diagnose") && (bytes_eq option (codes "--k") && (bytes_eq value (codes "0") && not (is_option_word graph)))
+    then Diagnose graph else NotBuilt
+asked_by (command ∷ option ∷ value ∷ graph ∷ more ∷ others) = NotBuilt

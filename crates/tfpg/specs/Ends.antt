@@ -3,20 +3,27 @@ use Rattle.std.specs.Prelude.{ℕ, List, [], ◌∷◌, codes, decimal}
 use Rattle.tfpg_base.specs.Words.{line_of}
 use Rattle.tfpg_graph.specs.declared.cause.GraphCause.{GraphCause}
 use Rattle.tfpg_graph.specs.declared.cause.GraphCause.TheVariants as graph
+use Rattle.tfpg.specs.declared.end.CheckCause.{CheckCause}
+use Rattle.tfpg.specs.declared.end.CheckCause.TheVariants as check
 use Rattle.tfpg.specs.declared.end.End.{End}
-use Rattle.tfpg.specs.declared.end.End.TheVariants.{Done, Usage, Graph, ReadFault, WriteFault, TooMuchInput, NoMemory}
+use Rattle.tfpg.specs.declared.end.End.TheVariants.{Done, NotAccepted, Usage, Graph, ReadFault, WriteFault, TooMuchInput, NoMemory}
 use Rattle.tfpg.specs.declared.end.UsageCause.{UsageCause}
 use Rattle.tfpg.specs.declared.end.UsageCause.TheVariants as usage
 
 -- the status with which the program exits
 abbrev pub status_of : End → ℕ
 status_of Done = 0
+status_of (NotAccepted line cause) = 1
 status_of (Usage cause) = 2
 status_of (Graph line cause) = 3
 status_of ReadFault = 5
 status_of WriteFault = 6
 status_of TooMuchInput = 7
 status_of NoMemory = 8
+
+-- the name of why a line of the input is refused
+abbrev pub check_cause_name : CheckCause → List ℕ
+check_cause_name check.BadMap = codes "BadMap"
 
 -- the name of why the words of the command line are refused
 abbrev pub usage_name : UsageCause → List ℕ
@@ -49,6 +56,7 @@ graph_cause_name graph.AfterEnd = codes "AfterEnd"
 -- what is said of an end; nothing of one that is done
 abbrev pub line_of_end : End → List ℕ
 line_of_end Done = []
+line_of_end (NotAccepted line cause) = line_of (codes "not" ∷ codes "accepted" ∷ decimal line ∷ check_cause_name cause ∷ [])
 line_of_end (Usage cause) = line_of (codes "usage" ∷ usage_name cause ∷ [])
 line_of_end (Graph line cause) = line_of (codes "graph" ∷ decimal line ∷ graph_cause_name cause ∷ [])
 line_of_end ReadFault = codes "read fault"

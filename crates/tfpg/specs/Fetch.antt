@@ -1,12 +1,26 @@
--- What fetching the graph of a file gives.
-use Rattle.std.specs.Prelude.{◌≡◌, ◌⊎◌, ℕ, ◌≤◌, List, [], ◌∷◌, ◌++◌, length, Option, Some, None, IfSome}
+-- What fetching files gives: the graph of one, and the log of another.
+use Rattle.std.specs.Prelude.{◌≡◌, ◌⊎◌, ℕ, ◌≤◌, List, [], ◌∷◌, ◌++◌, length, take, Option, Some, None, IfSome}
+use Rattle.tfpg_base.specs.Lines.{lines_of}
 use Rattle.tfpg_base.specs.Outside.{ShelfState, Rose, Gives, PassesLimit, longest_file}
+use Rattle.tfpg_graph.specs.declared.cause.GraphFault.{GraphFault}
 use Rattle.tfpg_graph.specs.Graph.{Tfpg}
 use Rattle.tfpg_graph.specs.Text.{Spells}
 use Rattle.tfpg_graph.specs.Valid.{IsValid}
 use Rattle.tfpg_graph.specs.Faults.{IsFirstFault}
+use Rattle.tfpg_log.specs.Log.{Logbook}
+use Rattle.tfpg_log.specs.LogOfLines.{log_of_lines}
+use Rattle.tfpg.specs.Command.{Asked, Diagnose, Explain, NotBuilt}
 use Rattle.tfpg.specs.declared.fault.FetchFault.{FetchFault}
 use Rattle.tfpg.specs.declared.fault.FetchFault.TheVariants.{Failed, TooLong, Graph, NoMemory}
+
+-- the file of this name has these bytes, and not too many
+pub record HasFile (shelf : ShelfState) (name text : List ℕ) : Type 0 where
+  pub gives : Gives shelf name text
+  pub small : length text ≤ longest_file
+
+-- the file of this name has more bytes than a file may have
+abbrev pub IsTooLong : ShelfState → List ℕ → Type 0
+IsTooLong shelf name = (front : List ℕ) × PassesLimit shelf name front
 
 -- a file of this name that spells the graph
 pub record GivesGraph (shelf : ShelfState) (name : List ℕ) (graph : Tfpg) : Type 0 where
@@ -16,19 +30,47 @@ pub record GivesGraph (shelf : ShelfState) (name : List ℕ) (graph : Tfpg) : Ty
   pub spells : Spells text graph
   pub valid : IsValid graph
 
+-- a file of this name whose text has this fault first
+pub record HasFaultyGraph (shelf : ShelfState) (name : List ℕ) (fault : GraphFault) : Type 0 where
+  pub text : List ℕ
+  pub file : HasFile shelf name text
+  pub first : IsFirstFault text fault
+
+-- The file of the one name spells the graph, and the log is that of the lines of the file of the other.
+pub record GivesGraphAndLog (shelf : ShelfState) (graph_name log_name : List ℕ) (graph : Tfpg) (log : Logbook) : Type 0 where
+  pub of_graph : GivesGraph shelf graph_name graph
+  pub text : List ℕ
+  pub file : HasFile shelf log_name text
+  pub of_lines : log ≡ log_of_lines graph (lines_of text)
+
 -- Why there is no graph of the file of this name: the shelf failed; the file has more than 2^24 bytes; this is the
 -- first fault of its text; or memory ran out.
 abbrev pub IsFetchFault : ShelfState → ShelfState → List ℕ → FetchFault → Type 0
 IsFetchFault before now name Failed = Rose before.faults now.faults
-IsFetchFault before now name TooLong = (front : List ℕ) × PassesLimit before name front
-IsFetchFault before now name (Graph fault) = (text : List ℕ) × Gives before name text × (length text ≤ longest_file) × IsFirstFault text fault
+IsFetchFault before now name TooLong = IsTooLong before name
+IsFetchFault before now name (Graph fault) = HasFaultyGraph before name fault
 IsFetchFault before now name NoMemory = Unit {0}
+
+-- Why there is no graph and no log of the files of these names: the shelf failed; the first of them that is not as short as
+-- it may be is too long; both were fetched, and this is the first fault of the graph's text; or memory ran out.
+abbrev pub IsFilesFault : ShelfState → ShelfState → List ℕ → List ℕ → FetchFault → Type 0
+IsFilesFault before now graph_name log_name Failed = Rose before.faults now.faults
+IsFilesFault before now graph_name log_name TooLong =
+    IsTooLong before graph_name ⊎ ((text : List ℕ) × HasFile before graph_name text × IsTooLong before log_name)
+IsFilesFault before now graph_name log_name (Graph fault) =
+    (text : List ℕ) × HasFile before log_name text × HasFaultyGraph before graph_name fault
+IsFilesFault before now graph_name log_name NoMemory = Unit {0}
 
 -- The name was asked for, or no name was.
 abbrev pub AsksFor : List ℕ → Option (List (List ℕ)) → Option (List (List ℕ)) → Type 0
 AsksFor name before after = IfSome before (λ names. (after ≡ Some names) ⊎ (after ≡ Some (names ++ name ∷ [])))
 
--- No name was asked for but that of the graph.
-abbrev pub AsksOnly : Option (List ℕ) → Option (List (List ℕ)) → Option (List (List ℕ)) → Type 0
-AsksOnly None before after = after ≡ before
-AsksOnly (Some name) before after = AsksFor name before after
+-- The first few of these names were asked for, in their order, and no other.
+abbrev pub AsksInOrder : List (List ℕ) → Option (List (List ℕ)) → Option (List (List ℕ)) → Type 0
+AsksInOrder wanted before after = IfSome before (λ names. (count : ℕ) × (after ≡ Some (names ++ take count wanted)))
+
+-- No name was asked for but those that the words name, in their order.
+abbrev pub AsksOnly : Asked → Option (List (List ℕ)) → Option (List (List ℕ)) → Type 0
+AsksOnly NotBuilt before after = after ≡ before
+AsksOnly (Diagnose graph) before after = AsksFor graph before after
+AsksOnly (Explain graph log) before after = AsksInOrder (graph ∷ log ∷ []) before after

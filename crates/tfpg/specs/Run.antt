@@ -4,42 +4,27 @@ use Rattle.std.specs.List.{AllByRecursion}
 use Rattle.tfpg_base.specs.Lines.{lines_of, max_bytes}
 use Rattle.tfpg_base.specs.Outside.{SourceState, SinkState, ShelfState, Rose, Takes, Puts, IsAtEnd}
 use Rattle.tfpg_graph.specs.Graph.{Tfpg}
+use Rattle.tfpg_log.specs.Log.{Logbook}
 use Rattle.tfpg_report.specs.Blocks.{Block}
 use Rattle.tfpg_check.specs.Report.{IsReport, BeginsReport}
 use Rattle.tfpg.specs.declared.end.End.{End}
 use Rattle.tfpg.specs.declared.end.End.TheVariants as ends
-use Rattle.tfpg.specs.declared.end.UsageCause.TheVariants.{NotBuilt}
+use Rattle.tfpg.specs.declared.end.UsageCause.TheVariants as usage
 use Rattle.tfpg.specs.declared.fault.FetchFault.{FetchFault}
 use Rattle.tfpg.specs.declared.fault.StreamFault.{StreamFault}
 use Rattle.tfpg.specs.declared.fault.StreamFault.TheVariants.{ReadFault, WriteFault, TooMuchInput, NoMemory}
 use Rattle.tfpg.specs.EndsOf.{end_of_fetch_fault, end_of_stream_fault}
-use Rattle.tfpg.specs.Command.{graph_word}
-use Rattle.tfpg.specs.Fetch.{GivesGraph, IsFetchFault}
+use Rattle.tfpg.specs.Command.{Asked, Diagnose, Explain, NotBuilt}
+use Rattle.tfpg.specs.Fetch.{GivesGraph, GivesGraphAndLog, IsFetchFault, IsFilesFault}
 use Rattle.tfpg.specs.ForNow.{budget, LosesNone, OpensNone}
-
--- the states of the input and the output
-pub record Streams : Type 0 where
-  pub input : SourceState
-  pub output : SinkState
-
--- the streams with these states
-abbrev pub streams : SourceState → SinkState → Streams
-streams input output = record { input = input; output = output }
-
--- The input has these bytes left, where its contents are known, and any where they are not.
-abbrev pub HasLeft : SourceState → List ℕ → Type 0
-HasLeft input rest = IfSome input.left (λ known. rest ≡ known)
+use Rattle.tfpg.specs.Judging.{JudgesMap}
+use Rattle.tfpg.specs.Streams.{Streams, HasLeft, HasNoFault}
 
 -- The bytes begin the report of the first lines of the input: of what was taken from it and what it has left.
 pub record BeginsReportOfInput (graph : Tfpg) (input : SourceState) (taken : List ℕ) (blocks : List Block) (bytes : List ℕ) : Type 0 where
   pub rest : List ℕ
   pub left : HasLeft input rest
   pub begins : BeginsReport graph 0 budget (lines_of (taken ++ rest)) blocks bytes
-
--- Nothing failed.
-pub record HasNoFault (before now : Streams) : Type 0 where
-  pub input : now.input.faults ≡ before.input.faults
-  pub output : now.output.faults ≡ before.output.faults
 
 -- The whole input was taken, at most 2^32 bytes, its whole report was written, and nothing failed.
 pub record IsWhole (graph : Tfpg) (before now : Streams) (taken : List ℕ) (blocks : List Block) (written : List ℕ) : Type 0 where
@@ -93,18 +78,39 @@ pub record DiagnosesFile (shelf_before shelf_now : ShelfState) (name : List ℕ)
   pub diagnoses : Diagnoses graph before now result
   pub end_is : end ≡ end_of_result result
 
--- Nothing was asked for, taken or written, since the words are refused.
-pub record IsRefused (shelf_before shelf_now : ShelfState) (before now : Streams) (end : End) : Type 0 where
-  pub end_is : end ≡ ends.Usage NotBuilt
-  pub asked_nothing : shelf_now ≡ shelf_before
-  pub untouched : now ≡ before
-
 -- There is no graph of the file of that name; or it was diagnosed.
 abbrev pub StopsAt : ShelfState → ShelfState → List ℕ → Streams → Streams → End → Type 0
 StopsAt shelf_before shelf_now name before now end =
     LacksGraph shelf_before shelf_now name before now end ⊎ DiagnosesFile shelf_before shelf_now name before now end
 
--- How a run ends: words that name no graph are refused, and else it goes as the file of that name says.
-abbrev pub RunEnds : Option (List ℕ) → ShelfState → ShelfState → Streams → Streams → End → Type 0
-RunEnds None shelf_before shelf_now before now end = IsRefused shelf_before shelf_now before now end
-RunEnds (Some name) shelf_before shelf_now before now end = StopsAt shelf_before shelf_now name before now end
+-- There is no graph and no log of the files of these names, for this reason, and input and output are untouched.
+pub record LacksFiles (shelf_before shelf_now : ShelfState) (graph_name log_name : List ℕ) (before now : Streams) (end : End) : Type 0 where
+  pub fault : FetchFault
+  pub is_fault : IsFilesFault shelf_before shelf_now graph_name log_name fault
+  pub end_is : end ≡ end_of_fetch_fault fault
+  pub untouched : now ≡ before
+
+-- A map was judged by the graph and the log of the files of these names.
+pub record JudgesByFiles (shelf_before shelf_now : ShelfState) (graph_name log_name : List ℕ) (before now : Streams) (end : End) : Type 0 where
+  pub graph : Tfpg
+  pub log : Logbook
+  pub gives : GivesGraphAndLog shelf_before graph_name log_name graph log
+  pub no_fault : shelf_now.faults ≡ shelf_before.faults
+  pub judges : JudgesMap graph log before now end
+
+-- There is no graph and no log of the files of those names; or a map was judged by them.
+abbrev pub ExplainEnds : ShelfState → ShelfState → List ℕ → List ℕ → Streams → Streams → End → Type 0
+ExplainEnds shelf_before shelf_now graph_name log_name before now end =
+    LacksFiles shelf_before shelf_now graph_name log_name before now end ⊎ JudgesByFiles shelf_before shelf_now graph_name log_name before now end
+
+-- Nothing was asked for, taken or written, since the words are refused.
+pub record IsRefused (shelf_before shelf_now : ShelfState) (before now : Streams) (end : End) : Type 0 where
+  pub end_is : end ≡ ends.Usage usage.NotBuilt
+  pub asked_nothing : shelf_now ≡ shelf_before
+  pub untouched : now ≡ before
+
+-- How a run ends: words that ask for nothing that is built are refused, and else it goes as the files of those names say.
+abbrev pub RunEnds : Asked → ShelfState → ShelfState → Streams → Streams → End → Type 0
+RunEnds NotBuilt shelf_before shelf_now before now end = IsRefused shelf_before shelf_now before now end
+RunEnds (Diagnose graph) shelf_before shelf_now before now end = StopsAt shelf_before shelf_now graph before now end
+RunEnds (Explain graph log) shelf_before shelf_now before now end = ExplainEnds shelf_before shelf_now graph log before now end

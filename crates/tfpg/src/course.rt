@@ -6,7 +6,8 @@ ghost use Rattle.tfpg_graph.specs.Graph.{Tfpg};
 ghost use Rattle.tfpg_graph.specs.Valid.{IsValid};
 ghost use Rattle.tfpg_report.specs.Blocks.{head_text};
 ghost use Rattle.tfpg.specs.ForNow.{budget};
-ghost use Rattle.tfpg.specs.Run.{Streams, streams, Diagnoses};
+ghost use Rattle.tfpg.specs.Run.{Diagnoses};
+ghost use Rattle.tfpg.specs.Streams.{Streams, streams};
 ghost use Rattle.tfpg.specs.inside.Course.{IsUnderWay, LeadsTo};
 ghost use Rattle.tfpg.specs.inside.Diagnoser.{IsReady};
 
@@ -83,7 +84,7 @@ fn take_turn<S: Source, K: Sink>(
             put_block(out, &block)
         }
         Line::Text => {
-            let block = diagnoser.answer(alloc, lines.number(), lines.text())?;
+            let block = diagnoser.answer(lines.number(), lines.text())?;
             put_block(out, &block)
         }
     }

@@ -31,6 +31,7 @@ pub(crate) enum Told {
 /// A graph, its log so far, and whether the empty set is rejected.
 #[derive(Drop)]
 pub(crate) struct Diagnoser {
+    pub(crate) alloc: Global,
     pub(crate) graph: Graph,
     pub(crate) log: Log,
     pub(crate) rejected: bool,
@@ -45,6 +46,7 @@ impl Diagnoser {
         ensures ready { IsReady result }
     {
         Diagnoser {
+            alloc,
             graph,
             log: Log::new(alloc),
             rejected: false,
@@ -52,26 +54,23 @@ impl Diagnoser {
     }
 
     /// The block of a line of this number and text, for a line that is not too long.
-    pub(crate) fn answer(
-        &mut self,
-        alloc: Global,
-        number: u64,
-        text: &[u8],
-    ) -> Result<Vec<u8>, NoMemory>
+    pub(crate) fn answer(&mut self, number: u64, text: &[u8]) -> Result<Vec<u8>, NoMemory>
         requires { IsReady self.old }
         ensures block { (before : Progress) → DiagnoserRepresents self.old before → length text.now ≤ longest_line
             → IfOk result (λ block. HasBlock self.old.graph before number text.now block.items self.new) }
         ensures graph { self.new.graph ≡ self.old.graph }
         ensures ready { IsReady self.new }
     {
-        match self.hear(alloc, number, text)? {
-            Told::Refused(refusal) => refused_block(alloc, number, RefusedLine::Offer(refusal)),
-            Told::Round(round) => round_block(alloc, &self.graph, &round),
+        match self.hear(number, text)? {
+            Told::Refused(refusal) => {
+                refused_block(self.alloc, number, RefusedLine::Offer(refusal))
+            }
+            Told::Round(round) => round_block(self.alloc, &self.graph, &round),
         }
     }
 
     /// What a line of this number and text gives.
-    fn hear(&mut self, alloc: Global, line: u64, text: &[u8]) -> Result<Told, NoMemory>
+    fn hear(&mut self, line: u64, text: &[u8]) -> Result<Told, NoMemory>
         requires { IsReady self.old }
         ensures returned { (before : Progress) → DiagnoserRepresents self.old before
             → IfOk result (λ answer. Returns self.old.graph before line text.now answer × DiagnoserRepresents self.new (after_answer self.old.graph before text.now answer)) }
@@ -81,12 +80,12 @@ impl Diagnoser {
     {
         match self.log.offer(&self.graph, text)? {
             Offered::Refused(refusal) => Ok(Told::Refused(refusal)),
-            Offered::Accepted(event) => Ok(Told::Round(self.tell(alloc, line, event)?)),
+            Offered::Accepted(event) => Ok(Told::Round(self.tell(line, event)?)),
         }
     }
 
     /// The round of the log, whose last event is this one.
-    fn tell(&mut self, alloc: Global, line: u64, event: Event) -> Result<Round, NoMemory>
+    fn tell(&mut self, line: u64, event: Event) -> Result<Round, NoMemory>
         requires ready { IsReady self.old }
         requires event { IsEventOf self.old.graph event }
         ensures returned { (before : Progress) → HasHeard self.old before event
@@ -96,6 +95,7 @@ impl Diagnoser {
         ensures graph { self.new.graph ≡ self.old.graph }
         ensures log { self.new.log ≡ self.old.log }
     {
+        let alloc = self.alloc;
         let number = self.log.len();
         let now = self.log.now();
         if self.rejected {

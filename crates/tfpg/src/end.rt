@@ -4,28 +4,40 @@ ghost use Rattle.std.specs.Prelude.{◌≡◌, ◌∷◌, [], codes, decimal};
 ghost use Rattle.std.specs.Process.{exit_status};
 ghost use Rattle.tfpg_base.specs.Append.{Appends};
 ghost use Rattle.tfpg_base.specs.Words.{line_of};
-ghost use Rattle.tfpg.specs.Ends.{graph_cause_name, line_of_end, status_of, usage_name};
+ghost use Rattle.tfpg.specs.Ends.{check_cause_name, graph_cause_name, line_of_end, status_of, usage_name};
+ghost use Rattle.tfpg.specs.declared.end.End.TheVariants as ends;
 ghost use Rattle.tfpg.specs.EndsOf.{end_of_fetch_fault, end_of_stream_fault};
+ghost use Rattle.tfpg.specs.inside.Faults.{end_of_no_map};
 
 use crate::fault::{FetchFault, StreamFault};
+use crate::map::NoMap;
 use itoa::Buffer;
 use std::process::ExitCode;
-use tfpg_base::{NoMemory, put_words};
+use tfpg_base::{Failed, NoMemory, put_words};
 use tfpg_graph::GraphCause;
 
 /// Why the words of the command line are refused.
 #[derive(Clone, Copy, Debug, PartialEq, Eq)]
 pub enum UsageCause {
-    /// For now: the words are not `diagnose --k 0 GRAPH`.
+    /// For now: the words are neither `diagnose --k 0 GRAPH` nor `explain GRAPH LOG`.
     NotBuilt,
 }
 
-/// How a run ends. Of several that would hold, the first in the order of the work decides: words, file, graph, and then
+/// Why a line of the input is refused.
+#[derive(Clone, Copy, Debug, PartialEq, Eq)]
+pub enum CheckCause {
+    /// No map begins with the lines up to this one.
+    BadMap,
+}
+
+/// How a run ends. Of several that would hold, the first in the order of the work decides: words, files, graph, and then
 /// input and output line by line.
 #[derive(Clone, Copy, Debug, PartialEq, Eq)]
 pub enum End {
     /// The input was read to its end, and all was written.
     Done,
+    /// This line of the input is refused.
+    NotAccepted { line: u64, cause: CheckCause },
     /// The words are refused.
     Usage { cause: UsageCause },
     /// The graph file has this fault in this line.
@@ -34,7 +46,7 @@ pub enum End {
     ReadFault,
     /// The output failed.
     WriteFault,
-    /// The input has more than 2^32 bytes, or the graph file more than 2^24.
+    /// The input has more than 2^32 bytes, or a file more than 2^24.
     TooMuchInput,
     /// Out of memory.
     NoMemory,
@@ -47,6 +59,7 @@ impl End {
     {
         match self {
             End::Done => 0,
+            End::NotAccepted { .. } => 1,
             End::Usage { .. } => 2,
             End::Graph { .. } => 3,
             End::ReadFault => 5,
@@ -69,6 +82,7 @@ impl End {
     {
         match self {
             End::Done => Ok(()),
+            End::NotAccepted { line, cause } => put_not_accepted(*line, *cause, into),
             End::Usage { cause } => put_usage(*cause, into),
             End::Graph { line, cause } => put_graph(*line, *cause, into),
             End::ReadFault => put(b"read fault", into),
@@ -108,6 +122,55 @@ impl From<StreamFault> for End {
     }
 }
 
+impl From<NoMap> for End {
+    ghost from_gives = { λ fault e. e ≡ end_of_no_map fault };
+
+    fn from(fault: NoMap) -> End {
+        match fault {
+            NoMap::Refused { line } => End::NotAccepted {
+                line,
+                cause: CheckCause::BadMap,
+            },
+            NoMap::ReadFault => End::ReadFault,
+            NoMap::TooMuchInput => End::TooMuchInput,
+            NoMap::NoMemory => End::NoMemory,
+        }
+    }
+}
+
+impl From<NoMemory> for End {
+    ghost from_gives = { λ _ e. e ≡ ends.NoMemory };
+
+    fn from(_e: NoMemory) -> End {
+        End::NoMemory
+    }
+}
+
+/// Of the output: the shelf and the input have faults of their own.
+impl From<Failed> for End {
+    ghost from_gives = { λ _ e. e ≡ ends.WriteFault };
+
+    fn from(_e: Failed) -> End {
+        End::WriteFault
+    }
+}
+
+/// Appends what is said of a line that is refused.
+fn put_not_accepted(line: u64, cause: CheckCause, into: &mut Vec<u8>) -> Result<(), NoMemory>
+    ensures { Appends result into.old.items into.new.items (line_of (codes "not" ∷ codes "accepted" ∷ decimal line ∷ check_cause_name cause ∷ [])) }
+{
+    let mut digits = Buffer::new();
+    put_words(
+        into,
+        &[
+            b"not",
+            b"accepted",
+            digits.format(line).as_bytes(),
+            check_cause_word(cause),
+        ],
+    )
+}
+
 /// Appends what is said of words that are refused.
 fn put_usage(cause: UsageCause, into: &mut Vec<u8>) -> Result<(), NoMemory>
     ensures { Appends result into.old.items into.new.items (line_of (codes "usage" ∷ usage_name cause ∷ [])) }
@@ -136,6 +199,15 @@ fn put(text: &[u8], into: &mut Vec<u8>) -> Result<(), NoMemory>
 {
     into.extend_from_slice(text)?;
     Ok(())
+}
+
+/// The name of why a line is refused.
+fn check_cause_word(cause: CheckCause) -> &'static [u8]
+    ensures { result.now ≡ check_cause_name cause }
+{
+    match cause {
+        CheckCause::BadMap => b"BadMap",
+    }
 }
 
 /// The name of why words are refused.

@@ -1,7 +1,8 @@
-//! What ends the two parts of a run early: fetching a file, and the streams.
+//! What ends the two parts of a run early: fetching files, and the streams.
 
 ghost use Rattle.std.specs.Prelude.{◌≡◌};
 ghost use Rattle.tfpg.specs.inside.Faults.{fetch_fault_of_shelf, fetch_fault_of_refusal, stream_fault_of_lines};
+ghost use Rattle.tfpg.specs.declared.fault.FetchFault.TheVariants as fetch;
 ghost use Rattle.tfpg.specs.declared.fault.StreamFault.TheVariants as streams;
 
 use tfpg_base::{Failed, LineFault, NoMemory, ShelfFault};
@@ -40,6 +41,14 @@ impl From<GraphRefusal> for FetchFault {
             GraphRefusal::Fault(fault) => FetchFault::Graph(fault),
             GraphRefusal::NoMemory => FetchFault::NoMemory,
         }
+    }
+}
+
+impl From<NoMemory> for FetchFault {
+    ghost from_gives = { λ _ e. e ≡ fetch.NoMemory };
+
+    fn from(_e: NoMemory) -> FetchFault {
+        FetchFault::NoMemory
     }
 }
 

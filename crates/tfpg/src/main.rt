@@ -9,13 +9,16 @@ mod diagnoser;
 mod end;
 mod fault;
 mod fetching;
+mod judging;
 mod map;
 mod map_lines;
+mod map_reading;
 mod output;
 mod real;
 mod run;
 #[cfg(test)]
 mod tests;
+mod verdict_line;
 
 use command::words_after_name;
 use end::{End, UsageCause};

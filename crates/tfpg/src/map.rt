@@ -8,7 +8,7 @@ ghost use Rattle.tfpg.specs.inside.MapLines.{MapRepresents, TakesActivation, IsN
 
 use crate::map_lines::{read_activation, read_set_line};
 use std::alloc::Global;
-use tfpg_base::{NoMemory, Set, Trace};
+use tfpg_base::{LineFault, NoMemory, Set, Trace};
 use tfpg_graph::Graph;
 
 /// Why a line is not taken.
@@ -20,9 +20,30 @@ pub(crate) enum MapFault {
     NoMemory,
 }
 
+/// Why the input gives no map.
+#[derive(Clone, Copy, Debug, PartialEq, Eq)]
+pub(crate) enum NoMap {
+    /// The line of this number is the first faulty one.
+    Refused { line: u64 },
+    /// The input failed.
+    ReadFault,
+    /// The input has more than 2^32 bytes.
+    TooMuchInput,
+    /// Out of memory.
+    NoMemory,
+}
+
+/// A set of failure modes, and a trace.
+#[derive(Drop)]
+pub(crate) struct Map {
+    pub(crate) set: Set,
+    pub(crate) trace: Trace,
+}
+
 /// Reads the lines of a map one by one.
 #[derive(Drop)]
 pub(crate) struct MapReader {
+    pub(crate) alloc: Global,
     /// The set, once its line was read.
     pub(crate) set: Option<Set>,
     /// The activations so far.
@@ -35,15 +56,15 @@ impl MapReader {
         ensures { (graph : Tfpg) → MapRepresents graph result [] }
     {
         MapReader {
+            alloc,
             set: None,
             trace: Trace::new(alloc),
         }
     }
 
     /// Reads one more line. A reader whose line was not taken is of no further use.
-    pub(crate) fn take(&mut self, alloc: Global, graph: &Graph, line: &[u8]) -> Result<(), MapFault>
-        requires { length line.now ≤ longest_line }
-        ensures taken { (lines : List (List ℕ)) → MapRepresents graph.now self.old lines
+    pub(crate) fn take(&mut self, graph: &Graph, line: &[u8]) -> Result<(), MapFault>
+        ensures taken { (lines : List (List ℕ)) → MapRepresents graph.now self.old lines → length line.now ≤ longest_line
             → OnOk result (MapRepresents graph.now self.new (lines ++ line.now ∷ [])) }
         ensures bad { (lines : List (List ℕ)) → MapRepresents graph.now self.old lines → IsErrOf result MapFault.BadMap
             → BeginsMap graph.now (lines ++ line.now ∷ []) → ⊥ }
@@ -51,7 +72,7 @@ impl MapReader {
         let _valid = graph.node_count();
         match self.set {
             None => {
-                self.set = Some(read_set_line(alloc, graph, line)?);
+                self.set = Some(read_set_line(self.alloc, graph, line)?);
                 Ok(())
             }
             Some(_) => self.take_activation(graph, line),
@@ -60,7 +81,6 @@ impl MapReader {
 
     /// Reads the line of one more activation.
     fn take_activation(&mut self, graph: &Graph, line: &[u8]) -> Result<(), MapFault>
-        requires short { length line.now ≤ longest_line }
         ensures set { self.new.set ≡ self.old.set }
         ensures taken { OnOk result (TakesActivation graph.now self.old.trace line.now self.new.trace) }
         ensures bad { IsErrOf result MapFault.BadMap → IsNoActivation graph.now self.old.trace line.now }
@@ -73,6 +93,29 @@ impl MapReader {
             return Err(MapFault::BadMap);
         }
         Ok(self.trace.set(activation.node, activation.time)?)
+    }
+}
+
+impl From<LineFault> for NoMap {
+    ghost use Rattle.tfpg.specs.inside.Faults.{no_map_of_lines};
+
+    ghost from_gives = { λ fault e. e ≡ no_map_of_lines fault };
+
+    fn from(fault: LineFault) -> NoMap {
+        match fault {
+            LineFault::ReadFault => NoMap::ReadFault,
+            LineFault::TooMuchInput => NoMap::TooMuchInput,
+        }
+    }
+}
+
+impl From<NoMemory> for NoMap {
+    ghost use Rattle.tfpg.specs.declared.map.NoMap.TheVariants as none;
+
+    ghost from_gives = { λ _ e. e ≡ none.NoMemory };
+
+    fn from(_e: NoMemory) -> NoMap {
+        NoMap::NoMemory
     }
 }
 

@@ -1,6 +1,7 @@
 -- One call that appends after another.
-use Rattle.std.proofs.Common.{◌≡◌, ℕ, ◌+◌, ◌<◌, ◌≤◌, List, [], ◌++◌, length, get_or, take, sym, ap, ◌∙◌, append_assoc}
+use Rattle.std.proofs.Common.{◌≡◌, ℕ, ◌+◌, ◌<◌, ◌≤◌, List, [], ◌++◌, length, get_or, take, Some, slice_get, sym, ap, ◌∙◌, append_assoc}
 use Rattle.std.proofs.lemmas.List.{append-nil, take_more, take_all, flat_map_more}
+use Rattle.std.proofs.lemmas.Option.{get_or_from_slice_get, slice_get_within}
 use Rattle.std.specs.Prelude.{Result, Ok, Err, IsErr}
 use Rattle.std.specs.List.{flat_map}
 use Rattle.tfpg_base.specs.declared.no_memory.NoMemory.{NoMemory}
@@ -38,6 +39,12 @@ pub appended_more : {X : Type 0} (f : X → List ℕ) (xs : List X) (place : ℕ
 appended_more f xs place d old mid new lt e h =
     h ∙ ap (λ (t : List ℕ). t ++ f (get_or xs place d)) e ∙ flat_map_more f old (take place xs) (get_or xs place d)
     ∙ ap (λ ys. old ++ flat_map f ys) (sym (take_more xs place d lt))
+
+-- the same, where the item at the place is known
+pub appended_next : {X : Type 0} (f : X → List ℕ) (xs : List X) (number : ℕ) (x : X) (old mid new : List ℕ) → slice_get xs number ≡ Some x
+    → mid ≡ old ++ flat_map f (take number xs) → new ≡ mid ++ f x → new ≡ old ++ flat_map f (take (number + 1) xs)
+appended_next f xs number x old mid new at e h =
+    appended_more f xs number x old mid new (slice_get_within xs number x at) e (h ∙ ap (λ y. mid ++ f y) (sym (get_or_from_slice_get xs number x x at)))
 
 -- the texts of all items
 pub appended_all : {X : Type 0} (f : X → List ℕ) (xs : List X) (place : ℕ) (old new : List ℕ) → length xs ≤ place

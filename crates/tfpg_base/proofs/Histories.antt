@@ -9,18 +9,18 @@ use Rattle.tfpg_base.specs.declared.line.Line.TheVariants as line
 use Rattle.tfpg_base.specs.declared.line.LineFault.{LineFault}
 use Rattle.tfpg_base.specs.declared.line.LineFault.TheVariants as fault
 use Rattle.tfpg_base.specs.Outside.{SourceState, IsAtEnd}
-use Rattle.tfpg_base.specs.Lines.{Reading, Buffered, HasNoLineEnd, LinesRepresent, IsGoingOn, IsNext, ReturnsNext, ComesInPieces, TakesAsNeeded, CountsReadFault, Continues, with_bytes, with_line, ended_by, ended_behind, next_whole, whole_lines, lines_of, with_line_end, max_bytes}
+use Rattle.tfpg_base.specs.Lines.{Reading, Buffered, HasNoLineEnd, LinesRepresent, IsGoingOn, IsNext, ReturnsNext, ComesInPieces, TakesAsNeeded, CountsReadFault, Continues, with_bytes, with_line, ended_by, ended_after_line, next_whole, whole_lines, lines_of, with_line_end, max_bytes}
 use Rattle.tfpg_base.specs.inside.LineSearch.{BeginsWith, IsLastLine, IsGiven, IsEnded, Found, Took, Pieces, Searched}
-use Rattle.tfpg_base.proofs.LinesOf.{whole_lines-behind, lines_of-behind, whole_lines-line, lines_of-line, whole_lines-none, lines_of-none}
+use Rattle.tfpg_base.proofs.LinesOf.{whole_lines-after, lines_of-after, whole_lines-line, lines_of-line, whole_lines-none, lines_of-none}
 
 -- the element after a front
-slice_get-behind : (front : List (List ℕ)) (x : List ℕ) (xs : List (List ℕ)) → slice_get (front ++ x ∷ xs) (length front) ≡ Some x
-slice_get-behind [] x xs = refl
-slice_get-behind (y ∷ front) x xs = slice_get-behind front x xs
+slice_get-after : (front : List (List ℕ)) (x : List ℕ) (xs : List (List ℕ)) → slice_get (front ++ x ∷ xs) (length front) ≡ Some x
+slice_get-after [] x xs = refl
+slice_get-after (y ∷ front) x xs = slice_get-after front x xs
 
 -- the front and one element more
-take-behind : (front : List (List ℕ)) (x : List ℕ) (xs : List (List ℕ)) → take (length front + 1) (front ++ x ∷ xs) ≡ front ++ x ∷ []
-take-behind front x xs =
+take-after : (front : List (List ℕ)) (x : List ℕ) (xs : List (List ℕ)) → take (length front + 1) (front ++ x ∷ xs) ≡ front ++ x ∷ []
+take-after front x xs =
     ap (take (length front + 1)) (sym (append_assoc front (x ∷ []) xs)) ∙ take_at (front ++ x ∷ []) xs (length front + 1) (length_push front x)
 
 -- bytes without a line end are one line, where there are some
@@ -32,11 +32,11 @@ lines_of-one (byte ∷ bytes) h some = lines_of-none (byte ∷ bytes) h
 module _ (reading : Reading) (bytes : List ℕ) (split : reading.taken ≡ flat_map with_line_end reading.given ++ bytes) (clean : All HasNoLineEnd reading.given) where
   -- the lines are those given and those of the bytes after them
   lines_of-taken : lines_of reading.taken ≡ reading.given ++ lines_of bytes
-  lines_of-taken = ap lines_of split ∙ lines_of-behind reading.given bytes clean
+  lines_of-taken = ap lines_of split ∙ lines_of-after reading.given bytes clean
 
   -- and so are the whole lines
   whole_lines-taken : whole_lines reading.taken ≡ reading.given ++ whole_lines bytes
-  whole_lines-taken = ap whole_lines split ∙ whole_lines-behind reading.given bytes clean
+  whole_lines-taken = ap whole_lines split ∙ whole_lines-after reading.given bytes clean
 
   module _ (few : length reading.taken ≤ max_bytes) where
     -- what is the next whole line of the bytes is the next one
@@ -49,7 +49,7 @@ module _ (reading : Reading) (bytes : List ℕ) (split : reading.taken ≡ flat_
         next_whole-is
         ∙ ap (λ b. slice_get (reading.given ++ whole_lines b) (length reading.given)) e
         ∙ ap (λ lines. slice_get (reading.given ++ lines) (length reading.given)) (whole_lines-line first rest h)
-        ∙ slice_get-behind reading.given first (whole_lines rest)
+        ∙ slice_get-after reading.given first (whole_lines rest)
 
     -- where no byte ends a line there is none
     next_whole-none : HasNoLineEnd bytes → next_whole reading ≡ None
@@ -63,19 +63,19 @@ module _ (reading : Reading) (bytes : List ℕ) (split : reading.taken ≡ flat_
   front-first : (first rest : List ℕ) → HasNoLineEnd first → bytes ≡ first ++ 10 ∷ rest → take (length reading.given + 1) (lines_of reading.taken) ≡ reading.given ++ first ∷ []
   front-first first rest h e =
       ap (take (length reading.given + 1)) (lines_of-taken ∙ ap (λ b. reading.given ++ lines_of b) e ∙ ap (λ lines. reading.given ++ lines) (lines_of-line first rest h))
-      ∙ take-behind reading.given first (lines_of rest)
+      ∙ take-after reading.given first (lines_of rest)
 
   -- a last line is the last one of all
   lines_of-last : (first : List ℕ) → HasNoLineEnd first → 0 < length first → bytes ≡ first → lines_of reading.taken ≡ reading.given ++ first ∷ []
   lines_of-last first h some e = lines_of-taken ∙ ap (λ b. reading.given ++ lines_of b) e ∙ ap (λ lines. reading.given ++ lines) (lines_of-one first h some)
 
 -- after a whole line nothing has ended
-not_ended : (next : Option (List ℕ)) (first : List ℕ) (answer : Result Line LineFault) → next ≡ Some first → ended_behind next ≡ Some answer → ⊥
-not_ended next first answer is e = let none : ended_behind next ≡ None = ap ended_behind is in cc
+not_ended : (next : Option (List ℕ)) (first : List ℕ) (answer : Result Line LineFault) → next ≡ Some first → ended_after_line next ≡ Some answer → ⊥
+not_ended next first answer is e = let none : ended_after_line next ≡ None = ap ended_after_line is in cc
 
 -- after a last line the end comes
-ended_by_last : (next : Option (List ℕ)) → next ≡ None → ended_behind next ≡ None → ⊥
-ended_by_last next is e = let some : ended_behind next ≡ Some (Ok line.End) = ap ended_behind is in cc
+ended_by_last : (next : Option (List ℕ)) → next ≡ None → ended_after_line next ≡ None → ⊥
+ended_by_last next is e = let some : ended_after_line next ≡ Some (Ok line.End) = ap ended_after_line is in cc
 
 -- the bytes of the lines given and of one more
 with_line_end-push : (given : List (List ℕ)) (first rest : List ℕ) → flat_map with_line_end given ++ (first ++ 10 ∷ rest) ≡ flat_map with_line_end (given ++ first ∷ []) ++ rest
@@ -118,14 +118,14 @@ module _ (reading : Reading) (bytes : List ℕ) (lines : ℕ) (now : Buffered) (
   number-given : (first : List ℕ) → IsGiven bytes first lines source_ended now → now.number ≡ length (reading.given ++ first ∷ [])
   number-given first is = omega (arith, is.number, stands.lines_given, length_push reading.given first)
 
-  -- a reader that gave a line with its line end goes on
+  -- a reader that returned a line with its line end goes on
   LinesRepresent-begins : (first : List ℕ) → IsGiven bytes first lines source_ended now → BeginsWith bytes first now → LinesRepresent now (with_line reading first)
   LinesRepresent-begins first is ends =
       let next : next_whole reading ≡ Some first = next_whole-first reading bytes split clean (omega (arith, is.few, stands.counted)) first now.waiting is.line ends.whole in
       record {
         number = number-given first is;
         taken = stands.counted;
-        ended = ends.ended ∙ sym (ap ended_behind next);
+        ended = ends.ended ∙ sym (ap ended_after_line next);
         going_on = λ _. record {
           bytes = split ∙ ap (λ b. flat_map with_line_end reading.given ++ b) ends.whole ∙ with_line_end-push reading.given first now.waiting;
           lines = All-push HasNoLineEnd reading.given first clean is.line;
@@ -134,19 +134,19 @@ module _ (reading : Reading) (bytes : List ℕ) (lines : ℕ) (now : Buffered) (
         all_given = λ e. absurd (not_ended (next_whole reading) first (Ok line.End) next e);
       }
 
-  -- a reader that gave the last line is ended
+  -- a reader that returned the last line is ended
   LinesRepresent-last : (first : List ℕ) → IsGiven bytes first lines source_ended now → IsLastLine bytes first source_ended now → LinesRepresent now (with_line reading first)
   LinesRepresent-last first is ends =
       let next : next_whole reading ≡ None = next_whole-none reading bytes split clean (omega (arith, is.few, stands.counted)) (subst HasNoLineEnd (sym ends.whole) is.line) in
       record {
         number = number-given first is;
         taken = stands.counted;
-        ended = ends.ended ∙ sym (ap ended_behind next);
+        ended = ends.ended ∙ sym (ap ended_after_line next);
         going_on = λ e. absurd (ended_by_last (next_whole reading) next e);
         all_given = λ _. lines_of-last reading bytes split clean first is.line ends.some ends.whole;
       }
 
-  -- the reader represents the history with the line that it gave
+  -- the reader represents the history with the line that it returned
   LinesRepresent-given : (first : List ℕ) → IsGiven bytes first lines source_ended now → LinesRepresent now (with_line reading first)
   LinesRepresent-given first is = elim is.ends [ inl ends ↦ LinesRepresent-begins first is ends | inr ends ↦ LinesRepresent-last first is ends ]
 
@@ -177,7 +177,7 @@ module _ (reading : Reading) (bytes : List ℕ) (lines : ℕ) (now : Buffered) (
       let count : length reading.taken ≡ max_bytes + 1 = sym stands.counted ∙ found.4 in
       let all : whole_lines (take max_bytes reading.taken) ≡ reading.given =
       ap whole_lines (take_but_one max_bytes reading.taken front found.1 is count)
-      ∙ whole_lines-behind reading.given first clean
+      ∙ whole_lines-after reading.given first clean
       ∙ ap (λ lines. reading.given ++ lines) (whole_lines-none first found.2)
       ∙ append-nil reading.given in
       (all, count, found.5.text, LinesRepresent-ended (Err fault.TooMuchInput) found.5 (λ e. absurd (cc)))

@@ -1,4 +1,4 @@
--- On lists, options and choices among them.
+-- On lists, options and numbers, by topic.
 pub mod lists
 pub use Rattle.tfpg_base.proofs.lists.Elements
 -- On the notions of this crate.
@@ -10,6 +10,7 @@ pub mod Sets
 pub mod Traces
 pub mod Taking
 pub mod LinesOf
+pub mod LinesAndParts
 pub mod ReadingOn
 -- On what its code does.
 mod Histories

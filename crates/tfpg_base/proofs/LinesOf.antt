@@ -18,8 +18,8 @@ take_but_last x xs h =
     rw e refl
 
 -- the last of more than one element
-last_behind : (x : List ℕ) (xs : List (List ℕ)) → 0 < length xs → get_or (x ∷ xs) (length (x ∷ xs) - 1) [] ≡ get_or xs (length xs - 1) []
-last_behind x xs h =
+last_cons : (x : List ℕ) (xs : List (List ℕ)) → 0 < length xs → get_or (x ∷ xs) (length (x ∷ xs) - 1) [] ≡ get_or xs (length xs - 1) []
+last_cons x xs h =
     let e : length (x ∷ xs) - 1 ≡ suc (length xs - 1) = omega arith in
     rw e refl
 
@@ -33,7 +33,7 @@ whole_lines-line line rest h = rw (parts_of-line line rest h) (take_but_last lin
 
 -- the last part comes after it
 last_part-line : (line rest : List ℕ) → HasNoLineEnd line → last_part (line ++ 10 ∷ rest) ≡ last_part rest
-last_part-line line rest h = rw (parts_of-line line rest h) (last_behind line (parts_of rest) (parts_of_some rest))
+last_part-line line rest h = rw (parts_of-line line rest h) (last_cons line (parts_of rest) (parts_of_some rest))
 
 -- a line with its line end is the first of the lines
 pub lines_of-line : (line rest : List ℕ) → HasNoLineEnd line → lines_of (line ++ 10 ∷ rest) ≡ line ∷ lines_of rest
@@ -52,28 +52,28 @@ regrouped : (line front rest : List ℕ) → with_line_end line ++ front ++ rest
 regrouped line front rest = append_assoc (line ++ 10 ∷ []) front rest ∙ append_assoc line (10 ∷ []) (front ++ rest)
 
 -- after lines with their line ends come the whole lines of the rest
-pub whole_lines-behind : (given : List (List ℕ)) (rest : List ℕ) → All HasNoLineEnd given → whole_lines (flat_map with_line_end given ++ rest) ≡ given ++ whole_lines rest
-whole_lines-behind [] rest h = refl
-whole_lines-behind (line ∷ given) rest h =
+pub whole_lines-after : (given : List (List ℕ)) (rest : List ℕ) → All HasNoLineEnd given → whole_lines (flat_map with_line_end given ++ rest) ≡ given ++ whole_lines rest
+whole_lines-after [] rest h = refl
+whole_lines-after (line ∷ given) rest h =
     ap whole_lines (regrouped line (flat_map with_line_end given) rest)
     ∙ whole_lines-line line (flat_map with_line_end given ++ rest) (All-head HasNoLineEnd line given h)
-    ∙ ap (λ lines. line ∷ lines) (whole_lines-behind given rest (All-tail HasNoLineEnd line given h))
+    ∙ ap (λ lines. line ∷ lines) (whole_lines-after given rest (All-tail HasNoLineEnd line given h))
 
 -- after lines with their line ends come the lines of the rest
-pub lines_of-behind : (given : List (List ℕ)) (rest : List ℕ) → All HasNoLineEnd given → lines_of (flat_map with_line_end given ++ rest) ≡ given ++ lines_of rest
-lines_of-behind [] rest h = refl
-lines_of-behind (line ∷ given) rest h =
+pub lines_of-after : (given : List (List ℕ)) (rest : List ℕ) → All HasNoLineEnd given → lines_of (flat_map with_line_end given ++ rest) ≡ given ++ lines_of rest
+lines_of-after [] rest h = refl
+lines_of-after (line ∷ given) rest h =
     ap lines_of (regrouped line (flat_map with_line_end given) rest)
     ∙ lines_of-line line (flat_map with_line_end given ++ rest) (All-head HasNoLineEnd line given h)
-    ∙ ap (λ lines. line ∷ lines) (lines_of-behind given rest (All-tail HasNoLineEnd line given h))
+    ∙ ap (λ lines. line ∷ lines) (lines_of-after given rest (All-tail HasNoLineEnd line given h))
 
 -- after lines with their line ends comes the last part of the rest
-pub last_part-behind : (given : List (List ℕ)) (rest : List ℕ) → All HasNoLineEnd given → last_part (flat_map with_line_end given ++ rest) ≡ last_part rest
-last_part-behind [] rest h = refl
-last_part-behind (line ∷ given) rest h =
+pub last_part-after : (given : List (List ℕ)) (rest : List ℕ) → All HasNoLineEnd given → last_part (flat_map with_line_end given ++ rest) ≡ last_part rest
+last_part-after [] rest h = refl
+last_part-after (line ∷ given) rest h =
     ap last_part (regrouped line (flat_map with_line_end given) rest)
     ∙ last_part-line line (flat_map with_line_end given ++ rest) (All-head HasNoLineEnd line given h)
-    ∙ last_part-behind given rest (All-tail HasNoLineEnd line given h)
+    ∙ last_part-after given rest (All-tail HasNoLineEnd line given h)
 
 -- bytes without a line end are the last part
 pub last_part-none : (bytes : List ℕ) → HasNoLineEnd bytes → last_part bytes ≡ bytes
@@ -122,12 +122,12 @@ module _ (bytes : List ℕ) where
   whole_lines-cut : (is : IsCut bytes) → whole_lines bytes ≡ is.lines
   whole_lines-cut is =
       ap whole_lines is.whole
-      ∙ whole_lines-behind is.lines is.rest is.clean
+      ∙ whole_lines-after is.lines is.rest is.clean
       ∙ ap (λ lines. is.lines ++ lines) (whole_lines-none is.rest is.part)
       ∙ append-nil is.lines
 
   last_part-cut : (is : IsCut bytes) → last_part bytes ≡ is.rest
-  last_part-cut is = ap last_part is.whole ∙ last_part-behind is.lines is.rest is.clean ∙ last_part-none is.rest is.part
+  last_part-cut is = ap last_part is.whole ∙ last_part-after is.lines is.rest is.clean ∙ last_part-none is.rest is.part
 
   -- no whole line has a line end in it
   pub whole_lines-clean : All HasNoLineEnd (whole_lines bytes)
@@ -149,14 +149,14 @@ module _ (bytes : List ℕ) where
   lines_of-append more =
       ap (λ b. lines_of (b ++ more)) whole_lines_and_last_part
       ∙ ap lines_of (append_assoc (flat_map with_line_end (whole_lines bytes)) (last_part bytes) more)
-      ∙ lines_of-behind (whole_lines bytes) (last_part bytes ++ more) whole_lines-clean
+      ∙ lines_of-after (whole_lines bytes) (last_part bytes ++ more) whole_lines-clean
 
   -- also as far as lines have come whole
   pub whole_lines-append : (more : List ℕ) → whole_lines (bytes ++ more) ≡ whole_lines bytes ++ whole_lines (last_part bytes ++ more)
   whole_lines-append more =
       ap (λ b. whole_lines (b ++ more)) whole_lines_and_last_part
       ∙ ap whole_lines (append_assoc (flat_map with_line_end (whole_lines bytes)) (last_part bytes) more)
-      ∙ whole_lines-behind (whole_lines bytes) (last_part bytes ++ more) whole_lines-clean
+      ∙ whole_lines-after (whole_lines bytes) (last_part bytes ++ more) whole_lines-clean
 
   -- whole lines stay the first ones, whatever follows
   pub take-lines_of : (more : List ℕ) → take (length (whole_lines bytes)) (lines_of (bytes ++ more)) ≡ whole_lines bytes

@@ -16,8 +16,8 @@ module _ (xs : List ℕ) (start end : ℕ) (part : List ℕ) (is : slice_range x
   end-above n h = omega (arith, length-slice_range xs start end, ap length is)
 
   -- the part after an element
-  pub slice_range-behind : (n : ℕ) → n < length part → slice_range xs (start + (n + 1)) end ≡ drop (n + 1) part
-  slice_range-behind n h =
+  pub slice_range-after : (n : ℕ) → n < length part → slice_range xs (start + (n + 1)) end ≡ drop (n + 1) part
+  slice_range-after n h =
       let within = end-above n h in
       let e : end - start ≡ (n + 1) + (end - (start + (n + 1))) = omega arith in
       ap (take (end - (start + (n + 1)))) (sym (drop-drop (n + 1) start xs))

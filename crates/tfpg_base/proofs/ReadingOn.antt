@@ -4,7 +4,7 @@ use Rattle.tfpg_base.specs.declared.line.Line.{Line}
 use Rattle.tfpg_base.specs.declared.line.Line.TheVariants as line
 use Rattle.tfpg_base.specs.declared.line.LineFault.{LineFault}
 use Rattle.tfpg_base.specs.Outside.{SourceState, Takes, IsAtEnd}
-use Rattle.tfpg_base.specs.Lines.{Reading, Buffered, LinesRepresent, IsNext, GoesFurther, Continues, new_reading, with_bytes, with_line, ended_behind, next_whole, lines_of, longest_line}
+use Rattle.tfpg_base.specs.Lines.{Reading, Buffered, LinesRepresent, IsNext, GoesFurther, Continues, new_reading, with_bytes, with_line, ended_after_line, next_whole, lines_of, longest_line}
 use Rattle.tfpg_base.proofs.Taking.{Takes-nothing}
 
 -- Nothing has ended the reader, or the last line was given and the source has ended.
@@ -19,10 +19,10 @@ some_same answer other is = cc
 pub GoesOn-new : (source : SourceState) → GoesOn new_reading source
 GoesOn-new source = inl refl
 
--- and so does one that gave a line
+-- and so does one that returned a line
 pub GoesOn-with_line : (reading : Reading) (first : List ℕ) (source : SourceState) → IsNext reading first (IsAtEnd source) → GoesOn (with_line reading first) source
 GoesOn-with_line reading first source next = go (next_whole reading) next.whole where
-  go : (whole : Option (List ℕ)) → (whole ≡ Some first) ⊎ IsAtEnd source → (ended_behind whole ≡ None) ⊎ ((ended_behind whole ≡ Some (Ok line.End)) × IsAtEnd source)
+  go : (whole : Option (List ℕ)) → (whole ≡ Some first) ⊎ IsAtEnd source → (ended_after_line whole ≡ None) ⊎ ((ended_after_line whole ≡ Some (Ok line.End)) × IsAtEnd source)
   go (Some found) is = inl refl
   go None (inl is) = absurd (cc)
   go None (inr end) = inr (refl, end)

@@ -221,8 +221,8 @@ IsReading-start old before part few going = record {
 
 module _ (old now : Buffered) (before mid : SourceState) (reading : IsReading old now before mid) (end : Buffered) (after : SourceState) (count : ℕ) (filled : IsRefilled now end mid after count) (same : after.faults ≡ mid.faults) where
   -- the bytes of the turn come after those that were seen
-  pub behind_seen : (waiting seen : List ℕ) → waiting ≡ end.waiting → seen ≡ now.waiting → take (length waiting - length seen) (drop (length seen) waiting) ≡ filled.more
-  behind_seen waiting seen is was =
+  pub after_seen : (waiting seen : List ℕ) → waiting ≡ end.waiting → seen ≡ now.waiting → take (length waiting - length seen) (drop (length seen) waiting) ≡ filled.more
+  after_seen waiting seen is was =
       let whole : waiting ≡ seen ++ filled.more = is ∙ filled.waiting ∙ ap (λ b. b ++ filled.more) (sym was) in
       ap (λ b. take (length b - length seen) (drop (length seen) b)) whole
       ∙ ap (take (length (seen ++ filled.more) - length seen)) (drop_at seen filled.more (length seen) refl)
@@ -249,9 +249,9 @@ module _ (old now : Buffered) (before mid : SourceState) (reading : IsReading ol
         ∙ ap (take (length now.waiting + place)) filled.waiting
         ∙ take-append-add now.waiting filled.more place
         ∙ ap (λ b. b ++ front) reading.waiting in
-        let behind : seen + place + 1 ≡ length now.waiting + (place + 1) = omega arith in
+        let beyond : seen + place + 1 ≡ length now.waiting + (place + 1) = omega arith in
         let rest_is : drop (seen + place + 1) end.waiting ≡ drop (place + 1) filled.more =
-        ap (λ n. drop n end.waiting) behind
+        ap (λ n. drop n end.waiting) beyond
         ∙ ap (drop (length now.waiting + (place + 1))) filled.waiting
         ∙ drop-append-add now.waiting filled.more (place + 1) in
         subst (λ answer. Searched old before after (Ok answer) done) (sym (kinds ∙ ap kind_of first_is))

@@ -1,9 +1,9 @@
 -- Laws of words and of the bytes that stand between them.
-use Rattle.std.proofs.Common.{◌≡◌, ℕ, ◌<◌, ◌^◌, Bool, true, false, eqb, List, [], ◌∷◌, ◌++◌, refl, ap, sym, ◌∙◌}
+use Rattle.std.proofs.Common.{◌≡◌, ℕ, ◌<◌, ◌^◌, Bool, true, false, eqb, ◌==◌, List, [], ◌∷◌, ◌++◌, length, refl, ap, sym, ◌∙◌, arith}
 use Rattle.std.specs.Prelude.{decimal}
-use Rattle.std.specs.List.{All, list_all, join_with_byte}
+use Rattle.std.specs.List.{All, AllByRecursion, list_all, join_with_byte, slice_split}
 use Rattle.std.specs.Char.{is_ascii_digit}
-use Rattle.std.proofs.lemmas.Bool.{and_parts, and_from, or_left, both_ways, false_from_ne_true, eqb-true, false≢true}
+use Rattle.std.proofs.lemmas.Bool.{and_parts, and_from, or_left, both_ways, false_from_ne_true, eqb-true, eq-eqb, false≢true}
 use Rattle.std.proofs.lemmas.List.Elements.{All-nil, All-cons}
 use Rattle.std.proofs.lemmas.List.Splits.{slice_split_none, slice_split_at, join_with_byte-slice_split}
 use Rattle.tfpg_base.specs.Words.{words_of, is_letter, is_name_byte, is_name, is_number}
@@ -24,6 +24,16 @@ words_of-cons word rest lacks = slice_split_at (λ byte. eqb byte 32) word 32 re
 -- The words, joined by spaces, are the line.
 pub join_with_byte-words_of : (line : List ℕ) → join_with_byte 32 (words_of line) ≡ line
 join_with_byte-words_of line = join_with_byte-slice_split 32 line
+
+-- Words none of which has the byte, joined by it, are split into the same words.
+pub slice_split-join : (byte : ℕ) (words : List (List ℕ)) → 0 < length words → AllByRecursion (Lacks byte) words
+    → slice_split (λ other. other == byte) (join_with_byte byte words) ≡ words
+slice_split-join byte [] some lack = absurd (omega arith)
+slice_split-join byte (word ∷ []) some lack = slice_split_none (λ other. other == byte) word lack.0
+slice_split-join byte (word ∷ second ∷ others) some lack =
+    slice_split_at (λ other. other == byte) word byte (join_with_byte byte (second ∷ others)) lack.0
+    (eq-eqb byte byte refl)
+    ∙ ap (λ words. word ∷ words) (slice_split-join byte (second ∷ others) (omega arith) lack.1)
 
 -- where each byte passes a test that this byte fails, the word lacks it
 lacks_by_test : (test : ℕ → Bool) (byte : ℕ) (word : List ℕ) → test byte ≡ false → list_all test word ≡ true → Lacks byte word

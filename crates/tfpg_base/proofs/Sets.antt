@@ -1,6 +1,6 @@
 -- Laws of sets as rising lists of positions, and of the bits that keep them.
 use Rattle.std.proofs.Common.{◌≡◌, ℕ, suc, zero, ◌+◌, ◌*◌, ◌/◌, ◌%◌, ◌<◌, ◌≤◌, ◌^◌, Bool, true, false, cond, eqb, ltb, List, [], ◌∷◌, ◌++◌, length, ◌⊎◌, ◌↔◌, inl, inr, ⊎_elim, bit_and, bit_or, count_ones, append-nil, length-append, add-one, w64, nat_eq, IsTrue, refl, arith, sym, ◌∙◌, ap}
-use Rattle.std.specs.List.{AllPairs, Contains}
+use Rattle.std.specs.List.{Contains}
 use Rattle.std.specs.Int.{bit_at}
 use Rattle.std.proofs.lemmas.Bool.{ltb-true, ltb-false, eqb-true, eqb-false, eq-eqb, cases_lt, cases_eq, cond-true, cond_both}
 use Rattle.std.proofs.lemmas.List.Elements.{Contains-get_or, All-nil, All-contains, Contains-append_left, Contains-append_right, Contains-append_cases}
@@ -10,37 +10,11 @@ use Rattle.std.proofs.Math.Pow.{mod-pow-add, pow_pos}
 use Rattle.std.proofs.lemmas.Nat.{ones_le_self, zero_from_ones, ones_cat}
 use Rattle.std.proofs.lemmas.Nat.Bits.{bit_at-lt, shr_and_one, bit_at_and, bit_at_set_same, bit_at_set_other, bit_at_above, same_from_bits}
 use Rattle.tfpg_base.proofs.lists.Elements.{AllPairs-head, AllPairs-tail, AllPairs-cons, All-from_members, Contains-head, Contains-tail, Contains-cons_cases, Contains-nil}
+pub use Rattle.tfpg_base.proofs.lists.Ordered.{Rises, same_from_members}
+use Rattle.tfpg_base.proofs.lists.Ordered.{least_first}
 use Rattle.tfpg_base.specs.Set.{with_member, IsPart, IsSet}
-use Rattle.tfpg_base.specs.inside.SetBits.{ones_below, members_of, bits_of, bits_of, bits_of-members_of}
-
--- the members rise strictly
-abbrev pub Rises : List ℕ → Type 0
-Rises members = AllPairs (λ earlier later. earlier < later) members
-
--- ---- rising lists
-
--- where rising lists have the same heads and each member of the one is one of the other, this holds of their rests
-Contains-rest : (x y : ℕ) (xs ys : List ℕ) → x ≡ y → Rises (x ∷ xs) → ((place : ℕ) → Contains (x ∷ xs) place → Contains (y ∷ ys) place) → (place : ℕ) → Contains xs place → Contains ys place
-Contains-rest x y xs ys same rising to place member =
-    let above : x < place = All-contains (λ later. x < later) xs place (AllPairs-head ◌<◌ x xs rising) member in
-    ⊎_elim (λ is. absurd (omega (arith, same, above, is))) (λ behind. behind) (Contains-cons_cases y ys place (to place (Contains-tail x xs place member)))
-
--- a member of a rising list is no less than its head
-least_first : (first : ℕ) (others : List ℕ) (place : ℕ) → Rises (first ∷ others) → Contains (first ∷ others) place → first ≤ place
-least_first first others place rising member =
-    ⊎_elim (λ is. omega (arith, is)) (λ behind. omega (arith, All-contains (λ later. first < later) others place (AllPairs-head ◌<◌ first others rising) behind)) (Contains-cons_cases first others place member)
-
--- Rising lists with the same members are equal.
-pub same_from_members : (xs ys : List ℕ) → Rises xs → Rises ys → ((place : ℕ) → Contains xs place → Contains ys place) → ((place : ℕ) → Contains ys place → Contains xs place) → xs ≡ ys
-same_from_members [] [] rises_x rises_y to from = refl
-same_from_members [] (y ∷ ys) rises_x rises_y to from = absurd (Contains-nil y (from y (Contains-head y ys)))
-same_from_members (x ∷ xs) [] rises_x rises_y to from = absurd (Contains-nil x (to x (Contains-head x xs)))
-same_from_members (x ∷ xs) (y ∷ ys) rises_x rises_y to from =
-    let low = least_first y ys x rises_y (to x (Contains-head x xs)) in
-    let high = least_first x xs y rises_x (from y (Contains-head y ys)) in
-    let heads : x ≡ y = omega (arith, low, high) in
-    let rests = same_from_members xs ys (AllPairs-tail ◌<◌ x xs rises_x) (AllPairs-tail ◌<◌ y ys rises_y) (Contains-rest x y xs ys heads rises_x to) (Contains-rest y x ys xs (sym heads) rises_y from) in
-    cc
+use Rattle.tfpg_base.specs.SetBits.{ones_below, members_of, bits_of}
+pub use Rattle.tfpg_base.specs.inside.BitsOfMembers.{bits_of-members_of}
 
 -- ---- a member more
 
@@ -66,7 +40,7 @@ with_member-keeps place (first ∷ others) other member =
     with_member_cases (λ more. Contains more other) place first others (λ less. Contains-tail place (first ∷ others) other member)
     (λ same. member)
     (λ above. ⊎_elim (λ is. rw (← is) (Contains-head first (with_member place others)))
-    (λ behind. Contains-tail first (with_member place others) other (with_member-keeps place others other behind))
+    (λ beyond. Contains-tail first (with_member place others) other (with_member-keeps place others other beyond))
     (Contains-cons_cases first others other member))
 
 -- No other members come.
@@ -76,7 +50,7 @@ with_member-only place (first ∷ others) other member =
     with_member_cases (λ more. Contains more other → (place ≡ other) ⊎ Contains (first ∷ others) other) place first others (λ less. Contains-cons_cases place (first ∷ others) other)
     (λ same member. inr member)
     (λ above member. ⊎_elim (λ is. inr (rw (← is) (Contains-head first others)))
-    (λ behind. ⊎_elim (λ new. inl new) (λ old. inr (Contains-tail first others other old)) (with_member-only place others other behind))
+    (λ beyond. ⊎_elim (λ new. inl new) (λ old. inr (Contains-tail first others other old)) (with_member-only place others other beyond))
     (Contains-cons_cases first (with_member place others) other member))
     member
 
@@ -117,7 +91,7 @@ members_of-zero = refl
 
 -- the one place, where there is one
 Contains-cond : (chosen : Bool) (only place : ℕ) → Contains (cond chosen (only ∷ []) []) place → (chosen ≡ true) × (only ≡ place)
-Contains-cond true only place member = (refl, ⊎_elim (λ is. is) (λ behind. absurd (Contains-nil place behind)) (Contains-cons_cases only [] place member))
+Contains-cond true only place member = (refl, ⊎_elim (λ is. is) (λ beyond. absurd (Contains-nil place beyond)) (Contains-cons_cases only [] place member))
 Contains-cond false only place member = absurd (Contains-nil place member)
 
 -- what stands among the ones below a count is a place below it with a one
@@ -247,8 +221,8 @@ pub IsSet-from_bits : (bits : ℕ) (members : List ℕ) → members_of bits ≡ 
 IsSet-from_bits bits members view = rw (← view) (IsSet-members_of bits)
 
 -- the bit of a place says whether it is a member
-pub bit_tells_member : (bits place : ℕ) (members : List ℕ) → members_of bits ≡ members → place < 64 → IsTrue (nat_eq (bit_and (bits / 2 ^ place) 1) 1) ↔ Contains members place
-bit_tells_member bits place members view small =
+pub bit_says_member : (bits place : ℕ) (members : List ℕ) → members_of bits ≡ members → place < 64 → IsTrue (nat_eq (bit_and (bits / 2 ^ place) 1) 1) ↔ Contains members place
+bit_says_member bits place members view small =
     rw (← view) (
       λ yes. (members_of-is bits place).1 (small, sym (shr_and_one bits place) ∙ eqb-true (bit_and (bits / 2 ^ place) 1) 1 yes),
       λ member. eq-eqb (bit_and (bits / 2 ^ place) 1) 1 (shr_and_one bits place ∙ ((members_of-is bits place).0 member).1),
@@ -260,16 +234,16 @@ beyond_no_member bits place members view beyond =
     rw (← view) (λ member. omega (arith, beyond, ((members_of-is bits place).0 member).0))
 
 -- the bits are equal where the members are
-pub bits_tell_equal : (a b : ℕ) (xs ys : List ℕ) → members_of a ≡ xs → members_of b ≡ ys → a < 2 ^ 64 → b < 2 ^ 64 → IsTrue (nat_eq a b) ↔ (xs ≡ ys)
-bits_tell_equal a b xs ys view_a view_b small_a small_b =
+pub bits_say_equal : (a b : ℕ) (xs ys : List ℕ) → members_of a ≡ xs → members_of b ≡ ys → a < 2 ^ 64 → b < 2 ^ 64 → IsTrue (nat_eq a b) ↔ (xs ≡ ys)
+bits_say_equal a b xs ys view_a view_b small_a small_b =
     rw (← view_a, ← view_b) (
       λ yes. ap members_of (eqb-true a b yes),
       λ same. eq-eqb a b (same_from_members_of a b small_a small_b same),
     )
 
 -- the bits of both say whether one set is a part of the other
-pub bits_tell_part : (a b : ℕ) (xs ys : List ℕ) → members_of a ≡ xs → members_of b ≡ ys → a < 2 ^ 64 → IsTrue (nat_eq (bit_and a b) a) ↔ IsPart xs ys
-bits_tell_part a b xs ys view_a view_b small =
+pub bits_say_part : (a b : ℕ) (xs ys : List ℕ) → members_of a ≡ xs → members_of b ≡ ys → a < 2 ^ 64 → IsTrue (nat_eq (bit_and a b) a) ↔ IsPart xs ys
+bits_say_part a b xs ys view_a view_b small =
     rw (← view_a, ← view_b) (
       λ yes. IsPart-from_bits a b (eqb-true (bit_and a b) a yes),
       λ part. eq-eqb (bit_and a b) a (bits_from_IsPart a b small part),

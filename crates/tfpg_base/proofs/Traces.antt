@@ -89,7 +89,7 @@ time_of-none (first ∷ others) node none =
 pub time_of-absent : (trace : List Activation) (node place : ℕ) → IsPlaceFor trace node place → time_of trace node ≡ None
 time_of-absent trace node place fits =
     time_of-none trace node
-    (λ k d within same. ⊎_elim (λ before. omega (arith, same, fits.before k d (omega arith) before)) (λ behind. omega (arith, same, fits.after k d behind within)) (cases_lt k place))
+    (λ k d within same. ⊎_elim (λ before. omega (arith, same, fits.before k d (omega arith) before)) (λ beyond. omega (arith, same, fits.after k d beyond within)) (cases_lt k place))
 
 -- ---- a time for a node
 
@@ -173,14 +173,14 @@ pub IsRisingByNode-with_time : (trace : List Activation) (node time : ℕ) → I
 IsRisingByNode-with_time [] node time rising = AllPairs-cons (λ earlier later. earlier.node < later.node) _ [] (λ k d within. absurd (omega arith)) rising
 IsRisingByNode-with_time (first ∷ others) node time rising =
     let R = λ (earlier : Activation) (later : Activation). earlier.node < later.node in
-    let behind = AllPairs-head R first others rising in
+    let beyond = AllPairs-head R first others rising in
     let rest = AllPairs-tail R first others rising in
     with_time_cases IsRisingByNode node time first others
-    (λ below. AllPairs-cons R _ (first ∷ others) (All-cons (λ later. node < later.node) first others below (All-weaker (R first) (R (record { node = node; time = time })) (λ later above. omega (arith, below, above)) others behind)) rising)
-    (λ here. AllPairs-cons R _ others (All-weaker (R first) (R (record { node = node; time = time })) (λ later above. omega (arith, here, above)) others behind) rest)
+    (λ below. AllPairs-cons R _ (first ∷ others) (All-cons (λ later. node < later.node) first others below (All-weaker (R first) (R (record { node = node; time = time })) (λ later above. omega (arith, below, above)) others beyond)) rising)
+    (λ here. AllPairs-cons R _ others (All-weaker (R first) (R (record { node = node; time = time })) (λ later above. omega (arith, here, above)) others beyond) rest)
     (λ above. AllPairs-cons R first (with_time node time others)
     (All-from_members (λ later. first.node < later.node) (with_time node time others)
-    (λ later member. ⊎_elim (λ new. omega (arith, above, new)) (λ old. All-contains (λ later. first.node < later.node) others later behind old) (with_time-only others node time later member)))
+    (λ later member. ⊎_elim (λ new. omega (arith, above, new)) (λ old. All-contains (λ later. first.node < later.node) others later beyond old) (with_time-only others node time later member)))
     (IsRisingByNode-with_time others node time rest))
 
 -- What is known node by node of a trace that one time was set in.

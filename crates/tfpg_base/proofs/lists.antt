@@ -1,5 +1,18 @@
--- On lists, options and choices among them, whatever they hold. Each crate cites them from here.
+-- The shelf of lemmas on lists, options and numbers, whatever they hold. Each crate cites them from here.
+-- Which elements a list has, and what holds of them.
 pub mod Elements
-pub mod Images
+pub mod Ordered
+pub mod Distinct
+pub mod Below
+-- What is at a place, and at which place something is.
 pub mod Written
+pub mod Positions
+pub mod Cuts
+-- Lists made of others: images, those that pass, values that there are.
+pub mod Images
+pub mod Passing
+pub mod Valued
 pub mod Choices
+-- Bytes and numbers.
+pub mod SameBytes
+pub mod Sequences

@@ -6,6 +6,7 @@ pub mod Words
 pub mod TextLine
 pub mod Append
 pub mod Set
+pub mod SetBits
 pub mod Trace
 pub mod Times
 pub mod Constraint

@@ -1,6 +1,7 @@
--- Bytes as lines, and what a reader of lines has taken and given.
-use Rattle.std.specs.Prelude.{◌≡◌, ◌⊎◌, ℕ, ◌+◌, ◌-◌, ◌<◌, ◌≤◌, ◌^◌, List, [], ◌∷◌, ◌++◌, length, take, ◌==◌, Bool, false, Option, Some, None, Result, Ok, Err, IsSome, All, slice_get, slice_index_or}
+-- Bytes as lines, and what a reader of lines has taken and returned.
+use Rattle.std.specs.Prelude.{◌≡◌, ◌⊎◌, ℕ, ◌+◌, ◌-◌, ◌<◌, ◌≤◌, List, [], ◌∷◌, ◌++◌, length, take, ◌==◌, Bool, false, Option, Some, None, Result, Ok, Err, IsSome, All, slice_get, slice_index_or}
 use Rattle.std.specs.List.{slice_split, flat_map}
+use Rattle.tfpg_base.specs.declared.limits.TheConstants.{LONGEST_LINE, MAX_BYTES, BUFFER_SIZE}
 use Rattle.tfpg_base.specs.declared.line.Line.{Line}
 use Rattle.tfpg_base.specs.declared.line.Line.TheVariants as line
 use Rattle.tfpg_base.specs.declared.line.LineFault.{LineFault}
@@ -34,28 +35,28 @@ lines_of bytes = whole_lines bytes ++ line_of_part (last_part bytes)
 
 -- how many bytes a line may have
 abbrev pub longest_line : ℕ
-longest_line = 4096
+longest_line = LONGEST_LINE
 
 -- how many bytes a reader takes, but for one to see that there are more
 abbrev pub max_bytes : ℕ
-max_bytes = 2 ^ 32
+max_bytes = MAX_BYTES
 
 -- how many bytes the buffer of a reader has
 abbrev pub buffer_size : ℕ
-buffer_size = 65536
+buffer_size = BUFFER_SIZE
 
--- The history of a reader of lines: all the bytes that it took, all the lines that it gave, and the answer
--- that ended it, if one has.
+-- The history of a reader of lines: all the bytes that it took, all the lines that it
+-- returned, and the answer that ended it, if one has.
 pub record Reading : Type 0 where
   pub taken : List ℕ
   pub given : List (List ℕ)
   pub ended : Option (Result Line LineFault)
 
--- nothing taken, nothing given
+-- nothing taken, nothing returned
 abbrev pub new_reading : Reading
 new_reading = record { taken = []; given = []; ended = None }
 
--- the next line that has come whole and is not given yet
+-- the next line that has come whole and is not returned yet
 abbrev pub next_whole : Reading → Option (List ℕ)
 next_whole reading = slice_get (whole_lines (take max_bytes reading.taken)) (length reading.given)
 
@@ -64,13 +65,13 @@ abbrev pub with_bytes : Reading → List ℕ → Reading
 with_bytes reading bytes = record { taken = reading.taken ++ bytes; given = reading.given; ended = reading.ended }
 
 -- what is returned after a line: a line that has come without a line end is the last, and after it comes the end
-abbrev pub ended_behind : Option (List ℕ) → Option (Result Line LineFault)
-ended_behind (Some whole) = None
-ended_behind None = Some (Ok line.End)
+abbrev pub ended_after_line : Option (List ℕ) → Option (Result Line LineFault)
+ended_after_line (Some whole) = None
+ended_after_line None = Some (Ok line.End)
 
--- the history after one more line was given
+-- the history after one more line was returned
 abbrev pub with_line : Reading → List ℕ → Reading
-with_line reading line = record { taken = reading.taken; given = reading.given ++ line ∷ []; ended = ended_behind (next_whole reading) }
+with_line reading line = record { taken = reading.taken; given = reading.given ++ line ∷ []; ended = ended_after_line (next_whole reading) }
 
 -- the history after an answer that ends it
 abbrev pub ended_by : Reading → Result Line LineFault → Reading
@@ -92,7 +93,7 @@ with_line_end line = line ++ 10 ∷ []
 abbrev pub HasNoLineEnd : List ℕ → Type 0
 HasNoLineEnd bytes = All (λ byte. ends_line byte ≡ false) bytes
 
--- while nothing has ended it, the buffer holds the bytes taken that come after the lines given
+-- while nothing has ended it, the buffer holds the bytes taken that come after the lines returned
 pub record IsGoingOn (reader : Buffered) (reading : Reading) : Type 0 where
   pub bytes : reading.taken ≡ flat_map with_line_end reading.given ++ reader.waiting
   pub lines : All HasNoLineEnd reading.given
@@ -106,7 +107,7 @@ pub record LinesRepresent (reader : Buffered) (reading : Reading) : Type 0 where
   pub going_on : reading.ended ≡ None → IsGoingOn reader reading
   pub all_given : reading.ended ≡ Some (Ok line.End) → lines_of reading.taken ≡ reading.given
 
--- The line is the next one, after those given, of all the bytes taken, which are not too many. It has come whole, or the source has ended.
+-- The line is the next one, after those returned, of all the bytes taken, which are not too many. It has come whole, or the source has ended.
 pub record IsNext (reading : Reading) (line : List ℕ) (source_ended : Type 0) : Type 0 where
   pub few : length reading.taken ≤ max_bytes
   pub front : take (length reading.given + 1) (lines_of reading.taken) ≡ reading.given ++ line ∷ []

@@ -9,8 +9,8 @@ use Rattle.tfpg_base.specs.Outside.{SourceState, SinkState, ShelfState, longest_
 abbrev pub count_after : ℕ → ℕ
 count_after count = min (count + 1) (2 ^ 64 - 1)
 
--- Bytes to give: those that are left, the most that one call gives, the numbers of the calls that are to fail,
--- how many calls came, how many failed, and whether the end was returned.
+-- The bytes of a source that fails at chosen calls: those that are left, how many one call gives at most, the numbers of
+-- the calls that are to fail, how many calls came, how many failed, and whether the end was returned.
 pub record GivesBytes : Type 0 where
   pub left : List ℕ
   pub most : ℕ
@@ -19,16 +19,16 @@ pub record GivesBytes : Type 0 where
   pub faults : ℕ
   pub ended : Bool
 
--- what every source shows, of such a one
+-- such a source, as contracts see every source
 abbrev pub source_state : GivesBytes → SourceState
 source_state source = record { left = Some source.left; ended = source.ended; faults = source.faults }
 
--- Bytes that a source gives which never fails: those that are left, and whether the end was returned.
+-- The bytes of a source that never fails: those that are left, and whether the end was returned.
 pub record SteadyBytes : Type 0 where
   pub left : List ℕ
   pub ended : Bool
 
--- what every source shows, of such a one: its count of faults is the constant 0
+-- such a source, as contracts see every source: its count of faults is the constant 0
 abbrev pub steady_state : SteadyBytes → SourceState
 steady_state source = record { left = Some source.left; ended = source.ended; faults = 0 }
 
@@ -36,7 +36,7 @@ steady_state source = record { left = Some source.left; ended = source.ended; fa
 abbrev pub FailsNext : List ℕ → ℕ → Type 0
 FailsNext failing calls = Contains failing (count_after calls)
 
--- how many bytes a call gives: the least of the room, what is left, and the most of one call
+-- how many bytes a call gives: the least of the places of the room, of the bytes that are left, and of the limit of a call
 abbrev pub count_given : GivesBytes → ℕ → ℕ
 count_given source room = min (min (length source.left) room) source.most
 
@@ -68,8 +68,8 @@ abbrev pub filled : List ℕ → List ℕ → Result ℕ Failed → List ℕ
 filled left room (Ok count) = take count left ++ drop count room
 filled left room (Err failed) = room
 
--- Bytes that were put: all of them so far, the most that one call takes, the numbers of the calls that are to
--- fail, how many calls came, and how many failed.
+-- The bytes of a sink that fails at chosen calls: all of them so far, how many one call takes at most, the numbers of the
+-- calls that are to fail, how many calls came, and how many failed.
 pub record HoldsBytes : Type 0 where
   pub holds : List ℕ
   pub most : ℕ
@@ -77,7 +77,7 @@ pub record HoldsBytes : Type 0 where
   pub calls : ℕ
   pub faults : ℕ
 
--- what every sink shows, of such a one
+-- such a sink, as contracts see every sink
 abbrev pub sink_state : HoldsBytes → SinkState
 sink_state sink = record { holds = Some sink.holds; faults = sink.faults }
 
@@ -95,7 +95,7 @@ pub record HasFiles : Type 0 where
   pub calls : ℕ
   pub faults : ℕ
 
--- what every shelf shows, of such a one
+-- such a shelf, as contracts see every shelf
 abbrev pub shelf_state : HasFiles → ShelfState
 shelf_state shelf = record { files = Some shelf.files; asked = Some shelf.asked; faults = shelf.faults }
 

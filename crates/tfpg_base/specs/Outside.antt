@@ -1,11 +1,12 @@
 -- What the outside gives and takes, as far as contracts know its contents, and when a fault is counted.
 use Rattle.std.specs.Prelude.{◌≡◌, ◌⊎◌, ◌<◌, ◌-◌, ◌^◌, ℕ, List, [], ◌∷◌, ◌++◌, length, Bool, IsTrue, Option, Some, None, Result, Ok, Err, IfSome, if◌then◌else◌, bytes_eq}
+use Rattle.tfpg_base.specs.declared.limits.TheConstants.{LONGEST_FILE}
 use Rattle.tfpg_base.specs.declared.outside.ShelfFault.{ShelfFault}
 use Rattle.tfpg_base.specs.declared.outside.ShelfFault.TheVariants as faults
 
 -- how many bytes a file has at most
 abbrev pub longest_file : ℕ
-longest_file = 2 ^ 24
+longest_file = LONGEST_FILE
 
 -- What contracts see of a source: the bytes that are left, where they are known; whether it has returned its end; how often taking failed.
 pub record SourceState : Type 0 where

@@ -7,7 +7,7 @@ use Rattle.tfpg_base.specs.Lines.{with_line_end}
 abbrev pub text_line : List (List ℕ) → List ℕ
 text_line words = with_line_end (line_of words)
 
--- a part, with the separator in front unless it is the first
+-- a part, with the separator before it unless it is the first
 abbrev pub separated : ℕ → Bool → List ℕ → List ℕ
 separated separator true part = part
 separated separator false part = separator ∷ part

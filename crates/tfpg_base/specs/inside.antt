@@ -1,5 +1,5 @@
 -- What the code and its proofs need besides. No public clause reaches it.
 pub mod LineSearch
 pub mod Buffer
-pub mod SetBits
+pub mod BitsOfMembers
 pub mod TraceSearch

@@ -30,6 +30,7 @@
 mod activation;
 mod constraint;
 mod items;
+pub mod laws;
 mod limits;
 mod line;
 mod lines;
@@ -47,7 +48,7 @@ mod words;
 pub use activation::Activation;
 pub use constraint::Constraint;
 pub use items::{Bytes, Items, LineList, NumberList};
-pub use limits::{LONGEST_FILE, LONGEST_LINE, MAX_BYTES, MAX_TIME, MAX_WORDS, NEVER};
+pub use limits::{BUFFER_SIZE, LONGEST_FILE, LONGEST_LINE, MAX_BYTES, MAX_TIME, MAX_WORDS, NEVER};
 pub use line::{Line, LineFault};
 pub use lines::Lines;
 pub use memory::{Discard, MemoryShelf, MemorySink, MemorySource, SteadySource};

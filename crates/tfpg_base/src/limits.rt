@@ -6,6 +6,9 @@ pub const LONGEST_FILE: usize = 16_777_216;
 /// How many bytes a line has at most.
 pub const LONGEST_LINE: usize = 4_096;
 
+/// How many bytes the buffer of a reader of lines has, which is more than a line may have.
+pub const BUFFER_SIZE: usize = 65_536;
+
 /// How many bytes a reader of lines takes, but for one to see that there are more: 2^32.
 pub const MAX_BYTES: u64 = 4_294_967_296;
 

@@ -10,12 +10,9 @@ ghost use Rattle.tfpg_base.specs.inside.LineSearch.{IsAtLineEnd, kind_of, lent_o
 mod refill;
 mod search;
 
-use crate::{LONGEST_LINE, Line, LineFault, NoMemory, Source};
+use crate::{BUFFER_SIZE, LONGEST_LINE, Line, LineFault, NoMemory, Source};
 use std::alloc::Global;
 use std::marker::Model;
-
-/// How many bytes the buffer has: more than a line may have.
-const ROOM: usize = 65_536;
 
 /// Places of the buffer, from the one up to before the other.
 #[derive(Clone, Copy)]
@@ -61,7 +58,7 @@ impl Lines {
         ensures empty { IfOk result (λ lines. lines.text ≡ []) }
     {
         Ok(Lines {
-            buffer: vec![in alloc; 0; ROOM]?,
+            buffer: vec![in alloc; 0; BUFFER_SIZE]?,
             waiting: Places::NONE,
             text: Places::NONE,
             number: 0,
@@ -153,7 +150,7 @@ fn kind(count: usize) -> Line
 
 /// Where the text of a line of so many bytes stands: nowhere for one that is too long.
 fn lent(start: usize, count: usize) -> Places
-    requires { start + count ≤ ROOM }
+    requires { start + count ≤ BUFFER_SIZE }
     ensures place { result.start ≤ result.end }
     ensures within { result.end ≤ start + count }
     ensures text { (bytes : List ℕ) → start + count ≤ length bytes

@@ -4,6 +4,7 @@
 //! numbers that it was made with. Calls are numbered from 1. A count of faults stands still at the last value of its type.
 //! [`SteadySource`] and [`Discard`] never fail.
 
+mod bytes_left;
 mod discard;
 mod failing_calls;
 mod memory_shelf;

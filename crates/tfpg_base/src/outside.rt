@@ -5,7 +5,7 @@
 //! one that hides a fault.
 
 ghost use Rattle.std.specs.Prelude.{◌≡◌, ◌⊎◌, ◌<◌, ◌≤◌, ◌^◌, ◌↔◌, ◌++◌, ◌∷◌, [], ℕ, List, length, take, Option, None, Some, IsTrue, IfSome, IfOk, OnOk, OnErr, IsErrOf, Ok};
-ghost use Rattle.tfpg_base.specs.Outside.{SourceState, SinkState, ShelfState, Rose, Takes, Puts, IsAtEnd, Asks, Gives, PassesLimit, CountsFailure};
+ghost use Rattle.tfpg_base.specs.Outside.{longest_file, SourceState, SinkState, ShelfState, Rose, Takes, Puts, IsAtEnd, Asks, Gives, PassesLimit, CountsFailure};
 
 use std::alloc::Global;
 
@@ -36,7 +36,8 @@ pub trait Source {
         ensures taken { IfOk result (λ count. Takes (state self.old) (state self.new) (take count room.new)) }
         ensures no_fault { IfOk result (λ count. (state self.new).faults ≡ (state self.old).faults) }
         ensures end { result ≡ Ok 0 → 0 < length room.old → IsAtEnd (state self.new) }
-        ensures ended { IsTrue (state self.new).ended ↔ (IsTrue (state self.old).ended ⊎ ((result ≡ Ok 0) × (0 < length room.old))) }
+        ensures ended { IsTrue (state self.new).ended ↔
+            (IsTrue (state self.old).ended ⊎ ((result ≡ Ok 0) × (0 < length room.old))) }
         ensures failed { OnErr result (Rose (state self.old).faults (state self.new).faults) }
         ensures nothing_taken { OnErr result ((state self.new).left ≡ (state self.old).left) };
 }
@@ -65,8 +66,9 @@ pub trait Shelf {
     /// the name. After `TooLong` `into` holds the first 2^24 bytes of the file; after the other faults it is empty.
     fn fetch(&mut self, alloc: Global, name: &str, into: &mut Vec<u8>) -> Result<(), ShelfFault>
         ensures given { OnOk result (Gives (state self.old) name.now into.new.items) }
-        ensures small { OnOk result (length into.new.items ≤ 2 ^ 24) }
-        ensures too_long { IsErrOf result ShelfFault.TooLong → PassesLimit (state self.old) name.now into.new.items }
+        ensures small { OnOk result (length into.new.items ≤ longest_file) }
+        ensures too_long { IsErrOf result ShelfFault.TooLong →
+            PassesLimit (state self.old) name.now into.new.items }
         ensures failed { IsErrOf result ShelfFault.Failed → into.new.items ≡ [] }
         ensures no_memory { IsErrOf result ShelfFault.NoMemory → into.new.items ≡ [] }
         ensures counted { CountsFailure result (state self.old) (state self.new) }

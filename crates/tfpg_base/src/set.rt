@@ -1,9 +1,10 @@
 //! Sets of failure modes.
 
-ghost use Rattle.std.specs.Prelude.{◌≡◌, ◌⊎◌, ◌<◌, ◌^◌, ◌↔◌, [], ℕ, IsTrue, Contains, length, bytes_eq, sum_by};
+ghost use Rattle.std.specs.Prelude.{◌≡◌, ◌⊎◌, ◌<◌, ◌^◌, ◌↔◌, [], ℕ, IsTrue, Contains, length, bytes_eq};
 ghost use Rattle.std.specs.Cmp.{partial_equiv_from_equiv};
 ghost use Rattle.std.specs.Cmp.Lexicographic.{nat_list_eq_equiv};
 ghost use Rattle.tfpg_base.specs.Set.{with_member, IsPart, IsProperPart, IsSet};
+ghost use Rattle.tfpg_base.specs.SetBits.{bits_of};
 
 use std::marker::Model;
 
@@ -17,7 +18,8 @@ pub struct Set {
 impl Model for Set {
     ghost use Rattle.std.specs.Prelude.{ℕ, List, ◌<◌, ◌^◌};
     ghost use Rattle.std.proofs.Common.{ap};
-    ghost use Rattle.tfpg_base.specs.inside.SetBits.{members_of, bits_of, bits_of-members_of};
+    ghost use Rattle.tfpg_base.specs.SetBits.{members_of, bits_of};
+    ghost use Rattle.tfpg_base.specs.inside.BitsOfMembers.{bits_of-members_of};
 
     ghost Value = { List ℕ };
 
@@ -27,7 +29,8 @@ impl Model for Set {
 
     ghost inverse = { λ members. record { bits = bits_of members } };
 
-    ghost inverse_ok = { λ set small. ap (λ (bits : ℕ). record { bits = bits }) (bits_of-members_of set.bits small) };
+    ghost inverse_ok = { λ set small.
+        ap (λ (bits : ℕ). record { bits = bits }) (bits_of-members_of set.bits small) };
 }
 
 impl PartialEq for Set {
@@ -54,7 +57,7 @@ impl Set {
 
     /// The members as bits: bit `p` is position `p`.
     pub fn bits(self) -> u64
-        ensures worth { result ≡ sum_by (λ place. 2 ^ place) self }
+        ensures worth { result ≡ bits_of self }
         ensures set { IsSet self }
     {
         self.bits

@@ -27,7 +27,7 @@ pub fn put_words(into: &mut Vec<u8>, words: &[&[u8]]) -> Result<(), NoMemory>
     Ok(())
 }
 
-/// Appends a part, and in front of it the separator unless it is the first.
+/// Appends a part, with the separator before it unless it is the first.
 pub fn put_part(
     into: &mut Vec<u8>,
     separator: u8,

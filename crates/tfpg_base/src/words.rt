@@ -2,6 +2,7 @@
 
 ghost use Rattle.std.specs.Prelude.{◌≡◌, ◌<◌, ◌==◌, length, map, MatchOption};
 ghost use Rattle.std.specs.List.{list_any};
+ghost use Rattle.tfpg_base.specs.declared.limits.TheConstants.{MAX_WORDS};
 ghost use Rattle.tfpg_base.specs.Words.{words_of};
 
 use crate::MAX_WORDS;
@@ -28,7 +29,8 @@ impl<'a> Words<'a> {
     /// The words of the line, or None where it has more than [`MAX_WORDS`]. Takes no memory, and time in the
     /// length of the line.
     pub fn of(line: &'a [u8]) -> Option<Words<'a>>
-        ensures { MatchOption result (9 < length (words_of line.now)) (λ words. words ≡ words_of line.now) }
+        ensures { MatchOption result (MAX_WORDS < length (words_of line.now))
+            (λ words. words ≡ words_of line.now) }
     {
         let mut items: [&[u8]; MAX_WORDS] = [&[]; MAX_WORDS];
         let mut count = 0;

@@ -21,14 +21,14 @@ use Rattle.tfpg_clause.proofs.Agreed.{of_cut}
 use Rattle.tfpg_clause.proofs.RulesMet.{may_holds, must_holds, kind_within, clause_is_met, rules_are_kept}
 
 -- the kind of a name
-kind_of : ClauseName → ClauseKind
+pub kind_of : ClauseName → ClauseKind
 kind_of (OrMay node span horizon) = kind.OrMay
 kind_of (AndMay edge span horizon) = kind.AndMay
 kind_of (OrMust edge span horizon) = kind.OrMust
 kind_of (AndMust node span horizon) = kind.AndMust
 
 -- Each name is that of its kind, its node or edge, its span and its horizon,
-name_is : (name : ClauseName) → named (kind_of name) (subject_of name) (span_of name) (horizon_of name) ≡ name
+pub name_is : (name : ClauseName) → named (kind_of name) (subject_of name) (span_of name) (horizon_of name) ≡ name
 unfolding kind_of
 name_is (OrMay node span horizon) = refl
 name_is (AndMay edge span horizon) = refl
@@ -36,7 +36,7 @@ name_is (OrMust edge span horizon) = refl
 name_is (AndMust node span horizon) = refl
 
 -- and has the rank of its kind.
-rank_is : (name : ClauseName) → rank_of name ≡ place_of (kind_of name)
+pub rank_is : (name : ClauseName) → rank_of name ≡ place_of (kind_of name)
 unfolding kind_of
 rank_is (OrMay node span horizon) = refl
 rank_is (AndMay edge span horizon) = refl
@@ -44,7 +44,7 @@ rank_is (OrMust edge span horizon) = refl
 rank_is (AndMust node span horizon) = refl
 
 -- kinds of one place are the same
-same_kind : (one other : ClauseKind) → place_of one ≡ place_of other → one ≡ other
+pub same_kind : (one other : ClauseKind) → place_of one ≡ place_of other → one ≡ other
 same_kind kind.OrMay kind.OrMay is = refl
 same_kind kind.OrMay kind.AndMay is = absurd (omega arith)
 same_kind kind.OrMay kind.OrMust is = absurd (omega arith)
@@ -62,42 +62,15 @@ same_kind kind.AndMust kind.AndMay is = absurd (omega arith)
 same_kind kind.AndMust kind.OrMust is = absurd (omega arith)
 same_kind kind.AndMust kind.AndMust is = refl
 
-module _ (own : ClauseKind) (subject span horizon : ℕ) where
-  named_subject : subject_of (named own subject span horizon) ≡ subject
-  named_subject = by own
-    where
-      by : (k : ClauseKind) → subject_of (named k subject span horizon) ≡ subject
-      by kind.OrMay = refl
-      by kind.AndMay = refl
-      by kind.OrMust = refl
-      by kind.AndMust = refl
-
-  named_span : span_of (named own subject span horizon) ≡ span
-  named_span = by own
-    where
-      by : (k : ClauseKind) → span_of (named k subject span horizon) ≡ span
-      by kind.OrMay = refl
-      by kind.AndMay = refl
-      by kind.OrMust = refl
-      by kind.AndMust = refl
-
-  named_horizon : horizon_of (named own subject span horizon) ≡ horizon
-  named_horizon = by own
-    where
-      by : (k : ClauseKind) → horizon_of (named k subject span horizon) ≡ horizon
-      by kind.OrMay = refl
-      by kind.AndMay = refl
-      by kind.OrMust = refl
-      by kind.AndMust = refl
-
-  named_rank : rank_of (named own subject span horizon) ≡ place_of own
-  named_rank = by own
-    where
-      by : (k : ClauseKind) → rank_of (named k subject span horizon) ≡ place_of k
-      by kind.OrMay = refl
-      by kind.AndMay = refl
-      by kind.OrMust = refl
-      by kind.AndMust = refl
+-- and a name has the parts that it was made of
+named_parts : (own : ClauseKind) (subject span horizon : ℕ) → (rank_of (named own subject span horizon) ≡ place_of own)
+    × (subject_of (named own subject span horizon) ≡ subject)
+    × (span_of (named own subject span horizon) ≡ span)
+    × (horizon_of (named own subject span horizon) ≡ horizon)
+named_parts kind.OrMay subject span horizon = (refl, refl, refl, refl)
+named_parts kind.AndMay subject span horizon = (refl, refl, refl, refl)
+named_parts kind.OrMust subject span horizon = (refl, refl, refl, refl)
+named_parts kind.AndMust subject span horizon = (refl, refl, refl, refl)
 
 -- all kinds, in their order
 abbrev pub all_kinds : List ClauseKind
@@ -155,7 +128,7 @@ module _ (graph : Tfpg) (log : Logbook) (times : List ℕ) where
   first_of_all : (kind : ClauseKind) (name : ClauseName) → ((other : ClauseKind) → place_of other < place_of kind → MeetsKind graph log times other)
       → IsFirstOfKind graph log times kind name → IsFirstViolated graph log times name
   first_of_all kind name before is = record {
-    at_now = ap horizon_of is.is ∙ named_horizon kind is.subject is.span (now_of log);
+    at_now = ap horizon_of is.is ∙ (named_parts kind is.subject is.span (now_of log)).3;
     violated = record {
       clause = is.first.violated.all;
       allowed = ap (alternatives graph log) is.is ∙ is.first.violated.there;
@@ -166,13 +139,13 @@ module _ (graph : Tfpg) (log : Logbook) (times : List ℕ) where
   }
     where
       rank : rank_of name ≡ place_of kind
-      rank = ap rank_of is.is ∙ named_rank kind is.subject is.span (now_of log)
+      rank = ap rank_of is.is ∙ (named_parts kind is.subject is.span (now_of log)).0
 
       subject : subject_of name ≡ is.subject
-      subject = ap subject_of is.is ∙ named_subject kind is.subject is.span (now_of log)
+      subject = ap subject_of is.is ∙ (named_parts kind is.subject is.span (now_of log)).1
 
       span : span_of name ≡ is.span
-      span = ap span_of is.is ∙ named_span kind is.subject is.span (now_of log)
+      span = ap span_of is.is ∙ (named_parts kind is.subject is.span (now_of log)).2
 
       by : (other : ClauseName) → ComesBefore other name → MeetsIfAny times (clauses_of graph log (kind_of other) (subject_of other) (span_of other))
       by other (inl earlier) = before (kind_of other) (omega (arith, earlier, rank, rank_is other)) (subject_of other) (span_of other)

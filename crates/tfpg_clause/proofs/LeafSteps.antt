@@ -1,7 +1,5 @@
 -- What a right step does to the present leaf, and to the frames that are at it.
-use Rattle.std.proofs.Common.{◌≡◌, ℕ, List, [], ◌∷◌, ◌++◌, length, Option, Some, None, refl, sym, ap, ◌∙◌}
-use Rattle.std.specs.Prelude.{map}
-use Rattle.tfpg_base.specs.Choice.{each_of}
+use Rattle.std.proofs.Common.{◌≡◌, ℕ, List, [], ◌∷◌, ◌++◌, length, Option, Some, None, refl, ap, subst, ◌∙◌}
 use Rattle.tfpg_base.specs.declared.constraint.Constraint.{Constraint}
 use Rattle.tfpg_graph.specs.Graph.{Tfpg}
 use Rattle.tfpg_log.specs.Log.{Logbook, GoesOn, IsOrdered, first_events}
@@ -9,8 +7,8 @@ use Rattle.tfpg_evidence.specs.declared.clause_name.ClauseName.{ClauseName}
 use Rattle.tfpg_evidence.specs.declared.reason.Reason.{Reason}
 use Rattle.tfpg_evidence.specs.declared.step.Step.TheVariants.{Split, Cycle}
 use Rattle.tfpg_clause.specs.Clauses.{count_of}
-use Rattle.tfpg_clause.specs.Trees.{Judged, PathSplit, IsClosedLeaf, IsRefutation, IsPresentLeaf}
-use Rattle.tfpg_clause.specs.Paths.{with_step, new_split, next_leaf, IsAtLeaf, new_frame, path_after, stated_by, IsClosedBy}
+use Rattle.tfpg_clause.specs.Trees.{Judged, PathSplit, IsClosedBy, IsClosedLeaf, IsRefutation, IsPresentLeaf}
+use Rattle.tfpg_clause.specs.Paths.{with_step, new_split, next_leaf, IsAtLeaf, new_frame, path_after, stated_by}
 use Rattle.tfpg_clause.specs.declared.path.Frame.{Frame}
 use Rattle.tfpg_clause.proofs.TreeSteps.{cut_of_leaf, leaf_of_cut, first_cut, split_step, last_cycle, cycle_step}
 use Rattle.tfpg_clause.proofs.TreesKept.{leaf_stays}
@@ -57,14 +55,8 @@ module _ (graph : Tfpg) (log : Logbook) (reach : List ℕ) where
   module _ (ordered : IsOrdered log) (frames : List Frame) (steps : List Judged) (reasons : List Reason) (at : IsAtLeaf graph log reach frames steps)
       (closed : IsClosedBy (stated_by graph log reach frames) reasons) where
     closed_here : IsClosedLeaf graph log reach at.path (length log.events) reasons
-    closed_here = record {
-      constraints = closed.constraints;
-      hold =
-          ap (λ (f : Reason → Option Constraint). each_of (map f reasons)) (λ i reason. sym (states_same graph log ordered reach at.path frames at.frames_are reason) i)
-          ∙ closed.hold;
-      cycle = closed.cycle;
-      negative = closed.negative;
-    }
+    closed_here =
+        subst (λ (f : Reason → Option Constraint). IsClosedBy f reasons) (λ i reason. states_same graph log ordered reach at.path frames at.frames_are reason i) closed
 
     pub frames_go : (after : List Frame) → path_after frames ≡ Some after → IsAtLeaf graph log reach after (with_step steps log (Cycle reasons))
     frames_go after is =

@@ -21,6 +21,7 @@ pub mod MustMet
 pub mod MustSpans
 pub mod MustFamilies
 pub mod FirstOfAll
+pub mod NameOrder
 pub mod FactsMet
 pub mod GivesTrace
 pub mod OwnModes

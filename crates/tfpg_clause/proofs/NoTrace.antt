@@ -53,8 +53,7 @@ last_or_before (y ∷ xs) last zero x at = inl at
 last_or_before (y ∷ xs) last (suc k) x at = last_or_before xs last k x at
 
 module _ (graph : Tfpg) (log : Logbook) (reach : List ℕ) (ordered : IsOrdered log) (numbers : List ℕ)
-    (facts : (reason : Reason) (constraint : Constraint) → fact graph log reach reason ≡ Some constraint → Meets numbers constraint)
-    (clauses : (name : ClauseName) (clause : List (List Constraint)) → alternatives graph log name ≡ Some clause → MeetsClause numbers clause) where
+    (facts : (reason : Reason) (constraint : Constraint) → fact graph log reach reason ≡ Some constraint → Meets numbers constraint) where
   -- the numbers meet each constraint that is picked on the path
   abbrev MeetsPath : List PathSplit → Type 0
   MeetsPath path = (split place : ℕ) (constraint : Constraint) → picked graph log path split place ≡ Some constraint → Meets numbers constraint
@@ -71,109 +70,111 @@ module _ (graph : Tfpg) (log : Logbook) (reach : List ℕ) (ordered : IsOrdered 
   stated_met path met seen (Upto event) constraint is = fact_met seen (Upto event) constraint is
   stated_met path met seen (Quiet event node) constraint is = fact_met seen (Quiet event node) constraint is
 
-  no_leaf : (path : List PathSplit) (seen : ℕ) (reasons : List Reason) → MeetsPath path → IsClosedLeaf graph log reach path seen reasons → ⊥
+  -- Numbers that meet all facts and all that is picked on its path close no leaf.
+  pub no_leaf : (path : List PathSplit) (seen : ℕ) (reasons : List Reason) → MeetsPath path → IsClosedLeaf graph log reach path seen reasons → ⊥
   no_leaf path seen reasons met closed =
       let most = not_negative numbers closed.constraints closed.cycle (each_met (stated graph log reach path seen) (Meets numbers) (stated_met path met seen) reasons closed.constraints closed.hold) in
       let least = closed.negative in
       omega (arith, ints)
 
-  -- the numbers meet the alternative that is taken at one more split
-  meets_more : (path : List PathSplit) (split : PathSplit) (clause : List (List Constraint)) (k : ℕ) (alternative : List Constraint) → MeetsPath path
-      → alternatives graph (first_events log split.seen) split.name ≡ Some clause → split.alternative ≡ suc k → slice_get clause k ≡ Some alternative → All (Meets numbers) alternative
-      → MeetsPath (path ++ split ∷ [])
-  meets_more path split clause k alternative met is number at all zero place constraint pick = cc
-  meets_more path split clause k alternative met is number at all (suc i) place constraint pick =
-      option_and_then_some
-      (λ (taken : PathSplit). option_and_then (λ c. constraint_at c taken.alternative place) (alternatives graph (first_events log taken.seen) taken.name))
-      (slice_get (path ++ split ∷ []) i) constraint pick
-      (λ taken there rest.
-      elim (last_or_before path split i taken there) [
-        | inl before ↦
-            met (suc i) place constraint
-            (ap (option_and_then (λ (t : PathSplit). option_and_then (λ c. constraint_at c t.alternative place) (alternatives graph (first_events log t.seen) t.name))) before ∙ rest)
-        | inr last ↦
-            own place constraint
-            (subst (λ (t : PathSplit). option_and_then (λ c. constraint_at c t.alternative place) (alternatives graph (first_events log t.seen) t.name) ≡ Some constraint) (sym last) rest)
-      ])
-    where
-      of_alternative : (place : ℕ) (constraint : Constraint) → item_at alternative place ≡ Some constraint → Meets numbers constraint
-      of_alternative zero constraint here = cc
-      of_alternative (suc j) constraint here = at_item alternative j all here
-        where
-          at_item : (items : List Constraint) (j : ℕ) → All (Meets numbers) items → slice_get items j ≡ Some constraint → Meets numbers constraint
-          at_item [] j met_all here = cc
-          at_item (c ∷ items) zero met_all here = let same : c ≡ constraint = cc in subst (Meets numbers) same (All-head (Meets numbers) c items met_all)
-          at_item (c ∷ items) (suc j) met_all here = at_item items j (All-tail (Meets numbers) c items met_all) here
+  module _ (clauses : (name : ClauseName) (clause : List (List Constraint)) → alternatives graph log name ≡ Some clause → MeetsClause numbers clause) where
+    -- the numbers meet the alternative that is taken at one more split
+    meets_more : (path : List PathSplit) (split : PathSplit) (clause : List (List Constraint)) (k : ℕ) (alternative : List Constraint) → MeetsPath path
+        → alternatives graph (first_events log split.seen) split.name ≡ Some clause → split.alternative ≡ suc k → slice_get clause k ≡ Some alternative → All (Meets numbers) alternative
+        → MeetsPath (path ++ split ∷ [])
+    meets_more path split clause k alternative met is number at all zero place constraint pick = cc
+    meets_more path split clause k alternative met is number at all (suc i) place constraint pick =
+        option_and_then_some
+        (λ (taken : PathSplit). option_and_then (λ c. constraint_at c taken.alternative place) (alternatives graph (first_events log taken.seen) taken.name))
+        (slice_get (path ++ split ∷ []) i) constraint pick
+        (λ taken there rest.
+        elim (last_or_before path split i taken there) [
+          | inl before ↦
+              met (suc i) place constraint
+              (ap (option_and_then (λ (t : PathSplit). option_and_then (λ c. constraint_at c t.alternative place) (alternatives graph (first_events log t.seen) t.name))) before ∙ rest)
+          | inr last ↦
+              own place constraint
+              (subst (λ (t : PathSplit). option_and_then (λ c. constraint_at c t.alternative place) (alternatives graph (first_events log t.seen) t.name) ≡ Some constraint) (sym last) rest)
+        ])
+      where
+        of_alternative : (place : ℕ) (constraint : Constraint) → item_at alternative place ≡ Some constraint → Meets numbers constraint
+        of_alternative zero constraint here = cc
+        of_alternative (suc j) constraint here = at_item alternative j all here
+          where
+            at_item : (items : List Constraint) (j : ℕ) → All (Meets numbers) items → slice_get items j ≡ Some constraint → Meets numbers constraint
+            at_item [] j met_all here = cc
+            at_item (c ∷ items) zero met_all here = let same : c ≡ constraint = cc in subst (Meets numbers) same (All-head (Meets numbers) c items met_all)
+            at_item (c ∷ items) (suc j) met_all here = at_item items j (All-tail (Meets numbers) c items met_all) here
 
-      own : (place : ℕ) (constraint : Constraint) → option_and_then (λ c. constraint_at c split.alternative place) (alternatives graph (first_events log split.seen) split.name) ≡ Some constraint → Meets numbers constraint
-      own place constraint pick =
-          let of_clause : constraint_at clause split.alternative place ≡ Some constraint = sym (ap (option_and_then (λ c. constraint_at c split.alternative place)) is) ∙ pick in
-          let in_alternative : item_at alternative place ≡ Some constraint =
-          sym (ap (λ (n : ℕ). constraint_at clause n place) number ∙ ap (option_and_then (λ a. item_at a place)) at) ∙ of_clause in
-          of_alternative place constraint in_alternative
+        own : (place : ℕ) (constraint : Constraint) → option_and_then (λ c. constraint_at c split.alternative place) (alternatives graph (first_events log split.seen) split.name) ≡ Some constraint → Meets numbers constraint
+        own place constraint pick =
+            let of_clause : constraint_at clause split.alternative place ≡ Some constraint = sym (ap (option_and_then (λ c. constraint_at c split.alternative place)) is) ∙ pick in
+            let in_alternative : item_at alternative place ≡ Some constraint =
+            sym (ap (λ (n : ℕ). constraint_at clause n place) number ∙ ap (option_and_then (λ a. item_at a place)) at) ∙ of_clause in
+            of_alternative place constraint in_alternative
 
-  -- the alternative of a clause that they meet
-  record MetAlternative (clause : List (List Constraint)) : Type 0 where
-    k : ℕ
-    alternative : List Constraint
-    within : k < length clause
-    at : slice_get clause k ≡ Some alternative
-    met : All (Meets numbers) alternative
+    -- the alternative of a clause that they meet
+    record MetAlternative (clause : List (List Constraint)) : Type 0 where
+      k : ℕ
+      alternative : List Constraint
+      within : k < length clause
+      at : slice_get clause k ≡ Some alternative
+      met : All (Meets numbers) alternative
 
-  met_alternative : (clause : List (List Constraint)) → MeetsClause numbers clause → MetAlternative clause
-  met_alternative clause meets =
-      let there = meets.1 in
-      record {
-        k = there.0;
-        alternative = meets.0;
-        within = there.1;
-        at = slice_get-get_or clause there.0 meets.0 there.1 ∙ ap (λ (a : List Constraint). Some a) there.2;
-        met = meets.2;
-      }
+    met_alternative : (clause : List (List Constraint)) → MeetsClause numbers clause → MetAlternative clause
+    met_alternative clause meets =
+        let there = meets.1 in
+        record {
+          k = there.0;
+          alternative = meets.0;
+          within = there.1;
+          at = slice_get-get_or clause there.0 meets.0 there.1 ∙ ap (λ (a : List Constraint). Some a) there.2;
+          met = meets.2;
+        }
 
-  record Allowed (seen : ℕ) (name : ClauseName) (count : ℕ) : Type 0 where
-    clause : List (List Constraint)
-    is : alternatives graph (first_events log seen) name ≡ Some clause
-    many : length clause ≡ count
+    record Allowed (seen : ℕ) (name : ClauseName) (count : ℕ) : Type 0 where
+      clause : List (List Constraint)
+      is : alternatives graph (first_events log seen) name ≡ Some clause
+      many : length clause ≡ count
 
-  allowed_of : (seen : ℕ) (name : ClauseName) (count : ℕ) → count_of graph (first_events log seen) name ≡ Some count → Allowed seen name count
-  allowed_of seen name count counted = by (alternatives graph (first_events log seen) name) refl counted
-    where
-      by : (found : Option (List (List Constraint))) → alternatives graph (first_events log seen) name ≡ found → option_map length found ≡ Some count → Allowed seen name count
-      by None is many = cc
-      by (Some clause) is many = let same : length clause ≡ count = cc in record { clause = clause; is = is; many = same }
+    allowed_of : (seen : ℕ) (name : ClauseName) (count : ℕ) → count_of graph (first_events log seen) name ≡ Some count → Allowed seen name count
+    allowed_of seen name count counted = by (alternatives graph (first_events log seen) name) refl counted
+      where
+        by : (found : Option (List (List Constraint))) → alternatives graph (first_events log seen) name ≡ found → option_map length found ≡ Some count → Allowed seen name count
+        by None is many = cc
+        by (Some clause) is many = let same : length clause ≡ count = cc in record { clause = clause; is = is; many = same }
 
-  mutual
-    no_tree : (path : List PathSplit) (tree : Tree) → All (IsRight graph log reach) (places path tree) → MeetsPath path → ⊥
-    no_tree path (Leaf seen reasons) right met =
-        no_leaf path seen reasons met (All-head (IsRight graph log reach) (record { path = path; step = record { seen = seen; step = Cycle reasons }; subtrees = 0 }) [] right)
-    no_tree path (Branch seen name subtrees) right met =
-        let first : StepPlace = record { path = path; step = record { seen = seen; step = Split name }; subtrees = how_many subtrees } in
-        let allowed = allowed_of seen name (how_many subtrees) (All-head (IsRight graph log reach) first (places_from path name seen 1 subtrees) right) in
-        let meets = met_alternative allowed.clause (clauses name allowed.clause (clause_stays graph (first_events log seen) log ordered (first_to_whole log seen) name allowed.clause allowed.is)) in
-        no_subtrees path name seen 1 subtrees meets.k (omega (arith, meets.within, allowed.many)) (All-tail (IsRight graph log reach) first (places_from path name seen 1 subtrees) right)
-        (meets_more path (record { name = name; seen = seen; alternative = 1 + meets.k }) allowed.clause meets.k meets.alternative met allowed.is (omega arith) meets.at meets.met)
+    mutual
+      no_tree : (path : List PathSplit) (tree : Tree) → All (IsRight graph log reach) (places path tree) → MeetsPath path → ⊥
+      no_tree path (Leaf seen reasons) right met =
+          no_leaf path seen reasons met (All-head (IsRight graph log reach) (record { path = path; step = record { seen = seen; step = Cycle reasons }; subtrees = 0 }) [] right)
+      no_tree path (Branch seen name subtrees) right met =
+          let first : StepPlace = record { path = path; step = record { seen = seen; step = Split name }; subtrees = how_many subtrees } in
+          let allowed = allowed_of seen name (how_many subtrees) (All-head (IsRight graph log reach) first (places_from path name seen 1 subtrees) right) in
+          let meets = met_alternative allowed.clause (clauses name allowed.clause (clause_stays graph (first_events log seen) log ordered (first_to_whole log seen) name allowed.clause allowed.is)) in
+          no_subtrees path name seen 1 subtrees meets.k (omega (arith, meets.within, allowed.many)) (All-tail (IsRight graph log reach) first (places_from path name seen 1 subtrees) right)
+          (meets_more path (record { name = name; seen = seen; alternative = 1 + meets.k }) allowed.clause meets.k meets.alternative met allowed.is (omega arith) meets.at meets.met)
 
-    no_subtrees : (path : List PathSplit) (name : ClauseName) (seen number : ℕ) (subtrees : Subtrees) (k : ℕ) → k < how_many subtrees → All (IsRight graph log reach) (places_from path name seen number subtrees)
-        → MeetsPath (path ++ record { name = name; seen = seen; alternative = number + k } ∷ []) → ⊥
-    no_subtrees path name seen number NoMore k within right met = omega arith
-    no_subtrees path name seen number (Next tree others) zero within right met =
-        let own : List PathSplit = path ++ record { name = name; seen = seen; alternative = number } ∷ [] in
-        let same : number + 0 ≡ number = omega arith in
-        no_tree own tree (All-front (IsRight graph log reach) (places own tree) (places_from path name seen (number + 1) others) right)
-        (subst (λ (n : ℕ). MeetsPath (path ++ record { name = name; seen = seen; alternative = n } ∷ [])) same met)
-    no_subtrees path name seen number (Next tree others) (suc k) within right met =
-        let own : List PathSplit = path ++ record { name = name; seen = seen; alternative = number } ∷ [] in
-        let same : number + suc k ≡ number + 1 + k = omega arith in
-        no_subtrees path name seen (number + 1) others k (omega arith) (All-back (IsRight graph log reach) (places own tree) (places_from path name seen (number + 1) others) right)
-        (subst (λ (n : ℕ). MeetsPath (path ++ record { name = name; seen = seen; alternative = n } ∷ [])) same met)
+      no_subtrees : (path : List PathSplit) (name : ClauseName) (seen number : ℕ) (subtrees : Subtrees) (k : ℕ) → k < how_many subtrees → All (IsRight graph log reach) (places_from path name seen number subtrees)
+          → MeetsPath (path ++ record { name = name; seen = seen; alternative = number + k } ∷ []) → ⊥
+      no_subtrees path name seen number NoMore k within right met = omega arith
+      no_subtrees path name seen number (Next tree others) zero within right met =
+          let own : List PathSplit = path ++ record { name = name; seen = seen; alternative = number } ∷ [] in
+          let same : number + 0 ≡ number = omega arith in
+          no_tree own tree (All-front (IsRight graph log reach) (places own tree) (places_from path name seen (number + 1) others) right)
+          (subst (λ (n : ℕ). MeetsPath (path ++ record { name = name; seen = seen; alternative = n } ∷ [])) same met)
+      no_subtrees path name seen number (Next tree others) (suc k) within right met =
+          let own : List PathSplit = path ++ record { name = name; seen = seen; alternative = number } ∷ [] in
+          let same : number + suc k ≡ number + 1 + k = omega arith in
+          no_subtrees path name seen (number + 1) others k (omega arith) (All-back (IsRight graph log reach) (places own tree) (places_from path name seen (number + 1) others) right)
+          (subst (λ (n : ℕ). MeetsPath (path ++ record { name = name; seen = seen; alternative = n } ∷ [])) same met)
 
-  pub no_refutation : (steps : List Judged) → IsRefutation graph log reach steps → ⊥
-  no_refutation steps refutation = no_tree [] refutation.tree refutation.right (λ split place constraint pick. none place constraint split pick)
-    where
-      none : (place : ℕ) (constraint : Constraint) (split : ℕ) → picked graph log [] split place ≡ Some constraint → Meets numbers constraint
-      none place constraint zero pick = cc
-      none place constraint (suc k) pick = cc
+    pub no_refutation : (steps : List Judged) → IsRefutation graph log reach steps → ⊥
+    no_refutation steps refutation = no_tree [] refutation.tree refutation.right (λ split place constraint pick. none place constraint split pick)
+      where
+        none : (place : ℕ) (constraint : Constraint) (split : ℕ) → picked graph log [] split place ≡ Some constraint → Meets numbers constraint
+        none place constraint zero pick = cc
+        none place constraint (suc k) pick = cc
 
 -- Where steps are a refutation at a log, no trace explains a log that goes on from it.
 pub no_trace : (graph : Tfpg) (earlier log : Logbook) (set reach : List ℕ) (steps : List Judged) → IsValid graph → IsOf graph log → IsOrdered log → IsReach graph set reach

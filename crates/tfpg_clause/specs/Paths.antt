@@ -1,9 +1,7 @@
 -- Paths to the present leaf of a partial tree: how steps move them, and how a program keeps them.
-use Rattle.std.specs.Prelude.{◌≡◌, ℕ, ◌+◌, pos, ◌<ℤ◌, List, [], ◌∷◌, ◌++◌, length, map, Bool, false, nat_lt, Option, Some, None, option_map, option_and_then}
+use Rattle.std.specs.Prelude.{◌≡◌, ℕ, ◌+◌, List, [], ◌∷◌, ◌++◌, length, Bool, false, nat_lt, Option, Some, None, option_map, option_and_then}
 use Rattle.std.specs.Option.{option_or}
 use Rattle.std.specs.Bool.{then_some}
-use Rattle.tfpg_base.specs.Choice.{each_of}
-use Rattle.tfpg_base.specs.ConstraintCycle.{IsCycle, sum_of}
 use Rattle.tfpg_base.specs.declared.constraint.Constraint.{Constraint}
 use Rattle.tfpg_graph.specs.Graph.{Tfpg}
 use Rattle.tfpg_log.specs.Log.{Logbook, first_events}
@@ -14,6 +12,7 @@ use Rattle.tfpg_evidence.specs.declared.step.Step.{Step}
 use Rattle.tfpg_clause.specs.Facts.{fact}
 use Rattle.tfpg_clause.specs.Clauses.{alternatives, count_of, item_at, constraint_at}
 use Rattle.tfpg_clause.specs.Trees.{Judged, PathSplit, IsRightStep, IsPresentLeaf}
+pub use Rattle.tfpg_clause.specs.Trees.{IsClosedBy}
 use Rattle.tfpg_clause.specs.declared.path.Frame.{Frame}
 
 -- the step, judged by the whole log
@@ -103,10 +102,3 @@ stated_by graph log reach frames (Unreached node horizon) = fact graph log reach
 stated_by graph log reach frames (From event) = fact graph log reach (From event)
 stated_by graph log reach frames (Upto event) = fact graph log reach (Upto event)
 stated_by graph log reach frames (Quiet event node) = fact graph log reach (Quiet event node)
-
--- The reasons close a leaf where they state these constraints.
-pub record IsClosedBy (stated : Reason → Option Constraint) (reasons : List Reason) : Type 0 where
-  pub constraints : List Constraint
-  pub hold : each_of (map stated reasons) ≡ Some constraints
-  pub cycle : IsCycle constraints
-  pub negative : sum_of constraints <ℤ pos 0

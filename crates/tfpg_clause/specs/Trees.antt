@@ -91,12 +91,16 @@ stated graph log reach path seen (From event) = fact graph (first_events log see
 stated graph log reach path seen (Upto event) = fact graph (first_events log seen) reach (Upto event)
 stated graph log reach path seen (Quiet event node) = fact graph (first_events log seen) reach (Quiet event node)
 
--- A leaf is closed: its reasons hold there, they chain into a cycle, and the sum of their bounds is negative.
-pub record IsClosedLeaf (graph : Tfpg) (log : Logbook) (reach : List ℕ) (path : List PathSplit) (seen : ℕ) (reasons : List Reason) : Type 0 where
+-- The reasons close a leaf: where each states its constraint, these chain into a cycle, and the sum of their bounds is negative.
+pub record IsClosedBy (stated : Reason → Option Constraint) (reasons : List Reason) : Type 0 where
   pub constraints : List Constraint
-  pub hold : each_of (map (stated graph log reach path seen) reasons) ≡ Some constraints
+  pub hold : each_of (map stated reasons) ≡ Some constraints
   pub cycle : IsCycle constraints
   pub negative : sum_of constraints <ℤ pos 0
+
+-- The leaf of this path is closed by the reasons, judged by the log of so many events.
+abbrev pub IsClosedLeaf : Tfpg → Logbook → List ℕ → List PathSplit → ℕ → List Reason → Type 0
+IsClosedLeaf graph log reach path seen reasons = IsClosedBy (stated graph log reach path seen) reasons
 
 -- The step is right in a place: a split has an allowed name, and one subtree for each alternative; a cycle closes its leaf.
 abbrev pub IsRightStep : Tfpg → Logbook → List ℕ → List PathSplit → ℕ → ℕ → Step → Type 0

@@ -61,7 +61,8 @@ pub fn constraint(
     place: u32,
 ) -> Result<Option<Constraint>, NotAClause>
     ensures { result_ok result
-        ≡ option_map (λ clause. constraint_at clause alternative place) (alternatives graph.now log.now name) }
+        ≡ option_map (λ clause. constraint_at clause alternative place)
+        (alternatives graph.now log.now name) }
 {
     match alternative_of(graph, log, name, alternative)? {
         Some(found) => Ok(constraint_in(found, place)),
@@ -269,7 +270,8 @@ fn must_alternative_in(
     requires small { IsSmallWindow window }
     ensures { option_map (option_map constraints_in) (result_ok result)
         ≡ option_map (λ clause. item_at clause alternative)
-        (option_and_then (λ dues. must_in node number window dues) (dues_over graph.now log.now number horizon edges.now)) }
+        (option_and_then (λ dues. must_in node number window dues)
+        (dues_over graph.now log.now number horizon edges.now)) }
 {
     if window.first != number {
         return Err(NotAClause);

@@ -85,7 +85,8 @@ fn unreached(
     horizon: u64,
 ) -> Option<Constraint>
     ensures { result ≡ then_some
-        (nat_lt node (length graph.now.nodes) && (nat_le horizon (now_of log.now) && not (is_among reach.now node)))
+        (nat_lt node (length graph.now.nodes)
+        && (nat_le horizon (now_of log.now) && not (is_among reach.now node)))
         (at_least node (horizon + 1)) }
 {
     if node < graph.node_count() && horizon <= now(log) && !is_among(reach, node) {

@@ -25,7 +25,8 @@ use tfpg_log::Log;
 /// edge's own window round the joint one.
 pub fn violated(graph: &Graph, log: &Log, times: &[u64]) -> Option<ClauseName>
     requires { AreNumbers graph.now times.now }
-    ensures first { MatchOption result (MeetAllNow graph.now log.now times.now) (IsFirstViolated graph.now log.now times.now) }
+    ensures first { MatchOption result (MeetAllNow graph.now log.now times.now)
+        (IsFirstViolated graph.now log.now times.now) }
     ensures rules { (result ≡ None) ↔ KeepsRules graph.now log.now (cut (now_of log.now) times.now) }
 {
     let _valid = graph.node_count();
@@ -35,7 +36,8 @@ pub fn violated(graph: &Graph, log: &Log, times: &[u64]) -> Option<ClauseName>
 /// The first clause with the horizon now that these times violate.
 fn first_violated(graph: &Graph, log: &Log, times: &[u64]) -> Option<ClauseName>
     requires { AreNumbers graph.now times.now }
-    ensures { MatchOption result (MeetAllNow graph.now log.now times.now) (IsFirstViolated graph.now log.now times.now) }
+    ensures { MatchOption result (MeetAllNow graph.now log.now times.now)
+        (IsFirstViolated graph.now log.now times.now) }
 {
     for kind in KINDS {
         if let Some(name) = first_of_kind(graph, log, times, kind) {
@@ -48,7 +50,8 @@ fn first_violated(graph: &Graph, log: &Log, times: &[u64]) -> Option<ClauseName>
 /// The first clause of the kind with the horizon now that these times violate.
 fn first_of_kind(graph: &Graph, log: &Log, times: &[u64], kind: ClauseKind) -> Option<ClauseName>
     requires { AreNumbers graph.now times.now }
-    ensures { MatchOption result (MeetsKind graph.now log.now times.now kind) (IsFirstOfKind graph.now log.now times.now kind) }
+    ensures { MatchOption result (MeetsKind graph.now log.now times.now kind)
+        (IsFirstOfKind graph.now log.now times.now kind) }
 {
     let count = kind.subject_count(graph);
     for subject in 0..count {

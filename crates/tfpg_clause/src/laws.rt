@@ -1,6 +1,6 @@
 //! What facts, clauses and refutations come to, as functions that do nothing: each says its law in its clauses.
 
-ghost use Rattle.std.specs.Prelude.{◌≡◌, ℕ, pos, ◌≤ℤ◌, ◌↔◌, List, All, IsTrue, Some};
+ghost use Rattle.std.specs.Prelude.{◌≡◌, ℕ, pos, ◌≤ℤ◌, ◌↔◌, ◌⊎◌, List, All, IsTrue, Some};
 ghost use Rattle.tfpg_base.specs.declared.activation.Activation.{Activation};
 ghost use Rattle.tfpg_base.specs.declared.constraint.Constraint.{Constraint};
 ghost use Rattle.tfpg_graph.specs.Graph.{Tfpg, is_kind_at, is_failure};
@@ -14,9 +14,9 @@ ghost use Rattle.tfpg_evidence.specs.declared.reason.Reason.{Reason};
 ghost use Rattle.tfpg_base.specs.Constraint.{Meets};
 ghost use Rattle.tfpg_clause.specs.Facts.{fact};
 ghost use Rattle.tfpg_clause.specs.Clauses.{alternatives, MeetsClause};
-ghost use Rattle.tfpg_clause.specs.Order.{horizon_of};
+ghost use Rattle.tfpg_clause.specs.Order.{horizon_of, ComesBefore};
 ghost use Rattle.tfpg_clause.specs.Cut.{cut, AreNumbers, AreNumbersOf};
-ghost use Rattle.tfpg_clause.specs.Trees.{Judged, PathSplit, IsRefutation, IsPartial, IsPresentLeaf};
+ghost use Rattle.tfpg_clause.specs.Trees.{Judged, PathSplit, picked, IsClosedLeaf, IsRefutation, IsPartial, IsPresentLeaf};
 ghost use Rattle.tfpg_base.specs.ConstraintCycle.{IsCycle, sum_of};
 
 mod tree_laws;
@@ -29,12 +29,23 @@ pub use tree_laws::{
 /// What is allowed at a log stays allowed at each log that goes on from it, with the same constraints: `clause` says it of
 /// clauses, and `fact` of facts.
 pub fn what_is_allowed_stays_allowed()
-    ensures clause { (graph : Tfpg) (earlier later : Logbook) (name : ClauseName) (clause : List (List Constraint)) →
-        IsOrdered later → GoesOn earlier later →
+    ensures clause { (graph : Tfpg) (earlier later : Logbook)
+        (name : ClauseName) (clause : List (List Constraint)) → IsOrdered later → GoesOn earlier later →
         alternatives graph earlier name ≡ Some clause → alternatives graph later name ≡ Some clause }
-    ensures fact { (graph : Tfpg) (earlier later : Logbook) (reach : List ℕ) (reason : Reason) (stated : Constraint) →
-        IsOrdered later → GoesOn earlier later →
+    ensures fact { (graph : Tfpg) (earlier later : Logbook) (reach : List ℕ)
+        (reason : Reason) (stated : Constraint) → IsOrdered later → GoesOn earlier later →
         fact graph earlier reach reason ≡ Some stated → fact graph later reach reason ≡ Some stated }
+{}
+
+/// The clauses of one horizon are in a strict and total order: `not_itself` says that none comes before itself, `through` that
+/// what comes before a clause comes before all that come after it, and `one_first` that of two different ones one comes
+/// before the other.
+pub fn clauses_of_one_horizon_have_an_order()
+    ensures not_itself { (name : ClauseName) → ComesBefore name name → ⊥ }
+    ensures through { (one middle other : ClauseName) →
+        ComesBefore one middle → ComesBefore middle other → ComesBefore one other }
+    ensures one_first { (one other : ClauseName) → horizon_of one ≡ horizon_of other →
+        (one ≡ other) ⊎ (ComesBefore one other ⊎ ComesBefore other one) }
 {}
 
 /// Where times meet constraints that chain into a cycle, the sum of their bounds is at least 0.
@@ -49,11 +60,14 @@ pub fn a_cycle_that_is_met_is_not_negative()
 /// - `facts`: they meet each fact of the log and of the reach of the set.
 /// - `clauses`: they meet each allowed clause, at every horizon up to now.
 pub fn traces_meet_facts_and_clauses()
-    ensures facts { (graph : Tfpg) (log : Logbook) (set reach : List ℕ) (trace : List Activation) (numbers : List ℕ) →
+    ensures facts { (graph : Tfpg) (log : Logbook) (set reach : List ℕ)
+        (trace : List Activation) (numbers : List ℕ) →
         IsValid graph → IsOf graph log → IsOrdered log → IsReach graph set reach →
         Explains graph log set trace → AreNumbersOf graph (now_of log) trace numbers →
-        (reason : Reason) (stated : Constraint) → fact graph log reach reason ≡ Some stated → Meets numbers stated }
-    ensures clauses { (graph : Tfpg) (log : Logbook) (set : List ℕ) (trace : List Activation) (numbers : List ℕ) →
+        (reason : Reason) (stated : Constraint) →
+        fact graph log reach reason ≡ Some stated → Meets numbers stated }
+    ensures clauses { (graph : Tfpg) (log : Logbook) (set : List ℕ)
+        (trace : List Activation) (numbers : List ℕ) →
         IsValid graph → Explains graph log set trace → AreNumbersOf graph (now_of log) trace numbers →
         (name : ClauseName) (clause : List (List Constraint)) →
         alternatives graph log name ≡ Some clause → MeetsClause numbers clause }
@@ -67,22 +81,27 @@ pub fn traces_meet_facts_and_clauses()
 /// - `from_set`: where they meet each fact, the failure modes that it activates are members of the set.
 /// - `explains`: where they meet all of these, it explains the log from the set.
 pub fn numbers_that_meet_all_give_a_trace()
-    ensures rules { (graph : Tfpg) (log : Logbook) (numbers : List ℕ) → IsValid graph → AreNumbers graph numbers →
+    ensures rules { (graph : Tfpg) (log : Logbook) (numbers : List ℕ) →
+        IsValid graph → AreNumbers graph numbers →
         KeepsRules graph log (cut (now_of log) numbers)
         ↔ ((name : ClauseName) (clause : List (List Constraint)) → horizon_of name ≡ now_of log →
         alternatives graph log name ≡ Some clause → MeetsClause numbers clause) }
     ensures shown { (graph : Tfpg) (log : Logbook) (set reach : List ℕ) (numbers : List ℕ) →
         IsOf graph log → IsOrdered log → IsReach graph set reach → AreNumbers graph numbers →
-        ((reason : Reason) (stated : Constraint) → fact graph log reach reason ≡ Some stated → Meets numbers stated) →
+        ((reason : Reason) (stated : Constraint) →
+        fact graph log reach reason ≡ Some stated → Meets numbers stated) →
         ShowsAll graph (cut (now_of log) numbers) log.events }
     ensures from_set { (graph : Tfpg) (log : Logbook) (set reach : List ℕ) (numbers : List ℕ) →
         IsOf graph log → IsOrdered log → IsReach graph set reach → AreNumbers graph numbers →
-        ((reason : Reason) (stated : Constraint) → fact graph log reach reason ≡ Some stated → Meets numbers stated) →
-        All (λ activation. IsTrue (is_kind_at is_failure graph activation.node) → IsMember graph set activation.node)
+        ((reason : Reason) (stated : Constraint) →
+        fact graph log reach reason ≡ Some stated → Meets numbers stated) →
+        All (λ activation. IsTrue (is_kind_at is_failure graph activation.node) →
+        IsMember graph set activation.node)
         (cut (now_of log) numbers) }
     ensures explains { (graph : Tfpg) (log : Logbook) (set reach : List ℕ) (numbers : List ℕ) →
         IsValid graph → IsOf graph log → IsOrdered log → IsReach graph set reach → AreNumbers graph numbers →
-        ((reason : Reason) (stated : Constraint) → fact graph log reach reason ≡ Some stated → Meets numbers stated) →
+        ((reason : Reason) (stated : Constraint) →
+        fact graph log reach reason ≡ Some stated → Meets numbers stated) →
         ((name : ClauseName) (clause : List (List Constraint)) → horizon_of name ≡ now_of log →
         alternatives graph log name ≡ Some clause → MeetsClause numbers clause) →
         Explains graph log set (cut (now_of log) numbers) }
@@ -93,8 +112,20 @@ pub fn numbers_that_meet_all_give_a_trace()
 pub fn a_partial_tree_has_one_present_leaf()
     ensures there { (graph : Tfpg) (log : Logbook) (reach : List ℕ) (steps : List Judged) →
         IsPartial graph log reach steps → (path : List PathSplit) × IsPresentLeaf graph log reach steps path }
-    ensures only_one { (graph : Tfpg) (log : Logbook) (reach : List ℕ) (steps : List Judged) (one other : List PathSplit) →
+    ensures only_one { (graph : Tfpg) (log : Logbook) (reach : List ℕ)
+        (steps : List Judged) (one other : List PathSplit) →
         IsPresentLeaf graph log reach steps one → IsPresentLeaf graph log reach steps other → one ≡ other }
+{}
+
+/// A closed leaf is sound: no numbers meet all facts of the log and the constraints that are picked on the path of the leaf.
+pub fn a_closed_leaf_leaves_no_numbers()
+    ensures { (graph : Tfpg) (log : Logbook) (reach : List ℕ)
+        (path : List PathSplit) (seen : ℕ) (reasons : List Reason) (numbers : List ℕ) →
+        IsOrdered log → IsClosedLeaf graph log reach path seen reasons →
+        ((reason : Reason) (stated : Constraint) →
+        fact graph log reach reason ≡ Some stated → Meets numbers stated) →
+        ((split place : ℕ) (stated : Constraint) →
+        picked graph log path split place ≡ Some stated → Meets numbers stated) → ⊥ }
 {}
 
 /// A refutation is sound and final: where steps are one at a log, for the reach of a set, no trace explains that log from the

@@ -27,7 +27,8 @@ pub(crate) fn may_alternative(
     requires edges { All (λ edge. edge < length graph.now.edges) edges.now }
     requires small { IsSmallSpan span }
     ensures { option_map constraints_in result
-        ≡ item_at (outside_span node span ++ arrivals_over graph.now log.now number horizon span edges.now) alternative }
+        ≡ item_at
+        (outside_span node span ++ arrivals_over graph.now log.now number horizon span edges.now) alternative }
 {
     match alternative {
         0 => None,

@@ -3,14 +3,15 @@
 //! A clause that a node becomes active only where the failure arrives is met by its first two alternatives in each span but
 //! the one that holds the node's time. So that span alone is looked at.
 
-ghost use Rattle.std.specs.Prelude.{◌≡◌, ◌<◌, ◌≤◌, ◌↔◌, length, All, IsTrue, IsSomeAnd, option_and_then, slice_get};
+ghost use Rattle.std.specs.Prelude.{◌≡◌, ◌<◌, ◌≤◌, ◌↔◌, length, All, IsTrue, IsSomeAnd};
 ghost use Rattle.tfpg_base.specs.Times.{never};
 ghost use Rattle.tfpg_base.specs.Constraint.{Meets};
 ghost use Rattle.tfpg_log.specs.Log.{now_of};
-ghost use Rattle.tfpg_clause.specs.Clauses.{or_may, and_may, MeetsClause};
+ghost use Rattle.tfpg_clause.specs.declared.clause_kind.ClauseKind.TheVariants.{OrMay, AndMay};
+ghost use Rattle.tfpg_clause.specs.Clauses.{MeetsClause};
 ghost use Rattle.tfpg_clause.specs.Cut.{AreNumbers};
 ghost use Rattle.tfpg_clause.specs.inside.Alternatives.{arrival_over, arrivals_over};
-ghost use Rattle.tfpg_clause.specs.inside.FirstSpan.{FindsFirst, may_over};
+ghost use Rattle.tfpg_clause.specs.inside.FirstSpan.{FindsFirst, clauses_of, may_over};
 ghost use Rattle.tfpg_clause.specs.inside.Ranges.{IsSmallSpan};
 
 use crate::clauses::{edges_into, is_and, is_or, target_of};
@@ -23,7 +24,7 @@ use tfpg_log::{Log, Span};
 /// The first span in which the times violate the clause that an OR node becomes active only where the failure arrives.
 pub(crate) fn or_may_violated(graph: &Graph, log: &Log, times: &[u64], node: u32) -> Option<u32>
     requires { AreNumbers graph.now times.now }
-    ensures { FindsFirst times.now (λ number. or_may graph.now log.now node number (now_of log.now)) result }
+    ensures { FindsFirst times.now (clauses_of graph.now log.now OrMay node) result }
 {
     if !is_or(graph, node) {
         return None;
@@ -35,8 +36,7 @@ pub(crate) fn or_may_violated(graph: &Graph, log: &Log, times: &[u64], node: u32
 /// the edge.
 pub(crate) fn and_may_violated(graph: &Graph, log: &Log, times: &[u64], edge: u32) -> Option<u32>
     requires { AreNumbers graph.now times.now }
-    ensures { FindsFirst times.now
-        (λ number. option_and_then (λ e. and_may graph.now log.now e number (now_of log.now)) (slice_get graph.now.edges edge)) result }
+    ensures { FindsFirst times.now (clauses_of graph.now log.now AndMay edge) result }
 {
     let target = target_of(graph, edge)?;
     if !is_and(graph, target) {
@@ -75,7 +75,8 @@ fn has_arrived(
     requires edges { All (λ edge. edge < length graph.now.edges) edges.now }
     requires in_range { All (λ time. time ≤ never) times.now }
     requires small { IsSmallSpan span }
-    ensures { IsTrue result ↔ MeetsClause times.now (arrivals_over graph.now log.now number horizon span edges.now) }
+    ensures { IsTrue result
+        ↔ MeetsClause times.now (arrivals_over graph.now log.now number horizon span edges.now) }
 {
     for edge in edges {
         if arrives(graph, log, times, *edge, number, horizon, span) {
@@ -98,7 +99,8 @@ fn arrives(
     requires edge { edge < length graph.now.edges }
     requires in_range { All (λ time. time ≤ never) times.now }
     requires small { IsSmallSpan span }
-    ensures { IsTrue result ↔ IsSomeAnd (arrival_over graph.now log.now number horizon span edge) (All (Meets times.now)) }
+    ensures { IsTrue result
+        ↔ IsSomeAnd (arrival_over graph.now log.now number horizon span edge) (All (Meets times.now)) }
 {
     match arrival(graph, log, edge, number, horizon, span) {
         Some(alternative) => meets(times, alternative),

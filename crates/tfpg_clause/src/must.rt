@@ -28,7 +28,8 @@ pub(crate) fn must_count(
     requires edges { All (λ edge. edge < length graph.now.edges) edges.now }
     requires few { length edges.now ≤ 32 }
     ensures { (target : ℕ) → result ≡ option_map length
-        (option_and_then (λ dues. must_in target number window dues) (dues_over graph.now log.now number horizon edges.now)) }
+        (option_and_then (λ dues. must_in target number window dues)
+        (dues_over graph.now log.now number horizon edges.now)) }
 {
     if window.first != number {
         return None;
@@ -149,7 +150,8 @@ pub(crate) fn find_window(
     horizon: u64,
 ) -> Option<Window>
     requires { edge < length graph.now.edges }
-    ensures value { result ≡ option_and_then (λ e. window_of log.now e number horizon) (slice_get graph.now.edges edge) }
+    ensures value { result
+        ≡ option_and_then (λ e. window_of log.now e number horizon) (slice_get graph.now.edges edge) }
     ensures small { IfSome result IsSmallWindow }
 {
     let _ordered = log.len();

@@ -2,15 +2,13 @@
 //!
 //! Only the first span of a window has a must clause. So once a window was looked at, the spans after it come next.
 
-ghost use Rattle.std.specs.Prelude.{◌≡◌, ◌<◌, ◌≤◌, ◌↔◌, ◌⊎◌, ℕ, List, length, All, Contains, IsTrue, IsSomeAnd, Some, option_and_then, slice_get};
+ghost use Rattle.std.specs.Prelude.{◌≡◌, ◌<◌, ◌≤◌, ◌↔◌, ℕ, length, All, Contains, IsTrue, IsSomeAnd, slice_get};
 ghost use Rattle.tfpg_base.specs.Times.{max_time, never};
-ghost use Rattle.tfpg_base.specs.Constraint.{Meets};
 ghost use Rattle.tfpg_graph.specs.Graph.{is_kind_at, is_or, is_and};
-ghost use Rattle.tfpg_log.specs.Log.{now_of};
-ghost use Rattle.tfpg_clause.specs.Clauses.{or_must, and_must};
+ghost use Rattle.tfpg_clause.specs.declared.clause_kind.ClauseKind.TheVariants.{OrMust, AndMust};
 ghost use Rattle.tfpg_clause.specs.Cut.{AreNumbers};
 ghost use Rattle.tfpg_clause.specs.inside.Alternatives.{due_by_number};
-ghost use Rattle.tfpg_clause.specs.inside.FirstSpan.{FindsFirst, MeetsUpTo, MeetsIfAny, must_over, IsExcused};
+ghost use Rattle.tfpg_clause.specs.inside.FirstSpan.{FindsFirst, clauses_of, MeetsUpTo, MeetsIfAny, must_over, IsExcused};
 ghost use Rattle.tfpg_clause.specs.inside.Ranges.{IsSmallWindow};
 
 use crate::clauses::{edges_into, is_and, is_or, target_of};
@@ -23,8 +21,7 @@ use tfpg_log::{Log, Window};
 /// The first span in which the times violate the clause that an OR node is active once the failure is due by the edge.
 pub(crate) fn or_must_violated(graph: &Graph, log: &Log, times: &[u64], edge: u32) -> Option<u32>
     requires { AreNumbers graph.now times.now }
-    ensures { FindsFirst times.now
-        (λ number. option_and_then (λ e. or_must graph.now log.now e number (now_of log.now)) (slice_get graph.now.edges edge)) result }
+    ensures { FindsFirst times.now (clauses_of graph.now log.now OrMust edge) result }
 {
     let target = target_of(graph, edge)?;
     if !is_or(graph, target) {
@@ -44,7 +41,7 @@ pub(crate) fn or_must_violated(graph: &Graph, log: &Log, times: &[u64], edge: u3
 /// The first span in which the times violate the clause that an AND node is active once the failure is due by all edges.
 pub(crate) fn and_must_violated(graph: &Graph, log: &Log, times: &[u64], node: u32) -> Option<u32>
     requires { AreNumbers graph.now times.now }
-    ensures { FindsFirst times.now (λ number. and_must graph.now log.now node number (now_of log.now)) result }
+    ensures { FindsFirst times.now (clauses_of graph.now log.now AndMust node) result }
 {
     if !is_and(graph, node) {
         return None;
@@ -74,9 +71,7 @@ fn or_must_met_up_to(
     requires target { IsSomeAnd (slice_get graph.now.edges edge) (λ e. e.target ≡ target) }
     requires or_node { IsTrue (is_kind_at is_or graph.now target) }
     requires numbers { AreNumbers graph.now times.now }
-    ensures { MeetsUpTo times.now
-        (λ span. option_and_then (λ e. or_must graph.now log.now e span (now_of log.now)) (slice_get graph.now.edges edge))
-        number result }
+    ensures { MeetsUpTo times.now (clauses_of graph.now log.now OrMust edge) number result }
 {
     let horizon = now(log);
     match find_window(graph, log, edge, number, horizon) {
@@ -103,7 +98,7 @@ fn and_must_met_up_to(
     requires node { node < length graph.now.nodes }
     requires and_node { IsTrue (is_kind_at is_and graph.now node) }
     requires numbers { AreNumbers graph.now times.now }
-    ensures { MeetsUpTo times.now (λ span. and_must graph.now log.now node span (now_of log.now)) number result }
+    ensures { MeetsUpTo times.now (clauses_of graph.now log.now AndMust node) number result }
 {
     let horizon = now(log);
     match find_joint(graph, log, node, number, horizon) {
@@ -143,7 +138,8 @@ fn is_must_met(
     requires edges { All (λ edge. edge < length graph.now.edges) edges.now }
     requires in_range { All (λ time. time ≤ never) times.now }
     requires small { IsSmallWindow window }
-    ensures { IsTrue result ↔ MeetsIfAny times.now (must_over graph.now log.now node edges.now window horizon number) }
+    ensures { IsTrue result
+        ↔ MeetsIfAny times.now (must_over graph.now log.now node edges.now window horizon number) }
 {
     if window.first != number {
         return true;
@@ -171,8 +167,9 @@ fn is_excused(
     requires edges { All (λ edge. edge < length graph.now.edges) edges.now }
     requires in_range { All (λ time. time ≤ never) times.now }
     requires hi { hi ≤ max_time }
-    ensures { IsTrue result ↔
-        ((edge : ℕ) × Contains edges.now edge × IsSomeAnd (due_by_number graph.now log.now number horizon edge) (IsExcused times.now hi)) }
+    ensures { IsTrue result
+        ↔ ((edge : ℕ) × Contains edges.now edge
+        × IsSomeAnd (due_by_number graph.now log.now number horizon edge) (IsExcused times.now hi)) }
 {
     for edge in edges {
         if is_excused_by(graph, log, times, *edge, hi, number, horizon) {
@@ -196,7 +193,8 @@ fn is_excused_by(
     requires edge { edge < length graph.now.edges }
     requires in_range { All (λ time. time ≤ never) times.now }
     requires hi { hi ≤ max_time }
-    ensures { IsTrue result ↔ IsSomeAnd (due_by_number graph.now log.now number horizon edge) (IsExcused times.now hi) }
+    ensures { IsTrue result
+        ↔ IsSomeAnd (due_by_number graph.now log.now number horizon edge) (IsExcused times.now hi) }
 {
     match due_over(graph, log, edge, number, horizon) {
         Some(due) => meets(times, starts_late(hi, due)) || meets(times, follows_in_time(due)),

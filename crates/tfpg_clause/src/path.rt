@@ -25,7 +25,8 @@ pub struct Frame {
 /// Moves the path to the next alternative of the deepest split that has one left, and returns whether there is one. Where
 /// none has, the tree is finished. Takes no memory, and goes through the splits that it drops.
 pub fn advance(path: &mut Vec<Frame>) -> bool
-    ensures moved { MatchBool result (path_after path.old.items ≡ Some path.new.items) (path_after path.old.items ≡ None) }
+    ensures moved { MatchBool result
+        (path_after path.old.items ≡ Some path.new.items) (path_after path.old.items ≡ None) }
     ensures shorter { vec_len path.new ≤ vec_len path.old }
     ensures capacity { vec_capacity path.new ≡ vec_capacity path.old }
 {

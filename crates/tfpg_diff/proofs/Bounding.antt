@@ -16,7 +16,7 @@ use Rattle.tfpg_diff.specs.Demands.{Demands, Demanded, Bounded, floor_of, ceilin
 use Rattle.tfpg_diff.specs.Solution.{IsBetween, IsSolution}
 use Rattle.tfpg_diff.specs.Cycle.{NamesNegativeCycle}
 use Rattle.tfpg_diff.specs.inside.Kept.{IsMetBy, IsRooted, Walked, IsLink, IsKept, IsStart, demands_of}
-use Rattle.tfpg_diff.proofs.Lists.{AllPairs-cons}
+use Rattle.tfpg_base.proofs.lists.Elements.{AllPairs-cons}
 use Rattle.tfpg_diff.proofs.Totals.{NamesNegativeCycle-chain}
 use Rattle.tfpg_diff.proofs.Solutions.{IsMetBy-solution, Meets-IsMetBy}
 use Rattle.tfpg_diff.proofs.Lowering.{cycle_from_links}

@@ -13,7 +13,8 @@ use Rattle.tfpg_diff.specs.Demands.{Demands, Demanded, Bounded, picked}
 use Rattle.tfpg_diff.specs.Solution.{IsBetween, IsSolution}
 use Rattle.tfpg_base.specs.Times.{never}
 use Rattle.tfpg_diff.specs.inside.Kept.{IsLink, IsKept, IsSound, demands_of}
-use Rattle.tfpg_diff.proofs.Lists.{All-front, slice_get-set_other, slice_get-set_same}
+use Rattle.tfpg_base.proofs.lists.Elements.{All-front}
+use Rattle.tfpg_base.proofs.lists.Written.{slice_get-set_other, slice_get-set_same}
 
 -- What is kept stays kept under other demands of as many variables: their solutions are solutions, they have the links, and
 -- the values are within their bounds.

@@ -5,7 +5,9 @@ use Rattle.std.proofs.lemmas.Option.{same_Some, slice_get_within}
 use Rattle.std.proofs.lemmas.List.Elements.{All-nil, All-cons, All-tail, All-map, All-weaker}
 use Rattle.std.proofs.lemmas.List.{length-map, length-set}
 use Rattle.std.proofs.lemmas.Bool.{cases_eq}
-use Rattle.tfpg_diff.proofs.Lists.{slice_get-set_other, slice_get-set_same, AllPairs-map, length-le_distinct}
+use Rattle.tfpg_base.proofs.lists.Written.{slice_get-set_other, slice_get-set_same}
+use Rattle.tfpg_base.proofs.lists.Images.{AllPairs-map}
+use Rattle.tfpg_base.proofs.lists.Distinct.{length-le_distinct}
 use Rattle.tfpg_diff.specs.declared.demand.Demand.{Demand}
 use Rattle.tfpg_diff.specs.inside.Kept.{Climbs, IsRooted, IsLabelled}
 

@@ -31,12 +31,12 @@ length-unbounded_from first zero = refl
 length-unbounded_from first (suc count) = ap suc (length-unbounded_from (first + 1) count)
 
 -- each has the widest bounds
-pub widest_from : (first count v : ℕ) (b : Bounds) → slice_get (unbounded_from first count) v ≡ Some b → (b.floor ≡ 0) × (b.ceiling ≡ never)
+pub widest_from : (first count v : ℕ) (b : Bounds) → slice_get (unbounded_from first count) v ≡ Some b → (b ≡ widest (first + v)) × (v < count)
 widest_from first zero v b at = absurd (none-some b at)
-widest_from first (suc count) zero b at =
-    let same : widest first ≡ b = same_Some (widest first) b at in
-    (sym (ap (λ (c : Bounds). c.floor) same), sym (ap (λ (c : Bounds). c.ceiling) same))
-widest_from first (suc count) (suc v) b at = widest_from (first + 1) count v b at
+widest_from first (suc count) zero b at = (sym (same_Some (widest first) b at) ∙ ap widest (omega arith), omega arith)
+widest_from first (suc count) (suc v) b at =
+    let after = widest_from (first + 1) count v b at in
+    (after.0 ∙ ap widest (omega arith), omega (arith, after.1))
 
 -- a new system is ready
 pub IsReady-new : (bounds now : List Bounds) (picks : List Pick) (count : ℕ) (values : List ℕ) (links : List Demand) (backup_values : List ℕ) (backup_links : List Demand)
@@ -46,7 +46,8 @@ pub IsReady-new : (bounds now : List Bounds) (picks : List Pick) (count : ℕ) (
 IsReady-new bounds now picks count values links backup_values backup_links capacity same is none few start bv bl room =
     let len : length bounds ≡ count = ap length is ∙ length-unbounded_from 0 count in
     let widths : (v : ℕ) (b : Bounds) → slice_get bounds v ≡ Some b → (b.floor ≡ 0) × (b.ceiling ≡ never) =
-    λ v b at. widest_from 0 count v b (sym (ap (λ (bs : List Bounds). slice_get bs v) is) ∙ at) in
+    λ v b at. (let same = (widest_from 0 count v b (sym (ap (λ (bs : List Bounds). slice_get bs v) is) ∙ at)).0 in
+    (ap (λ (c : Bounds). c.floor) same, ap (λ (c : Bounds). c.ceiling) same)) in
     let begun : IsStart bounds values links (length bounds) = subst (λ (bs : List Bounds). IsStart bs values links (length bs)) same start in
     subst (λ (ps : List Pick). IsReady bounds ps values links backup_values backup_links capacity) (sym none)
     (record {

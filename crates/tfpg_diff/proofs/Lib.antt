@@ -1,4 +1,3 @@
-pub mod Lists
 pub mod Solutions
 pub mod Climb
 pub mod Totals

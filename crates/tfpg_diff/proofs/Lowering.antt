@@ -16,7 +16,8 @@ use Rattle.tfpg_diff.specs.Cycle.{NamesNegativeCycle}
 use Rattle.tfpg_diff.specs.Solution.{IsBetween}
 use Rattle.tfpg_diff.specs.inside.Kept.{IsMetBy, Climbs, IsLabelled, IsWalk, Walked, IsLink, IsKept}
 use Rattle.tfpg_diff.proofs.Solutions.{IsMetBy-solution}
-use Rattle.tfpg_diff.proofs.Lists.{AllPairs-cons, AllPairs-front, slice_get-set_other, slice_get-set_same}
+use Rattle.tfpg_base.proofs.lists.Elements.{AllPairs-cons, AllPairs-front}
+use Rattle.tfpg_base.proofs.lists.Written.{slice_get-set_other, slice_get-set_same}
 use Rattle.tfpg_diff.proofs.Climb.{Climbs-append, Climbs-simple, Climbs-at, IsOwnLink, IsRooted-set}
 use Rattle.tfpg_diff.proofs.Totals.{NamesNegativeCycle-chain, total_of-append, total_of-Climbs, IsTight, Chains-Climbs, Chains-append}
 

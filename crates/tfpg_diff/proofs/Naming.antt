@@ -1,20 +1,22 @@
 -- What tags name: after a change of the demands, and of a negative cycle.
-use Rattle.std.proofs.Common.{◌≡◌, ℕ, zero, suc, ◌+◌, Bool, true, false, cond, ltb, List, [], ◌∷◌, map, Option, Some, refl, sym, ◌∙◌, ap, subst, inl, inr, ⊎_elim}
+use Rattle.std.proofs.Common.{◌≡◌, ℕ, zero, suc, ◌+◌, ◌<◌, Bool, true, false, cond, ltb, List, [], ◌∷◌, map, Option, Some, refl, sym, ◌∙◌, ap, subst, inl, inr, ⊎_elim, arith}
 use Rattle.std.specs.Prelude.{slice_get, pos, neg_ℤ, All, Contains, option_map}
 use Rattle.std.proofs.lemmas.Option.{same_Some, none-some}
 use Rattle.std.proofs.lemmas.List.Elements.{All-head, All-tail, Contains-push_cases}
 use Rattle.tfpg_base.specs.declared.constraint.Constraint.{Constraint}
 use Rattle.tfpg_base.specs.Choice.{each_of}
+use Rattle.tfpg_base.proofs.lists.Elements.{Contains-nil, Contains-take}
 use Rattle.tfpg_diff.specs.declared.why.Why.{Why}
-use Rattle.tfpg_diff.specs.declared.why.Why.TheVariants.{Given}
+use Rattle.tfpg_diff.specs.declared.why.Why.TheVariants.{Floor, Ceiling, Given}
 use Rattle.tfpg_diff.specs.declared.bounds.Bounds.{Bounds}
 use Rattle.tfpg_diff.specs.declared.pick.Pick.{Pick}
 use Rattle.tfpg_diff.specs.declared.demand.Demand.{Demand}
 use Rattle.tfpg_diff.specs.Demands.{Demands, Bounded, ceiling_of, floor_of, picked}
 use Rattle.tfpg_diff.specs.Cycle.{constraints_of, IsNegativeCycle, NamesNegativeCycle}
 use Rattle.tfpg_diff.specs.Named.{AreDemandsNamed, IsCycleOf}
-use Rattle.tfpg_diff.proofs.Lists.{Contains-take}
-use Rattle.tfpg_diff.specs.State.{raised, lowered, changed_at, with_floor, with_ceiling, with_pick, popped_to}
+use Rattle.tfpg_diff.proofs.Fresh.{widest_from}
+use Rattle.tfpg_base.specs.Times.{never}
+use Rattle.tfpg_diff.specs.State.{widest, unbounded_from, raised, lowered, changed_at, with_floor, with_ceiling, with_pick, popped_to}
 
 -- The tag names the constraint.
 abbrev pub IsNamed : (Why → Option Constraint) → Demand → Type 0
@@ -46,6 +48,18 @@ AreBoundsNamed-demands demands named names v b at =
 pub IsNamed-pick : (demands : Demands) (named : Why → Option Constraint) → AreDemandsNamed demands named →
     (pick : Pick) → Contains demands.picks pick → IsNamed named (picked pick)
 IsNamed-pick demands named names pick among = names (picked pick) (inr (inr (pick, among, refl)))
+
+-- a new system's tags name its demands, where those of its variables do
+pub AreDemandsNamed-new : (named : Why → Option Constraint) (count : ℕ) →
+    ((v : ℕ) → v < count → named (Floor v) ≡ Some (record { left = 0; right = v + 1; most = pos 0 })) →
+    ((v : ℕ) → v < count → named (Ceiling v) ≡ Some (record { left = v + 1; right = 0; most = pos never })) →
+    AreDemandsNamed (record { bounds = unbounded_from 0 count; picks = [] }) named
+AreDemandsNamed-new named count floors ceilings =
+    AreDemandsNamed-parts (record { bounds = unbounded_from 0 count; picks = [] }) named
+    (λ v b at. (let found = widest_from 0 count v b at in
+    let is : b ≡ widest v = found.0 ∙ ap widest (omega arith) in
+    subst (λ (c : Bounds). AreBoundsNamed named v c) (sym is) (ceilings v found.1, floors v found.1)))
+    (λ p among. absurd (Contains-nil p among))
 
 -- what holds of each variable's bounds holds after a change that keeps it
 pub changed_at-all : (P : ℕ → Bounds → Type 0) (change : Bounds → Bounds) (bounds : List Bounds) (v : ℕ) →

@@ -12,7 +12,7 @@ use Rattle.tfpg_diff.specs.Demands.{Demands, Demanded}
 use Rattle.tfpg_diff.specs.Solution.{HasNoSolution}
 use Rattle.tfpg_diff.specs.Cycle.{constraints_of, IsNegativeCycle, NamesNegativeCycle}
 use Rattle.tfpg_diff.specs.inside.Kept.{IsMetBy, Climbs}
-use Rattle.tfpg_diff.proofs.Lists.{AllPairs-map}
+use Rattle.tfpg_base.proofs.lists.Images.{AllPairs-map}
 use Rattle.tfpg_diff.proofs.Solutions.{IsMetBy-solution}
 
 -- The constraints lead from one number to another: each left side is the right side of the one before.

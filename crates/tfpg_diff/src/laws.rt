@@ -1,13 +1,25 @@
 //! What the definitions of this crate come to, as functions that do nothing: each says its law in its clause.
 
-ghost use Rattle.std.specs.Prelude.{◌≡◌, ℕ, ◌+◌, pos, neg_ℤ, List, Option, Some};
+ghost use Rattle.std.specs.Prelude.{◌≡◌, ℕ, ◌+◌, ◌<◌, pos, neg_ℤ, List, [], Option, Some};
+ghost use Rattle.tfpg_base.specs.Times.{never};
 ghost use Rattle.tfpg_base.specs.declared.constraint.Constraint.{Constraint};
 ghost use Rattle.tfpg_diff.specs.declared.why.Why.{Why};
-ghost use Rattle.tfpg_diff.specs.declared.why.Why.TheVariants.{Given};
+ghost use Rattle.tfpg_diff.specs.declared.why.Why.TheVariants.{Floor, Ceiling, Given};
 ghost use Rattle.tfpg_diff.specs.Demands.{Demands};
 ghost use Rattle.tfpg_diff.specs.Cycle.{NamesNegativeCycle};
 ghost use Rattle.tfpg_diff.specs.Named.{AreDemandsNamed, IsCycleOf};
-ghost use Rattle.tfpg_diff.specs.State.{with_floor, with_ceiling, with_pick, popped_to};
+ghost use Rattle.tfpg_diff.specs.State.{unbounded_from, with_floor, with_ceiling, with_pick, popped_to};
+
+/// Tags name the constraints of a new system where those of its variables do: `Floor` that the variable is at least 0,
+/// and `Ceiling` that it is at most one past the last millisecond.
+pub fn tags_name_what_is_new()
+    ensures { (named : Why → Option Constraint) (count : ℕ) →
+        ((variable : ℕ) → variable < count →
+        named (Floor variable) ≡ Some (record { left = 0; right = variable + 1; most = pos 0 })) →
+        ((variable : ℕ) → variable < count →
+        named (Ceiling variable) ≡ Some (record { left = variable + 1; right = 0; most = pos never })) →
+        AreDemandsNamed (record { bounds = unbounded_from 0 count; picks = [] }) named }
+{}
 
 /// Tags that name the constraints of a system go on doing so: after a bound or a pick that the new tag names, and after
 /// picks were popped.

@@ -2,6 +2,7 @@
 
 ghost use Rattle.std.specs.Prelude.{◌≡◌, ◌+◌, ◌-◌, ◌<◌, ◌≤◌, [], length, All, IfOk, OnOk, IsOk};
 ghost use Rattle.tfpg_diff.specs.Solution.{IsLatest};
+ghost use Rattle.tfpg_diff.specs.Demands.{Bounded};
 ghost use Rattle.tfpg_base.specs.Times.{never};
 ghost use Rattle.tfpg_diff.specs.State.{unbounded_from, with_floor, with_ceiling, with_pick, popped_to, Adds};
 
@@ -81,6 +82,28 @@ impl System {
     {
         self.picks.reserve(picks as usize)?;
         Ok(())
+    }
+
+    /// How many variables it has.
+    pub fn variable_count(&self) -> u32
+        ensures { result ≡ length self.now.demands.bounds }
+    {
+        self.bounds.len() as u32
+    }
+
+    /// How many picks stand on the stack.
+    pub fn pick_count(&self) -> u64
+        ensures { result ≡ length self.now.demands.picks }
+    {
+        self.picks.len() as u64
+    }
+
+    /// The present bounds of a variable, each with its tag.
+    pub fn bounds(&self, variable: u32) -> Bounds
+        requires { variable < length self.now.demands.bounds }
+        ensures { Bounded self.now.demands variable result }
+    {
+        self.bounds[variable as usize]
     }
 
     /// Lends the latest solution: the time of each variable, in milliseconds, at most `10^12 + 1`.

@@ -1,7 +1,7 @@
 //! The names of clauses.
 
-/// A clause, of whose alternatives each trace that explains the log meets one. It speaks of the span of this number, up to
-/// a horizon in milliseconds.
+/// The name of a clause: each trace that explains the log meets one of its alternatives. It is about the span of this
+/// number, up to a horizon in milliseconds.
 #[derive(Clone, Copy, Debug, PartialEq, Eq)]
 pub enum ClauseName {
     /// An OR node becomes active in the span only where the failure arrives by some edge.

@@ -5,7 +5,7 @@
 //! - [`Finding`] is what a round says of one hypothesis: its [`Status`] and its steps of this round.
 //! - [`Round`] is what one accepted line of the log brings: a finding for each hypothesis, their order and [`Counts`].
 //!
-//! A leaf is closed by the reasons that an alarm of node 2 was given at 30, and that the set does not reach the node:
+//! An alarm of node 2 at 30, and a set that does not reach the node, close a leaf by these two reasons:
 //!
 //! ```
 //! let reasons = vec![in alloc; Reason::Unreached { node: 2, horizon: 30 }, Reason::Upto { event: 1 }]?;

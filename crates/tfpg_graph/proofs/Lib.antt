@@ -1,8 +1,5 @@
--- On lists, and on what stands at a number.
-pub mod Positions
+-- What stands at a number.
 pub mod Numbered
-pub mod AtNumbers
-pub mod Valued
-pub mod Images
+pub mod NodeAt
 -- By the folders of the source.
 pub mod lemmas

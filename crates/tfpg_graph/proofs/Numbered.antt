@@ -1,10 +1,12 @@
--- The numbers of the items that pass a test.
-use Rattle.std.proofs.Common.{◌≡◌, ℕ, suc, ◌+◌, ◌<◌, ◌≤◌, Bool, true, false, cond, List, [], ◌∷◌, ◌++◌, length, All, Option, Some, None, position, slice_get, refl, ap, sym, ◌∙◌, arith, ◌&&◌}
+-- The numbers of the items that pass a test, as those of the edges into a node.
+use Rattle.std.proofs.Common.{◌≡◌, ℕ, suc, ◌+◌, ◌<◌, ◌≤◌, Bool, true, false, cond, List, [], ◌∷◌, ◌++◌, length, All, Option, Some, None, position, slice_get, refl, ap, sym, ◌∙◌, arith, ◌&&◌, ◌==◌}
 use Rattle.std.specs.List.{find, AllByRecursion}
 use Rattle.std.specs.Option.{option_map}
 use Rattle.std.proofs.lemmas.List.Elements.{All-from_recursion}
-use Rattle.tfpg_graph.specs.Graph.{numbers_from}
-use Rattle.tfpg_graph.proofs.Positions.{position-cons}
+use Rattle.tfpg_base.proofs.lists.Elements.{All-at}
+use Rattle.tfpg_graph.specs.declared.edge.Edge.{Edge}
+use Rattle.tfpg_graph.specs.Graph.{Tfpg, Node, numbers_from, incoming, failures, failure_at, is_failure}
+use Rattle.tfpg_base.proofs.lists.Positions.{position-cons}
 
 module _ {X : Type 0} (p : X → Bool) where
   -- one more item that passes has the next number
@@ -53,3 +55,13 @@ module _ {X : Type 0} (p : X → Bool) where
       by true false e rest = ap (λ d. cond d (Some n) (find q (numbers_from (n + 1) p xs))) e ∙ rest
       by false true e rest = rest
       by false false e rest = rest
+
+module _ (graph : Tfpg) where
+  -- the edges into a node are edges of the graph
+  pub incoming-below : (node : ℕ) → All (λ edge. edge < length graph.edges) (incoming graph node)
+  incoming-below node = All-below-numbers_from (λ (edge : Edge). edge.target == node) graph.edges
+
+  -- the node of a failure mode is a node of the graph
+  pub failure_at-below : (place node : ℕ) → failure_at graph place ≡ Some node → node < length graph.nodes
+  failure_at-below place node at =
+      All-at (λ n. n < length graph.nodes) (failures graph) place node (All-below-numbers_from (λ (n : Node). is_failure n.kind) graph.nodes) at

@@ -53,7 +53,7 @@ pub record IsValidSoFar (graph : Tfpg) : Type 0 where
   pub few_modes : length graph.modes ≤ MAX_MODES
   pub few_incoming : (node : ℕ) → length (incoming graph node) ≤ MAX_INCOMING
 
--- A graph is valid where moreover nothing is missing: each discrepancy has an edge into it, no cycle may take no time,
+-- A graph is valid where nothing is missing either: each discrepancy has an edge into it, no cycle may take no time,
 -- and there is a mode.
 pub record IsValid (graph : Tfpg) : Type 0 where
   pub so_far : IsValidSoFar graph

@@ -2,7 +2,7 @@
 
 /// Why a text spells no valid graph, as `docs/formats.md` says exactly. Three causes are of the whole text and come last:
 /// `NoIncoming`, `ZeroCycle` and `MissingEnd`. All others are of a line. Where several hold of one line, the first here
-/// is reported, but that an `AfterEnd` comes before the others.
+/// is reported, except that `AfterEnd` comes before the others.
 #[derive(Clone, Copy, Debug, PartialEq, Eq)]
 pub enum GraphCause {
     /// The first line is not `tfpg 1`, or there is none.

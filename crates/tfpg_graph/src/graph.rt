@@ -1,6 +1,6 @@
 //! A valid graph with its look-ups.
 
-ghost use Rattle.std.specs.Prelude.{◌≡◌, ◌<◌, ◌≤◌, length, slice_get, Some, IfOk};
+ghost use Rattle.std.specs.Prelude.{◌≡◌, ◌<◌, ◌≤◌, length, slice_get, Some, IfOk, All};
 ghost use Rattle.tfpg_graph.specs.Graph.{kind_at, name_at, node_named, mode_named, edge_from_to, incoming, failures, failure_at, place_of_failure};
 ghost use Rattle.tfpg_graph.specs.Valid.{IsValid};
 ghost use Rattle.tfpg_graph.specs.ZeroCycle.{HasZeroOrder};
@@ -142,6 +142,7 @@ impl Graph {
         requires { node < length self.now.nodes }
         ensures edges { result.now ≡ incoming self.now node }
         ensures few { length (incoming self.now node) ≤ MAX_INCOMING }
+        ensures within { All (λ edge. edge < length self.now.edges) result.now }
     {
         self.declared.incoming(node)
     }
@@ -149,7 +150,8 @@ impl Graph {
     /// The node of the failure mode at this position.
     pub fn failure_node(&self, place: u32) -> u32
         requires { place < length (failures self.now) }
-        ensures { failure_at self.now place ≡ Some result }
+        ensures node { failure_at self.now place ≡ Some result }
+        ensures within { result < length self.now.nodes }
     {
         self.declared.failure_node(place)
     }

@@ -1,8 +1,9 @@
 //! The laws of the crate's definitions, as functions that do nothing: each says its law in its clauses.
 
-ghost use Rattle.std.specs.Prelude.{◌≡◌, ◌↔◌, ℕ, List, Bool, IsTrue, All, Some};
+ghost use Rattle.std.specs.Prelude.{◌≡◌, ◌↔◌, ◌<◌, ℕ, List, length, Bool, IsTrue, All, Contains, Some};
+ghost use Rattle.tfpg_base.specs.Words.{is_name};
 ghost use Rattle.tfpg_graph.specs.declared.cause.GraphFault.{GraphFault};
-ghost use Rattle.tfpg_graph.specs.Graph.{Tfpg};
+ghost use Rattle.tfpg_graph.specs.Graph.{Tfpg, incoming, failure_at, name_at, node_named};
 ghost use Rattle.tfpg_graph.specs.Valid.{IsValid};
 ghost use Rattle.tfpg_graph.specs.ZeroCycle.{HasZeroOrder};
 ghost use Rattle.tfpg_graph.specs.Text.{Spells};
@@ -19,6 +20,29 @@ pub fn reach_is_the_least_closed_set()
         (test : ℕ → Bool) → IsClosed graph set test → All (λ node. IsTrue (test node)) nodes }
     ensures one { (graph : Tfpg) (set nodes others : List ℕ) →
         IsReach graph set nodes → IsReach graph set others → nodes ≡ others }
+{}
+
+/// A node is among those that the list of what is reached contains.
+pub fn being_among_nodes_is_being_contained()
+    ensures { (nodes : List ℕ) (node : ℕ) → IsTrue (is_among nodes node) ↔ Contains nodes node }
+{}
+
+/// The edges into a node are edges of the graph, and the node of a failure mode is a node of it.
+pub fn numbers_are_those_of_the_graph()
+    ensures incoming { (graph : Tfpg) (node : ℕ) →
+        All (λ edge. edge < length graph.edges) (incoming graph node) }
+    ensures failure { (graph : Tfpg) (place node : ℕ) →
+        failure_at graph place ≡ Some node → node < length graph.nodes }
+{}
+
+/// In a valid graph each node has a name, by which it is found; and what is found by a name has it.
+pub fn a_node_is_found_by_its_name()
+    ensures form { (graph : Tfpg) (node : ℕ) (name : List ℕ) → IsValid graph →
+        name_at graph node ≡ Some name → IsTrue (is_name name) }
+    ensures found { (graph : Tfpg) (node : ℕ) (name : List ℕ) → IsValid graph →
+        name_at graph node ≡ Some name → node_named graph name ≡ Some node }
+    ensures named { (graph : Tfpg) (node : ℕ) (name : List ℕ) →
+        node_named graph name ≡ Some node → name_at graph node ≡ Some name }
 {}
 
 /// In each valid graph the nodes have ranks by which each edge that may take no time goes upwards.

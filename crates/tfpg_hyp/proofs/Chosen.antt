@@ -4,11 +4,10 @@ use Rattle.std.specs.List.{All, AllPairs, Contains}
 use Rattle.std.proofs.lemmas.Bool.{cases_lt}
 use Rattle.std.proofs.lemmas.List.Elements.{All-nil, All-contains, Contains-append_left, Contains-append_right, Contains-append_cases}
 use Rattle.tfpg_base.proofs.lists.Elements.{AllPairs-head, AllPairs-tail, AllPairs-cons, All-from_members, Contains-head, Contains-cons_cases, Contains-nil}
-use Rattle.tfpg_base.proofs.Sets.{Rises}
-use Rattle.tfpg_graph.proofs.Images.{Contains-map, Contains-map_only}
+use Rattle.tfpg_base.proofs.lists.Ordered.{Rises, AllPairs-nil, AllPairs-append}
+use Rattle.tfpg_base.proofs.lists.Images.{Contains-map, Contains-map_only}
 use Rattle.tfpg_hyp.specs.Table.{ComesFirst}
 use Rattle.tfpg_hyp.specs.inside.Choices.{chosen}
-use Rattle.tfpg_hyp.proofs.Orders.{AllPairs-nil, AllPairs-append}
 
 -- a rising list of this length of so many positions, from the least on
 pub record IsChoice (count size least : ℕ) (set : List ℕ) : Type 0 where

@@ -1,6 +1,4 @@
-mod Below
 mod Ranks
-mod Orders
 mod Chosen
 mod Counted
 mod Listed

@@ -8,11 +8,10 @@ use Rattle.std.proofs.lemmas.List.Elements.{All-contains, Contains-get_or, Conta
 use Rattle.std.proofs.lemmas.List.Kept.{AllPairs-from_increasing}
 use Rattle.tfpg_base.specs.Set.{with_member}
 use Rattle.tfpg_base.proofs.lists.Elements.{All-from_members, Contains-nil, Contains-cons_cases}
-use Rattle.tfpg_base.proofs.Sets.{Rises}
+use Rattle.tfpg_base.proofs.lists.Ordered.{Rises, AllPairs-nil, AllPairs-append}
 use Rattle.tfpg_graph.specs.Graph.{Tfpg, failures}
 use Rattle.tfpg_hyp.specs.Table.{IsHypothesis, ComesFirst, IsBefore, IsTable}
 use Rattle.tfpg_hyp.specs.inside.Choices.{chosen, chosen_below, choices_below}
-use Rattle.tfpg_hyp.proofs.Orders.{AllPairs-nil, AllPairs-append}
 use Rattle.tfpg_hyp.proofs.Chosen.{IsChoice, IsChoice-chosen, Contains-chosen, in_order-chosen}
 use Rattle.tfpg_hyp.proofs.Counted.{choices-past, chosen-past}
 

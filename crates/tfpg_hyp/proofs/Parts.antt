@@ -7,7 +7,7 @@ use Rattle.std.proofs.lemmas.List.Kept.{AllPairs-from_increasing}
 use Rattle.std.proofs.lemmas.Option.{slice_get_within, get_or_from_slice_get, same_Some}
 use Rattle.tfpg_base.specs.Set.{IsPart, IsProperPart, IsSet}
 use Rattle.tfpg_base.proofs.lists.Elements.{AllPairs-head, AllPairs-tail, All-from_members, Contains-head, Contains-cons_cases, Contains-nil}
-use Rattle.tfpg_base.proofs.Sets.{Rises}
+use Rattle.tfpg_base.proofs.lists.Ordered.{Rises}
 use Rattle.tfpg_graph.specs.Graph.{Tfpg, failures}
 use Rattle.tfpg_hyp.specs.Table.{IsHypothesis, IsBefore, IsTable}
 use Rattle.tfpg_hyp.proofs.Listed.{increasing_from_rises}

@@ -10,22 +10,16 @@ use Rattle.std.proofs.lemmas.List.Sums.{sum_by-append, sum_by-cons, length-filte
 use Rattle.std.proofs.lemmas.List.Elements.{All-contains, filter-append}
 use Rattle.std.proofs.lemmas.Option.{slice_get_past, same_Some}
 use Rattle.tfpg_graph.specs.declared.kind.Kind.TheVariants.{Failure}
-use Rattle.tfpg_graph.specs.Graph.{Tfpg, Node, failures, failure_at, is_failure, is_monitored, kind_at, lag_of}
+use Rattle.tfpg_graph.specs.Graph.{Tfpg, Node, is_monitored, kind_at, lag_of}
 use Rattle.tfpg_graph.specs.Valid.{IsValid, HasValidNumber}
-use Rattle.tfpg_graph.proofs.Numbered.{All-below-numbers_from}
-use Rattle.tfpg_graph.proofs.AtNumbers.{All-at}
+use Rattle.tfpg_base.proofs.lists.Elements.{All-at}
 use Rattle.tfpg_log.specs.Log.{Logbook, alarm_of}
 use Rattle.tfpg_base.specs.Set.{IsSet}
 use Rattle.tfpg_hyp.specs.declared.place.Fraction.{Fraction}
 use Rattle.tfpg_hyp.specs.Ranking.{rarity_at, cost_of, robustness_of, monitored_in, alarmed_in}
-use Rattle.tfpg_hyp.proofs.Below.{below, below-zero, below-member, below-absent, below-all}
+use Rattle.tfpg_base.proofs.lists.Below.{below, below-zero, below-member, below-absent, below-all}
 
 -- ---- failure modes
-
--- the node of a failure mode is a node of the graph
-pub failure_within : (graph : Tfpg) (place node : ℕ) → failure_at graph place ≡ Some node → node < length graph.nodes
-failure_within graph place node at =
-    All-at (λ n. n < length graph.nodes) (failures graph) place node (All-below-numbers_from (λ n. is_failure n.kind) graph.nodes) at
 
 -- the rarity of a node is within the limit
 pub rarity_small : (graph : Tfpg) (node rarity : ℕ) → IsValid graph → kind_at graph node ≡ Some (Failure rarity) → rarity ≤ 1000000

@@ -6,14 +6,14 @@ use Rattle.std.proofs.lemmas.List.{length-append}
 use Rattle.std.proofs.lemmas.Option.{slice_get_within, get_or_from_slice_get, same_Some}
 use Rattle.tfpg_graph.specs.Graph.{Tfpg, failures}
 use Rattle.tfpg_graph.specs.Reach.{IsReach}
-use Rattle.tfpg_graph.proofs.Positions.{slice_get-push_before, slice_get-push_last}
+use Rattle.tfpg_base.proofs.lists.Written.{slice_get-push_before, slice_get-push_at}
 use Rattle.tfpg_hyp.specs.Table.{ComesFirst, IsBefore, IsTable}
 use Rattle.tfpg_base.proofs.lists.Elements.{All-from_members}
 use Rattle.tfpg_hyp.specs.declared.table.TableFault.{TableFault}
 use Rattle.tfpg_hyp.specs.declared.table.TableFault.TheVariants.{TooMany}
 use Rattle.tfpg_hyp.specs.Hypotheses.{HasHypotheses}
 use Rattle.tfpg_hyp.specs.inside.Choices.{chosen_below, choices_below}
-use Rattle.tfpg_hyp.proofs.Orders.{same_in_order}
+use Rattle.tfpg_base.proofs.lists.Ordered.{same_in_order}
 use Rattle.tfpg_hyp.proofs.Counted.{length-chosen_below}
 use Rattle.tfpg_hyp.proofs.Listed.{IsTable-listed}
 
@@ -29,7 +29,7 @@ ReachedSoFar-push graph sets reaches number set reach here within is reached bef
     (λ earlier. before other own own_reach at (sym (slice_get-push_before reaches reach other earlier) ∙ at_reach))
     (λ not_earlier.
     let last : other ≡ length reaches = omega (arith, not_earlier, slice_get_within (reaches ++ reach ∷ []) other own_reach at_reach, length-append reaches (reach ∷ [])) in
-    let same_reach : reach ≡ own_reach = same_Some reach own_reach (sym (slice_get-push_last reaches reach other last) ∙ at_reach) in
+    let same_reach : reach ≡ own_reach = same_Some reach own_reach (sym (slice_get-push_at reaches reach other last) ∙ at_reach) in
     let same_set : set ≡ own = is ∙ ap (λ n. get_or sets n set) (sym (last ∙ here)) ∙ get_or_from_slice_get sets other own set at in
     subst (IsReach graph own) same_reach (subst (λ (s : List ℕ). IsReach graph s reach) same_set reached))
     (cases_lt other (length reaches))

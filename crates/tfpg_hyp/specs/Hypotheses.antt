@@ -2,11 +2,12 @@
 use Rattle.std.specs.Prelude.{◌≡◌, ℕ, List, length, Some, slice_get}
 use Rattle.tfpg_graph.specs.Graph.{Tfpg}
 use Rattle.tfpg_graph.specs.Reach.{IsReach}
+use Rattle.tfpg_hyp.specs.declared.limits.TheConstants.{MAX_HYPOTHESES}
 use Rattle.tfpg_hyp.specs.Table.{IsTable}
 
 -- how many hypotheses a table has at most
 abbrev pub max_hypotheses : ℕ
-max_hypotheses = 4096
+max_hypotheses = MAX_HYPOTHESES
 
 -- There are this many hypotheses: all of them in order are a list of this length.
 pub record HasHypotheses (graph : Tfpg) (k count : ℕ) : Type 0 where

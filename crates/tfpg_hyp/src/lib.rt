@@ -5,9 +5,9 @@
 //! - [`Table`] lists all hypotheses of a graph in order, with what each reaches. Where there are more than
 //!   [`MAX_HYPOTHESES`], [`TableFault`] says how many.
 //! - [`cost`] and [`robust`] find what ranks a hypothesis, its [`Place`], and [`before`] compares two places.
-//! - [`laws`] says what follows of the table and of the ranking order.
+//! - [`laws`] says what follows from the definitions of the table and of the ranking order.
 //!
-//! What a round is stands in `specs/` alone so far.
+//! What a round is, is a definition alone so far (`specs/Rounds.antt`): no call of this crate makes one.
 //!
 //! ```
 //! let table = Table::new(alloc, &graph, 1)?;
@@ -22,11 +22,13 @@
 #![tactic(auto)]
 
 pub mod laws;
+mod limits;
 mod listing;
 mod place;
 mod ranking;
 mod table;
 
+pub use limits::MAX_HYPOTHESES;
 pub use place::{Fraction, Place};
 pub use ranking::{before, cost, robust};
-pub use table::{MAX_HYPOTHESES, Table, TableFault};
+pub use table::{Table, TableFault};

@@ -88,9 +88,5 @@ fn is_monitored(graph: &Graph, node: u32) -> bool
     requires { node < length graph.now.nodes }
     ensures { result ≡ is_monitored graph.now node }
 {
-    match graph.kind(node) {
-        Kind::Failure { rarity: _ } => false,
-        Kind::Or { lag } => lag.is_some(),
-        Kind::And { lag } => lag.is_some(),
-    }
+    graph.kind(node).is_monitored()
 }

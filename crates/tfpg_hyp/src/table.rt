@@ -5,14 +5,12 @@ ghost use Rattle.tfpg_graph.specs.Graph.{failures};
 ghost use Rattle.tfpg_hyp.specs.Hypotheses.{max_hypotheses, HasHypotheses, IsTableOf, AreReaches};
 ghost use Rattle.tfpg_hyp.specs.inside.Choices.{choices_below};
 
+use crate::limits::MAX_HYPOTHESES;
 use crate::listing::{count_sets, list_sets};
 use std::alloc::Global;
 use std::marker::Model;
 use tfpg_base::{NoMemory, Set};
 use tfpg_graph::{Graph, NodeSet};
-
-/// How many hypotheses a table has at most.
-pub const MAX_HYPOTHESES: u32 = 4_096;
 
 /// Why there is no table.
 #[derive(Clone, Copy, Debug, PartialEq, Eq)]

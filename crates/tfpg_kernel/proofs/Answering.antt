@@ -9,8 +9,8 @@ use Rattle.tfpg_evidence.specs.declared.reason.Reason.{Reason}
 use Rattle.tfpg_evidence.specs.declared.step.Step.{Step}
 use Rattle.tfpg_evidence.specs.declared.step.Step.TheVariants.{Split, Cycle}
 use Rattle.tfpg_clause.specs.Clauses.{count_of}
-use Rattle.tfpg_clause.specs.Trees.{Judged, PathSplit, stated, IsRefutation, IsPartial, IsPresentLeaf}
-use Rattle.tfpg_clause.specs.Paths.{judged_by, with_step, IsRightNext, AreFramesOf, IsAtLeaf, new_frame, path_after, stated_by, IsClosedBy}
+use Rattle.tfpg_clause.specs.Trees.{Judged, PathSplit, stated, IsClosedBy, IsRefutation, IsPartial, IsPresentLeaf}
+use Rattle.tfpg_clause.specs.Paths.{judged_by, with_step, IsRightNext, AreFramesOf, IsAtLeaf, new_frame, path_after, stated_by}
 use Rattle.tfpg_clause.specs.declared.path.Frame.{Frame}
 use Rattle.tfpg_kernel.specs.declared.taken.Taken.{Taken}
 use Rattle.tfpg_kernel.specs.declared.taken.Taken.TheVariants.{Open, Closed, Bad}

@@ -1,4 +1,4 @@
-//! Why the answers of the checker are right, by the laws of trees.
+//! Why what the checker returns is right, by the laws of trees.
 
 ghost use Rattle.std.specs.Prelude.{◌≡◌, List, true, false};
 ghost use Rattle.tfpg_graph.specs.Graph.{Tfpg};
@@ -21,11 +21,11 @@ use tfpg_clause::laws::{
 /// Each move of a checker is the answer to its step: `refused` says it of a checker that is closed, and `moved` of one that
 /// is not. It does nothing.
 pub(crate) fn moves_are_answers()
-    ensures refused { (graph : Tfpg) (earlier log : Logbook) (old : Checking) (steps : List Judged) (step : Step) →
-        IsOrdered log → GoesOn earlier log → CheckerRepresents graph earlier old steps → old.closed ≡ true →
+    ensures refused { (graph : Tfpg) (earlier log : Logbook) (old : Checking) (steps : List Judged)
+        (step : Step) → IsOrdered log → GoesOn earlier log → CheckerRepresents graph earlier old steps → old.closed ≡ true →
         IsAnswer graph log old.reach steps step (Bad AfterClosed) old }
-    ensures moved { (graph : Tfpg) (earlier log : Logbook) (old new : Checking) (steps : List Judged) (step : Step)
-        (result : Taken) → IsOrdered log → GoesOn earlier log → CheckerRepresents graph earlier old steps →
+    ensures moved { (graph : Tfpg) (earlier log : Logbook) (old new : Checking) (steps : List Judged)
+        (step : Step) (result : Taken) → IsOrdered log → GoesOn earlier log → CheckerRepresents graph earlier old steps →
         old.closed ≡ false → new.reach ≡ old.reach → Moves graph log old step result new →
         IsAnswer graph log old.reach steps step result new }
 {

@@ -36,7 +36,8 @@ impl Chain {
     pub(crate) fn with(self, constraint: Constraint) -> Chain
         requires { IsWithin (2 ^ 127 - 2 ^ 63) self.sum }
         ensures chain { result ≡ with_constraint self constraint }
-        ensures small { (count : ℕ) → IsWithin (count * 2 ^ 63) self.sum → IsWithin ((count + 1) * 2 ^ 63) result.sum }
+        ensures small { (count : ℕ) →
+            IsWithin (count * 2 ^ 63) self.sum → IsWithin ((count + 1) * 2 ^ 63) result.sum }
     {
         let sum = self.sum + i128::from(constraint.most);
         match self.ends {

@@ -87,7 +87,8 @@ impl Checker {
         requires spare { 1 ≤ self.old.spare }
         ensures closed { (earlier : Logbook) (steps : List Judged) → GoesOn earlier log.now →
             CheckerRepresents graph.now earlier self.old steps →
-            (result ≡ Closed) ↔ IsRefutation graph.now log.now self.old.reach (with_step steps log.now step.now) }
+            (result ≡ Closed)
+            ↔ IsRefutation graph.now log.now self.old.reach (with_step steps log.now step.now) }
         ensures open { (earlier : Logbook) (steps : List Judged) → GoesOn earlier log.now →
             CheckerRepresents graph.now earlier self.old steps →
             (result ≡ Open) ↔ IsPartial graph.now log.now self.old.reach (with_step steps log.now step.now) }
@@ -98,10 +99,10 @@ impl Checker {
         ensures represents { (earlier : Logbook) (steps : List Judged) → GoesOn earlier log.now →
             CheckerRepresents graph.now earlier self.old steps →
             CheckerRepresents graph.now log.now self.new (steps_after result steps log.now step.now) }
-        ensures no_trace { (earlier later : Logbook) (steps : List Judged) (set : List ℕ) → GoesOn earlier log.now →
-            CheckerRepresents graph.now earlier self.old steps → result ≡ Closed →
-            IsReach graph.now set self.old.reach → GoesOn log.now later → IsOf graph.now later → IsOrdered later →
-            Fits graph.now later set → ⊥ }
+        ensures no_trace { (earlier later : Logbook) (steps : List Judged) (set : List ℕ) →
+            GoesOn earlier log.now → CheckerRepresents graph.now earlier self.old steps → result ≡ Closed →
+            IsReach graph.now set self.old.reach →
+            GoesOn log.now later → IsOf graph.now later → IsOrdered later → Fits graph.now later set → ⊥ }
         ensures unchanged { (bad : BadStep) → result ≡ Bad bad → self.new ≡ self.old }
         ensures reach { self.new.reach ≡ self.old.reach }
         ensures spare { self.old.spare ≤ self.new.spare + 1 }

@@ -4,7 +4,8 @@ ghost use Rattle.std.specs.Prelude.{◌≡◌, MatchResult};
 ghost use Rattle.std.specs.Option.{ok_or};
 ghost use Rattle.tfpg_log.specs.Log.{IsOf};
 ghost use Rattle.tfpg_kernel.specs.Breaks.{fault_of, CycleBreaks};
-ghost use Rattle.tfpg_clause.specs.Paths.{stated_by, IsClosedBy};
+ghost use Rattle.tfpg_clause.specs.Paths.{stated_by};
+ghost use Rattle.tfpg_clause.specs.Trees.{IsClosedBy};
 
 use crate::chain::Chain;
 use crate::taken::BadStep;
@@ -23,7 +24,8 @@ pub(crate) fn check_cycle(
     reasons: &[Reason],
 ) -> Result<(), BadStep>
     requires of { IsOf graph.now log.now }
-    ensures { MatchResult result (λ _. IsClosedBy (stated_by graph.now log.now reach.now path.now) reasons.now)
+    ensures { MatchResult result
+        (λ _. IsClosedBy (stated_by graph.now log.now reach.now path.now) reasons.now)
         (CycleBreaks (stated_by graph.now log.now reach.now path.now) reasons.now) }
 {
     let mut chain = Chain::EMPTY;

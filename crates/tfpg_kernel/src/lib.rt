@@ -4,7 +4,8 @@
 //! crates is `count`, `stated` and `advance`, and laws, which do nothing.
 //!
 //! - [`Checker`] takes the steps of a refutation one by one. It keeps the path to the present leaf and no step.
-//! - [`Taken`] is its answer: the tree is open, the tree is closed, or the step is bad, with the first cause, [`BadStep`].
+//! - [`Taken`] is what it returns: the tree is open, the tree is closed, or the step is bad, with the first cause,
+//!   [`BadStep`].
 //! - [`Frame`] is what contracts see of a split on the path.
 //!
 //! What a closed tree is worth is a clause of [`Checker::take`]: no trace explains the log, nor one that goes on from it.

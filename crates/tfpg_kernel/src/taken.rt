@@ -1,4 +1,4 @@
-//! The answers of the checker.
+//! What the checker returns.
 
 /// What became of a step.
 #[derive(Clone, Copy, Debug, PartialEq, Eq)]
@@ -11,15 +11,14 @@ pub enum Taken {
     Bad(BadStep),
 }
 
-/// The first condition that a step breaks, in this order, but that the reasons of a cycle are looked at one by one for the
-/// third and the fourth.
+/// The first condition that a step breaks, in this order. The third and the fourth are tested together, reason by reason.
 #[derive(Clone, Copy, Debug, PartialEq, Eq)]
 pub enum BadStep {
     /// The tree was closed before.
     AfterClosed,
     /// The name of the split is not allowed.
     NotAClause,
-    /// A reason is no pick and no fact.
+    /// A reason is neither a pick nor a fact of the log.
     NotAFact,
     /// A reason picks from a split that is not on the path, or a place that the alternative taken there does not have.
     NotOnPath,

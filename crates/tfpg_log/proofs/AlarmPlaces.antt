@@ -5,8 +5,7 @@ use Rattle.std.proofs.lemmas.Bool.{le-leb}
 use Rattle.std.proofs.lemmas.Bool.Decides.{leb_tells, eqb_tells}
 use Rattle.tfpg_log.specs.declared.event.Event.{Event}
 use Rattle.tfpg_log.specs.declared.event.Event.TheVariants.{Alarm, Silent, Sweep, Tick, Mode}
-use Rattle.tfpg_log.specs.Log.{alarm_among, time_of_event}
-use Rattle.tfpg_log.specs.inside.LogIndex.{alarm_place}
+use Rattle.tfpg_log.specs.Log.{alarm_among, alarm_place, time_of_event}
 
 -- ---- one more event
 
@@ -38,7 +37,7 @@ at_it : (is_it : Bool) (other : Option ℕ) → is_it ≡ true → cond is_it (S
 at_it true other e = refl
 at_it false other e = absurd cc
 
-same_node : (node : ℕ) → eqb node node ≡ true
+pub same_node : (node : ℕ) → eqb node node ≡ true
 same_node node = elim (eqb_tells node node) [
   | inl it ↦ it.0
   | inr other ↦ absurd (other.1 refl)
@@ -116,7 +115,7 @@ from_start : (place : Option ℕ) → true ≡ is_from 0 place
 from_start None = refl
 from_start (Some place) = sym (le-leb 0 place (omega arith))
 
-leb-suc : (a b : ℕ) → leb a b ≡ leb (suc a) (suc b)
+pub leb-suc : (a b : ℕ) → leb a b ≡ leb (suc a) (suc b)
 leb-suc a b = elim (leb_tells a b) [
   | inl le ↦ le.0 ∙ sym (le-leb (suc a) (suc b) (omega (arith, le.1)))
   | inr lt ↦ elim (leb_tells (suc a) (suc b)) [

@@ -1,20 +1,23 @@
 -- The index of a log's events stays right as events come.
-use Rattle.std.proofs.Common.{◌≡◌, ℕ, ◌+◌, ◌<◌, ◌≤◌, false, List, [], ◌∷◌, ◌++◌, length, set, Option, Some, None, refl, inl, inr, sym, ap, ◌∙◌, arith}
-use Rattle.std.specs.Prelude.{slice_index_or}
+use Rattle.std.proofs.Common.{◌≡◌, ℕ, suc, ◌+◌, ◌<◌, ◌≤◌, false, List, [], ◌∷◌, ◌++◌, length, set, Option, Some, None, refl, inl, inr, sym, subst, ◌∙◌, arith}
 use Rattle.std.proofs.lemmas.Bool.Decides.{eqb_tells}
 use Rattle.std.proofs.lemmas.Grind.{get_or-set_at}
 use Rattle.std.proofs.lemmas.List.{get_or-set_other, length_push}
 use Rattle.tfpg_log.specs.declared.event.Event.{Event}
 use Rattle.tfpg_log.specs.declared.event.Event.TheVariants.{Alarm, Silent, Sweep, Tick, Mode}
 use Rattle.tfpg_log.specs.declared.mode_change.ModeChange.{ModeChange}
-use Rattle.tfpg_log.specs.Log.{Logbook, now_of, alarm_among, time_of_event, is_mode_change, mode_after}
+use Rattle.tfpg_log.specs.Log.{Logbook, now_of, alarm_among, alarm_place, time_of_event, is_mode_change, mode_after, with_event}
 use Rattle.tfpg_base.specs.Times.{max_time}
 use Rattle.tfpg_log.specs.declared.limits.TheConstants.{MAX_EVENTS}
 use Rattle.tfpg_log.specs.inside.SpanIndex.{begin_of_span, BeginSpans, with_change}
-use Rattle.tfpg_log.specs.inside.LogIndex.{IsLogIndex, AreSameAlarms, alarm_place}
+use Rattle.tfpg_log.specs.inside.LogIndex.{IsLogIndex}
+use Rattle.tfpg_log.specs.declared.node_events.NodeEvents.{NodeEvents}
+use Rattle.tfpg_log.specs.inside.NodeEvents.{IsLast, IsSweep, IsNodeEvents, AreSameOfNodes, events_of, no_events}
 use Rattle.tfpg_log.proofs.Events.{now-with_event}
 use Rattle.tfpg_log.proofs.Order.{ordered-with_event}
-use Rattle.tfpg_log.proofs.AlarmPlaces.{alarm_place_quiet, alarm_place_new, alarm_place_other}
+use Rattle.tfpg_log.proofs.AlarmPlaces.{alarm_place_other}
+use Rattle.tfpg_log.proofs.FirstAlarms.{first_alarms_kept}
+use Rattle.tfpg_log.proofs.NodesEvents.{node_kept, node_silenced, node_alarmed, last_sweep_kept, last_sweep_new}
 use Rattle.tfpg_log.proofs.ModeChanges.{mode_after-push, mode_before_change, mode_after_change, changes-push}
 use Rattle.tfpg_log.proofs.SpanChanges.{times_rise, spans_with_change, begun_with_change, one_more_change}
 
@@ -31,78 +34,116 @@ same_spans events changes event no_change spans = record {
       mode_after-push 0 events event instant ∙ no_change (mode_after 0 events instant) instant ∙ spans.hold number instant within;
 }
 
-indexed_by : (events : List Event) (alarms longer : List (Option ℕ)) (changes : List ModeChange) (count : ℕ) (event : Event) → IsLogIndex events alarms changes count
+-- what is kept of each node, where one more event came
+abbrev AreNodesEvents : List Event → Event → List NodeEvents → Type 0
+AreNodesEvents events event nodes = (node : ℕ) → IsNodeEvents (with_event (log_of events) event) node (events_of nodes node)
+
+indexed_by : (events : List Event) (nodes longer : List NodeEvents) (sweep last : Option ℕ) (changes : List ModeChange) (count : ℕ) (event : Event) → IsLogIndex events nodes sweep changes count
     → length events < MAX_EVENTS → now_of (log_of events) ≤ time_of_event event → time_of_event event ≤ max_time → is_mode_change event ≡ false
     → ((held instant : ℕ) → mode_after held (event ∷ []) instant ≡ held)
-    → ((node : ℕ) → slice_index_or longer node None ≡ alarm_place (events ++ event ∷ []) node)
-    → IsLogIndex (events ++ event ∷ []) longer changes count
-indexed_by events alarms longer changes count event index room not_back in_range uncounted no_change alarms_are = record {
+    → AreNodesEvents events event longer → IsLast (IsSweep (with_event (log_of events) event)) last
+    → ((at node : ℕ) → event ≡ Alarm at node → alarm_among events node ≡ None)
+    → IsLogIndex (events ++ event ∷ []) longer last changes count
+indexed_by events nodes longer sweep last changes count event index room not_back in_range uncounted no_change own swept first = record {
   few = omega (arith, length_push events event, room);
-  alarms_are = alarms_are;
+  own = own;
+  swept = swept;
   counted = grind (arith, index.counted, changes-push events event, uncounted);
   fewer = index.fewer;
   spans = same_spans events changes event no_change index.spans;
   in_order = index.in_order;
   by_now = omega (arith, index.by_now, not_back, now-with_event (log_of events) event);
   ordered = ordered-with_event (log_of events) event index.ordered not_back in_range;
+  first_alarms = first_alarms_kept (log_of events) event index.first_alarms first;
 }
 
-still_placed : (events : List Event) (alarms : List (Option ℕ)) (changes : List ModeChange) (count : ℕ) (event : Event) → IsLogIndex events alarms changes count
-    → ((node : ℕ) → alarm_place (event ∷ []) node ≡ None) → (node : ℕ) → slice_index_or alarms node None ≡ alarm_place (events ++ event ∷ []) node
-still_placed events alarms changes count event index quiet node = index.alarms_are node ∙ sym (alarm_place_quiet events event node (quiet node))
+-- an event of no node leaves what is kept of each
+own_kept : (events : List Event) (nodes : List NodeEvents) (event : Event) → ((node : ℕ) → IsNodeEvents (log_of events) node (events_of nodes node))
+    → ((node : ℕ) → alarm_place (event ∷ []) node ≡ None) → ((node time : ℕ) → event ≡ Silent time node → ⊥) → AreNodesEvents events event nodes
+own_kept events nodes event own quiet other node = node_kept (log_of events) event node (events_of nodes node) (quiet node) (other node) (own node)
 
--- the event is neither an alarm nor a change of mode
-abbrev pub IsQuiet : Event → Type 0
-IsQuiet (Alarm time node) = ⊥
-IsQuiet (Silent time node) = Unit {0}
-IsQuiet (Sweep time) = Unit {0}
-IsQuiet (Tick time) = Unit {0}
-IsQuiet (Mode time mode) = ⊥
+-- an event of one node leaves what is kept of the others
+own_set : (events : List Event) (nodes longer : List NodeEvents) (event : Event) (place : ℕ) (entry : NodeEvents)
+    → ((node : ℕ) → IsNodeEvents (log_of events) node (events_of nodes node)) → AreSameOfNodes longer nodes → place < length longer
+    → IsNodeEvents (with_event (log_of events) event) place entry
+    → ((node : ℕ) → (node ≡ place → ⊥) → (alarm_place (event ∷ []) node ≡ None) × ((time : ℕ) → event ≡ Silent time node → ⊥))
+    → AreNodesEvents events event (set longer place entry)
+own_set events nodes longer event place entry own same lt is others node = elim (eqb_tells place node) [
+  | inl it ↦ subst (λ n. IsNodeEvents (with_event (log_of events) event) n (events_of (set longer place entry) n)) it.1
+      (subst (IsNodeEvents (with_event (log_of events) event) place) (sym (get_or-set_at longer place place entry no_events refl lt)) is)
+  | inr other ↦ (
+      let apart : node ≡ place → ⊥ = λ e. other.1 (sym e) in
+      subst (IsNodeEvents (with_event (log_of events) event) node) (sym (get_or-set_other longer place node entry no_events apart ∙ same node))
+      (node_kept (log_of events) event node (events_of nodes node) (others node apart).0 (others node apart).1 (own node)))
+]
 
--- A silence, a sweep and a tick leave the index as it is.
-pub indexed_quiet : (events : List Event) (alarms : List (Option ℕ)) (changes : List ModeChange) (count : ℕ) (event : Event) → IsLogIndex events alarms changes count
-    → length events < MAX_EVENTS → now_of (record { events = events }) ≤ time_of_event event → time_of_event event ≤ max_time → IsQuiet event → IsLogIndex (events ++ event ∷ []) alarms changes count
-indexed_quiet events alarms changes count (Alarm time node) index room not_back in_range quiet = absurd quiet
-indexed_quiet events alarms changes count (Silent time node) index room not_back in_range quiet =
-    indexed_by events alarms alarms changes count (Silent time node) index room not_back in_range refl (λ held instant. refl)
-    (still_placed events alarms changes count (Silent time node) index (λ other. refl))
-indexed_quiet events alarms changes count (Sweep time) index room not_back in_range quiet =
-    indexed_by events alarms alarms changes count (Sweep time) index room not_back in_range refl (λ held instant. refl)
-    (still_placed events alarms changes count (Sweep time) index (λ other. refl))
-indexed_quiet events alarms changes count (Tick time) index room not_back in_range quiet =
-    indexed_by events alarms alarms changes count (Tick time) index room not_back in_range refl (λ held instant. refl)
-    (still_placed events alarms changes count (Tick time) index (λ other. refl))
-indexed_quiet events alarms changes count (Mode time mode) index room not_back in_range quiet = absurd quiet
+module _ (events : List Event) (nodes : List NodeEvents) (sweep : Option ℕ) (changes : List ModeChange) (count : ℕ) (index : IsLogIndex events nodes sweep changes count)
+    (room : length events < MAX_EVENTS) (time : ℕ) (not_back : now_of (record { events = events }) ≤ time) (in_range : time ≤ max_time) where
+  -- A tick leaves the index as it is.
+  pub indexed_tick : IsLogIndex (events ++ Tick time ∷ []) nodes sweep changes count
+  indexed_tick =
+      indexed_by events nodes nodes sweep sweep changes count (Tick time) index room not_back in_range refl (λ held instant. refl)
+      (own_kept events nodes (Tick time) index.own (λ node. refl) (λ node t e. absurd cc))
+      (last_sweep_kept (log_of events) (Tick time) sweep (λ t e. absurd cc) index.swept)
+      (λ t n e. absurd cc)
 
--- A change of mode may begin a span, and is counted.
-pub indexed_mode : (events : List Event) (alarms : List (Option ℕ)) (changes : List ModeChange) (count time mode : ℕ) → IsLogIndex events alarms changes count
-    → length events < MAX_EVENTS → now_of (record { events = events }) ≤ time → time ≤ max_time
-    → IsLogIndex (events ++ Mode time mode ∷ []) alarms (with_change changes time mode) (count + 1)
-indexed_mode events alarms changes count time mode index room not_back in_range =
-    let last : begin_of_span changes (length changes) ≤ time + 1 = omega (arith, index.by_now, not_back) in
-    let spans : BeginSpans (mode_after 0 (events ++ Mode time mode ∷ [])) (with_change changes time mode) =
-    spans_with_change (mode_after 0 events) (mode_after 0 (events ++ Mode time mode ∷ [])) changes time mode index.spans last
-    (mode_before_change events time mode) (mode_after_change events time mode) in
-    record {
-      few = omega (arith, length_push events (Mode time mode), room);
-      alarms_are = still_placed events alarms changes count (Mode time mode) index (λ other. refl);
-      counted = omega (arith, index.counted, changes-push events (Mode time mode));
-      fewer = omega (arith, index.fewer, one_more_change changes time mode);
-      spans = spans;
-      in_order = times_rise (with_change changes time mode) spans.rise;
-      by_now = omega (arith, begun_with_change (mode_after 0 events) changes time mode index.spans last, now-with_event (log_of events) (Mode time mode));
-      ordered = ordered-with_event (log_of events) (Mode time mode) index.ordered not_back in_range;
-    }
+  -- A sweep is the last.
+  pub indexed_sweep : (number : ℕ) → number ≡ suc (length events) → IsLogIndex (events ++ Sweep time ∷ []) nodes (Some number) changes count
+  indexed_sweep number at =
+      indexed_by events nodes nodes sweep (Some number) changes count (Sweep time) index room not_back in_range refl (λ held instant. refl)
+      (own_kept events nodes (Sweep time) index.own (λ node. refl) (λ node t e. absurd cc))
+      (last_sweep_new (log_of events) time number at)
+      (λ t n e. absurd cc)
 
--- The first alarm of a node stands at its place.
-pub indexed_alarm : (events : List Event) (alarms longer : List (Option ℕ)) (changes : List ModeChange) (count time alarmed place : ℕ) → IsLogIndex events alarms changes count
-    → length events < MAX_EVENTS → now_of (record { events = events }) ≤ time → time ≤ max_time → AreSameAlarms longer alarms → alarmed < length longer → alarm_among events alarmed ≡ None
-    → place ≡ length events → IsLogIndex (events ++ Alarm time alarmed ∷ []) (set longer alarmed (Some place)) changes count
-indexed_alarm events alarms longer changes count time alarmed place index room not_back in_range same lt first at =
-    indexed_by events alarms (set longer alarmed (Some place)) changes count (Alarm time alarmed) index room not_back in_range refl (λ held instant. refl)
-    (λ node. elim (eqb_tells alarmed node) [
-      | inl it ↦ get_or-set_at longer alarmed node (Some place) None (sym it.1) lt ∙ ap Some at
-          ∙ sym (ap (alarm_place (events ++ Alarm time alarmed ∷ [])) (sym it.1) ∙ alarm_place_new events time alarmed first)
-      | inr other ↦ get_or-set_other longer alarmed node (Some place) None (λ e. other.1 (sym e)) ∙ same node ∙ index.alarms_are node
-          ∙ sym (alarm_place_quiet events (Alarm time alarmed) node (alarm_place_other time alarmed node other.0))
-    ])
+  -- A change of mode may begin a span, and is counted.
+  pub indexed_mode : (mode : ℕ) → IsLogIndex (events ++ Mode time mode ∷ []) nodes sweep (with_change changes time mode) (count + 1)
+  indexed_mode mode =
+      let last : begin_of_span changes (length changes) ≤ time + 1 = omega (arith, index.by_now, not_back) in
+      let spans : BeginSpans (mode_after 0 (events ++ Mode time mode ∷ [])) (with_change changes time mode) =
+      spans_with_change (mode_after 0 events) (mode_after 0 (events ++ Mode time mode ∷ [])) changes time mode index.spans last
+      (mode_before_change events time mode) (mode_after_change events time mode) in
+      record {
+        few = omega (arith, length_push events (Mode time mode), room);
+        own = own_kept events nodes (Mode time mode) index.own (λ node. refl) (λ node t e. absurd cc);
+        swept = last_sweep_kept (log_of events) (Mode time mode) sweep (λ t e. absurd cc) index.swept;
+        counted = omega (arith, index.counted, changes-push events (Mode time mode));
+        fewer = omega (arith, index.fewer, one_more_change changes time mode);
+        spans = spans;
+        in_order = times_rise (with_change changes time mode) spans.rise;
+        by_now = omega (arith, begun_with_change (mode_after 0 events) changes time mode index.spans last, now-with_event (log_of events) (Mode time mode));
+        ordered = ordered-with_event (log_of events) (Mode time mode) index.ordered not_back in_range;
+        first_alarms = first_alarms_kept (log_of events) (Mode time mode) index.first_alarms (λ t n e. absurd cc);
+      }
+
+  module _ (longer : List NodeEvents) (same : AreSameOfNodes longer nodes) (node : ℕ) (lt : node < length longer) (before : NodeEvents) (is : IsNodeEvents (log_of events) node before)
+      (number : ℕ) (at : number ≡ suc (length events)) where
+    -- A silence of a node is its last.
+    pub indexed_silence : IsLogIndex (events ++ Silent time node ∷ [])
+        (set longer node (record { alarm = before.alarm; silence = Some number; sweep = before.sweep })) sweep changes count
+    indexed_silence =
+        indexed_by events nodes (set longer node (record { alarm = before.alarm; silence = Some number; sweep = before.sweep })) sweep sweep changes count (Silent time node)
+        index room not_back in_range refl (λ held instant. refl)
+        (own_set events nodes longer (Silent time node) node (record { alarm = before.alarm; silence = Some number; sweep = before.sweep }) index.own same lt
+        (node_silenced (log_of events) time number at node before is)
+        (λ other apart. (refl, λ t e. (let it : node ≡ other = cc in apart (sym it)))))
+        (last_sweep_kept (log_of events) (Silent time node) sweep (λ t e. absurd cc) index.swept)
+        (λ t n e. absurd cc)
+
+    -- The first alarm of a node has its number, and the last sweep so far is the last before it.
+    pub indexed_alarm : alarm_among events node ≡ None
+        → IsLogIndex (events ++ Alarm time node ∷ [])
+        (set longer node (record { alarm = Some number; silence = before.silence; sweep = sweep })) sweep changes count
+    indexed_alarm first =
+        indexed_by events nodes (set longer node (record { alarm = Some number; silence = before.silence; sweep = sweep })) sweep sweep changes count (Alarm time node)
+        index room not_back in_range refl (λ held instant. refl)
+        (own_set events nodes longer (Alarm time node) node (record { alarm = Some number; silence = before.silence; sweep = sweep }) index.own same lt
+        (node_alarmed (log_of events) time number at node before is sweep first index.swept)
+        (λ other apart. (other_alarm other apart, λ t e. absurd cc)))
+        (last_sweep_kept (log_of events) (Alarm time node) sweep (λ t e. absurd cc) index.swept)
+        (λ t n e. (let it : node ≡ n = cc in subst (λ (m : ℕ). alarm_among events m ≡ None) it first))
+      where
+        other_alarm : (other : ℕ) → (other ≡ node → ⊥) → alarm_place (Alarm time node ∷ []) other ≡ None
+        other_alarm other apart = elim (eqb_tells node other) [
+          | inl it ↦ absurd (apart (sym it.1))
+          | inr distinct ↦ alarm_place_other time node other distinct.0
+        ]

@@ -1,7 +1,11 @@
 pub mod Events
 pub mod AlarmPlaces
+pub mod AlarmEvents
+pub mod NodesEvents
+pub mod LastQuiets
 pub mod ModeChanges
 pub mod Order
+pub mod FirstAlarms
 pub mod Indexes
 pub mod LogLines
 pub mod Judgements
@@ -23,6 +27,7 @@ pub mod JointWindows
 pub mod JointAges
 pub mod SameModes
 pub mod PastKept
+pub mod SilenceTimes
 pub mod SpanChanges
 pub mod SpanStarts
 pub mod WindowStarts

@@ -1,6 +1,6 @@
 -- A log that goes on keeps its past.
-use Rattle.std.proofs.Common.{◌≡◌, ℕ, zero, suc, ◌-◌, ◌<◌, ◌≤◌, Bool, true, false, cond, ltb, eqb, List, [], ◌∷◌, ◌++◌, length, take, Option, Some, refl, sym, ap, subst, ◌∙◌, arith}
-use Rattle.std.specs.Prelude.{◌↔◌, fold, All, AllPairs, IsTrue, slice_get, option_and_then}
+use Rattle.std.proofs.Common.{◌≡◌, ℕ, zero, suc, ◌-◌, ◌<◌, ◌≤◌, Bool, true, false, cond, ltb, eqb, List, [], ◌∷◌, ◌++◌, length, take, Option, Some, None, refl, sym, ap, subst, ◌∙◌, arith}
+use Rattle.std.specs.Prelude.{◌↔◌, fold, All, AllPairs, IsTrue, slice_get, option_map, option_and_then}
 use Rattle.std.proofs.lemmas.Bool.{le-ltb}
 use Rattle.std.proofs.lemmas.List.Elements.{All-tail}
 use Rattle.tfpg_base.specs.declared.activation.Activation.{Activation}
@@ -9,9 +9,10 @@ use Rattle.tfpg_graph.specs.declared.edge.Edge.{Edge}
 use Rattle.tfpg_graph.specs.Graph.{Tfpg, is_allowed}
 use Rattle.tfpg_log.specs.declared.event.Event.{Event}
 use Rattle.tfpg_log.specs.declared.event.Event.TheVariants.{Alarm, Silent, Sweep, Tick, Mode}
-use Rattle.tfpg_log.specs.Log.{Logbook, GoesOn, IsOrdered, now_of, event_at, alarm_among, alarm_of, quiet_time, quiet_at, time_of_event, mode_after, mode_at}
+use Rattle.tfpg_log.specs.Log.{Logbook, GoesOn, IsOrdered, now_of, event_at, alarm_among, alarm_of, alarm_place, alarm_event, quiet_time, quiet_at, time_of_event, mode_after, mode_at}
 use Rattle.tfpg_log.specs.Rules.{HasAge}
 use Rattle.tfpg_log.specs.Spans.{span_number, span_at, window_of, joint_of}
+use Rattle.tfpg_log.proofs.AlarmEvents.{number_of_place}
 use Rattle.tfpg_log.proofs.SameModes.{same_number, same_span, same_window, same_joint}
 
 -- the times of the events never fall
@@ -150,6 +151,27 @@ alarm_kept (Mode at mode ∷ events) more node time e = alarm_kept events more n
 -- An alarm keeps its time.
 pub alarms_kept : (earlier later : Logbook) → GoesOn earlier later → (node time : ℕ) → alarm_of earlier node ≡ Some time → alarm_of later node ≡ Some time
 alarms_kept earlier later goes_on node time e = ap (λ events. alarm_among events node) goes_on.1 ∙ alarm_kept earlier.events goes_on.0 node time e
+
+alarm_event_or : (is_it : Bool) (place : ℕ) (rest longer : Option ℕ) → ((p : ℕ) → rest ≡ Some p → longer ≡ Some p) → cond is_it (Some 0) (option_map suc rest) ≡ Some place
+    → cond is_it (Some 0) (option_map suc longer) ≡ Some place
+alarm_event_or true place rest longer kept e = e
+alarm_event_or false place None longer kept e = absurd cc
+alarm_event_or false place (Some p) longer kept e = ap (option_map suc) (kept p refl) ∙ e
+
+place_kept : (events more : List Event) (node place : ℕ) → alarm_place events node ≡ Some place → alarm_place (events ++ more) node ≡ Some place
+place_kept [] more node place e = absurd cc
+place_kept (Alarm at alarmed ∷ events) more node place e =
+    alarm_event_or (eqb alarmed node) place (alarm_place events node) (alarm_place (events ++ more) node) (place_kept events more node) e
+place_kept (Silent at silent ∷ events) more node place e = alarm_event_or false place (alarm_place events node) (alarm_place (events ++ more) node) (place_kept events more node) e
+place_kept (Sweep at ∷ events) more node place e = alarm_event_or false place (alarm_place events node) (alarm_place (events ++ more) node) (place_kept events more node) e
+place_kept (Tick at ∷ events) more node place e = alarm_event_or false place (alarm_place events node) (alarm_place (events ++ more) node) (place_kept events more node) e
+place_kept (Mode at mode ∷ events) more node place e = alarm_event_or false place (alarm_place events node) (alarm_place (events ++ more) node) (place_kept events more node) e
+
+-- An alarm keeps its number.
+pub alarm_events_kept : (earlier later : Logbook) → GoesOn earlier later → (node number : ℕ) → alarm_event earlier node ≡ Some number → alarm_event later node ≡ Some number
+alarm_events_kept earlier later goes_on node number e =
+    let at = number_of_place (alarm_place earlier.events node) number e in
+    ap (λ events. option_map suc (alarm_place events node)) goes_on.1 ∙ ap (option_map suc) (place_kept earlier.events goes_on.0 node at.0 at.1) ∙ ap Some (sym at.2)
 
 take_kept : {X : Type 0} (xs ys : List X) (k : ℕ) → k ≤ length xs → take k (xs ++ ys) ≡ take k xs
 take_kept xs ys zero within = refl

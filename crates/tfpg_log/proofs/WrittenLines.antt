@@ -7,9 +7,8 @@ use Rattle.std.proofs.lemmas.List.Elements.{All-nil, All-cons, All-head, All-tai
 use Rattle.std.proofs.lemmas.Slice.Eq.{bytes_eq-Decides}
 use Rattle.tfpg_base.specs.Words.{words_of, line_of}
 use Rattle.tfpg_base.proofs.lists.Elements.{All-from_members}
-use Rattle.tfpg_base.proofs.Separators.{Lacks, join_with_byte-words_of}
+use Rattle.tfpg_base.proofs.Separators.{Lacks, join_with_byte-words_of, slice_split-join}
 use Rattle.tfpg_graph.specs.Statements.{IsLineWord}
-use Rattle.tfpg_graph.proofs.lemmas.reading.LinesSay.{slice_split-join}
 use Rattle.tfpg_log.specs.LogStatements.{LogStatement, Alarm, Silent, Sweep, Tick, Mode, words_of_log_statement, SaysLogStatement, log_statement_in, log_statement_of}
 
 -- ---- words

@@ -13,5 +13,6 @@ pub mod AgeInWindow
 pub mod LogStatements
 pub mod Accepted
 pub mod LogOfLines
+pub mod Quiet
 -- What the code and its proofs need besides. No public clause reaches it.
 pub mod inside

@@ -1,5 +1,5 @@
 -- What a log is: its events, its time, its alarms, and the mode of an instant.
-use Rattle.std.specs.Prelude.{◌≤◌, AllPairs, ◌≡◌, ℕ, zero, suc, ◌-◌, ◌<◌, List, [], ◌∷◌, ◌++◌, length, take, All, fold, Bool, true, false, ◌&&◌, nat_lt, ◌==◌, if◌then◌else◌, IsTrue, Option, Some, None, is_none, option_and_then, slice_get}
+use Rattle.std.specs.Prelude.{◌≤◌, AllPairs, ◌≡◌, ℕ, zero, suc, ◌-◌, ◌<◌, List, [], ◌∷◌, ◌++◌, length, take, All, fold, Bool, true, false, ◌&&◌, nat_lt, ◌==◌, if◌then◌else◌, IsTrue, Option, Some, None, is_none, option_map, option_and_then, slice_get}
 use Rattle.tfpg_log.specs.declared.event.Event.{Event}
 use Rattle.tfpg_log.specs.declared.event.Event.TheVariants.{Alarm, Silent, Sweep, Tick, Mode}
 use Rattle.tfpg_graph.specs.Graph.{Tfpg, is_monitored}
@@ -50,6 +50,20 @@ alarm_among (Mode time mode ∷ events) node = alarm_among events node
 -- the time of the first alarm of a node in the log
 abbrev pub alarm_of : Logbook → ℕ → Option ℕ
 alarm_of log node = alarm_among log.events node
+
+-- the place of the first alarm of a node among events; places count from 0
+abbrev pub alarm_place : List Event → ℕ → Option ℕ
+alarm_place [] node = None
+alarm_place (Alarm time alarmed ∷ events) node =
+    if alarmed == node then Some 0 else option_map suc (alarm_place events node)
+alarm_place (Silent time silent ∷ events) node = option_map suc (alarm_place events node)
+alarm_place (Sweep time ∷ events) node = option_map suc (alarm_place events node)
+alarm_place (Tick time ∷ events) node = option_map suc (alarm_place events node)
+alarm_place (Mode time mode ∷ events) node = option_map suc (alarm_place events node)
+
+-- the number of the event that is the first alarm of a node
+abbrev pub alarm_event : Logbook → ℕ → Option ℕ
+alarm_event log node = option_map suc (alarm_place log.events node)
 
 -- whether an event is a change of mode
 abbrev pub is_mode_change : Event → Bool

@@ -1,6 +1,6 @@
 //! What the definitions of this crate come to, as functions that do nothing: each says its law in its clause.
 
-ghost use Rattle.std.specs.Prelude.{◌≡◌, ℕ, ◌+◌, ◌≤◌, ◌↔◌, List, [], ◌∷◌, ◌++◌, length, All, IsTrue, Some};
+ghost use Rattle.std.specs.Prelude.{◌≡◌, ℕ, ◌+◌, ◌≤◌, ◌↔◌, List, [], ◌∷◌, ◌++◌, length, All, IsTrue, Option, Some};
 ghost use Rattle.tfpg_base.specs.declared.activation.Activation.{Activation};
 ghost use Rattle.tfpg_base.specs.Trace.{time_of};
 ghost use Rattle.tfpg_graph.specs.declared.edge.Edge.{Edge};
@@ -10,7 +10,8 @@ ghost use Rattle.tfpg_graph.specs.Valid.{IsValid};
 ghost use Rattle.tfpg_log.specs.declared.event.Event.{Event};
 ghost use Rattle.tfpg_log.specs.declared.span.Span.{Span};
 ghost use Rattle.tfpg_log.specs.declared.span.Window.{Window};
-ghost use Rattle.tfpg_log.specs.Log.{Logbook, GoesOn, IsOf, IsOrdered, now_of, event_at, alarm_of, mode_at, quiet_at};
+ghost use Rattle.tfpg_log.specs.Log.{Logbook, GoesOn, IsOf, IsOrdered, now_of, event_at, alarm_of, alarm_event, mode_at, quiet_at};
+ghost use Rattle.tfpg_log.specs.Quiet.{IsLastQuiet};
 ghost use Rattle.tfpg_log.specs.Rules.{IsActive, HasAge, IsAge};
 ghost use Rattle.tfpg_log.specs.Spans.{span_number, span_at, is_allowed_at, are_allowed_at, window_of, joint_of};
 ghost use Rattle.tfpg_log.specs.Runs.{IsSpanOf, IsWindowRound};
@@ -38,6 +39,25 @@ pub fn a_log_of_lines_is_of_its_graph()
         log_of_lines graph (lines ++ line ∷ []) ≡ log_after graph (log_of_lines graph lines) line }
     ensures of { (graph : Tfpg) (lines : List (List ℕ)) → IsOf graph (log_of_lines graph lines) }
     ensures ordered { (graph : Tfpg) (lines : List (List ℕ)) → IsOrdered (log_of_lines graph lines) }
+{}
+
+/// The event that is a node's first alarm is an alarm of it at the time of its first alarm, and no alarm of the node has a
+/// lower number. There is such an event exactly where the node has an alarm.
+pub fn an_alarm_event_is_the_first_alarm()
+    ensures event { (log : Logbook) (node number : ℕ) → alarm_event log node ≡ Some number →
+        (time : ℕ) × (event_at log number ≡ Some (Event.Alarm time node)) × (alarm_of log node ≡ Some time) }
+    ensures first { (log : Logbook) (node number time : ℕ) →
+        event_at log number ≡ Some (Event.Alarm time node) →
+        (first : ℕ) × (alarm_event log node ≡ Some first) × (first ≤ number) }
+    ensures there { (log : Logbook) (node time : ℕ) → alarm_of log node ≡ Some time →
+        (number : ℕ) × (alarm_event log node ≡ Some number) }
+{}
+
+/// Of the events that silence a node the last has the greatest time, since times never fall.
+pub fn the_last_silence_has_the_greatest_time()
+    ensures { (graph : Tfpg) (log : Logbook) (node number : ℕ) → IsLastQuiet graph log node (Some number) →
+        IsOrdered log → (time other earlier : ℕ) → quiet_at graph log number node ≡ Some time →
+        quiet_at graph log other node ≡ Some earlier → earlier ≤ time }
 {}
 
 /// Nothing outside a set's reach becomes active: a trace that explains a log from a set activates only nodes that the
@@ -107,17 +127,23 @@ pub fn windows_are_runs_of_spans()
 /// A log that goes on keeps its past: what comes later has a time of at least the old now, and a change of mode holds
 /// only after its own instant. So now does not fall; each instant up to the old now keeps its mode, the number of its
 /// span, and the ages that edges have there in a trace; and at each horizon up to the old now each span and each window
-/// stays as it was. Each event keeps its number, each alarm its time, and an event that was there is a silence of the
-/// same nodes.
+/// stays as it was. Each event keeps its number, each node's first alarm its time and its number, and an event that was
+/// there is a silence of the same nodes. So the last silence of a node is the same or a later one.
 pub fn a_log_that_goes_on_keeps_the_past()
     ensures event { (earlier later : Logbook) → GoesOn earlier later →
         (number : ℕ) (event : Event) → event_at earlier number ≡ Some event →
         event_at later number ≡ Some event }
     ensures alarm { (earlier later : Logbook) → GoesOn earlier later →
         (node time : ℕ) → alarm_of earlier node ≡ Some time → alarm_of later node ≡ Some time }
+    ensures alarm_event { (earlier later : Logbook) → GoesOn earlier later →
+        (node number : ℕ) → alarm_event earlier node ≡ Some number → alarm_event later node ≡ Some number }
     ensures silence { (graph : Tfpg) (earlier later : Logbook) → GoesOn earlier later →
         (number node : ℕ) → number ≤ length earlier.events →
         quiet_at graph later number node ≡ quiet_at graph earlier number node }
+    ensures last_silence { (graph : Tfpg) (earlier later : Logbook) → GoesOn earlier later →
+        (node number : ℕ) → IsLastQuiet graph earlier node (Some number) →
+        (last : Option ℕ) → IsLastQuiet graph later node last →
+        (other : ℕ) × (last ≡ Some other) × (number ≤ other) }
     ensures now { (earlier later : Logbook) → IsOrdered later → GoesOn earlier later →
         now_of earlier ≤ now_of later }
     ensures mode { (earlier later : Logbook) → IsOrdered later → GoesOn earlier later →

@@ -5,7 +5,8 @@
 //! - [`Refusal`] says why a line is refused.
 //! - [`Span`] is a run of instants of one mode, and [`Window`] a run of spans in which an edge is active.
 //! - [`laws`] has what the definitions come to: what ages, spans and windows are in other words, how ages follow from
-//!   windows, that nothing becomes active outside a set's reach, and that a log keeps its past.
+//!   windows, which events a node's alarm and its last silence are, that nothing becomes active outside a set's reach, and
+//!   that a log keeps its past.
 //!
 //! Its definitions, in `specs/`, are those that every crate above stands on: the mode of an instant, the age of an
 //! edge, the propagation rules, and which sets of failure modes fit the log.
@@ -25,6 +26,7 @@ mod limits;
 mod log;
 mod log_line;
 mod mode_change;
+mod node_events;
 mod refusal;
 mod reply;
 mod span;

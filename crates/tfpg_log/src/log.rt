@@ -1,12 +1,14 @@
 //! The log of accepted lines, with its look-ups.
 
 ghost use Rattle.std.specs.Prelude.{◌≡◌, ◌≤◌, ◌<◌, ◌-◌, ℕ, length, take, true, false, ◌&&◌, if◌then◌else◌, nat_lt, nat_le, Some, None, is_none, IfOk, OnOk, OnErr, count_by, vec_len, option_and_then, slice_get};
-ghost use Rattle.tfpg_log.specs.Log.{IsOf, IsOrdered, now_of, event_at, alarm_of, alarm_among, mode_at, quiet_at, with_event, time_of_event, is_mode_change};
+ghost use Rattle.tfpg_log.specs.Log.{IsOf, IsOrdered, now_of, event_at, alarm_of, alarm_event, alarm_among, mode_at, quiet_at, with_event, time_of_event, is_mode_change};
 ghost use Rattle.tfpg_log.specs.Spans.{span_number, span_at, window_round, window_of, joint_of};
 ghost use Rattle.tfpg_log.specs.inside.ActiveModes.{has_mode};
 ghost use Rattle.tfpg_log.specs.declared.limits.TheConstants.{MAX_EVENTS, MAX_MODE_CHANGES};
 ghost use Rattle.tfpg_log.specs.LogOfLines.{new_log};
-ghost use Rattle.tfpg_log.specs.inside.LogIndex.{alarm_place, AreSameAlarms, IsNoSecondAlarm};
+ghost use Rattle.tfpg_log.specs.Quiet.{IsLastQuiet};
+ghost use Rattle.tfpg_log.specs.inside.LogIndex.{IsNoSecondAlarm};
+ghost use Rattle.tfpg_log.specs.inside.NodeEvents.{AreSameOfNodes, IsLast, IsNodeEvents, IsSwept, later_of};
 ghost use Rattle.tfpg_base.specs.Times.{max_time};
 ghost use Rattle.tfpg_graph.specs.Graph.{Tfpg, is_monitored};
 
@@ -14,6 +16,7 @@ use crate::active_modes::{ActiveModes, modes_into};
 use crate::event::Event;
 use crate::limits::{MAX_EVENTS, MAX_MODE_CHANGES};
 use crate::mode_change::ModeChange;
+use crate::node_events::NodeEvents;
 use crate::span::{Span, Window};
 use crate::spans::{mode_of_span, number_of, span_in, take_change};
 use crate::windows::window_round;
@@ -24,14 +27,16 @@ use tfpg_graph::Graph;
 
 /// The events that were accepted so far, numbered from 1, and with them the time. A new log is of every graph.
 ///
-/// No look-up takes memory. Each takes constant time, but for those of the mode and the span of an instant, which take time
-/// in the logarithm of the number of mode changes, and those of windows, which go through the spans of the window, and for
-/// all edges into a node at once also through these edges.
+/// No look-up takes memory, and most take constant time. Those of the mode and of the span of an instant take time in the
+/// logarithm of the number of mode changes. Those of windows go through the spans of the window, and for all edges into a
+/// node at once also through these edges.
 #[derive(Debug, Drop)]
 pub struct Log {
     events: Vec<Event>,
-    /// The place of each node's first alarm among the events. A node past the end has none.
-    alarms: Vec<Option<u32>>,
+    /// Which events bound when each node became active. A node past the end has none.
+    nodes: Vec<NodeEvents>,
+    /// The number of the last sweep.
+    last_sweep: Option<u32>,
     /// The changes of mode among the events that begin a span.
     changes: Vec<ModeChange>,
     /// How many events are changes of mode.
@@ -47,7 +52,8 @@ impl Model for Log {
 
     ghost view = { λ log. record { events = log.events.items } };
 
-    ghost invariant = { λ log. IsLogIndex log.events.items log.alarms.items log.changes.items log.change_count };
+    ghost invariant = { λ log. IsLogIndex
+        log.events.items log.nodes.items log.last_sweep log.changes.items log.change_count };
 }
 
 impl Log {
@@ -58,7 +64,8 @@ impl Log {
     {
         Log {
             events: Vec::new(alloc),
-            alarms: Vec::new(alloc),
+            nodes: Vec::new(alloc),
+            last_sweep: None,
             changes: Vec::new(alloc),
             change_count: 0,
         }
@@ -95,10 +102,21 @@ impl Log {
     pub fn alarm_of(&self, node: u32) -> Option<u64>
         ensures { result ≡ alarm_of self.now node }
     {
-        match self.alarm_place(node) {
-            Some(place) => Some(self.events[place as usize].time()),
+        match self.alarm_event(node) {
+            Some(number) => Some(self.event(number).time()),
             None => None,
         }
+    }
+
+    /// The number of the event that is the node's first alarm, where it has one. No other event is an alarm of it, since a
+    /// log takes no second one. The node may be any number.
+    pub fn alarm_event(&self, node: u32) -> Option<u32>
+        ensures first { result ≡ alarm_event self.now node }
+        ensures only { (number time : ℕ) → event_at self.now number ≡ Some (Event.Alarm time node) →
+            result ≡ Some number }
+    {
+        let _no_second = &self.events;
+        self.node_events(node).alarm
     }
 
     /// The mode of an instant, in milliseconds: that of the last change whose time is below it, and else mode 0. Takes
@@ -112,7 +130,8 @@ impl Log {
     /// The number of the span of an instant, in milliseconds: how many times the mode changed from one instant to the
     /// next up to it. There is none of an instant after now. Takes time in the logarithm of the number of mode changes.
     pub fn span_of(&self, instant: u64) -> Option<u32>
-        ensures { result ≡ (if nat_le instant (now_of self.now) then Some (span_number self.now instant) else None) }
+        ensures { result ≡ (if nat_le instant (now_of self.now)
+            then Some (span_number self.now instant) else None) }
     {
         if instant > self.now() {
             return None;
@@ -167,17 +186,27 @@ impl Log {
         }
     }
 
+    /// The number of the last event that is a silence of the node, where there is one: its own silence, or a sweep, where
+    /// the node is monitored and no event before is an alarm of it. Times never fall, so no other silence of the node has a
+    /// later time. The node may be any number.
+    pub fn last_quiet(&self, graph: &Graph, node: u32) -> Option<u32>
+        ensures { IsLastQuiet graph.now self.now node result }
+    {
+        later_of(self.node_events(node).silence, self.last_swept(graph, node))
+    }
+
     /// A copy of the log, with the allocator that the log keeps. Takes time and memory linear in the log, and in the
-    /// greatest number of a node that has an alarm.
+    /// greatest number of a node that has an alarm or a silence of its own.
     pub fn copy(&self) -> Result<Log, NoMemory>
         ensures { IfOk result (λ log. log ≡ self.now) }
     {
         let events = self.events.clone()?;
-        let alarms = self.alarms.clone()?;
+        let nodes = self.nodes.clone()?;
         let changes = self.changes.clone()?;
         Ok(Log {
             events,
-            alarms,
+            nodes,
+            last_sweep: self.last_sweep,
             changes,
             change_count: self.change_count,
         })
@@ -210,13 +239,27 @@ impl Log {
         self.change_count >= MAX_MODE_CHANGES
     }
 
-    /// The place of the node's first alarm among the events, counted from 0.
-    fn alarm_place(&self, node: u32) -> Option<u32>
-        ensures { result ≡ alarm_place self.now.events node }
+    /// Which events bound when the node became active. The node may be any number.
+    fn node_events(&self, node: u32) -> NodeEvents
+        ensures { IsNodeEvents self.now node result }
     {
-        match self.alarms.get(node as usize) {
-            Some(place) => *place,
-            None => None,
+        match self.nodes.get(node as usize) {
+            Some(events) => *events,
+            None => NodeEvents::none(),
+        }
+    }
+
+    /// The number of the last sweep that is a silence of the node: the last one of all, or before its alarm, if it has one.
+    fn last_swept(&self, graph: &Graph, node: u32) -> Option<u32>
+        ensures { IsLast (IsSwept graph.now self.now node) result }
+    {
+        if !has_monitor(graph, node) {
+            return None;
+        }
+        let events = self.node_events(node);
+        match events.alarm {
+            Some(_) => events.sweep,
+            None => self.last_sweep,
         }
     }
 
@@ -230,7 +273,8 @@ impl Log {
 
     /// Whether a sweep of this number is a silence of the node.
     fn is_swept(&self, graph: &Graph, number: u32, node: u32) -> bool
-        ensures { result ≡ (is_monitored graph.now node && is_none (alarm_among (take (number - 1) self.now.events) node)) }
+        ensures { result ≡ (is_monitored graph.now node
+            && is_none (alarm_among (take (number - 1) self.now.events) node)) }
     {
         has_monitor(graph, node) && self.is_without_alarm(number.saturating_sub(1), node)
     }
@@ -239,8 +283,8 @@ impl Log {
     fn is_without_alarm(&self, count: u32, node: u32) -> bool
         ensures { result ≡ is_none (alarm_among (take count self.now.events) node) }
     {
-        match self.alarm_place(node) {
-            Some(place) => count <= place,
+        match self.alarm_event(node) {
+            Some(number) => count < number,
             None => true,
         }
     }
@@ -256,11 +300,13 @@ impl Log {
     {
         match event {
             Event::Alarm { time, node } => self.accept_alarm(time, node),
-            Event::Mode { time, mode } => self.accept_mode_change(time, mode),
-            Event::Silent { .. } | Event::Sweep { .. } | Event::Tick { .. } => {
+            Event::Silent { time, node } => self.accept_silence(time, node),
+            Event::Sweep { time } => self.accept_sweep(time),
+            Event::Tick { .. } => {
                 self.events.push(event)?;
                 Ok(())
             }
+            Event::Mode { time, mode } => self.accept_mode_change(time, mode),
         }
     }
 
@@ -273,10 +319,48 @@ impl Log {
         ensures ok { OnOk result (self.new ≡ with_event self.old (Event.Alarm time node)) }
         ensures err { OnErr result (self.new ≡ self.old) }
     {
-        let place = self.len();
-        lengthen(&mut self.alarms, node as usize + 1)?;
+        let events = NodeEvents {
+            alarm: Some(self.len() + 1),
+            silence: self.node_events(node).silence,
+            sweep: self.last_sweep,
+        };
+        lengthen(&mut self.nodes, node as usize + 1)?;
         self.events.push(Event::Alarm { time, node })?;
-        self.alarms[node as usize] = Some(place);
+        self.nodes[node as usize] = events;
+        Ok(())
+    }
+
+    /// Takes a silence of a node's own.
+    fn accept_silence(&mut self, time: u64, node: u32) -> Result<(), NoMemory>
+        requires room { length self.old.events < MAX_EVENTS }
+        requires not_back { now_of self.old ≤ time }
+        requires in_range { time ≤ max_time }
+        ensures ok { OnOk result (self.new ≡ with_event self.old (Event.Silent time node)) }
+        ensures err { OnErr result (self.new ≡ self.old) }
+    {
+        let before = self.node_events(node);
+        let events = NodeEvents {
+            alarm: before.alarm,
+            silence: Some(self.len() + 1),
+            sweep: before.sweep,
+        };
+        lengthen(&mut self.nodes, node as usize + 1)?;
+        self.events.push(Event::Silent { time, node })?;
+        self.nodes[node as usize] = events;
+        Ok(())
+    }
+
+    /// Takes a sweep.
+    fn accept_sweep(&mut self, time: u64) -> Result<(), NoMemory>
+        requires room { length self.old.events < MAX_EVENTS }
+        requires not_back { now_of self.old ≤ time }
+        requires in_range { time ≤ max_time }
+        ensures ok { OnOk result (self.new ≡ with_event self.old (Event.Sweep time)) }
+        ensures err { OnErr result (self.new ≡ self.old) }
+    {
+        let number = self.len() + 1;
+        self.events.push(Event::Sweep { time })?;
+        self.last_sweep = Some(number);
         Ok(())
     }
 
@@ -296,15 +380,26 @@ impl Log {
     }
 }
 
-/// Makes the list at least so long. The nodes' alarms stay as they were.
-fn lengthen(alarms: &mut Vec<Option<u32>>, len: usize) -> Result<(), NoMemory>
-    ensures long { OnOk result (len ≤ vec_len alarms.new) }
-    ensures same { AreSameAlarms alarms.new.items alarms.old.items }
+/// Makes the list at least so long. What it says of each node stays as it was.
+fn lengthen(nodes: &mut Vec<NodeEvents>, len: usize) -> Result<(), NoMemory>
+    ensures long { OnOk result (len ≤ vec_len nodes.new) }
+    ensures same { AreSameOfNodes nodes.new.items nodes.old.items }
 {
-    if alarms.len() < len {
-        alarms.resize(len, None)?;
+    if nodes.len() < len {
+        nodes.resize(len, NodeEvents::none())?;
     }
     Ok(())
+}
+
+/// The later of two events, by their numbers, where there are any.
+fn later_of(one: Option<u32>, other: Option<u32>) -> Option<u32>
+    ensures { result ≡ later_of one other }
+{
+    match (one, other) {
+        (Some(first), Some(second)) => Some(first.max(second)),
+        (Some(first), None) => Some(first),
+        (None, _) => other,
+    }
 }
 
 /// Whether this is a node that has a monitor. The number may be any.

@@ -19,10 +19,12 @@ use tfpg_base::{MAX_TIME, NoMemory, Number, read_number};
 use tfpg_graph::Graph;
 
 impl Log {
-    /// What becomes of the line: it is accepted, and then its event is the last, or it is refused, and then the log stays
-    /// as it was, as it does where memory runs out. A refused line takes no memory. Takes time in the length of the line,
-    /// which may have any length, and at most one look-up by name, however long the log is: now and then a list grows and
-    /// is moved, which evens out over the calls, and an alarm may lengthen the index up to its node.
+    /// What becomes of the line. It is accepted, and then its event is the last; or it is refused, and then the log stays
+    /// as it was. It also stays so where memory runs out. A refused line takes no memory. The line may have any length.
+    ///
+    /// Takes time in the length of the line, and at most one look-up by name, however long the log is. Now and then a list
+    /// grows and is moved, which evens out over the calls. An alarm or a silence may lengthen the list of what is kept of
+    /// each node, up to its own.
     pub fn offer(&mut self, graph: &Graph, line: &[u8]) -> Result<Offered, NoMemory>
         requires { IsOf graph.now self.old }
         ensures reply { IfOk result (λ reply. reply ≡ reply_to graph.now self.old line.now) }
@@ -109,7 +111,8 @@ fn judge_room(log: &Log, event: Event) -> Result<Event, Refusal>
 
 fn judge_alarm(graph: &Graph, log: &Log, time: u64, name: &[u8]) -> Result<Event, Refusal>
     ensures { result ≡ unless_refused
-        (first_of (statement_refusals graph.now log.now (Alarm name.now))) (event_of graph.now time (Alarm name.now)) }
+        (first_of (statement_refusals graph.now log.now (Alarm name.now)))
+        (event_of graph.now time (Alarm name.now)) }
 {
     let node = find_monitor(graph, name)?;
     match log.alarm_of(node) {
@@ -120,7 +123,8 @@ fn judge_alarm(graph: &Graph, log: &Log, time: u64, name: &[u8]) -> Result<Event
 
 fn judge_silence(graph: &Graph, log: &Log, time: u64, name: &[u8]) -> Result<Event, Refusal>
     ensures { result ≡ unless_refused
-        (first_of (statement_refusals graph.now log.now (Silent name.now))) (event_of graph.now time (Silent name.now)) }
+        (first_of (statement_refusals graph.now log.now (Silent name.now)))
+        (event_of graph.now time (Silent name.now)) }
 {
     let node = find_monitor(graph, name)?;
     match log.alarm_of(node) {
@@ -131,7 +135,8 @@ fn judge_silence(graph: &Graph, log: &Log, time: u64, name: &[u8]) -> Result<Eve
 
 fn judge_mode(graph: &Graph, log: &Log, time: u64, name: &[u8]) -> Result<Event, Refusal>
     ensures { result ≡ unless_refused
-        (first_of (statement_refusals graph.now log.now (Mode name.now))) (event_of graph.now time (Mode name.now)) }
+        (first_of (statement_refusals graph.now log.now (Mode name.now)))
+        (event_of graph.now time (Mode name.now)) }
 {
     let Some(mode) = graph.find_mode(name) else {
         return Err(Refusal::NotAMode);

@@ -1,8 +1,8 @@
 //! The spans of a log, by the changes of mode that begin them.
 //!
-//! Of the changes with one time the last alone begins a span, and a change to the mode that holds begins none. So the
-//! changes here have rising times, and neighbours of them have different modes. The span of a number from 1 on begins at
-//! the instant after its change; span 0 begins at 0, in mode 0.
+//! Of several changes at one time only the last begins a span, and a change to the mode that already holds begins none. So
+//! the changes here have rising times, and each has another mode than the one before it. Span 0 begins at 0, in mode 0.
+//! Each further span begins at the instant after its change.
 
 ghost use Rattle.std.specs.Prelude.{◌≡◌, ◌+◌, ◌≤◌, ◌<◌, ◌==◌, nat_le, length, if◌then◌else◌, Some, None, IsOk, OnOk, vec_len, vec_capacity};
 ghost use Rattle.std.specs.List.Sorted.{IsNonDecreasingBy};
@@ -48,7 +48,8 @@ pub(crate) fn span_in(changes: &[ModeChange], number: usize, horizon: u64) -> Op
 /// The first instant of the span, where it is by the horizon.
 pub(crate) fn begin_by(changes: &[ModeChange], number: usize, horizon: u64) -> Option<u64>
     requires { number ≤ length changes.now }
-    ensures { result ≡ (if nat_le (begin_of_span changes.now number) horizon then Some (begin_of_span changes.now number) else None) }
+    ensures { result ≡ (if nat_le (begin_of_span changes.now number) horizon
+        then Some (begin_of_span changes.now number) else None) }
 {
     if number == 0 {
         return Some(0);

@@ -1,4 +1,3 @@
-pub mod Failures
 pub mod Members
 pub mod Findings
 pub mod Rendered

@@ -47,7 +47,8 @@ pub(crate) fn put_all_rejected(
 /// Appends the line of a hypothesis, where it is open.
 fn put_open(graph: &Graph, finding: &Finding, into: &mut Vec<u8>) -> Result<(), NoMemory>
     requires { IsFindingOf (sizes_of graph.now) finding.now }
-    ensures { Appends result into.old.items into.new.items (open_text graph.now finding.now finding.now.status) }
+    ensures { Appends result into.old.items into.new.items
+        (open_text graph.now finding.now finding.now.status) }
 {
     match &finding.status {
         Status::Open => put_hypothesis(graph, b"open ", finding, into),
@@ -58,7 +59,8 @@ fn put_open(graph: &Graph, finding: &Finding, into: &mut Vec<u8>) -> Result<(), 
 /// Appends the line of a hypothesis, where it is rejected by a step of this round.
 fn put_rejected(graph: &Graph, finding: &Finding, into: &mut Vec<u8>) -> Result<(), NoMemory>
     requires { IsFindingOf (sizes_of graph.now) finding.now }
-    ensures { Appends result into.old.items into.new.items (rejected_text graph.now finding.now finding.now.status) }
+    ensures { Appends result into.old.items into.new.items
+        (rejected_text graph.now finding.now finding.now.status) }
 {
     match &finding.status {
         Status::Rejected if !finding.steps.as_slice().is_empty() => {

@@ -3,7 +3,7 @@
 //! - [`head`] appends its first line.
 //! - [`refused`] appends the block of a line that was refused.
 //! - [`render`] appends the block of a round.
-//! - [`lost`] appends the line of a panel that was lost.
+//! - [`lost`] appends the line of a panel, which is a listener to rounds, that was lost.
 //! - [`RefusedLine`] is why a line has a block of its own in place of a round.
 //!
 //! ```

@@ -10,7 +10,8 @@ use tfpg_base::{NoMemory, put_line};
 /// Appends the line of a panel that was lost at the round before, or for which memory ran out. Panels count from 1.
 /// Where memory runs out, a part of the line may stand after the old bytes.
 pub fn lost(panel: u64, memory: bool, into: &mut Vec<u8>) -> Result<(), NoMemory>
-    ensures { Appends result into.old.items into.new.items (lost_text (record { panel = panel; no_memory = memory })) }
+    ensures { Appends result into.old.items into.new.items
+        (lost_text (record { panel = panel; no_memory = memory })) }
 {
     let mut digits = Buffer::new();
     put_line(

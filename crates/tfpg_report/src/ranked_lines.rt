@@ -25,7 +25,8 @@ pub(crate) fn put_all_ranked(
     requires findings { All (IsFindingOf (sizes_of graph.now)) findings.now }
     requires rising { AllPairs (λ earlier later. earlier.number < later.number) findings.now }
     ensures { Appends result into.old.items into.new.items
-        (flat_map (λ finding. ranked_text graph.now finding finding.status) (findings_at findings.now order.now)) }
+        (flat_map (λ finding. ranked_text graph.now finding finding.status)
+        (findings_at findings.now order.now)) }
 {
     for number in order {
         put_numbered(graph, findings, *number, into)?;
@@ -64,7 +65,8 @@ fn finding_of(findings: &[Finding], number: u32) -> Option<&Finding>
 /// Appends the lines of a hypothesis, where it is ranked.
 fn put_ranked(graph: &Graph, finding: &Finding, into: &mut Vec<u8>) -> Result<(), NoMemory>
     requires { IsFindingOf (sizes_of graph.now) finding.now }
-    ensures { Appends result into.old.items into.new.items (ranked_text graph.now finding.now finding.now.status) }
+    ensures { Appends result into.old.items into.new.items
+        (ranked_text graph.now finding.now finding.now.status) }
 {
     match &finding.status {
         Status::Ranked {
@@ -90,7 +92,8 @@ fn put_ranked_line(
     into: &mut Vec<u8>,
 ) -> Result<(), NoMemory>
     requires { IsFindingOf (sizes_of graph.now) finding.now }
-    ensures { Appends result into.old.items into.new.items (ranked_line graph.now finding.now cost alarmed monitored) }
+    ensures { Appends result into.old.items into.new.items
+        (ranked_line graph.now finding.now cost alarmed monitored) }
 {
     let mut number_digits = Buffer::new();
     let mut cost_digits = Buffer::new();

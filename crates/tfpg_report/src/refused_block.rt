@@ -30,7 +30,8 @@ pub fn refused(line: u64, cause: RefusedLine, into: &mut Vec<u8>) -> Result<(), 
 /// Appends the block of a line that the log refused.
 fn put_refusal(line: u64, refusal: Refusal, into: &mut Vec<u8>) -> Result<(), NoMemory>
     ensures { Appends result into.old.items into.new.items
-        (text_line (codes "refused" ∷ decimal line ∷ refusal_name refusal ∷ time_words (refusal_time refusal))) }
+        (text_line
+        (codes "refused" ∷ decimal line ∷ refusal_name refusal ∷ time_words (refusal_time refusal))) }
 {
     let mut line_digits = Buffer::new();
     let line_word = line_digits.format(line).as_bytes();

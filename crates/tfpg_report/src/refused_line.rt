@@ -2,7 +2,7 @@
 
 use tfpg_log::Refusal;
 
-/// Why a line of input brings no round.
+/// Why a line of input brings no round, but a block of its own.
 #[derive(Clone, Copy, Debug, PartialEq, Eq)]
 pub enum RefusedLine {
     /// It has more than 4,096 bytes.

@@ -57,7 +57,8 @@ fn put_node_split(
 ) -> Result<(), NoMemory>
     requires { node < length graph.now.nodes }
     ensures { Appends result into.old.items into.new.items
-        (text_line (codes "split" ∷ kind.now ∷ name_word graph.now node ∷ decimal span ∷ decimal horizon ∷ [])) }
+        (text_line
+        (codes "split" ∷ kind.now ∷ name_word graph.now node ∷ decimal span ∷ decimal horizon ∷ [])) }
 {
     let mut span_digits = Buffer::new();
     let mut horizon_digits = Buffer::new();
@@ -80,7 +81,8 @@ fn put_edge_split(
 ) -> Result<(), NoMemory>
     requires { edge < length graph.now.edges }
     ensures { Appends result into.old.items into.new.items
-        (text_line (codes "split" ∷ kind.now ∷ edge_words graph.now edge ++ decimal span ∷ decimal horizon ∷ [])) }
+        (text_line
+        (codes "split" ∷ kind.now ∷ edge_words graph.now edge ++ decimal span ∷ decimal horizon ∷ [])) }
 {
     let (source, target) = edge_names(graph, edge);
     let mut span_digits = Buffer::new();

@@ -28,7 +28,8 @@ pub(crate) fn put_step(graph: &Graph, step: &Step, into: &mut Vec<u8>) -> Result
 fn put_cycle(graph: &Graph, reasons: &[Reason], into: &mut Vec<u8>) -> Result<(), NoMemory>
     requires { All (IsReasonOf (sizes_of graph.now)) reasons.now }
     ensures { Appends result into.old.items into.new.items
-        (text_line (codes "cycle" ∷ decimal (length reasons.now) ∷ []) ++ flat_map (reason_text graph.now) reasons.now) }
+        (text_line (codes "cycle" ∷ decimal (length reasons.now) ∷ [])
+        ++ flat_map (reason_text graph.now) reasons.now) }
 {
     let mut digits = Buffer::new();
     put_line(into, &[b"cycle", digits.format(reasons.len()).as_bytes()])?;

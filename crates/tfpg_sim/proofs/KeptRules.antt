@@ -1,5 +1,5 @@
 -- The simulated trace keeps the propagation rules.
-use Rattle.std.proofs.Common.{◌≡◌, ℕ, zero, suc, ◌+◌, ◌-◌, ◌%◌, ◌<◌, ◌≤◌, ◌⊎◌, ⊎_elim, Bool, true, false, not, eqb, IsTrue, IfSome, List, [], ◌∷◌, length, All, Option, Some, None, slice_get, refl, sym, ap, ◌∙◌, subst, arith}
+use Rattle.std.proofs.Common.{◌≡◌, ℕ, zero, suc, ◌+◌, ◌-◌, ◌%◌, ◌<◌, ◌≤◌, ◌⊎◌, ⊎_elim, true, false, not, eqb, IsTrue, IfSome, List, [], ◌∷◌, length, Option, Some, None, slice_get, refl, sym, ap, ◌∙◌, subst, arith}
 use Rattle.std.specs.List.{scan, Contains}
 use Rattle.std.specs.Option.{option_map_or}
 use Rattle.std.proofs.lemmas.List.Elements.{All-contains}
@@ -14,7 +14,7 @@ use Rattle.tfpg_graph.specs.Graph.{Tfpg, kind_at, is_kind_at, is_failure, is_or,
 use Rattle.tfpg_graph.specs.Valid.{IsValid, IsValidEdge}
 use Rattle.tfpg_trace.proofs.IncomingEdges.{item_among, number_among}
 use Rattle.tfpg_log.specs.Log.{Logbook}
-use Rattle.tfpg_log.specs.Rules.{IsActive, HasAge, SomeArrives, AllArrive, KeepsMay, IsDue, KeepsMust}
+use Rattle.tfpg_log.specs.Rules.{IsActive, HasAge, KeepsMay, IsDue, KeepsMust}
 use Rattle.rand_pcg.specs.Lcg.{Lcg}
 use Rattle.tfpg_sim.specs.declared.entry.Entry.{Entry}
 use Rattle.tfpg_sim.specs.Script.{time_so_far}

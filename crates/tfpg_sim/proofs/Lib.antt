@@ -12,3 +12,13 @@ pub mod WholeRuns
 pub mod ScriptLines
 pub mod NamedEvents
 pub mod KeptRules
+pub mod ReadScripts
+pub mod AcceptedEvents
+pub mod PutAlarms
+pub mod LoggedEvents
+pub mod AlarmTimes
+pub mod ShownEvents
+pub mod AcceptedLines
+pub mod ExplainedLogs
+pub mod GeneratedGraphs
+pub mod GraphTexts

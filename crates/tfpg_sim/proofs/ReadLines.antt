@@ -7,7 +7,7 @@ use Rattle.tfpg_sim.specs.declared.entry.Entry.{Entry}
 use Rattle.tfpg_sim.specs.Script.{has_stopped, next_entry, with_next, with_line, read_lines, stopped, script_of}
 
 -- a fault stays
-fault_stays : (graph : Tfpg) (number : ℕ) (lines : List (List ℕ)) → fold (with_line graph) (Err number) lines ≡ Err number
+pub fault_stays : (graph : Tfpg) (number : ℕ) (lines : List (List ℕ)) → fold (with_line graph) (Err number) lines ≡ Err number
 fault_stays graph number [] = refl
 fault_stays graph number (line ∷ lines) = fault_stays graph number lines
 

@@ -10,7 +10,7 @@ use Rattle.std.proofs.lemmas.Option.{slice_get_within}
 use Rattle.tfpg_base.specs.Words.{words_of, number_of}
 use Rattle.tfpg_base.specs.Times.{max_time}
 use Rattle.tfpg_graph.specs.Graph.{Tfpg, is_kind_at, is_failure, node_named, mode_named}
-use Rattle.tfpg_graph.proofs.Positions.{slice_get-push_before, slice_get-push_last}
+use Rattle.tfpg_base.proofs.lists.Written.{slice_get-push_before, slice_get-push_at as slice_get-push_last}
 use Rattle.tfpg_sim.specs.declared.entry.Entry.{Entry}
 use Rattle.tfpg_sim.specs.declared.entry.Entry.TheVariants.{Start, Mode, Sweep, Tick, Stop}
 use Rattle.tfpg_sim.specs.Script.{time_in, failure_named, entry_alone, entry_with_name, entry_in, entry_of, may_follow, next_entry}
@@ -18,7 +18,7 @@ use Rattle.tfpg_sim.specs.inside.Entries.{IsEntryOf, IsScript}
 use Rattle.tfpg_sim.proofs.FilteredItems.{from_and_then, from_map}
 
 -- what a value that was tested is
-from_test : {X : Type 0} (b : Bool) (x y : X) → then_some b x ≡ Some y → (b ≡ true) × (x ≡ y)
+pub from_test : {X : Type 0} (b : Bool) (x y : X) → then_some b x ≡ Some y → (b ≡ true) × (x ≡ y)
 from_test true x y is = (refl, let same : x ≡ y = cc in same)
 from_test false x y is = absurd (let none : None ≡ Some y = is in cc)
 

@@ -46,7 +46,7 @@ not_back before entry follows =
     let later = (and_both (not (has_stopped before)) _ rest).1 in
     let back = (and_both (nat_le (time_so_far before) (time_of_entry entry)) _ later).0 in grind (arith, nat_tests, back)
 
-new_there : (before : List Entry) (entry : Entry) → may_follow before entry ≡ true → is_new before entry ≡ true
+pub new_there : (before : List Entry) (entry : Entry) → may_follow before entry ≡ true → is_new before entry ≡ true
 new_there before entry follows =
     let rest = (and_both (nat_lt (length before) max_entries) _ follows).1 in
     let later = (and_both (not (has_stopped before)) _ rest).1 in

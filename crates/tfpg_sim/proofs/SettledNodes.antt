@@ -10,7 +10,7 @@ use Rattle.tfpg_base.specs.Trace.{time_of, with_time}
 use Rattle.tfpg_base.proofs.Traces.{time_of-with_time, time_of-with_time_other}
 use Rattle.tfpg_graph.specs.declared.edge.Edge.{Edge}
 use Rattle.tfpg_graph.specs.Graph.{Tfpg, is_kind_at, is_failure, incoming, edge_from_to}
-use Rattle.tfpg_graph.proofs.Positions.{All-none}
+use Rattle.tfpg_base.proofs.lists.Positions.{All-none}
 use Rattle.tfpg_trace.proofs.NumberedItems.{was_there}
 use Rattle.tfpg_trace.proofs.IncomingEdges.{item_among}
 use Rattle.tfpg_log.specs.Log.{Logbook}

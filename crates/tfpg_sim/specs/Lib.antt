@@ -4,6 +4,8 @@ pub mod ScriptAnswers
 pub mod Draws
 pub mod Simulation
 pub mod SimulatedLog
+pub mod AcceptedLog
 pub mod Simulated
+pub mod Generated
 -- What the code and its proofs need besides. No public clause reaches it.
 pub mod inside

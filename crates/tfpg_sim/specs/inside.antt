@@ -4,3 +4,4 @@ pub mod ModeSpans
 pub mod Arrivals
 pub mod Settling
 pub mod Entries
+pub mod GraphText

@@ -53,7 +53,8 @@ pub(crate) fn candidates_after(
     requires delays { All (λ delay. delay ≤ 2 ^ 42) delays.now }
     requires times { All (λ activation. activation.time ≤ 2 ^ 42) trace.now }
     ensures { IfOk result (λ next. (log : Logbook) (limit : ℕ) (before : List Activation) (time : ℕ) →
-        AreSpans log (limit + 1) 0 spans.now → trace.now ≡ with_time settled time before → time_of before settled ≡ None →
+        AreSpans log (limit + 1) 0 spans.now →
+        trace.now ≡ with_time settled time before → time_of before settled ≡ None →
         AreCandidates graph.now log delays.now limit before candidates.now →
         AreCandidates graph.now log delays.now limit trace.now next.items) }
 {
@@ -83,7 +84,8 @@ fn candidate_after(
     requires delays { All (λ delay. delay ≤ 2 ^ 42) delays.now }
     requires times { All (λ activation. activation.time ≤ 2 ^ 42) trace.now }
     ensures { IfOk result (λ next. (log : Logbook) (limit : ℕ) (before : List Activation) (time : ℕ) →
-        AreSpans log (limit + 1) 0 spans.now → trace.now ≡ with_time settled time before → time_of before settled ≡ None →
+        AreSpans log (limit + 1) 0 spans.now →
+        trace.now ≡ with_time settled time before → time_of before settled ≡ None →
         IsCandidate graph.now log delays.now limit before node candidate_before →
         IsCandidate graph.now log delays.now limit trace.now node next) }
 {

@@ -76,7 +76,8 @@ fn draw_latenesses(
     graph: &Graph,
     state: &mut Lcg64Xsh32,
 ) -> Result<Vec<Option<u64>>, NoMemory>
-    ensures latenesses { IfOk result (λ latenesses. latenesses.items ≡ latenesses_from state.old graph.now.nodes) }
+    ensures latenesses { IfOk result (λ latenesses. latenesses.items ≡
+        latenesses_from state.old graph.now.nodes) }
     ensures small { IfOk result (λ latenesses. All IsSmall latenesses.items) }
     ensures count { IfOk result (λ latenesses. length latenesses.items ≡ length graph.now.nodes) }
 {

@@ -79,7 +79,8 @@ fn enter(span: Span, flights: &[Flight], pendings: &mut [Option<u64>])
     requires span { span.lo ≤ 2 ^ 42 }
     requires flights { All (λ flight. (flight.start ≤ 2 ^ 42) × (flight.delay ≤ 2 ^ 42)) flights.now }
     ensures { (place : ℕ) (flight : Flight) → slice_get flights.now place ≡ Some flight →
-        slice_index_or pendings.new place None ≡ pending_in span flight (slice_index_or pendings.old place None) }
+        slice_index_or pendings.new place None ≡
+        pending_in span flight (slice_index_or pendings.old place None) }
 {
     for (place, flight) in flights.iter().enumerate() {
         pendings[place] = pending_in(span, *flight, pendings[place]);

@@ -4,10 +4,17 @@ ghost use Rattle.std.specs.Prelude.{ℕ, ◌≤◌, ◌<◌, List, length};
 ghost use Rattle.tfpg_base.specs.declared.activation.Activation.{Activation};
 ghost use Rattle.tfpg_graph.specs.Graph.{Tfpg};
 ghost use Rattle.tfpg_graph.specs.Valid.{IsValid};
+ghost use Rattle.tfpg_base.specs.Lines.{lines_of};
+ghost use Rattle.tfpg_log.specs.Explains.{Explains};
+ghost use Rattle.tfpg_log.specs.LogOfLines.{log_of_lines};
 ghost use Rattle.tfpg_log.specs.Rules.{KeepsMay, KeepsMust};
 ghost use Rattle.tfpg_sim.specs.declared.entry.Entry.{Entry};
+ghost use Rattle.tfpg_sim.specs.declared.simulated.Simulated.{Simulated};
+ghost use Rattle.tfpg_sim.specs.AcceptedLog.{AreAccepted};
+ghost use Rattle.tfpg_sim.specs.Simulated.{IsSimulationOf};
 ghost use Rattle.tfpg_sim.specs.Script.{time_so_far};
 ghost use Rattle.tfpg_sim.specs.Draws.{delays};
+ghost use Rattle.tfpg_sim.specs.Generated.{generated_graph};
 ghost use Rattle.tfpg_sim.specs.Simulation.{IsSimulated, script_log};
 
 /// The simulated trace keeps the propagation rules at each instant up to the stop, in the modes of the script: since each
@@ -16,5 +23,21 @@ pub fn a_simulated_trace_keeps_the_rules()
     ensures { (graph : Tfpg) (entries : List Entry) (number : ℕ) (trace : List Activation) → IsValid graph →
         IsSimulated graph entries (delays graph number) trace →
         (node instant : ℕ) → node < length graph.nodes → instant ≤ time_so_far entries →
-        KeepsMay graph (script_log entries) trace node instant × KeepsMust graph (script_log entries) trace node instant }
+        KeepsMay graph (script_log entries) trace node instant ×
+        KeepsMust graph (script_log entries) trace node instant }
+{}
+
+/// The lines of a simulated log are all accepted, in their order, and the simulated trace explains their log from the
+/// simulated set.
+pub fn a_simulated_log_is_accepted_and_explained()
+    ensures accepted { (graph : Tfpg) (script : List ℕ) (number : ℕ) (simulated : Simulated) →
+        IsValid graph → IsSimulationOf graph script number simulated → AreAccepted graph (lines_of simulated.log) }
+    ensures explained { (graph : Tfpg) (script : List ℕ) (number : ℕ) (simulated : Simulated) →
+        IsValid graph → IsSimulationOf graph script number simulated →
+        Explains graph (log_of_lines graph (lines_of simulated.log)) simulated.set simulated.trace }
+{}
+
+/// A generated graph is valid: each edge leads to a later node, which is a discrepancy.
+pub fn a_generated_graph_is_valid()
+    ensures { (number size : ℕ) → 1 ≤ size → size ≤ 100 → IsValid (generated_graph number size) }
 {}

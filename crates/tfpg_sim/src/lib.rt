@@ -3,6 +3,9 @@
 //! - [`simulate`] makes the log of a script: the failure modes that it starts, and what they bring about.
 //! - [`Simulated`] is the set of these failure modes, the trace and the log.
 //! - [`a_simulated_trace_keeps_the_rules`] is a law: the trace keeps the propagation rules that explain a log.
+//! - [`a_simulated_log_is_accepted_and_explained`] is another: each line of the log is accepted, and the trace explains the
+//!   log from the set.
+//! - [`generate`] draws a graph and a script for it.
 //! - [`SimFault`] says why there is none.
 #![tactic(auto)]
 
@@ -13,6 +16,7 @@ mod draws;
 mod entry;
 mod fault;
 mod flight;
+mod generating;
 mod laws;
 mod log_lines;
 mod mode_spans;
@@ -24,6 +28,10 @@ mod started_set;
 mod trace;
 
 pub use fault::SimFault;
-pub use laws::a_simulated_trace_keeps_the_rules;
+pub use generating::{Generated, generate};
+pub use laws::{
+    a_generated_graph_is_valid, a_simulated_log_is_accepted_and_explained,
+    a_simulated_trace_keeps_the_rules,
+};
 pub use simulated::Simulated;
 pub use simulation::simulate;

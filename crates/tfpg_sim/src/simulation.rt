@@ -1,6 +1,10 @@
 //! The simulator.
 
 ghost use Rattle.std.specs.Prelude.{IfOk, IfErr};
+ghost use Rattle.tfpg_base.specs.Lines.{lines_of};
+ghost use Rattle.tfpg_log.specs.Explains.{Explains};
+ghost use Rattle.tfpg_log.specs.LogOfLines.{log_of_lines};
+ghost use Rattle.tfpg_sim.specs.AcceptedLog.{AreAccepted};
 ghost use Rattle.tfpg_sim.specs.Script.{script_of};
 ghost use Rattle.tfpg_sim.specs.ScriptAnswers.{IsFaultAt};
 ghost use Rattle.tfpg_sim.specs.Simulated.{IsSimulationOf};
@@ -18,7 +22,8 @@ use tfpg_graph::Graph;
 
 /// Simulates the script on the graph, with delays and latenesses drawn by the number.
 ///
-/// A script is refused with the number of its first line at fault. Goes through no instants: the trace costs, for each edge,
+/// A script is refused with the number of its first line at fault. Each line of the log is accepted, in their order, and
+/// the trace explains the log from the set. Goes through no instants: the trace costs, for each edge,
 /// the edges into its target times the changes of mode, and the log a walk over its lines for each alarm.
 pub fn simulate(
     alloc: Global,
@@ -27,6 +32,9 @@ pub fn simulate(
     number: u64,
 ) -> Result<Simulated, SimFault>
     ensures simulated { IfOk result (IsSimulationOf graph.now script.now number) }
+    ensures accepted { IfOk result (λ simulated. AreAccepted graph.now (lines_of simulated.log)) }
+    ensures explained { IfOk result (λ simulated.
+        Explains graph.now (log_of_lines graph.now (lines_of simulated.log)) simulated.set simulated.trace) }
     ensures fault { IfErr result (IsFaultAt (script_of graph.now script.now)) }
 {
     let _few = graph.node_count();

@@ -1,26 +1,16 @@
-//! Tests of the public calls of the crates below the program, with a file for each crate.
+//! Tests of the public calls of the crates of evidence and of what makes it, with a file for each crate.
 //!
-//! A crate with tests is proved again together with them. So tests stand here, once, on top of the crates that they call,
-//! and each of those is proved once.
+//! A crate with tests is proved again together with them. So tests stand apart, and the crates that they call are proved
+//! once. Those of the crates of the model stand in `tfpg_model_tests`: the two are proved side by side.
 #![tactic(auto)]
 
 #[cfg(test)]
-mod base;
-#[cfg(test)]
 mod clause;
 #[cfg(test)]
-mod diff;
-#[cfg(test)]
-mod graph;
+mod clause_path;
 #[cfg(test)]
 mod hyp;
 #[cfg(test)]
 mod kernel;
 #[cfg(test)]
-mod log;
-#[cfg(test)]
-mod report;
-#[cfg(test)]
 mod sim;
-#[cfg(test)]
-mod trace;

@@ -8,7 +8,7 @@ use Rattle.std.proofs.lemmas.List.Quantifiers.{position-Some}
 use Rattle.std.proofs.lemmas.List.Elements.{All-get_or}
 use Rattle.std.proofs.lemmas.Option.{slice_get-get_or, slice_get_within, get_or_from_slice_get, slice_get_cases}
 use Rattle.tfpg_graph.specs.Graph.{Tfpg, Node, is_kind_at, is_failure, failures, failure_at, place_of_failure}
-use Rattle.tfpg_graph.proofs.Positions.{All-none}
+use Rattle.tfpg_base.proofs.lists.Positions.{All-none}
 use Rattle.tfpg_log.specs.Explains.{IsMember}
 use Rattle.tfpg_trace.specs.inside.Strays.{IsOutside}
 use Rattle.tfpg_trace.proofs.NumberedItems.{item_of, one_place, number_of}

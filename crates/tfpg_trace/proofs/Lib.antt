@@ -16,3 +16,7 @@ pub mod MustFaults
 pub mod FirstMustFaults
 pub mod GapsOver
 pub mod OneVerdict
+pub mod Choices
+pub mod RulesDecided
+pub mod EventsDecided
+pub mod SomeVerdict

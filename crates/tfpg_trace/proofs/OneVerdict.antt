@@ -1,14 +1,13 @@
 -- A trace has at most one verdict.
-use Rattle.std.proofs.Common.{◌≡◌, ℕ, ◌<◌, ◌≤◌, Bool, true, false, cond, List, length, take, Option, Some, None, inl, inr, slice_get, refl, sym, ap, subst, ◌∙◌, arith}
-use Rattle.std.specs.Prelude.{◌&&◌, is_none, nat_eq}
+use Rattle.std.proofs.Common.{◌≡◌, ℕ, ◌<◌, List, take, Some, inl, inr, sym, ap, subst, ◌∙◌, arith}
 use Rattle.std.proofs.lemmas.Bool.{cases_lt}
 use Rattle.tfpg_base.specs.declared.activation.Activation.{Activation}
 use Rattle.tfpg_base.specs.Trace.{time_of}
-use Rattle.tfpg_graph.specs.Graph.{Tfpg, is_monitored}
-use Rattle.tfpg_log.specs.declared.event.Event.{Event}
-use Rattle.tfpg_log.specs.declared.event.Event.TheVariants.{Alarm, Silent, Sweep, Tick, Mode}
-use Rattle.tfpg_log.specs.Log.{Logbook, alarm_among, quiet_time, time_of_event}
+use Rattle.tfpg_graph.specs.Graph.{Tfpg}
+use Rattle.tfpg_log.specs.declared.event.Event.TheVariants.{Alarm}
+use Rattle.tfpg_log.specs.Log.{Logbook, quiet_time}
 use Rattle.tfpg_log.specs.Explains.{Shows, ShowsSilence}
+use Rattle.tfpg_log.proofs.SilenceTimes.{silence_time}
 use Rattle.tfpg_trace.specs.declared.verdict.Verdict.{Verdict}
 use Rattle.tfpg_trace.specs.declared.verdict.Verdict.TheVariants as verdict
 use Rattle.tfpg_trace.specs.Broken.{BreaksMay, FirstBreaksMust}
@@ -28,18 +27,6 @@ neither_below one other above below = elim (cases_lt one other) [
     | inr upto ↦ omega (arith, from, upto)
   ]
 ]
-
-quiet_by : (passes : Bool) (own time : ℕ) → cond passes (Some own) None ≡ Some time → time ≡ own
-quiet_by true own time e = cc
-quiet_by false own time e = absurd cc
-
--- an event is a silence at its own time
-silence_time : (graph : Tfpg) (before : List Event) (event : Event) (node time : ℕ) → quiet_time graph before event node ≡ Some time → time ≡ time_of_event event
-silence_time graph before (Alarm own alarmed) node time e = absurd cc
-silence_time graph before (Silent own silent) node time e = quiet_by (nat_eq silent node) own time e
-silence_time graph before (Sweep own) node time e = quiet_by (is_monitored graph node && is_none (alarm_among before node)) own time e
-silence_time graph before (Tick own) node time e = absurd cc
-silence_time graph before (Mode own mode) node time e = absurd cc
 
 module _ (graph : Tfpg) (log : Logbook) (set : List ℕ) (trace : List Activation) where
   first_late : (node time : ℕ) → IsLateFault graph log trace node time → (said : Verdict) → IsVerdict graph log set trace said → said ≡ verdict.Late node time

@@ -26,7 +26,7 @@ monitored_within graph node monitored = by (slice_get_cases graph.nodes node)
         absurd (false≢true (sym (ap (λ (there : Option Node). is_some (option_and_then lag_of (option_map (λ n. n.kind) there))) past.1) ∙ monitored))
 
 -- a monitored node without an alarm is asked
-both_pass : (time : ℕ) (monitored : Bool) (alarm : Option ℕ) → IsTrue monitored → IsNone alarm → cond (monitored && is_none alarm) (Some time) None ≡ Some time
+pub both_pass : (time : ℕ) (monitored : Bool) (alarm : Option ℕ) → IsTrue monitored → IsNone alarm → cond (monitored && is_none alarm) (Some time) None ≡ Some time
 both_pass time true None passes none = refl
 both_pass time true (Some alarm) passes none = absurd (false≢true (sym none))
 both_pass time false alarm passes none = absurd (false≢true passes)

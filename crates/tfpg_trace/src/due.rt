@@ -1,81 +1,72 @@
-//! When a discrepancy must be active, span by span. In one span an edge that is due stays due, so the first instant at
-//! which it is due says from when on it is. How long it was active when the span begins follows from its gap: the last
-//! instant before the span at which it was not.
+//! When a discrepancy must be active, span by span. In one span an edge that is due stays due, so it is enough to find the
+//! first instant at which it is. How long the edge has been active when the span begins follows from its gap, the last
+//! instant before the span at which it was not active.
 
 ghost use Rattle.std.specs.Prelude.{◌≡◌, ◌<◌, ◌≤◌, ◌+◌, ℕ, length, Option, Some, None, min};
-ghost use Rattle.tfpg_graph.specs.Graph.{incoming};
 ghost use Rattle.tfpg_log.specs.Log.{Logbook, now_of};
 ghost use Rattle.tfpg_log.specs.Spans.{span_at};
 ghost use Rattle.tfpg_trace.specs.inside.Due.{Begins, IsDueBy, SomeDue, AllDue, MustBeActive, earlier};
-ghost use Rattle.tfpg_trace.specs.inside.Gaps.{IsGapOf, AreGaps, after_gap};
+ghost use Rattle.tfpg_trace.specs.inside.Gaps.{IsGapOf, HasGaps, StartsSpan, after_gap};
 
 use tfpg_base::Trace;
 use tfpg_graph::{Graph, Kind};
 use tfpg_log::Span;
 
+/// A node where a span begins, with what is known then of the edges into it.
+#[derive(Clone, Copy)]
+pub(crate) struct SpanStart<'a> {
+    pub(crate) node: u32,
+    pub(crate) span: Span,
+    /// The gaps of the edges into the node, by their places.
+    pub(crate) gaps: &'a [Option<u64>],
+}
+
 /// The first instant of the span at which the node must be active, where there is one: it must be so from then on to the
-/// end of the span. The gaps are those of the edges into the node when the span begins. Goes through these edges.
-pub(crate) fn due_in_span(
-    graph: &Graph,
-    trace: &Trace,
-    node: u32,
-    span: Span,
-    gaps: &[Option<u64>],
-) -> Option<u64>
-    requires node { node < length graph.now.nodes }
-    requires room { length (incoming graph.now node) ≤ length gaps.now }
-    ensures { (log : Logbook) (number : ℕ) → span_at log number (now_of log) ≡ Some span →
-        AreGaps graph.now log node number gaps.now →
-        Begins (MustBeActive graph.now log trace.now node) span.lo span.hi result }
+/// end of the span. Goes through the edges into the node.
+pub(crate) fn due_in_span(graph: &Graph, trace: &Trace, start: &SpanStart<'_>) -> Option<u64>
+    requires { HasGaps graph.now start.now.node start.now.gaps.now }
+    ensures { (log : Logbook) (number : ℕ) →
+        StartsSpan graph.now log start.now.node number start.now.span start.now.gaps.now →
+        Begins (MustBeActive graph.now log trace.now start.now.node)
+        start.now.span.lo start.now.span.hi result }
 {
-    match graph.kind(node) {
+    match graph.kind(start.node) {
         Kind::Failure { .. } => None,
-        Kind::Or { .. } => due_by_some(graph, trace, node, span, gaps),
-        Kind::And { .. } => due_by_all(graph, trace, node, span, gaps),
+        Kind::Or { .. } => due_by_some(graph, trace, start),
+        Kind::And { .. } => due_by_all(graph, trace, start),
     }
 }
 
 /// The first instant of the span at which some edge into the node is due: the least of those of its edges.
-fn due_by_some(
-    graph: &Graph,
-    trace: &Trace,
-    node: u32,
-    span: Span,
-    gaps: &[Option<u64>],
-) -> Option<u64>
-    requires node { node < length graph.now.nodes }
-    requires room { length (incoming graph.now node) ≤ length gaps.now }
-    ensures { (log : Logbook) (number : ℕ) → span_at log number (now_of log) ≡ Some span →
-        AreGaps graph.now log node number gaps.now →
-        Begins (SomeDue graph.now log trace.now node) span.lo span.hi result }
+fn due_by_some(graph: &Graph, trace: &Trace, start: &SpanStart<'_>) -> Option<u64>
+    requires { HasGaps graph.now start.now.node start.now.gaps.now }
+    ensures { (log : Logbook) (number : ℕ) →
+        StartsSpan graph.now log start.now.node number start.now.span start.now.gaps.now →
+        Begins (SomeDue graph.now log trace.now start.now.node) start.now.span.lo start.now.span.hi result }
 {
     let mut first = None;
-    let incoming = graph.incoming(node);
+    let incoming = graph.incoming(start.node);
     for (place, edge) in incoming.iter().enumerate() {
-        first = earlier(first, due_by_edge(graph, trace, *edge, span, gaps[place]));
+        first = earlier(
+            first,
+            due_by_edge(graph, trace, *edge, start.span, start.gaps[place]),
+        );
     }
     first
 }
 
 /// The first instant of the span at which all edges into the node are due: the greatest of those of its edges, and that
 /// of the span where it has none.
-fn due_by_all(
-    graph: &Graph,
-    trace: &Trace,
-    node: u32,
-    span: Span,
-    gaps: &[Option<u64>],
-) -> Option<u64>
-    requires node { node < length graph.now.nodes }
-    requires room { length (incoming graph.now node) ≤ length gaps.now }
-    ensures { (log : Logbook) (number : ℕ) → span_at log number (now_of log) ≡ Some span →
-        AreGaps graph.now log node number gaps.now →
-        Begins (AllDue graph.now log trace.now node) span.lo span.hi result }
+fn due_by_all(graph: &Graph, trace: &Trace, start: &SpanStart<'_>) -> Option<u64>
+    requires { HasGaps graph.now start.now.node start.now.gaps.now }
+    ensures { (log : Logbook) (number : ℕ) →
+        StartsSpan graph.now log start.now.node number start.now.span start.now.gaps.now →
+        Begins (AllDue graph.now log trace.now start.now.node) start.now.span.lo start.now.span.hi result }
 {
-    let mut first = span.lo;
-    let incoming = graph.incoming(node);
+    let mut first = start.span.lo;
+    let incoming = graph.incoming(start.node);
     for (place, edge) in incoming.iter().enumerate() {
-        let due = due_by_edge(graph, trace, *edge, span, gaps[place])?;
+        let due = due_by_edge(graph, trace, *edge, start.span, start.gaps[place])?;
         first = first.max(due);
     }
     Some(first)

@@ -15,7 +15,8 @@ pub(crate) fn pass_span(graph: &Graph, node: u32, span: Span, gaps: &mut [Option
     requires room { length (incoming graph.now node) ≤ length gaps.old }
     ensures { (place : ℕ) → place < length (incoming graph.now node) →
         slice_index_or gaps.new place None
-        ≡ gap_after graph.now span (slice_index_or (incoming graph.now node) place 0) (slice_index_or gaps.old place None) }
+        ≡ gap_after graph.now span
+        (slice_index_or (incoming graph.now node) place 0) (slice_index_or gaps.old place None) }
 {
     let incoming = graph.incoming(node);
     for (place, edge) in incoming.iter().enumerate() {

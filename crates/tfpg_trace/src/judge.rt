@@ -13,8 +13,8 @@ use tfpg_base::{Set, Trace};
 use tfpg_graph::Graph;
 use tfpg_log::Log;
 
-/// Whether the trace explains the log from the set, and if not, its first fault: first of times after now, then of
-/// failure modes outside the set, then of the propagation rules, node by node, and then of the events in their order.
+/// Whether the trace explains the log from the set, and if not, its first fault. Faults come in this order: times after
+/// now; failure modes outside the set; rules that are broken, node by node; events that are not shown, in their order.
 ///
 /// The set may be any: a member that is no position of a failure mode names no node. Takes no memory. Goes through the
 /// nodes, at each through the spans, and in each span through the edges into the node; then through the events, and at

@@ -2,8 +2,9 @@
 //!
 //! - [`explains`] judges a trace.
 //! - [`Verdict`] is what is said of a trace.
+//! - [`laws`] says that a trace has exactly one verdict.
 //!
-//! It goes by spans and windows, and through no instants.
+//! It goes through spans and windows, and never through single instants.
 #![tactic(auto)]
 
 mod ages;

@@ -6,15 +6,15 @@ ghost use Rattle.tfpg_log.specs.Log.{Logbook, now_of};
 ghost use Rattle.tfpg_log.specs.Rules.{IsActive};
 ghost use Rattle.tfpg_log.specs.Spans.{span_at};
 ghost use Rattle.tfpg_trace.specs.inside.FirstFaultIn.{IsFirstMustFault};
-ghost use Rattle.tfpg_trace.specs.inside.Gaps.{AreGaps};
+ghost use Rattle.tfpg_trace.specs.inside.Gaps.{AreGaps, HasGaps, StartsSpan};
 ghost use Rattle.tfpg_trace.specs.inside.FirstFaultIn.{IsFirstFaultIn};
 
-use crate::due::due_in_span;
+use crate::due::{SpanStart, due_in_span};
 use crate::gaps::pass_span;
 use crate::silences::is_active;
 use tfpg_base::Trace;
 use tfpg_graph::{Graph, MAX_INCOMING};
-use tfpg_log::{Log, Span};
+use tfpg_log::Log;
 
 /// The first instant up to now, in milliseconds, at which the node breaks the must rule, where there is one. Takes no
 /// memory. Goes once through the spans up to the node's own time, or up to now where it has none, and in each through the
@@ -65,28 +65,21 @@ fn fault_at(
     ensures gaps { AreGaps graph.now log.now node (number + 1) gaps.new }
 {
     let span = log.span(number, log.now())?;
-    let fault = fault_in_span(graph, trace, node, span, gaps);
+    let start = SpanStart { node, span, gaps };
+    let fault = fault_in_span(graph, trace, &start);
     pass_span(graph, node, span, gaps);
     fault
 }
 
-/// The first instant of the span at which the node breaks the must rule, where there is one. The gaps are those when the
-/// span begins.
-fn fault_in_span(
-    graph: &Graph,
-    trace: &Trace,
-    node: u32,
-    span: Span,
-    gaps: &[Option<u64>],
-) -> Option<u64>
-    requires node { node < length graph.now.nodes }
-    requires room { length (incoming graph.now node) ≤ length gaps.now }
-    ensures { (log : Logbook) (number : ℕ) → span_at log number (now_of log) ≡ Some span →
-        AreGaps graph.now log node number gaps.now →
-        IsFirstFaultIn graph.now log trace.now node number result }
+/// The first instant of the span at which the node breaks the must rule, where there is one.
+fn fault_in_span(graph: &Graph, trace: &Trace, start: &SpanStart<'_>) -> Option<u64>
+    requires { HasGaps graph.now start.now.node start.now.gaps.now }
+    ensures { (log : Logbook) (number : ℕ) →
+        StartsSpan graph.now log start.now.node number start.now.span start.now.gaps.now →
+        IsFirstFaultIn graph.now log trace.now start.now.node number result }
 {
-    let due = due_in_span(graph, trace, node, span, gaps)?;
-    if is_active(trace, node, due) {
+    let due = due_in_span(graph, trace, start)?;
+    if is_active(trace, start.node, due) {
         return None;
     }
     Some(due)

@@ -20,7 +20,8 @@ pub(crate) fn first_not_quiet(
 ) -> Option<(u32, u64)>
     ensures { MatchOption result
         (NoneBefore (IsNotQuiet graph.now log.now trace.now number) (length graph.now.nodes))
-        (λ found. IsFirstNode (IsNotQuiet graph.now log.now trace.now number) (length graph.now.nodes) found.0 found.1) }
+        (λ found. IsFirstNode (IsNotQuiet graph.now log.now trace.now number)
+        (length graph.now.nodes) found.0 found.1) }
 {
     for node in 0..graph.node_count() {
         if let Some(time) = not_quiet_time(graph, log, trace, number, node) {

@@ -12,7 +12,8 @@ use Rattle.tfpg.specs.declared.course.Turn.{Turn}
 use Rattle.tfpg.specs.declared.course.Turn.TheVariants.{Answered, Ended}
 use Rattle.tfpg.specs.ForNow.{budget, LosesNone, OpensNone}
 use Rattle.tfpg.specs.inside.Diagnoser.{DiagnoserRepresents}
-use Rattle.tfpg.specs.Run.{Streams, HasNoFault, Diagnoses}
+use Rattle.tfpg.specs.Run.{Diagnoses}
+use Rattle.tfpg.specs.Streams.{Streams, HasNoFault}
 
 -- A diagnosis that began with the streams before has come to this: each line that the reader has returned is answered,
 -- its block is written, and nothing else was written but the head. Nothing has failed.

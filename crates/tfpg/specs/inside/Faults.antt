@@ -1,4 +1,6 @@
--- How the faults of the layers below become those of fetching and of the streams.
+-- How the faults of the layers below become those of fetching, of the streams and of a run.
+use Rattle.std.specs.Prelude.{ℕ, List, Result, Ok, Err}
+use Rattle.tfpg_base.specs.Outside.{ShelfState, Rose}
 use Rattle.tfpg_base.specs.declared.line.LineFault.{LineFault}
 use Rattle.tfpg_base.specs.declared.line.LineFault.TheVariants as lines
 use Rattle.tfpg_base.specs.declared.outside.ShelfFault.{ShelfFault}
@@ -9,6 +11,12 @@ use Rattle.tfpg.specs.declared.fault.FetchFault.{FetchFault}
 use Rattle.tfpg.specs.declared.fault.FetchFault.TheVariants as fetch
 use Rattle.tfpg.specs.declared.fault.StreamFault.{StreamFault}
 use Rattle.tfpg.specs.declared.fault.StreamFault.TheVariants as streams
+use Rattle.tfpg.specs.Fetch.{IsTooLong}
+use Rattle.tfpg.specs.declared.end.CheckCause.TheVariants.{BadMap}
+use Rattle.tfpg.specs.declared.end.End.{End}
+use Rattle.tfpg.specs.declared.end.End.TheVariants as ends
+use Rattle.tfpg.specs.declared.map.NoMap.{NoMap}
+use Rattle.tfpg.specs.declared.map.NoMap.TheVariants as maps
 
 -- the fault of fetching that a fault of the shelf is
 abbrev pub fetch_fault_of_shelf : ShelfFault → FetchFault
@@ -25,3 +33,26 @@ fetch_fault_of_refusal refusal.NoMemory = fetch.NoMemory
 abbrev pub stream_fault_of_lines : LineFault → StreamFault
 stream_fault_of_lines lines.ReadFault = streams.ReadFault
 stream_fault_of_lines lines.TooMuchInput = streams.TooMuchInput
+
+-- why the input gives no map, where this is the fault of the reader of lines
+abbrev pub no_map_of_lines : LineFault → NoMap
+no_map_of_lines lines.ReadFault = maps.ReadFault
+no_map_of_lines lines.TooMuchInput = maps.TooMuchInput
+
+-- the end of a run whose input gives no map
+abbrev pub end_of_no_map : NoMap → End
+end_of_no_map (maps.Refused line) = ends.NotAccepted line BadMap
+end_of_no_map maps.ReadFault = ends.ReadFault
+end_of_no_map maps.TooMuchInput = ends.TooMuchInput
+end_of_no_map maps.NoMemory = ends.NoMemory
+
+-- the end of a run whose work has this result
+abbrev pub end_of_work : Result (Unit {0}) End → End
+end_of_work (Ok done) = ends.Done
+end_of_work (Err end) = end
+
+-- Why the file of this name was not fetched: the shelf failed; the file has more than 2^24 bytes; or memory ran out.
+abbrev pub IsFileFault : ShelfState → ShelfState → List ℕ → ShelfFault → Type 0
+IsFileFault before now name shelf.Failed = Rose before.faults now.faults
+IsFileFault before now name shelf.TooLong = IsTooLong before name
+IsFileFault before now name shelf.NoMemory = Unit {0}

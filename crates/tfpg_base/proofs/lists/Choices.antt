@@ -1,6 +1,8 @@
 -- Laws of choices among optional values.
-use Rattle.std.proofs.Common.{◌≡◌, List, [], ◌∷◌, ◌++◌, Option, Some, None, Ok, Err, map, refl, ap}
-use Rattle.std.specs.Option.{option_map}
+use Rattle.std.proofs.Common.{◌≡◌, ℕ, zero, suc, List, [], ◌∷◌, ◌++◌, length, slice_get, Option, Some, None, Ok, Err, map, inl, inr, refl, sym, ap, subst, ◌∙◌}
+use Rattle.std.specs.Option.{option_map, option_and_then}
+use Rattle.std.specs.List.{Contains}
+use Rattle.tfpg_base.proofs.lists.Elements.{Contains-head, Contains-tail, Contains-nil, Contains-cons_cases}
 use Rattle.tfpg_base.specs.Choice.{first_of, each_of, unless_refused}
 
 module _ {X : Type 0} where
@@ -45,6 +47,82 @@ module _ {X : Type 0} where
     go None each at made = absurd cc
     go (Some all) each at made = let same : x ∷ all ≡ xs = cc in rw (← same) (ap (option_map (λ (more : List X). x ∷ more)) (each all at))
 
+  -- where there is each, there is each of the others
+  opened : (x : X) (others : Option (List X)) (xs : List X) → option_map (λ (ys : List X). x ∷ ys) others ≡ Some xs → (rest : List X) × (others ≡ Some rest) × (x ∷ rest ≡ xs)
+  opened x None xs at = absurd cc
+  opened x (Some rest) xs at = (rest, refl, cc)
+
+  -- where there is each, it stands at its place
+  pub each_of-at : (options : List (Option X)) (xs : List X) (k : ℕ) → each_of options ≡ Some xs → slice_get options k ≡ option_map Some (slice_get xs k)
+  each_of-at [] [] k at = refl
+  each_of-at [] (y ∷ ys) k at = absurd cc
+  each_of-at (None ∷ options) xs k at = absurd cc
+  each_of-at (Some x ∷ options) xs zero at = let parts = opened x (each_of options) xs at in ap (λ (ys : List X). option_map Some (slice_get ys 0)) parts.2
+  each_of-at (Some x ∷ options) xs (suc k) at =
+      let parts = opened x (each_of options) xs at in
+      each_of-at options parts.0 k parts.1 ∙ ap (λ (ys : List X). option_map Some (slice_get ys (suc k))) parts.2
+
+  -- and there are as many as options
+  pub length-each_of : (options : List (Option X)) (xs : List X) → each_of options ≡ Some xs → length xs ≡ length options
+  length-each_of [] [] at = refl
+  length-each_of [] (y ∷ ys) at = absurd cc
+  length-each_of (None ∷ options) xs at = absurd cc
+  length-each_of (Some x ∷ options) xs at =
+      let parts = opened x (each_of options) xs at in
+      sym (ap length parts.2) ∙ ap suc (length-each_of options parts.0 parts.1)
+
+  -- one more that there is
+  pub each_of-push : (options : List (Option X)) (xs : List X) (x : X) → each_of options ≡ Some xs → each_of (options ++ Some x ∷ []) ≡ Some (xs ++ x ∷ [])
+  each_of-push options xs x at = each_of-append options (Some x ∷ []) xs (x ∷ []) at refl
+
+  -- where one is missing, there is not each
+  pub each_of-none : (options : List (Option X)) (k : ℕ) → slice_get options k ≡ Some None → each_of options ≡ None
+  each_of-none [] k at = absurd cc
+  each_of-none (None ∷ options) k at = refl
+  each_of-none (Some x ∷ options) zero at = absurd cc
+  each_of-none (Some x ∷ options) (suc k) at = ap (option_map (λ (ys : List X). x ∷ ys)) (each_of-none options k at)
+
+module _ {X Y : Type 0} (f : X → Option Y) where
+  opened_image : (x : X) (xs : List X) (ys : List Y) → each_of (map f (x ∷ xs)) ≡ Some ys → (y : Y) × (rest : List Y) × (f x ≡ Some y) × (each_of (map f xs) ≡ Some rest) × (y ∷ rest ≡ ys)
+  opened_image x xs ys at = by (f x) (each_of (map f xs)) refl refl at
+    where
+      by : (o : Option Y) (others : Option (List Y)) → f x ≡ o → each_of (map f xs) ≡ others → each_of (o ∷ map f xs) ≡ Some ys
+          → (y : Y) × (rest : List Y) × (f x ≡ Some y) × (each_of (map f xs) ≡ Some rest) × (y ∷ rest ≡ ys)
+      by None others is are all = absurd cc
+      by (Some y) None is are all = absurd cc
+      by (Some y) (Some rest) is are all = (y, rest, is, are, cc)
+
+  -- what stands among the values is the value of an element
+  pub Contains-each_of_only : (xs : List X) (ys : List Y) (y : Y) → each_of (map f xs) ≡ Some ys → Contains ys y → (x : X) × Contains xs x × (f x ≡ Some y)
+  Contains-each_of_only [] ys y at member = absurd (let none : [] ≡ ys = cc in Contains-nil y (subst (λ zs. Contains zs y) (sym none) member))
+  Contains-each_of_only (x ∷ xs) ys y at member =
+      let parts = opened_image x xs ys at in
+      elim (Contains-cons_cases parts.0 parts.1 y (subst (λ zs. Contains zs y) (sym parts.4) member)) [
+        | inl same ↦ (x, Contains-head x xs, parts.2 ∙ ap Some same)
+        | inr more ↦ (let found = Contains-each_of_only xs parts.1 y parts.3 more in (found.0, Contains-tail x xs found.0 found.1, found.2))
+      ]
+
+  -- and the value of each element stands among them
+  pub Contains-each_of : (xs : List X) (ys : List Y) (x : X) → each_of (map f xs) ≡ Some ys → Contains xs x → (y : Y) × Contains ys y × (f x ≡ Some y)
+  Contains-each_of [] ys x at member = absurd (Contains-nil x member)
+  Contains-each_of (first ∷ others) ys x at member =
+      let parts = opened_image first others ys at in
+      elim (Contains-cons_cases first others x member) [
+        | inl same ↦ (parts.0, subst (λ zs. Contains zs parts.0) parts.4 (Contains-head parts.0 parts.1), ap f (sym same) ∙ parts.2)
+        | inr more ↦ (
+            let found = Contains-each_of others parts.1 x parts.3 more in
+            (found.0, subst (λ zs. Contains zs found.0) parts.4 (Contains-tail parts.0 parts.1 found.0 found.1), found.2)
+            )
+      ]
+
+  -- There is each value where each element has one.
+  pub each_of-from_each : (xs : List X) → ((x : X) → Contains xs x → (y : Y) × (f x ≡ Some y)) → (ys : List Y) × (each_of (map f xs) ≡ Some ys)
+  each_of-from_each [] had = ([], refl)
+  each_of-from_each (x ∷ xs) had =
+      let first = had x (Contains-head x xs) in
+      let rest = each_of-from_each xs (λ y member. had y (Contains-tail x xs y member)) in
+      (first.0 ∷ rest.0, ap (λ (o : Option Y). each_of (o ∷ map f xs)) first.1 ∙ ap (option_map (λ (ys : List Y). first.0 ∷ ys)) rest.1)
+
 module _ {X E : Type 0} where
   -- a refusal refuses
   pub unless_refused-some : (refusal : Option E) (cause : E) (value : X) → refusal ≡ Some cause → unless_refused refusal value ≡ Err cause
@@ -63,3 +141,14 @@ module _ {X E : Type 0} where
   pub refusal-from_ok : (refusal : Option E) (value result : X) → unless_refused refusal value ≡ Ok result → (refusal ≡ None) × (value ≡ result)
   refusal-from_ok None value result is = (refl, cc)
   refusal-from_ok (Some found) value result is = absurd cc
+
+module _ {X Y : Type 0} where
+  -- what a chain of options comes from
+  pub option_and_then-some : (f : X → Option Y) (o : Option X) (y : Y) → option_and_then f o ≡ Some y → (x : X) × (o ≡ Some x) × (f x ≡ Some y)
+  option_and_then-some f None y is = absurd cc
+  option_and_then-some f (Some x) y is = (x, refl, is)
+
+  -- what an image comes from
+  pub option_map-some : (f : X → Y) (o : Option X) (y : Y) → option_map f o ≡ Some y → (x : X) × (o ≡ Some x) × (f x ≡ y)
+  option_map-some f None y is = absurd cc
+  option_map-some f (Some x) y is = (x, refl, let same : f x ≡ y = cc in same)

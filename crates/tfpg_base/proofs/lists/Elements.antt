@@ -1,8 +1,9 @@
 -- Laws of the elements of a list: which stand in it, and what holds of each two.
-use Rattle.std.proofs.Common.{◌≡◌, suc, zero, List, [], ◌∷◌, ◌++◌, get_or, ◌⊎◌, inl, inr, refl, subst, length-append, arith}
+use Rattle.std.proofs.Common.{◌≡◌, ℕ, suc, zero, List, [], ◌∷◌, ◌++◌, get_or, take, drop, Some, slice_get, ◌⊎◌, inl, inr, refl, subst, length-append, arith}
 use Rattle.std.specs.List.{All, AllPairs, Contains}
-use Rattle.std.proofs.lemmas.List.{get_or_append_left}
-use Rattle.std.proofs.lemmas.List.Elements.{Contains-get_or, Contains-append_right}
+use Rattle.std.proofs.lemmas.List.{get_or_append_left, take-append-drop}
+use Rattle.std.proofs.lemmas.List.Elements.{All-tail, Contains-get_or, Contains-append_left, Contains-append_right}
+use Rattle.std.proofs.lemmas.Option.{get_or_from_slice_get, slice_get_within}
 pub use Rattle.std.proofs.lemmas.List.Kept.{AllPairs-cons}
 
 module _ {X : Type 0} where
@@ -22,6 +23,28 @@ module _ {X : Type 0} where
   -- nothing stands in an empty list
   pub Contains-nil : (x : X) → Contains [] x → ⊥
   Contains-nil x member = omega (arith, member.1)
+
+  -- what stands in a list of one is that one
+  pub Contains-one : (x y : X) → Contains (x ∷ []) y → x ≡ y
+  Contains-one x y member = elim (Contains-cons_cases x [] y member) [ inl same ↦ same | inr none ↦ absurd (Contains-nil y none) ]
+
+  -- what stands in a front of a list stands in it
+  pub Contains-take : (xs : List X) (n : ℕ) (x : X) → Contains (take n xs) x → Contains xs x
+  Contains-take xs n x found = subst (λ ys. Contains ys x) (take-append-drop n xs) (Contains-append_left (take n xs) (drop n xs) x found)
+
+  -- what holds of each element holds of the one at a number
+  pub All-at : (P : X → Type 0) (xs : List X) (number : ℕ) (x : X) → All P xs → slice_get xs number ≡ Some x → P x
+  All-at P xs number x all at = subst P (get_or_from_slice_get xs number x x at) (all number x (slice_get_within xs number x at))
+
+  -- what holds of each element holds of each of a front
+  pub All-front : (P : X → Type 0) (front rest : List X) → All P (front ++ rest) → All P front
+  All-front P front rest all index d within =
+      subst P (get_or_append_left front rest d index within) (all index d (omega (arith, length-append front rest)))
+
+  -- and of each of the rest
+  pub All-back : (P : X → Type 0) (front rest : List X) → All P (front ++ rest) → All P rest
+  All-back P [] rest all = all
+  All-back P (first ∷ front) rest all = All-back P front rest (All-tail P first (front ++ rest) all)
 
   -- what holds of each member holds of each element
   pub All-from_members : (P : X → Type 0) (xs : List X) → ((x : X) → Contains xs x → P x) → All P xs

@@ -1,6 +1,7 @@
 -- What is read of a list after an element was written or added.
-use Rattle.std.proofs.Common.{◌≡◌, ◌≢◌, ℕ, zero, suc, ◌<◌, List, [], ◌∷◌, ◌++◌, length, set, Some, refl, ap, arith}
+use Rattle.std.proofs.Common.{◌≡◌, ◌≢◌, ℕ, zero, suc, ◌+◌, ◌<◌, ◌⊎◌, ⊎_elim, List, [], ◌∷◌, ◌++◌, length, get_or, set, Some, refl, ap, sym, ◌∙◌, subst, arith}
 use Rattle.std.specs.Prelude.{slice_get}
+use Rattle.std.proofs.lemmas.List.{get_or_append_left, get_or_push}
 
 module _ {X : Type 0} where
   -- at another place than the one written nothing changed
@@ -27,3 +28,16 @@ module _ {X : Type 0} where
   pub slice_get-push_last : (xs : List X) (y : X) → slice_get (xs ++ y ∷ []) (length xs) ≡ Some y
   slice_get-push_last [] y = refl
   slice_get-push_last (x ∷ xs) y = slice_get-push_last xs y
+
+  -- also where its place is a number that the length equals
+  pub slice_get-push_at : (xs : List X) (y : X) (i : ℕ) → i ≡ length xs → slice_get (xs ++ y ∷ []) i ≡ Some y
+  slice_get-push_at xs y i last = ap (slice_get (xs ++ y ∷ [])) last ∙ slice_get-push_last xs y
+
+-- what holds of each element and of one more
+pub each_get_or-push : {X : Type 0} (d : X) (P : ℕ → X → Type 0) (xs ys : List X) (x : X) (n : ℕ) → ys ≡ xs ++ x ∷ [] → length xs ≡ n
+    → ((k : ℕ) → k < n → P k (get_or xs k d)) → P n x → (k : ℕ) → k < n + 1 → P k (get_or ys k d)
+each_get_or-push d P xs ys x n are count each one k within =
+    subst (λ zs. P k (get_or zs k d)) (sym are) (⊎_elim
+    (λ less. subst (P k) (sym (get_or_append_left xs (x ∷ []) d k (omega (arith, less)))) (each k less))
+    (λ same. subst (λ m. P m (get_or (xs ++ x ∷ []) m d)) same (subst (P n) (sym (get_or_push xs x d n count)) one))
+    (let cases : (k < n) ⊎ (n ≡ k) = grind arith in cases))

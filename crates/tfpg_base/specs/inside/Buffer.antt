@@ -1,7 +1,7 @@
 -- What a reader of lines keeps.
 use Rattle.std.specs.Prelude.{◌≡◌, ◌+◌, ◌≤◌, slice_range, vec_len, None}
 use Rattle.tfpg_base.specs.declared.lines.Lines.TheInside.{Inside}
-use Rattle.tfpg_base.specs.Lines.{Buffered, max_bytes}
+use Rattle.tfpg_base.specs.Lines.{Buffered, max_bytes, buffer_size}
 
 -- what contracts see of it
 abbrev pub buffered_of : Inside → Buffered
@@ -16,10 +16,10 @@ buffered_of a = record {
 -- The buffer has its size, what waits and what is lent lies in it, and there are no more lines than bytes that do not wait.
 -- Before the end not too many bytes were taken.
 pub record IsInPlace (a : Inside) : Type 0 where
-  pub room : vec_len a.buffer ≡ 65536
+  pub room : vec_len a.buffer ≡ buffer_size
   pub waiting : a.waiting.start ≤ a.waiting.end
-  pub waiting_within : a.waiting.end ≤ 65536
+  pub waiting_within : a.waiting.end ≤ buffer_size
   pub text : a.text.start ≤ a.text.end
-  pub text_within : a.text.end ≤ 65536
+  pub text_within : a.text.end ≤ buffer_size
   pub lines : a.number + a.waiting.end ≤ a.taken + a.waiting.start
   pub few : a.ended ≡ None → a.taken ≤ max_bytes

@@ -5,8 +5,8 @@ ghost use Rattle.tfpg_base.specs.Outside.{Rose, Takes, IsAtEnd};
 ghost use Rattle.tfpg_base.specs.Lines.{longest_line, max_bytes, CountsReadFault};
 ghost use Rattle.tfpg_base.specs.inside.LineSearch.{Refilled};
 
-use super::{Lines, Places, ROOM};
-use crate::{Failed, LineFault, MAX_BYTES, Source};
+use super::{Lines, Places};
+use crate::{BUFFER_SIZE, Failed, LineFault, MAX_BYTES, Source};
 
 impl Lines {
     /// Takes further bytes, and returns how many: none where the source has ended. A fault ends the reader.
@@ -19,7 +19,7 @@ impl Lines {
         self.text = Places::NONE;
         self.waiting = with_room(&mut self.buffer, self.waiting);
         let from = self.waiting.end;
-        let to = from + wanted(self.taken, ROOM - from);
+        let to = from + wanted(self.taken, BUFFER_SIZE - from);
         match take_into(source, &mut self.buffer, from, to) {
             Err(Failed) => {
                 self.ended = Some(Err(LineFault::ReadFault));
@@ -41,16 +41,17 @@ impl Lines {
 /// The places of the bytes that wait, once there is a free place after them. They are moved to the front of the buffer
 /// where there was none, and where no byte waits.
 fn with_room(buffer: &mut Vec<u8>, waiting: Places) -> Places
-    requires room { vec_len buffer.old ≡ ROOM }
+    requires room { vec_len buffer.old ≡ BUFFER_SIZE }
     requires order { waiting.start ≤ waiting.end }
-    requires within { waiting.end ≤ ROOM }
-    requires short { waiting.end < waiting.start + ROOM }
+    requires within { waiting.end ≤ BUFFER_SIZE }
+    requires short { waiting.end < waiting.start + BUFFER_SIZE }
     ensures room { vec_len buffer.new ≡ vec_len buffer.old }
     ensures order { result.start ≤ result.end }
-    ensures within { result.end < ROOM }
-    ensures same { slice_range buffer.new.items result.start result.end ≡ slice_range buffer.old.items waiting.start waiting.end }
+    ensures within { result.end < BUFFER_SIZE }
+    ensures same { slice_range buffer.new.items result.start result.end ≡
+        slice_range buffer.old.items waiting.start waiting.end }
 {
-    if waiting.start < waiting.end && waiting.end < ROOM {
+    if waiting.start < waiting.end && waiting.end < BUFFER_SIZE {
         return waiting;
     }
     buffer.copy_within(waiting.start..waiting.end, 0);
@@ -90,7 +91,8 @@ fn take_into<S: Source>(
     ensures room { vec_len buffer.new ≡ vec_len buffer.old }
     ensures front { take from buffer.new.items ≡ take from buffer.old.items }
     ensures within { IfOk result (λ count. count ≤ to - from) }
-    ensures taken { IfOk result (λ count. Takes (S.state source.old) (S.state source.new) (slice_range buffer.new.items from (from + count))) }
+    ensures taken { IfOk result (λ count.
+        Takes (S.state source.old) (S.state source.new) (slice_range buffer.new.items from (from + count))) }
     ensures no_fault { IfOk result (λ count. (S.state source.new).faults ≡ (S.state source.old).faults) }
     ensures end { result ≡ Ok 0 → IsAtEnd (S.state source.new) }
     ensures failed { OnErr result (Rose (S.state source.old).faults (S.state source.new).faults) }

@@ -3,7 +3,7 @@
 ghost use Rattle.std.specs.Prelude.{◌≡◌, ◌<◌, ◌≤◌, ◌^◌, [], ◌∷◌, ◌++◌, length, map, OnOk, OnErr, IsErrOf, Some};
 ghost use Rattle.std.specs.String.{string_bytes};
 ghost use Rattle.std.specs.Option.{option_copied};
-ghost use Rattle.tfpg_base.specs.Outside.{file_of, Gives, PassesLimit, CountsFailure, Asks};
+ghost use Rattle.tfpg_base.specs.Outside.{longest_file, file_of, Gives, PassesLimit, CountsFailure, Asks};
 ghost use Rattle.tfpg_base.specs.Memory.{shelf_state, Copies, Fetches, FailsNext, after_fetch};
 
 use super::failing_calls::FailingCalls;
@@ -80,14 +80,16 @@ impl<'a> Shelf for MemoryShelf<'a> {
 
     fn fetch(&mut self, alloc: Global, name: &str, into: &mut Vec<u8>) -> Result<(), ShelfFault>
         ensures given { OnOk result (Gives (shelf_state self.old) name.now into.new.items) }
-        ensures small { OnOk result (length into.new.items ≤ 2 ^ 24) }
-        ensures too_long { IsErrOf result ShelfFault.TooLong → PassesLimit (shelf_state self.old) name.now into.new.items }
+        ensures small { OnOk result (length into.new.items ≤ longest_file) }
+        ensures too_long { IsErrOf result ShelfFault.TooLong →
+            PassesLimit (shelf_state self.old) name.now into.new.items }
         ensures failed { IsErrOf result ShelfFault.Failed → into.new.items ≡ [] }
         ensures no_memory { IsErrOf result ShelfFault.NoMemory → into.new.items ≡ [] }
         ensures counted { CountsFailure result (shelf_state self.old) (shelf_state self.new) }
         ensures asks { Asks (shelf_state self.old) (shelf_state self.new) name.now result }
         ensures same_files { (shelf_state self.new).files ≡ (shelf_state self.old).files }
-        ensures fetched { Fetches (FailsNext self.old.failing self.old.calls) (file_of self.old.files name.now) into.new.items result }
+        ensures fetched { Fetches (FailsNext self.old.failing self.old.calls)
+            (file_of self.old.files name.now) into.new.items result }
         ensures now { self.new ≡ after_fetch self.old name.now result }
     {
         into.clear();
@@ -111,7 +113,8 @@ impl<'a> Shelf for MemoryShelf<'a> {
 
 /// Notes that this name was asked for.
 fn note(asked: &mut Vec<String>, alloc: Global, name: &str) -> Result<(), NoMemory>
-    ensures ok { OnOk result (map string_bytes asked.new.items ≡ map string_bytes asked.old.items ++ name.now ∷ []) }
+    ensures ok { OnOk result
+        (map string_bytes asked.new.items ≡ map string_bytes asked.old.items ++ name.now ∷ []) }
     ensures err { OnErr result (asked.new.items ≡ asked.old.items) }
 {
     asked.push(String::from_str(alloc, name)?)?;
@@ -121,7 +124,8 @@ fn note(asked: &mut Vec<String>, alloc: Global, name: &str) -> Result<(), NoMemo
 /// Copies the file of that name into the empty room, as far as a file may go.
 fn copy_named(files: &[(&str, &[u8])], name: &str, into: &mut Vec<u8>) -> Result<(), ShelfFault>
     requires { into.old.items ≡ [] }
-    ensures { Copies (file_of (map (λ file. (file.0.now, file.1.now)) files.now) name.now) into.new.items result }
+    ensures { Copies (file_of (map (λ file. (file.0.now, file.1.now)) files.now) name.now)
+        into.new.items result }
 {
     match find(files, name) {
         Some(content) => copy_file(content, into),

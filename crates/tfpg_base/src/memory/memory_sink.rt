@@ -71,8 +71,10 @@ impl<'a> Sink for MemorySink<'a> {
 
     fn put(&mut self, piece: &[u8]) -> Result<usize, Failed>
         ensures within { IfOk result (λ count. count ≤ length piece.now) }
-        ensures put { IfOk result (λ count. Puts (sink_state self.old) (sink_state self.new) (take count piece.now)) }
-        ensures no_fault { IfOk result (λ count. (sink_state self.new).faults ≡ (sink_state self.old).faults) }
+        ensures put { IfOk result
+            (λ count. Puts (sink_state self.old) (sink_state self.new) (take count piece.now)) }
+        ensures no_fault { IfOk result
+            (λ count. (sink_state self.new).faults ≡ (sink_state self.old).faults) }
         ensures progress { 0 < length piece.now → IfOk result (λ count. 0 < count) }
         ensures failed { OnErr result (Rose (sink_state self.old).faults (sink_state self.new).faults) }
         ensures nothing_put { OnErr result ((sink_state self.new).holds ≡ (sink_state self.old).holds) }

@@ -4,6 +4,7 @@ ghost use Rattle.std.specs.Prelude.{◌≡◌, ◌⊎◌, ◌<◌, ◌≤◌, �
 ghost use Rattle.tfpg_base.specs.Outside.{Takes, IsAtEnd, Rose};
 ghost use Rattle.tfpg_base.specs.Memory.{source_state, FailsNext, count_given, after_take, filled};
 
+use super::bytes_left::BytesLeft;
 use super::failing_calls::FailingCalls;
 use crate::{Failed, Source};
 use std::marker::Model;
@@ -11,10 +12,9 @@ use std::marker::Model;
 /// Bytes at hand as a source that gives a limited number of them in a call, and fails at chosen calls.
 #[derive(Debug, Drop)]
 pub struct MemorySource<'a> {
-    left: &'a [u8],
+    bytes: BytesLeft<'a>,
     most: usize,
     calls: FailingCalls<'a>,
-    ended: bool,
 }
 
 impl<'a> Model for MemorySource<'a> {
@@ -24,12 +24,12 @@ impl<'a> Model for MemorySource<'a> {
     ghost Value = { GivesBytes };
 
     ghost view = { λ source. record {
-      left = source.left.now;
+      left = source.bytes.left.now;
       most = source.most;
       failing = source.calls.failing.now;
       calls = source.calls.calls;
       faults = source.calls.faults;
-      ended = source.ended;
+      ended = source.bytes.ended;
     } };
 
     ghost invariant = { λ source. 0 < source.most };
@@ -40,13 +40,19 @@ impl<'a> MemorySource<'a> {
     /// numbers. Takes no memory.
     pub fn new(bytes: &'a [u8], most: usize, failing: &'a [u64]) -> MemorySource<'a>
         requires { 0 < most }
-        ensures { result ≡ record { left = bytes.now; most = most; failing = failing.now; calls = 0; faults = 0; ended = false } }
+        ensures { result ≡ record {
+          left = bytes.now;
+          most = most;
+          failing = failing.now;
+          calls = 0;
+          faults = 0;
+          ended = false;
+        } }
     {
         MemorySource {
-            left: bytes,
+            bytes: BytesLeft::new(bytes),
             most,
             calls: FailingCalls::new(failing),
-            ended: false,
         }
     }
 
@@ -54,7 +60,7 @@ impl<'a> MemorySource<'a> {
     pub fn left(&self) -> &[u8]
         ensures { result.now ≡ self.now.left }
     {
-        self.left
+        self.bytes.left
     }
 
     /// How often taking has failed.
@@ -72,10 +78,13 @@ impl<'a> Source for MemorySource<'a> {
 
     fn take(&mut self, room: &mut [u8]) -> Result<usize, Failed>
         ensures within { IfOk result (λ count. count ≤ length room.old) }
-        ensures taken { IfOk result (λ count. Takes (source_state self.old) (source_state self.new) (take count room.new)) }
-        ensures no_fault { IfOk result (λ count. (source_state self.new).faults ≡ (source_state self.old).faults) }
+        ensures taken { IfOk result
+            (λ count. Takes (source_state self.old) (source_state self.new) (take count room.new)) }
+        ensures no_fault { IfOk result
+            (λ count. (source_state self.new).faults ≡ (source_state self.old).faults) }
         ensures end { result ≡ Ok 0 → 0 < length room.old → IsAtEnd (source_state self.new) }
-        ensures ended { IsTrue (source_state self.new).ended ↔ (IsTrue (source_state self.old).ended ⊎ ((result ≡ Ok 0) × (0 < length room.old))) }
+        ensures ended { IsTrue (source_state self.new).ended ↔
+            (IsTrue (source_state self.old).ended ⊎ ((result ≡ Ok 0) × (0 < length room.old))) }
         ensures failed { OnErr result (Rose (source_state self.old).faults (source_state self.new).faults) }
         ensures nothing_taken { OnErr result ((source_state self.new).left ≡ (source_state self.old).left) }
         ensures fails { IsErr result ↔ FailsNext self.old.failing self.old.calls }
@@ -87,13 +96,6 @@ impl<'a> Source for MemorySource<'a> {
             self.calls.raise();
             return Err(Failed);
         }
-        let count = self.left.len().min(room.len()).min(self.most);
-        let (given, left) = self.left.split_at(count);
-        room[..count].copy_from_slice(given);
-        self.left = left;
-        if count == 0 && !room.is_empty() {
-            self.ended = true;
-        }
-        Ok(count)
+        Ok(self.bytes.give(room, self.most))
     }
 }

@@ -4,6 +4,7 @@ ghost use Rattle.std.specs.Prelude.{◌≡◌, ◌⊎◌, ◌<◌, ◌≤◌, �
 ghost use Rattle.tfpg_base.specs.Outside.{Takes, IsAtEnd, Rose};
 ghost use Rattle.tfpg_base.specs.Memory.{steady_state, ended_after, filled};
 
+use super::bytes_left::BytesLeft;
 use crate::{Failed, Source};
 use std::marker::Model;
 
@@ -11,8 +12,7 @@ use std::marker::Model;
 /// bytes as the room has places. Contracts see it as the bytes that are left.
 #[derive(Debug, Drop)]
 pub struct SteadySource<'a> {
-    left: &'a [u8],
-    ended: bool,
+    bytes: BytesLeft<'a>,
 }
 
 impl<'a> Model for SteadySource<'a> {
@@ -20,7 +20,7 @@ impl<'a> Model for SteadySource<'a> {
 
     ghost Value = { SteadyBytes };
 
-    ghost view = { λ source. record { left = source.left.now; ended = source.ended } };
+    ghost view = { λ source. record { left = source.bytes.left.now; ended = source.bytes.ended } };
 }
 
 impl<'a> SteadySource<'a> {
@@ -29,8 +29,7 @@ impl<'a> SteadySource<'a> {
         ensures { result ≡ record { left = bytes.now; ended = false } }
     {
         SteadySource {
-            left: bytes,
-            ended: false,
+            bytes: BytesLeft::new(bytes),
         }
     }
 
@@ -38,7 +37,7 @@ impl<'a> SteadySource<'a> {
     pub fn left(&self) -> &[u8]
         ensures { result.now ≡ self.now.left }
     {
-        self.left
+        self.bytes.left
     }
 }
 
@@ -49,24 +48,21 @@ impl<'a> Source for SteadySource<'a> {
 
     fn take(&mut self, room: &mut [u8]) -> Result<usize, Failed>
         ensures within { IfOk result (λ count. count ≤ length room.old) }
-        ensures taken { IfOk result (λ count. Takes (steady_state self.old) (steady_state self.new) (take count room.new)) }
-        ensures no_fault { IfOk result (λ count. (steady_state self.new).faults ≡ (steady_state self.old).faults) }
+        ensures taken { IfOk result
+            (λ count. Takes (steady_state self.old) (steady_state self.new) (take count room.new)) }
+        ensures no_fault { IfOk result
+            (λ count. (steady_state self.new).faults ≡ (steady_state self.old).faults) }
         ensures end { result ≡ Ok 0 → 0 < length room.old → IsAtEnd (steady_state self.new) }
-        ensures ended { IsTrue (steady_state self.new).ended ↔ (IsTrue (steady_state self.old).ended ⊎ ((result ≡ Ok 0) × (0 < length room.old))) }
+        ensures ended { IsTrue (steady_state self.new).ended ↔
+            (IsTrue (steady_state self.old).ended ⊎ ((result ≡ Ok 0) × (0 < length room.old))) }
         ensures failed { OnErr result (Rose (steady_state self.old).faults (steady_state self.new).faults) }
         ensures nothing_taken { OnErr result ((steady_state self.new).left ≡ (steady_state self.old).left) }
         ensures given { result ≡ Ok (min (length self.old.left) (length room.old)) }
         ensures left { self.new.left ≡ drop (length room.old) self.old.left }
-        ensures has_ended { self.new.ended ≡ ended_after self.old.ended (length self.old.left) (length room.old) }
+        ensures has_ended { self.new.ended ≡
+            ended_after self.old.ended (length self.old.left) (length room.old) }
         ensures room { room.new ≡ filled self.old.left room.old result }
     {
-        let count = self.left.len().min(room.len());
-        let (given, left) = self.left.split_at(count);
-        room[..count].copy_from_slice(given);
-        self.left = left;
-        if count == 0 && !room.is_empty() {
-            self.ended = true;
-        }
-        Ok(count)
+        Ok(self.bytes.give(room, room.len()))
     }
 }

@@ -8,8 +8,8 @@ ghost use Rattle.tfpg_evidence.specs.declared.clause_name.ClauseName.{ClauseName
 ghost use Rattle.tfpg_evidence.specs.declared.reason.Reason.{Reason};
 ghost use Rattle.tfpg_evidence.specs.declared.step.Step.TheVariants.{Split, Cycle};
 ghost use Rattle.tfpg_clause.specs.Clauses.{count_of};
-ghost use Rattle.tfpg_clause.specs.Trees.{Judged, PathSplit, stated, IsClosedLeaf, IsRefutation, IsPartial, IsPresentLeaf};
-ghost use Rattle.tfpg_clause.specs.Paths.{with_step, new_split, next_leaf, IsRightNext, IsFrameOf, AreFramesOf, IsAtLeaf, new_frame, path_after, stated_by, IsClosedBy};
+ghost use Rattle.tfpg_clause.specs.Trees.{Judged, PathSplit, stated, IsClosedBy, IsClosedLeaf, IsRefutation, IsPartial, IsPresentLeaf};
+ghost use Rattle.tfpg_clause.specs.Paths.{with_step, new_split, next_leaf, IsRightNext, IsFrameOf, AreFramesOf, IsAtLeaf, new_frame, path_after, stated_by};
 ghost use Rattle.tfpg_clause.specs.declared.path.Frame.{Frame};
 
 /// A right step makes a partial tree or a refutation of a partial tree.

@@ -1,4 +1,3 @@
-pub mod Lines
 pub mod StatementLines
 pub mod Names
 pub mod WithoutCause
@@ -33,3 +32,4 @@ pub mod Ending
 pub mod WholeText
 pub mod LinesCounted
 pub mod OneFault
+pub mod FoundNames

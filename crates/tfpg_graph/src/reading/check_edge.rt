@@ -30,7 +30,8 @@ pub(crate) fn read_edge(
 ) -> Result<Edge, GraphCause>
     requires listed { map (λ name. name.now) modes.now ≡ modes_listed words.modes.now }
     ensures first { ReadAs
-        (first_of (causes (is_misplaced declared.now (edge_said words.entry)) declared.now (edge_said words.entry)))
+        (first_of (causes (is_misplaced declared.now (edge_said words.entry))
+        declared.now (edge_said words.entry)))
         (edge_declared declared.now (edge_said words.entry))
         result }
     ensures clear { IfOk result (CanDeclareEdge declared.now) }
@@ -104,7 +105,8 @@ fn find_ends(
 ) -> Result<(u32, u32), GraphCause>
     requires listed { map (λ name. name.now) modes.now ≡ modes_listed words.modes.now }
     ensures first { ReadAs
-        (first_of (edge_unknown_causes declared.now words.entry.source.now words.entry.target.now words.entry.modes.now))
+        (first_of (edge_unknown_causes
+        declared.now words.entry.source.now words.entry.target.now words.entry.modes.now))
         (ends_named declared.now words.entry.source.now words.entry.target.now)
         result }
     ensures within { IfOk result (λ ends. (ends.0 < length declared.now.nodes) ×

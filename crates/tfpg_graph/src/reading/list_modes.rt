@@ -1,6 +1,6 @@
 //! The word for the modes of an edge: `*` for all, `-` for none, or names with commas between.
 
-ghost use Rattle.std.specs.Prelude.{◌≡◌, ◌≤◌, ◌<◌, ◌^◌, ◌-◌, ◌==◌, map, length, false, bytes_eq, codes, All, Contains, IfOk, is_none, filter_map, sum_by};
+ghost use Rattle.std.specs.Prelude.{◌≡◌, ◌≤◌, ◌<◌, ◌^◌, ◌-◌, ◌==◌, map, length, drop, true, false, bytes_eq, codes, All, Contains, IfOk, is_none, filter_map, sum_by};
 ghost use Rattle.std.specs.List.{list_any, slice_split};
 ghost use Rattle.tfpg_graph.specs.Graph.{mode_named};
 ghost use Rattle.tfpg_graph.specs.Declares.{modes_listed, modes_of_word};
@@ -34,14 +34,27 @@ fn parts_at_commas<'a>(alloc: Global, word: &'a [u8]) -> Result<Vec<&'a [u8]>, N
     Ok(names)
 }
 
-/// Whether a name stands twice. Takes time in the square of their number, which is at most 64 in a text without a fault, and
-/// calls as deep as there are names.
+/// Whether a name stands twice. Takes time in the square of their number, which is at most 64 in a text without a fault.
 pub(crate) fn has_twice(names: &[&[u8]]) -> bool
     ensures { result ≡ has_twice (map (λ name. name.now) names.now) }
 {
+    for place in 0..names.len() {
+        if first_stands_again(&names[place..]) {
+            return true;
+        }
+    }
+    false
+}
+
+/// Whether the first of some names stands again among the others.
+fn first_stands_again(names: &[&[u8]]) -> bool
+    ensures again { result ≡ true → has_twice (map (λ name. name.now) names.now) ≡ true }
+    ensures once { result ≡ false → has_twice (map (λ name. name.now) names.now) ≡
+        has_twice (map (λ name. name.now) (drop 1 names.now)) }
+{
     match names.split_first() {
         None => false,
-        Some((first, others)) => is_among(first, others) || has_twice(others),
+        Some((first, others)) => is_among(first, others),
     }
 }
 

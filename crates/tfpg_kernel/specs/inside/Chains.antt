@@ -37,10 +37,12 @@ with_constraint chain constraint = record {
 abbrev pub chain_of : List Constraint → Chain
 chain_of constraints = fold with_constraint new_chain constraints
 
+-- whether the last constraint ends where the first begins
 abbrev pub is_round : Option Ends → Bool
 is_round None = false
 is_round (Some ends) = ends.first == ends.last
 
+-- whether the sum is below 0
 abbrev pub is_negative : ℤ → Bool
 is_negative (pos n) = false
 is_negative (negsuc n) = true

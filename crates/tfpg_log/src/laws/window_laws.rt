@@ -109,7 +109,8 @@ pub fn joint_window_is_what_all_have_in_common()
     ensures throughout { (graph : Tfpg) (log : Logbook) (node number horizon instant : ℕ) (joint : Window) →
         joint_of graph log node number horizon ≡ Some joint → joint.lo ≤ instant → instant ≤ joint.hi →
         joint_of graph log node (span_number log instant) horizon ≡ Some joint }
-    ensures of_each { (graph : Tfpg) (log : Logbook) (node number horizon : ℕ) (joint : Window) (edge : Edge) →
+    ensures of_each { (graph : Tfpg) (log : Logbook)
+        (node number horizon : ℕ) (joint : Window) (edge : Edge) →
         joint_of graph log node number horizon ≡ Some joint → Contains (edges_into graph node) edge →
         (window : Window) × (window_of log edge number horizon ≡ Some window)
         × (window.lo ≤ joint.lo) × (joint.hi ≤ window.hi) }

@@ -5,7 +5,7 @@ use Rattle.tfpg_graph.specs.declared.edge.Edge.{Edge}
 use Rattle.tfpg_graph.specs.Graph.{Tfpg, is_allowed, incoming}
 use Rattle.tfpg_log.specs.declared.span.Span.{Span}
 use Rattle.tfpg_log.specs.Log.{Logbook, now_of}
-use Rattle.tfpg_log.specs.Spans.{span_number, is_allowed_at}
+use Rattle.tfpg_log.specs.Spans.{span_number, span_at, is_allowed_at}
 
 -- In the spans before that of a number the edge is last not active at this instant.
 pub record IsLastGap (log : Logbook) (edge : Edge) (number gap : ℕ) : Type 0 where
@@ -28,6 +28,16 @@ abbrev pub AreGaps : Tfpg → Logbook → ℕ → ℕ → List (Option ℕ) → 
 AreGaps graph log node number gaps =
     (place : ℕ) → place < length (incoming graph node)
     → IsGapOf graph log (slice_index_or (incoming graph node) place 0) number (slice_index_or gaps place None)
+
+-- The node is one of the graph, and there are gaps enough for the edges into it.
+pub record HasGaps (graph : Tfpg) (node : ℕ) (gaps : List (Option ℕ)) : Type 0 where
+  pub in_graph : node < length graph.nodes
+  pub room : length (incoming graph node) ≤ length gaps
+
+-- The span is the one of a number, and these are the gaps of the edges into the node when it begins.
+pub record StartsSpan (graph : Tfpg) (log : Logbook) (node number : ℕ) (span : Span) (gaps : List (Option ℕ)) : Type 0 where
+  pub here : span_at log number (now_of log) ≡ Some span
+  pub are : AreGaps graph log node number gaps
 
 -- the later of an instant and the one after a gap
 abbrev pub after_gap : Option ℕ → ℕ → ℕ

@@ -1,9 +1,10 @@
 use Rattle.std.proofs.Common.{subst, ◌∙◌}
 use Rattle.tfpg.specs.declared.fault.StreamFault.TheVariants as faults
-use Rattle.tfpg.specs.Run.{streams}
+use Rattle.tfpg.specs.Streams.{streams}
 use Rattle.tfpg.specs.inside.Course.{LeadsTo}
 use Rattle.tfpg.proofs.Putting.{Puts-same}
-use Rattle.tfpg.proofs.Turns.{result_is, few_given, begins_under_way, begins_without_memory, begins_badly, falls_short}
+use Rattle.tfpg.proofs.InputLines.{falls_short}
+use Rattle.tfpg.proofs.Turns.{result_is, few_given, begins_under_way, begins_without_memory, begins_badly}
 use Rattle.tfpg.proofs.course.diagnose.Goals as goal
 
 pub returns-in_err-lines : goal.returns-in_err-lines

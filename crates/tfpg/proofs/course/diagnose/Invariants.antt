@@ -1,5 +1,5 @@
 use Rattle.std.proofs.Common.{◌-◌, ◌+◌, ◌^◌}
-use Rattle.tfpg.specs.Run.{streams}
+use Rattle.tfpg.specs.Streams.{streams}
 use Rattle.tfpg.specs.inside.Course.{IsUnderWay}
 use Rattle.tfpg.specs.inside.Diagnoser.{IsReady}
 use Rattle.tfpg.proofs.course.diagnose.Given as goal

@@ -1,5 +1,5 @@
 use Rattle.std.proofs.Common.{refl}
-use Rattle.tfpg.specs.Run.{streams}
+use Rattle.tfpg.specs.Streams.{streams}
 use Rattle.tfpg.proofs.Stops.{stops_without_graph, stops_diagnosis, stops_when_done}
 use Rattle.tfpg.proofs.run.diagnose_file.Goals as goal
 

@@ -10,7 +10,7 @@ use Rattle.tfpg_graph.specs.declared.declared.Declared.TheInside.{Inside}
 use Rattle.tfpg_graph.specs.declared.kind.Kind.{Kind}
 use Rattle.tfpg_graph.specs.Graph.{Tfpg, node_named, mode_named}
 use Rattle.tfpg_graph.specs.inside.Indexes.{graph_of, with_node, with_mode}
-use Rattle.tfpg_graph.proofs.Positions.{position-cons_none}
+use Rattle.tfpg_base.proofs.lists.Positions.{position-cons_none}
 use Rattle.tfpg_graph.proofs.lemmas.declared.Named.{index_of-node, index_of-mode}
 
 -- where no place passes, none passes

@@ -1,5 +1,5 @@
 -- What is declared stays valid so far, and indexed, when one thing more is declared.
-use Rattle.std.proofs.Common.{◌≡◌, ◌≢◌, ℕ, ◌+◌, ◌<◌, ◌≤◌, ◌==◌, Bool, true, false, cond, List, [], ◌∷◌, ◌++◌, map, length, get_or, Option, Some, None, position, All, IsTrue, refl, ap, sym, ◌∙◌, subst, arith, set, ◌&&◌, ⊎_elim}
+use Rattle.std.proofs.Common.{◌≡◌, ◌≢◌, ℕ, ◌+◌, ◌<◌, ◌≤◌, ◌==◌, Bool, true, false, cond, List, [], ◌∷◌, ◌++◌, map, length, get_or, slice_get, Option, Some, None, position, All, IsTrue, refl, ap, sym, ◌∙◌, subst, arith, set, ◌&&◌, ⊎_elim}
 use Rattle.std.specs.Str.{bytes_eq}
 use Rattle.std.proofs.lemmas.Bool.{cases_lt, cases_eq, eq-eqb, ne_eqb, and_from, false≢true}
 use Rattle.std.proofs.lemmas.List.{length_push, length-set, append-nil}
@@ -10,11 +10,12 @@ use Rattle.tfpg_graph.specs.declared.declared.Declared.TheInside.{Inside}
 use Rattle.tfpg_graph.specs.declared.kind.Kind.{Kind}
 use Rattle.tfpg_graph.specs.declared.edge.Edge.{Edge}
 use Rattle.tfpg_graph.specs.Graph.{Tfpg, Node, numbers_from, is_failure, failures, incoming, place_of_failure, node_named, mode_named, edge_from_to}
-use Rattle.tfpg_graph.specs.Valid.{HasValidNumber, IsValidEdge, IsSamePair}
+use Rattle.tfpg_graph.specs.Valid.{HasValidNumber, IsValidEdge, IsSamePair, IsValidSoFar}
 use Rattle.tfpg_graph.specs.inside.Indexes.{graph_of, with_mode, with_node, with_edge, HasIndexes, IsDeclared}
-use Rattle.tfpg_graph.specs.Valid.{IsValidSoFar}
 use Rattle.tfpg_graph.proofs.Numbered.{numbers_from-push, All-below-numbers_from}
-use Rattle.tfpg_graph.proofs.Positions.{All-none, bytes_eq-false, position-push_no, position-push_yes, position-All_fail, slice_get-push_before, slice_get-push_last, slice_get-set_same, slice_get-set_other}
+use Rattle.tfpg_base.proofs.lists.Positions.{All-none, position-push_no, position-push_yes, position-All_fail}
+use Rattle.tfpg_base.proofs.lists.SameBytes.{bytes_eq-false}
+use Rattle.tfpg_base.proofs.lists.Written.{slice_get-push_before, slice_get-push_at, slice_get-set_same, slice_get-set_other}
 
 module _ (d : Inside) (graph : Tfpg) (seen : graph_of d ≡ graph) where
   -- what holds of what is declared, said of the graph as which it is seen
@@ -97,14 +98,14 @@ module _ (graph : Tfpg) (name : List ℕ) (kind : Kind) where
     row_count = length_push rows [] ∙ ap (λ n. n + 1) is.row_count ∙ sym (length_push graph.nodes new_node);
     row_is = λ node within. ⊎_elim
         (λ lt. slice_get-push_before rows [] node (omega (arith, is.row_count)) ∙ is.row_is node lt)
-        (λ ge. slice_get-push_last rows [] node (omega (arith, is.row_count, length_push graph.nodes new_node)) ∙ ap Some (sym (ap (numbers_from 0 (λ edge. edge.target == node)) none)))
+        (λ ge. slice_get-push_at rows [] node (omega (arith, is.row_count, length_push graph.nodes new_node)) ∙ ap Some (sym (ap (numbers_from 0 (λ edge. edge.target == node)) none)))
         (cases_lt node (length graph.nodes));
     failed_are = ap (with_failure (is_failure kind) (length graph.nodes)) is.failed_are ∙ sym (failures-with_node graph name kind);
     place_count = length_push places _ ∙ ap (λ n. n + 1) is.place_count ∙ sym (length_push graph.nodes new_node);
     place_is = λ node within. ⊎_elim
         (λ lt. slice_get-push_before places _ node (omega (arith, is.place_count)) ∙ is.place_is node lt
         ∙ ap Some (sym (ap (position (λ f. f == node)) (failures-with_node graph name kind) ∙ old_place (is_failure kind) (length graph.nodes) node (failures graph) lt)))
-        (λ ge. slice_get-push_last places _ node (omega (arith, is.place_count, length_push graph.nodes new_node)) ∙ ap Some (last_place node (omega (arith, length_push graph.nodes new_node))))
+        (λ ge. slice_get-push_at places _ node (omega (arith, is.place_count, length_push graph.nodes new_node)) ∙ ap Some (last_place node (omega (arith, length_push graph.nodes new_node))))
         (cases_lt node (length graph.nodes));
   }
     where
@@ -171,8 +172,8 @@ module _ (graph : Tfpg) (edge : Edge) where
   HasIndexes-with_edge rows failed places target is = record {
     row_count = length-set rows edge.target _ ∙ is.row_count;
     row_is = λ node within. ⊎_elim
-        (λ same. slice_get-set_same rows edge.target node _ (omega (arith, is.row_count)) same ∙ ap Some (sym (incoming-target node same)))
-        (λ differs. slice_get-set_other rows edge.target node _ (omega (arith, is.row_count)) differs ∙ is.row_is node within ∙ ap Some (sym (incoming-other node differs)))
+        (λ same. ap (λ n. slice_get (set rows edge.target (incoming graph edge.target ++ length graph.edges ∷ [])) n) same ∙ slice_get-set_same rows edge.target _ (omega (arith, is.row_count)) ∙ ap Some (sym (incoming-target node same)))
+        (λ differs. slice_get-set_other rows edge.target node _ differs ∙ is.row_is node within ∙ ap Some (sym (incoming-other node differs)))
         (cases_eq node edge.target);
     failed_are = is.failed_are;
     place_count = is.place_count;

@@ -12,7 +12,8 @@ use Rattle.tfpg_graph.specs.declared.kind.Kind.{Kind}
 use Rattle.tfpg_graph.specs.declared.kind.Kind.TheVariants.{Failure}
 use Rattle.tfpg_graph.specs.Graph.{Tfpg, Node, incoming, kind_at, name_at, node_named, mode_named}
 use Rattle.tfpg_graph.specs.inside.Indexes.{graph_of, HasIndexes}
-use Rattle.tfpg_graph.proofs.Positions.{position-agrees, position-map, bytes_eq-swapped}
+use Rattle.tfpg_base.proofs.lists.Positions.{position-agrees, position-map}
+use Rattle.tfpg_base.proofs.lists.SameBytes.{bytes_eq-swapped}
 
 option_map-twice : {A B C : Type 0} (f : A → B) (g : B → C) (o : Option A) → option_map g (option_map f o) ≡ option_map (λ x. g (f x)) o
 option_map-twice f g None = refl

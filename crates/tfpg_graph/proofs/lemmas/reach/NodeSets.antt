@@ -7,12 +7,12 @@ use Rattle.std.proofs.lemmas.List.Elements.{All-nil, All-set, All-get_or, All-co
 use Rattle.std.proofs.lemmas.List.Kept.{AllPairs-from_increasing}
 use Rattle.std.proofs.lemmas.Nat.{or_lt, mod_below}
 use Rattle.tfpg_base.specs.Set.{with_member}
-use Rattle.tfpg_base.specs.inside.SetBits.{members_of}
+use Rattle.tfpg_base.specs.SetBits.{members_of}
 use Rattle.tfpg_base.proofs.lists.Elements.{AllPairs-head, AllPairs-tail, AllPairs-cons, All-from_members, Contains-head, Contains-tail, Contains-nil}
-use Rattle.tfpg_base.proofs.Sets.{Rises, same_from_members, Contains-with_member, with_member-keeps, with_member-only, Rises-with_member, IsSet-members_of, members_of-is, members_of-zero, members_of-set, bit_tells_member}
+use Rattle.tfpg_base.proofs.Sets.{Rises, same_from_members, Contains-with_member, with_member-keeps, with_member-only, Rises-with_member, IsSet-members_of, members_of-is, members_of-zero, members_of-set, bit_says_member}
 use Rattle.tfpg_graph.specs.NodeSet.{IsNodeSet}
 use Rattle.tfpg_graph.specs.inside.reach.NodeWords.{nodes_from, nodes_of, AreWords}
-use Rattle.tfpg_graph.proofs.Images.{Contains-map, Contains-map_only}
+use Rattle.tfpg_base.proofs.lists.Images.{Contains-map, Contains-map_only}
 
 -- ---- lists
 
@@ -277,13 +277,13 @@ module _ (words nodes : List ℕ) (are : AreWords words) (view : nodes_of words 
   pub IsNodeSet-from_words : IsNodeSet nodes
   IsNodeSet-from_words = rw (← view) (IsNodeSet-nodes_of words are.count)
 
-  -- the bit of a node tells whether it is kept
-  pub bit_tells_node : (node : ℕ) → node < 512
+  -- the bit of a node says whether it is kept
+  pub bit_says_node : (node : ℕ) → node < 512
       → IsTrue (nat_eq (bit_and (get_or words (node / 64) 0 / 2 ^ (node % 64)) 1) 1) ↔ Contains nodes node
-  bit_tells_node node small =
-      let tells = bit_tells_member (get_or words (node / 64) 0) (node % 64) (word_of words node) refl (omega arith) in
+  bit_says_node node small =
+      let by_bit = bit_says_member (get_or words (node / 64) 0) (node % 64) (word_of words node) refl (omega arith) in
       let within : node / 64 < length words = omega (arith, are.count) in
-      rw (← view) (λ yes. node_from_word words node within (tells.0 yes), λ kept. tells.1 (node_in_word words node kept))
+      rw (← view) (λ yes. node_from_word words node within (by_bit.0 yes), λ kept. by_bit.1 (node_in_word words node kept))
 
   -- no node from 512 on is kept
   pub beyond_no_node : (node : ℕ) → 512 ≤ node → Contains nodes node → ⊥

@@ -25,7 +25,7 @@ use Rattle.tfpg_graph.proofs.lemmas.reach.NodeSets.{IsNodeSet-nil, IsNodeSet-wit
 -- ---- the kind of a node
 
 module _ (graph : Tfpg) (node : ℕ) where
-  -- what the tests on a node's kind say, and what they are told by
+  -- what the tests on a node's kind say, and what they say it by
   is_or-kind : (lag : Option ℕ) → kind_at graph node ≡ Some (Or lag) → IsTrue (is_kind_at is_or graph node)
   is_or-kind lag is = ap (λ kind. option_map_or is_or kind false) is
 

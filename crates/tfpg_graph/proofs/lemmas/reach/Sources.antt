@@ -9,7 +9,7 @@ use Rattle.tfpg_graph.specs.declared.edge.Edge.{Edge}
 use Rattle.tfpg_graph.specs.Graph.{Tfpg, numbers_from, incoming, edges_into}
 use Rattle.tfpg_graph.specs.inside.reach.Reaching.{HasSourceIn, HasAllSourcesIn}
 use Rattle.tfpg_graph.proofs.Numbered.{All-below-numbers_from}
-use Rattle.tfpg_graph.proofs.Images.{Contains-map, Contains-map_only}
+use Rattle.tfpg_base.proofs.lists.Images.{Contains-map, Contains-map_only}
 
 module _ {X : Type 0} (p : X → Bool) where
   -- what is read at the numbers of the items that pass are these items

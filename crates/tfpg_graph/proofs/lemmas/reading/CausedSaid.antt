@@ -14,7 +14,7 @@ use Rattle.std.specs.Bool.{then_some}
 use Rattle.tfpg_base.specs.Choice.{first_of}
 use Rattle.tfpg_graph.specs.Causes.{causes, has_bad_number, has_unknown_name, numbers_in, cause_at}
 use Rattle.tfpg_graph.specs.inside.reading.Turns.{HasValue, is_misplaced}
-use Rattle.tfpg_graph.proofs.Valued.{is_some-option_map}
+use Rattle.tfpg_base.proofs.lists.Valued.{is_some-option_map}
 use Rattle.tfpg_graph.proofs.lemmas.reading.DeclaredBy.{AllHaveValues, is_misplaced-said}
 use Rattle.tfpg_graph.proofs.lemmas.reading.CauseAt.{cause-unended}
 

@@ -14,7 +14,7 @@ use Rattle.tfpg_graph.specs.Statements.{Statement, DeclaresMode, Ends, ends_text
 use Rattle.tfpg_graph.specs.Declares.{edge_declared, graph_said}
 use Rattle.tfpg_base.specs.Choice.{first_of}
 use Rattle.tfpg_graph.specs.Causes.{is_out_of_order, causes, cause_of_said}
-use Rattle.tfpg_graph.proofs.Positions.{position-All_fail}
+use Rattle.tfpg_base.proofs.lists.Positions.{position-All_fail}
 use Rattle.tfpg_graph.proofs.lemmas.reading.SpelledValues.{bytes_eq-differ}
 use Rattle.tfpg_graph.proofs.lemmas.reading.SpelledEdges.{name_of, edge_said, is_name-name_of, node_named-name_of, IsModesWord-spelled, edge_declared-said}
 use Rattle.tfpg_graph.proofs.lemmas.reading.NoCause.{HasNoCause, first_of-none, HasNoCause-mode, HasNoCause-node, HasNoCause-edge, HasNoCause-end, IsEdgeRight}

@@ -11,7 +11,7 @@ use Rattle.tfpg_graph.specs.Statements.{NodeWords, Statement, DeclaresMode, Decl
 use Rattle.tfpg_graph.specs.Declares.{kind_of_words, mode_declared, node_declared, edge_declared, named_by, graph_said}
 use Rattle.tfpg_graph.specs.Causes.{is_out_of_order}
 use Rattle.tfpg_graph.specs.inside.reading.Turns.{HasValue, is_misplaced}
-use Rattle.tfpg_graph.proofs.Valued.{zero-not_some, list_any-count, list_any-or, All-list_any_none, filter_map-push_some, filter_map-push_none, filter_map-none, count_by-valued, is_some-option_map}
+use Rattle.tfpg_base.proofs.lists.Valued.{zero-not_some, list_any-count, list_any-or, All-list_any_none, filter_map-push_some, filter_map-push_none, filter_map-none, count_by-valued, is_some-option_map}
 
 -- a statement that declares a mode has its name
 mode-valued : (said : Statement) → is_some (mode_declared said) ≡ declares_mode said
@@ -73,7 +73,7 @@ no_mode-any before =
     ∙ list_any-or declares_node (λ said. declares_edge said || ends_text said) before
     ∙ ap (λ b. list_any declares_node before || b) (list_any-or declares_edge ends_text before)
 
--- one disjunct that is false tells nothing
+-- one disjunct that is false decides nothing
 or_false : (b c : Bool) → c ≡ false → (b || c) ≡ b
 or_false true c none = refl
 or_false false c none = none

@@ -7,9 +7,8 @@ use Rattle.tfpg_graph.specs.declared.cause.GraphCause.TheVariants.{NoIncoming, Z
 use Rattle.tfpg_graph.specs.declared.cause.GraphRefusal.{GraphRefusal}
 use Rattle.tfpg_graph.specs.declared.reading.reader.LineRefusal.TheVariants.{Cause}
 use Rattle.tfpg_graph.specs.Graph.{Tfpg}
-use Rattle.tfpg_graph.specs.Valid.{IsValid}
+use Rattle.tfpg_graph.specs.Valid.{IsValid, IsValidSoFar}
 use Rattle.tfpg_graph.specs.ZeroCycle.{LiesOnZeroCycle, HasZeroOrder}
-use Rattle.tfpg_graph.specs.Valid.{IsValidSoFar}
 use Rattle.tfpg_graph.specs.Statements.{declares_node, declares_edge}
 use Rattle.tfpg_graph.specs.Faults.{IsLineSaying, LacksIncoming, HasIncomingBefore}
 use Rattle.tfpg_graph.specs.declared.reading.reader.Part.{Part}

@@ -62,7 +62,7 @@ some_mode_declared (DeclaresEdge source target tmin tmax modes ∷ said) some = 
 some_mode_declared (Ends ∷ said) some = some_mode_declared said some
 
 module _ (before : List Statement) where
-  -- in front of a mode there is no node and no edge
+  -- before a mode there is no node and no edge
   pub nothing_before_mode : (name : List ℕ) → is_out_of_order before (DeclaresMode name) ≡ false
       → ((graph_said before).nodes ≡ []) × ((graph_said before).edges ≡ [])
   nothing_before_mode name in_order = (
@@ -70,7 +70,7 @@ module _ (before : List Statement) where
     filter_map-none (edge_declared (named_by before)) (λ said. not (declares_mode said)) (no_mode_no_edge (named_by before)) before in_order,
   )
 
-  -- in front of a node there is no edge
+  -- before a node there is no edge
   pub no_edge_before_node : (name : List ℕ) (words : NodeWords)
       → is_out_of_order before (DeclaresNode name words) ≡ false → (graph_said before).edges ≡ []
   no_edge_before_node name words in_order =

@@ -1,8 +1,7 @@
 -- The tests of a line, group by group, come to what the definition of causes says of all of them.
-use Rattle.std.proofs.Common.{◌≡◌, List, [], ◌∷◌, ◌++◌, Option, Some, None, Result, Ok, Err, refl, ap, subst}
+use Rattle.std.proofs.Common.{◌≡◌, Option, Some, None, Result, Ok, Err, ap, subst}
 use Rattle.std.specs.Option.{option_map}
 use Rattle.tfpg_graph.specs.declared.cause.GraphCause.{GraphCause}
-use Rattle.tfpg_base.specs.Choice.{first_of}
 use Rattle.tfpg_graph.specs.inside.reading.Turns.{cause_or_value, ReadAs}
 
 module _ {X Y : Type 0} where
@@ -17,18 +16,6 @@ module _ {X Y : Type 0} where
   cause_or_value-map_ok f (Some other) value x e = absurd cc
   cause_or_value-map_ok f None None x e = absurd cc
   cause_or_value-map_ok f None (Some y) x e = let same : y ≡ x = cc in ap (λ z. Ok (f z)) same
-
--- a cause among the first tests is the first of all
-pub first-caused : (tests others : List (Option GraphCause)) (cause : GraphCause) → first_of tests ≡ Some cause → first_of (tests ++ others) ≡ Some cause
-first-caused [] others cause e = absurd cc
-first-caused (Some other ∷ tests) others cause e = e
-first-caused (None ∷ tests) others cause e = first-caused tests others cause e
-
--- and where these find none, the others decide
-pub first-passed : (tests others : List (Option GraphCause)) → first_of tests ≡ None → first_of (tests ++ others) ≡ first_of others
-first-passed [] others e = refl
-first-passed (Some cause ∷ tests) others e = absurd cc
-first-passed (None ∷ tests) others e = first-passed tests others e
 
 module _ {X : Type 0} (first : Option GraphCause) (value : Option X) (result : Result X GraphCause) where
   -- what was read with a cause

@@ -12,7 +12,7 @@ use Rattle.tfpg_base.specs.Choice.{first_of}
 use Rattle.tfpg_graph.specs.Causes.{causes, node_number, are_failure_words}
 use Rattle.tfpg_graph.specs.inside.reading.LineCauses.{number_causes, node_name_causes, node_room_causes, edge_name_causes, edge_unknown_causes, delay_causes, end_causes, edge_room_causes}
 use Rattle.tfpg_graph.specs.inside.reading.Turns.{is_misplaced}
-use Rattle.tfpg_graph.proofs.lemmas.reading.Judged.{first-caused, first-passed}
+use Rattle.tfpg_base.proofs.lists.Choices.{first_of-append_some, first_of-append_none}
 
 -- ---- a node
 
@@ -44,17 +44,17 @@ module _ (graph : Tfpg) (name : List ℕ) (words : NodeWords) where
   node_rest = number_causes (node_number words) ++ node_room_causes graph (are_failure_words words)
 
   pub node_cause-name : (cause : GraphCause) → first_of (node_name_causes graph name) ≡ Some cause → node_cause ≡ Some cause
-  node_cause-name cause is = first-caused (node_name_causes graph name) node_rest cause is
+  node_cause-name cause is = first_of-append_some (node_name_causes graph name) node_rest cause is
 
   module _ (named : first_of (node_name_causes graph name) ≡ None) where
     pub node_cause-number : (cause : GraphCause) → first_of (number_causes (node_number words)) ≡ Some cause → node_cause ≡ Some cause
     node_cause-number cause is =
-        first-passed (node_name_causes graph name) node_rest named ∙ first-caused (number_causes (node_number words)) (node_room_causes graph (are_failure_words words)) cause is
+        first_of-append_none (node_name_causes graph name) node_rest named ∙ first_of-append_some (number_causes (node_number words)) (node_room_causes graph (are_failure_words words)) cause is
 
     pub node_cause-room : (kind : Kind) → first_of (number_causes (node_number words)) ≡ None → kind_of_words words ≡ Some kind → node_cause ≡ first_of (node_room_causes graph (is_failure kind))
     node_cause-room kind numbers is =
-        first-passed (node_name_causes graph name) node_rest named
-        ∙ first-passed (number_causes (node_number words)) (node_room_causes graph (are_failure_words words)) numbers
+        first_of-append_none (node_name_causes graph name) node_rest named
+        ∙ first_of-append_none (number_causes (node_number words)) (node_room_causes graph (are_failure_words words)) numbers
         ∙ ap (λ failure. first_of (node_room_causes graph failure)) (failure_words words kind is)
 
 -- ---- an edge
@@ -77,23 +77,23 @@ module _ (graph : Tfpg) (source target tmin tmax modes : List ℕ) where
   after_names = edge_unknown_causes graph source target modes ++ after_unknown
 
   pub edge_cause-name : (cause : GraphCause) → first_of (edge_name_causes graph source target modes) ≡ Some cause → edge_cause ≡ Some cause
-  edge_cause-name cause is = first-caused (edge_name_causes graph source target modes) after_names cause is
+  edge_cause-name cause is = first_of-append_some (edge_name_causes graph source target modes) after_names cause is
 
   module _ (named : first_of (edge_name_causes graph source target modes) ≡ None) where
     pub edge_cause-unknown : (cause : GraphCause) → first_of (edge_unknown_causes graph source target modes) ≡ Some cause → edge_cause ≡ Some cause
     edge_cause-unknown cause is =
-        first-passed (edge_name_causes graph source target modes) after_names named ∙ first-caused (edge_unknown_causes graph source target modes) after_unknown cause is
+        first_of-append_none (edge_name_causes graph source target modes) after_names named ∙ first_of-append_some (edge_unknown_causes graph source target modes) after_unknown cause is
 
     module _ (known : first_of (edge_unknown_causes graph source target modes) ≡ None) where
       to_delays : edge_cause ≡ first_of after_unknown
-      to_delays = first-passed (edge_name_causes graph source target modes) after_names named ∙ first-passed (edge_unknown_causes graph source target modes) after_unknown known
+      to_delays = first_of-append_none (edge_name_causes graph source target modes) after_names named ∙ first_of-append_none (edge_unknown_causes graph source target modes) after_unknown known
 
       pub edge_cause-delay : (cause : GraphCause) → first_of (delay_causes tmin tmax) ≡ Some cause → edge_cause ≡ Some cause
-      edge_cause-delay cause is = to_delays ∙ first-caused (delay_causes tmin tmax) after_delays cause is
+      edge_cause-delay cause is = to_delays ∙ first_of-append_some (delay_causes tmin tmax) after_delays cause is
 
       module _ (delayed : first_of (delay_causes tmin tmax) ≡ None) where
         pub edge_cause-end : (cause : GraphCause) → first_of (end_causes graph source target) ≡ Some cause → edge_cause ≡ Some cause
-        edge_cause-end cause is = to_delays ∙ first-passed (delay_causes tmin tmax) after_delays delayed ∙ first-caused (end_causes graph source target) after_ends cause is
+        edge_cause-end cause is = to_delays ∙ first_of-append_none (delay_causes tmin tmax) after_delays delayed ∙ first_of-append_some (end_causes graph source target) after_ends cause is
 
         pub edge_cause-room : first_of (end_causes graph source target) ≡ None → edge_cause ≡ first_of (edge_room_causes graph target modes)
-        edge_cause-room ended = to_delays ∙ first-passed (delay_causes tmin tmax) after_delays delayed ∙ first-passed (end_causes graph source target) after_ends ended
+        edge_cause-room ended = to_delays ∙ first_of-append_none (delay_causes tmin tmax) after_delays delayed ∙ first_of-append_none (end_causes graph source target) after_ends ended

@@ -2,14 +2,13 @@
 use Rattle.std.proofs.Common.{◌≡◌, ℕ, ◌<◌, ◌≤◌, ◌^◌, ◌==◌, true, false, not, cond, List, [], ◌∷◌, ◌++◌, length, IsTrue, Option, Some, None, IfSome, codes, refl, ap, ◌∙◌, arith}
 use Rattle.std.specs.Prelude.{decimal}
 use Rattle.std.specs.Option.{option_map}
-use Rattle.std.specs.List.{AllByRecursion, list_any, list_all, join_with_byte, slice_split}
-use Rattle.std.proofs.lemmas.Bool.{and_parts, not-true, eq-eqb, ne_eqb, le-ltb, false≢true, or_from}
+use Rattle.std.specs.List.{AllByRecursion, list_any, list_all, join_with_byte}
+use Rattle.std.proofs.lemmas.Bool.{and_parts, not-true, ne_eqb, le-ltb, false≢true, or_from}
 use Rattle.std.proofs.lemmas.List.Elements.{All-nil, All-cons, All-append}
-use Rattle.std.proofs.lemmas.List.Splits.{slice_split_none, slice_split_at}
 use Rattle.tfpg_base.specs.Words.{line_of, is_name, is_number}
 use Rattle.tfpg_base.specs.Lines.{longest_line}
 use Rattle.tfpg_base.proofs.Numbers.{is_number-decimal}
-use Rattle.tfpg_base.proofs.Separators.{Lacks, name_lacks, decimal_lacks}
+use Rattle.tfpg_base.proofs.Separators.{Lacks, name_lacks, decimal_lacks, slice_split-join}
 use Rattle.tfpg_graph.specs.declared.kind.Kind.{Kind}
 use Rattle.tfpg_graph.specs.declared.kind.Kind.TheVariants.{Failure, Or, And}
 use Rattle.tfpg_graph.specs.Text.{mode_line, node_words, tmax_word}
@@ -17,16 +16,6 @@ use Rattle.tfpg_base.specs.Times.{max_time}
 use Rattle.tfpg_graph.specs.Valid.{HasValidNumber}
 use Rattle.tfpg_graph.specs.Statements.{NodeWords, FailureWords, OrWords, AndWords, Statement, DeclaresMode, DeclaresNode, DeclaresEdge, Ends, statement_in, statement_of}
 use Rattle.tfpg_graph.proofs.lemmas.writing.LineLengths.{short_mode, short_node}
-
--- Words none of which has the byte, joined by it, are split into the same words.
-pub slice_split-join : (byte : ℕ) (words : List (List ℕ)) → 0 < length words → AllByRecursion (Lacks byte) words
-    → slice_split (λ other. other == byte) (join_with_byte byte words) ≡ words
-slice_split-join byte [] some lack = absurd (omega arith)
-slice_split-join byte (word ∷ []) some lack = slice_split_none (λ other. other == byte) word lack.0
-slice_split-join byte (word ∷ second ∷ others) some lack =
-    slice_split_at (λ other. other == byte) word byte (join_with_byte byte (second ∷ others)) lack.0
-    (eq-eqb byte byte refl)
-    ∙ ap (λ words. word ∷ words) (slice_split-join byte (second ∷ others) (omega arith) lack.1)
 
 -- a word of a line: it is not empty, and has no space
 pub record IsWord (word : List ℕ) : Type 0 where

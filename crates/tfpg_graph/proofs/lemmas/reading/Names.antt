@@ -1,20 +1,11 @@
 -- Names in a list, as references to their bytes.
-use Rattle.std.proofs.Common.{◌≡◌, ℕ, Bool, true, false, ◌||◌, ◌&&◌, List, [], ◌∷◌, map, refl, sym, ap, ◌∙◌}
+use Rattle.std.proofs.Common.{◌≡◌, ℕ, ◌-◌, Bool, true, false, ◌||◌, ◌&&◌, List, ◌∷◌, map, length, take, drop, refl, sym, ap, ◌∙◌, arith}
+use Rattle.std.proofs.lemmas.List.{take_all, length-drop}
+use Rattle.tfpg_base.proofs.lists.Images.{list_any-map, list_all-map}
 use Rattle.std.specs.List.{list_any, list_all}
 use Rattle.std.specs.Borrow.{Bor}
 use Rattle.std.specs.Str.{bytes_eq}
 use Rattle.tfpg_graph.specs.Causes.{has_twice}
-
-module _ {X Y : Type 0} (p : Y → Bool) (f : X → Y) where
-  -- whether one of the images passes
-  pub list_any-map : (xs : List X) → list_any p (map f xs) ≡ list_any (λ x. p (f x)) xs
-  list_any-map [] = refl
-  list_any-map (x ∷ xs) = ap (λ b. p (f x) || b) (list_any-map xs)
-
-  -- whether all images pass
-  pub list_all-map : (xs : List X) → list_all p (map f xs) ≡ list_all (λ x. p (f x)) xs
-  list_all-map [] = refl
-  list_all-map (x ∷ xs) = ap (λ b. p (f x) && b) (list_all-map xs)
 
 module _ (names others : List (Bor (List ℕ))) (name : Bor (List ℕ)) (are : names ≡ name ∷ others) where
   -- the first name stands again
@@ -24,10 +15,15 @@ module _ (names others : List (Bor (List ℕ))) (name : Bor (List ℕ)) (are : n
       ∙ ap (λ b. b || has_twice (map (λ other. other.now) others)) (list_any-map (bytes_eq name.now) (λ other. other.now) others ∙ again)
 
   -- it does not, and the others decide
-  pub has_twice-later : list_any (λ other. bytes_eq name.now other.now) others ≡ false → has_twice (map (λ other. other.now) names) ≡ has_twice (map (λ other. other.now) others)
+  pub has_twice-later : list_any (λ other. bytes_eq name.now other.now) others ≡ false → has_twice (map (λ other. other.now) names) ≡ has_twice (map (λ other. other.now) (drop 1 names))
   has_twice-later once =
       ap (λ all. has_twice (map (λ other. other.now) all)) are
       ∙ ap (λ b. b || has_twice (map (λ other. other.now) others)) (list_any-map (bytes_eq name.now) (λ other. other.now) others ∙ once)
+      ∙ ap (λ all. has_twice (map (λ other. other.now) (drop 1 all))) (sym are)
+
+-- the elements from a place on, as a slice has them
+pub take_rest : {X : Type 0} (xs : List X) (place : ℕ) → take (length xs - place) (drop place xs) ≡ drop place xs
+take_rest xs place = take_all (length xs - place) (drop place xs) (omega (arith, length-drop place xs))
 
 -- what a test says of all names that a word lists
 pub list_all-listed : (p : List ℕ → Bool) (names : List (Bor (List ℕ))) (listed : List (List ℕ)) → map (λ name. name.now) names ≡ listed → list_all (λ name. p name.now) names ≡ list_all p listed

@@ -6,7 +6,7 @@ use Rattle.std.proofs.lemmas.Bool.{and_parts, eqb-true}
 use Rattle.std.proofs.lemmas.Slice.Eq.{bytes_eq-Decides}
 use Rattle.tfpg_graph.specs.Text.{header}
 use Rattle.tfpg_graph.specs.Statements.{Statement, statement_of, statements_of, statement_in, is_skipped}
-use Rattle.tfpg_graph.proofs.Valued.{filter_map-push_some, filter_map-push_none}
+use Rattle.tfpg_base.proofs.lists.Valued.{filter_map-push_some, filter_map-push_none}
 
 -- a keyword that begins with `#` is none
 hash_in : (parts : List (List ℕ)) → statement_in (onto_first 35 parts) ≡ None

@@ -14,7 +14,7 @@ use Rattle.tfpg_graph.specs.Graph.{Tfpg, mode_named}
 use Rattle.tfpg_graph.specs.Text.{SpellsModes}
 use Rattle.tfpg_graph.specs.Declares.{modes_listed, modes_of_word}
 use Rattle.tfpg_graph.specs.Causes.{has_twice}
-use Rattle.tfpg_graph.proofs.Positions.{bytes_eq-false}
+use Rattle.tfpg_base.proofs.lists.SameBytes.{bytes_eq-false}
 
 -- ---- items that are looked up and found
 
@@ -27,7 +27,7 @@ module _ {X Y : Type 0} (look : X → Option Y) where
       by None here = absurd cc
       by (Some y) here = (y, refl)
 
-  -- where an item is found, the values have its value in front
+  -- where an item is found, the values begin with its value
   filter_map-found : (x : X) (y : Y) (xs : List X) → look x ≡ Some y → filter_map look (x ∷ xs) ≡ y ∷ filter_map look xs
   filter_map-found x y xs is = ap (λ o. cons_option o (filter_map look xs)) is
 

@@ -20,7 +20,7 @@ use Rattle.tfpg_graph.specs.Statements.{NodeWords, FailureWords, OrWords, AndWor
 use Rattle.tfpg_graph.specs.Declares.{lag_of_word, kind_of_words, tmax_of_word, delays_of_words, ends_named, edge_declared, modes_of_word}
 use Rattle.tfpg_graph.specs.Causes.{has_bad_number, has_large_number, lag_number, node_number}
 use Rattle.tfpg_graph.proofs.lemmas.declared.Named.{named_found}
-use Rattle.tfpg_graph.proofs.lemmas.reading.WithoutCause.{IsWithoutCause}
+use Rattle.tfpg_graph.proofs.lemmas.reading.NoCause.{HasNoCause}
 use Rattle.tfpg_graph.proofs.lemmas.reading.SaidModes.{found, SpellsModes-said}
 
 -- ---- numbers
@@ -100,7 +100,7 @@ delays_said source target tmin tmax modes numbers small =
 
 -- An edge without a cause has its value, and its words spell it.
 pub edge_said : (graph : Tfpg) (out_of_order : Bool) (source target tmin tmax modes : List ℕ)
-    → IsWithoutCause out_of_order graph (DeclaresEdge source target tmin tmax modes)
+    → HasNoCause out_of_order graph (DeclaresEdge source target tmin tmax modes)
     → (edge : Edge) × (edge_declared graph (DeclaresEdge source target tmin tmax modes) ≡ Some edge)
     × SpellsEdge graph edge (line_of (words_of_statement (DeclaresEdge source target tmin tmax modes)))
 edge_said graph out_of_order source target tmin tmax modes is =
@@ -108,7 +108,7 @@ edge_said graph out_of_order source target tmin tmax modes is =
     let unknown_target = or_parts _ _ unknown.1 in
     let from = found (node_named graph) source unknown.0 in
     let to = found (node_named graph) target unknown_target.0 in
-    let delays = delays_said source target tmin tmax modes is.numbers is.small_numbers in
+    let delays = delays_said source target tmin tmax modes is.numbers is.small in
     let edge : Edge = edge_with (from.0, to.0) (delays.0, delays.1) in
     let ends : ends_named graph source target ≡ Some (from.0, to.0) =
     ap (option_and_then (λ a. option_map (λ b. (a, b)) (node_named graph target))) from.1 ∙ ap (option_map (λ b. (from.0, b))) to.1 in
@@ -118,7 +118,7 @@ edge_said graph out_of_order source target tmin tmax modes is =
       (λ i. option_and_then (λ ends. option_map (edge_with ends) (delays.2 i)) (ends i)),
       (
         modes,
-        SpellsModes-said graph modes is.some_mode is.new_name unknown_target.1,
+        SpellsModes-said graph modes is.some_mode is.new unknown_target.1,
         (λ i. line_of (codes "edge" ∷ sym source_word i ∷ sym target_word i ∷ delays.3 i ∷ delays.4 i ∷ modes ∷ [])),
       ),
     )

@@ -20,7 +20,8 @@ use Rattle.tfpg_graph.specs.Causes.{is_out_of_order, cause_of_said, cause_after}
 use Rattle.tfpg_graph.specs.declared.reading.reader.Part.TheVariants.{Declarations, Ended}
 use Rattle.tfpg_graph.specs.inside.reading.ReaderState.{ReaderState}
 use Rattle.tfpg_graph.specs.inside.reading.Turns.{ReaderRepresents}
-use Rattle.tfpg_graph.proofs.lemmas.reading.WithoutCause.{IsWithoutCause, without_cause}
+use Rattle.tfpg_graph.proofs.lemmas.reading.WithoutCause.{HasNoCause-from_none}
+use Rattle.tfpg_graph.proofs.lemmas.reading.NoCause.{HasNoCause}
 use Rattle.tfpg_graph.proofs.lemmas.reading.SaidWords.{said_by_words, skipped_says_nothing}
 use Rattle.tfpg_graph.proofs.lemmas.reading.SpelledSoFar.{SpellsSoFar, AreSpelled, statement_spelled}
 
@@ -31,7 +32,7 @@ record SaysWithoutCause (before : List Statement) (line : List ℕ) : Type 0 whe
   said : Statement
   says : statement_of line ≡ Some said
   unended : list_any ends_text before ≡ false
-  without : IsWithoutCause (is_out_of_order before said) (graph_said before) said
+  without : HasNoCause (is_out_of_order before said) (graph_said before) said
 
 -- a line without a cause is skipped, or says something that has none
 line_cases : (before : List Statement) (line : List ℕ) → cause_after before line ≡ None
@@ -45,7 +46,7 @@ line_cases before line clean = passed (is_skipped line) refl clean
       said = said;
       says = says;
       unended = unended;
-      without = without_cause (is_out_of_order before said) (graph_said before) said clean;
+      without = HasNoCause-from_none (is_out_of_order before said) (graph_said before) said clean;
     }
 
     ended : (b : Bool) → list_any ends_text before ≡ b

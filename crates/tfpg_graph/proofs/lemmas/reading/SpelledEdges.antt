@@ -20,7 +20,8 @@ use Rattle.tfpg_graph.specs.Statements.{Statement, DeclaresEdge, statement_of}
 use Rattle.tfpg_graph.specs.Declares.{modes_listed, modes_of_word, edge_declared}
 use Rattle.tfpg_graph.specs.Causes.{has_twice}
 use Rattle.tfpg_graph.proofs.lemmas.reading.LinesSay.{IsWord, IsWord-star, IsWord-names, statement_of-edge}
-use Rattle.tfpg_graph.proofs.lemmas.reading.SpelledValues.{bytes_eq-same, bytes_eq-differ, position-at, tmax_of_word-tmax, names_at, filter_map-names, filter_map-numbers, all_named, has_twice-names, all_names, join-not, modes_listed-join}
+use Rattle.tfpg_graph.proofs.lemmas.reading.SpelledValues.{bytes_eq-same, bytes_eq-differ, tmax_of_word-tmax, names_at, filter_map-names, filter_map-numbers, all_named, has_twice-names, all_names, join-not, modes_listed-join}
+use Rattle.tfpg_base.proofs.lists.Positions.{position-at}
 
 -- the name of the node of this number
 abbrev pub name_of : Tfpg → ℕ → List ℕ

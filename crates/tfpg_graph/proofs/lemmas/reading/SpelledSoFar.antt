@@ -12,7 +12,7 @@ use Rattle.tfpg_graph.specs.inside.Indexes.{with_mode, with_node, with_edge}
 use Rattle.tfpg_graph.specs.Statements.{Statement, DeclaresMode, DeclaresNode, DeclaresEdge, Ends, ends_text, words_of_statement}
 use Rattle.tfpg_graph.specs.Declares.{graph_said}
 use Rattle.tfpg_graph.specs.Causes.{is_out_of_order}
-use Rattle.tfpg_graph.proofs.lemmas.reading.WithoutCause.{IsWithoutCause}
+use Rattle.tfpg_graph.proofs.lemmas.reading.NoCause.{HasNoCause}
 use Rattle.tfpg_graph.proofs.lemmas.reading.SaidValues.{node_said, edge_said}
 use Rattle.tfpg_graph.proofs.lemmas.reading.GraphsSaid.{some_mode_declared, nothing_before_mode, no_edge_before_node, graph_said-mode, graph_said-node, graph_said-edge, graph_said-end}
 
@@ -117,14 +117,14 @@ AreSpelled said lines = SpellsSoFar (graph_said said) (list_any ends_text said) 
 -- A statement without a cause is spelled by its line, after the others.
 pub statement_spelled : (before : List Statement) (lines : List (List ℕ)) (said : Statement)
     → SpellsSoFar (graph_said before) false lines
-    → IsWithoutCause (is_out_of_order before said) (graph_said before) said
+    → HasNoCause (is_out_of_order before said) (graph_said before) said
     → SpellsSoFar (graph_said (before ++ said ∷ [])) (ends_text said) (lines ++ line_of (words_of_statement said) ∷ [])
 statement_spelled before lines (DeclaresMode name) so_far is =
     let nothing = nothing_before_mode before name is.in_order in
     subst (λ graph. SpellsSoFar graph false (lines ++ mode_line name ∷ [])) (sym (graph_said-mode before name is.in_order))
     (spells-with_mode (graph_said before) lines so_far name nothing.0 nothing.1)
 statement_spelled before lines (DeclaresNode name words) so_far is =
-    let node = node_said name words is.numbers is.small_numbers in
+    let node = node_said name words is.numbers is.small in
     subst (λ shape. SpellsSoFar (graph_said (before ++ DeclaresNode name words ∷ [])) false (lines ++ line_of shape ∷ [])) (sym node.2)
     (subst (λ graph. SpellsSoFar graph false (lines ++ line_of (node_words name node.0) ∷ []))
     (sym (graph_said-node before name words node.0 is.in_order node.1))

@@ -1,5 +1,5 @@
 -- The values that the words of a spelled graph have.
-use Rattle.std.proofs.Common.{◌≡◌, ◌≢◌, ℕ, suc, zero, ◌<◌, ◌≤◌, ◌^◌, ◌||◌, Bool, true, false, cond, List, [], ◌∷◌, ◌++◌, length, map, get_or, All, AllPairs, IsTrue, Option, Some, None, IfSome, is_none, slice_get, position, codes, refl, ap, sym, ◌∙◌, subst, arith}
+use Rattle.std.proofs.Common.{◌≡◌, ◌≢◌, ℕ, ◌<◌, ◌≤◌, ◌^◌, ◌||◌, true, false, cond, List, [], ◌∷◌, ◌++◌, length, map, get_or, All, AllPairs, IsTrue, Option, Some, None, IfSome, is_none, slice_get, position, codes, refl, ap, sym, ◌∙◌, subst, arith}
 use Rattle.std.specs.Prelude.{decimal}
 use Rattle.std.specs.Option.{option_map}
 use Rattle.std.specs.List.{AllByRecursion, list_any, filter_map, cons_option, join_with_byte}
@@ -11,7 +11,7 @@ use Rattle.std.proofs.lemmas.Option.{slice_get-get_or}
 use Rattle.std.proofs.lemmas.Slice.Eq.{bytes_eq-Decides}
 use Rattle.tfpg_base.specs.Words.{is_name, is_number, is_letter, number_of}
 use Rattle.tfpg_base.proofs.Numbers.{is_number-decimal, number_of-decimal}
-use Rattle.tfpg_base.proofs.Separators.{Lacks, name_lacks}
+use Rattle.tfpg_base.proofs.Separators.{Lacks, name_lacks, slice_split-join}
 use Rattle.tfpg_base.proofs.lists.Elements.{AllPairs-head, AllPairs-tail}
 use Rattle.tfpg_graph.specs.declared.kind.Kind.{Kind}
 use Rattle.tfpg_graph.specs.declared.kind.Kind.TheVariants.{Failure, Or, And}
@@ -20,8 +20,8 @@ use Rattle.tfpg_base.specs.Times.{max_time}
 use Rattle.tfpg_graph.specs.Valid.{HasValidNumber}
 use Rattle.tfpg_graph.specs.Declares.{kind_of_words, lag_of_word, tmax_of_word, modes_listed}
 use Rattle.tfpg_graph.specs.Causes.{has_twice}
-use Rattle.tfpg_graph.proofs.Positions.{position-cons}
-use Rattle.tfpg_graph.proofs.lemmas.reading.LinesSay.{words_of_kind, slice_split-join}
+use Rattle.tfpg_base.proofs.lists.Positions.{position-at}
+use Rattle.tfpg_graph.proofs.lemmas.reading.LinesSay.{words_of_kind}
 
 -- bytes that differ are not equal
 pub bytes_eq-differ : (xs ys : List ℕ) → xs ≢ ys → bytes_eq xs ys ≡ false
@@ -55,19 +55,6 @@ tmax_of_word-tmax (Some time) small =
     cond-false (bytes_eq (decimal time) (codes "inf")) (Some None) (option_map Some (number_of (decimal time)))
     (decimal-not_inf time (omega arith))
     ∙ ap (option_map Some) (number_of-decimal time (omega arith))
-
--- where what stands at a number passes and nothing before it does, this is the first index
-pub position-at : {X : Type 0} (p : X → Bool) (xs : List X) (number : ℕ) (d : X) → number < length xs
-    → p (get_or xs number d) ≡ true
-    → ((earlier : ℕ) → earlier < number → p (get_or xs earlier d) ≡ false) → position p xs ≡ Some number
-position-at p [] number d within passes fail = absurd (omega arith)
-position-at p (x ∷ xs) zero d within passes fail =
-    position-cons p x xs ∙ ap (λ b. cond b (Some 0) (option_map suc (position p xs))) passes
-position-at p (x ∷ xs) (suc number) d within passes fail =
-    position-cons p x xs
-    ∙ (λ i. cond (fail 0 (omega arith) i) (Some 0)
-    (option_map suc
-    (position-at p xs number d (omega arith) passes (λ earlier before. fail (suc earlier) (omega arith)) i)))
 
 -- among names that differ, each stands first at its own index
 pub position-named : (names : List (List ℕ)) (number : ℕ) (d : List ℕ) → AllPairs (λ a b. a ≢ b) names

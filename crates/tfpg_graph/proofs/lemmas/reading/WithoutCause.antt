@@ -1,4 +1,4 @@
--- What a statement without a cause is: it meets none of the conditions.
+-- A statement without a cause meets none of the conditions.
 use Rattle.std.proofs.Common.{◌≡◌, Bool, true, false, List, ◌∷◌, Option, None, refl}
 use Rattle.tfpg_graph.specs.declared.cause.GraphCause.{GraphCause}
 use Rattle.tfpg_graph.specs.declared.cause.GraphCause.TheVariants as cause
@@ -6,26 +6,8 @@ use Rattle.tfpg_graph.specs.Graph.{Tfpg}
 use Rattle.tfpg_graph.specs.Statements.{Statement}
 use Rattle.std.specs.Bool.{then_some}
 use Rattle.tfpg_base.specs.Choice.{first_of}
+use Rattle.tfpg_graph.proofs.lemmas.reading.NoCause.{HasNoCause}
 use Rattle.tfpg_graph.specs.Causes.{causes, has_bad_name, has_duplicate_name, has_unknown_name, has_bad_number, has_large_number, has_min_over_max, enters_failure, is_self_edge, is_second_edge, names_no_mode, lacks_node_room, lacks_failure_room, lacks_edge_room, lacks_mode_room, lacks_incoming_room}
-
--- the conditions that a statement without a cause fails
-pub record IsWithoutCause (out_of_order : Bool) (graph : Tfpg) (said : Statement) : Type 0 where
-  pub in_order : out_of_order ≡ false
-  pub names : has_bad_name said ≡ false
-  pub new_name : has_duplicate_name graph said ≡ false
-  pub known : has_unknown_name graph said ≡ false
-  pub numbers : has_bad_number said ≡ false
-  pub small_numbers : has_large_number said ≡ false
-  pub delays : has_min_over_max said ≡ false
-  pub into_discrepancy : enters_failure graph said ≡ false
-  pub no_self_edge : is_self_edge said ≡ false
-  pub first_edge : is_second_edge graph said ≡ false
-  pub some_mode : names_no_mode said ≡ false
-  pub node_room : lacks_node_room graph said ≡ false
-  pub failure_room : lacks_failure_room graph said ≡ false
-  pub edge_room : lacks_edge_room graph said ≡ false
-  pub mode_room : lacks_mode_room graph said ≡ false
-  pub incoming_room : lacks_incoming_room graph said ≡ false
 
 -- where nothing is caused, the first condition fails, and the others cause nothing
 not_caused : (holds : Bool) (cause : GraphCause) (others : List (Option GraphCause))
@@ -33,10 +15,10 @@ not_caused : (holds : Bool) (cause : GraphCause) (others : List (Option GraphCau
 not_caused true cause others none = absurd cc
 not_caused false cause others none = (refl, none)
 
--- A statement without a cause fails each condition.
-pub without_cause : (out_of_order : Bool) (graph : Tfpg) (said : Statement)
-    → first_of (causes out_of_order graph said) ≡ None → IsWithoutCause out_of_order graph said
-without_cause out_of_order graph said none =
+-- A statement without a cause meets none of the conditions.
+pub HasNoCause-from_none : (out_of_order : Bool) (graph : Tfpg) (said : Statement)
+    → first_of (causes out_of_order graph said) ≡ None → HasNoCause out_of_order graph said
+HasNoCause-from_none out_of_order graph said none =
     let order = not_caused out_of_order cause.BadLine _ none in
     let name = not_caused (has_bad_name said) cause.BadName _ order.1 in
     let duplicate = not_caused (has_duplicate_name graph said) cause.DuplicateName _ name.1 in
@@ -55,15 +37,15 @@ without_cause out_of_order graph said none =
     let incoming = not_caused (lacks_incoming_room graph said) cause.TooManyIncoming _ modes.1 in
     record {
       in_order = order.0;
-      names = name.0;
-      new_name = duplicate.0;
+      named = name.0;
+      new = duplicate.0;
       known = unknown.0;
       numbers = number.0;
-      small_numbers = large.0;
-      delays = delays.0;
+      small = large.0;
+      min_below_max = delays.0;
       into_discrepancy = failure.0;
-      no_self_edge = itself.0;
-      first_edge = second.0;
+      onward = itself.0;
+      first = second.0;
       some_mode = no_mode.0;
       node_room = nodes.0;
       failure_room = failures.0;

@@ -7,13 +7,12 @@ use Rattle.std.proofs.lemmas.Bool.{and_parts, leb-true, false≢true, cond_both}
 use Rattle.std.proofs.lemmas.Fmt.{length-decimal-le}
 use Rattle.std.proofs.lemmas.List.{length-append}
 use Rattle.std.proofs.lemmas.List.Elements.{All-head, All-tail}
-use Rattle.tfpg_base.specs.Words.{is_name, is_letter, is_name_byte}
+use Rattle.tfpg_base.specs.Words.{is_name, is_letter, is_name_byte, line_of}
 use Rattle.tfpg_base.specs.Lines.{longest_line}
 use Rattle.tfpg_graph.specs.declared.kind.Kind.{Kind}
 use Rattle.tfpg_graph.specs.declared.kind.Kind.TheVariants.{Failure, Or, And}
 use Rattle.tfpg_graph.specs.declared.edge.Edge.{Edge}
 use Rattle.tfpg_graph.specs.Graph.{Tfpg, Node, name_at}
-use Rattle.tfpg_base.specs.Words.{line_of}
 use Rattle.tfpg_graph.specs.Text.{mode_line, node_words, watch_words, tmax_word, edge_line, modes_word, all_modes}
 use Rattle.tfpg_base.specs.Times.{max_time}
 use Rattle.tfpg_graph.specs.Valid.{HasValidNumber, IsValidEdge}

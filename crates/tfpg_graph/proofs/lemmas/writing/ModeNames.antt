@@ -9,7 +9,7 @@ use Rattle.tfpg_base.specs.TextLine.{separated}
 use Rattle.tfpg_base.proofs.Joined.{join-push}
 use Rattle.tfpg_graph.specs.Graph.{Tfpg}
 use Rattle.tfpg_graph.specs.inside.writing.Written.{modes_before, mode_names_before}
-use Rattle.tfpg_graph.proofs.AtNumbers.{All-at}
+use Rattle.tfpg_base.proofs.lists.Elements.{All-at}
 use Rattle.tfpg_graph.proofs.lemmas.writing.ModeBits.{modes_before-more}
 
 module _ (P : List ℕ → Type 0) (names : List (List ℕ)) (all : All P names) where

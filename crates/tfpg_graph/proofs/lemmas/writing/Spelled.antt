@@ -5,7 +5,7 @@ use Rattle.std.proofs.lemmas.Bool.{eqb-true}
 use Rattle.std.proofs.lemmas.List.Elements.{All-head, All-tail, All-map, All-append, All-cons, All-nil, All-weaker, All-same}
 use Rattle.tfpg_base.specs.Words.{line_of, is_name}
 use Rattle.tfpg_base.specs.Lines.{lines_of, longest_line, HasNoLineEnd}
-use Rattle.tfpg_base.proofs.LinesOf.{lines_of-behind}
+use Rattle.tfpg_base.proofs.LinesOf.{lines_of-after}
 use Rattle.tfpg_graph.specs.declared.kind.Kind.{Kind}
 use Rattle.tfpg_graph.specs.declared.kind.Kind.TheVariants.{Failure, Or, And}
 use Rattle.tfpg_graph.specs.Graph.{Tfpg}
@@ -104,4 +104,4 @@ module _ (graph : Tfpg) (valid : IsValid graph) where
   -- and so does the canonical text
   pub Spells-canonical : Spells (canonical_text graph) graph
   Spells-canonical = Spells-lines (canonical_text graph)
-      (ap lines_of (sym (append-nil (canonical_text graph))) ∙ lines_of-behind (canonical_lines graph) [] clean ∙ append-nil (canonical_lines graph))
+      (ap lines_of (sym (append-nil (canonical_text graph))) ∙ lines_of-after (canonical_lines graph) [] clean ∙ append-nil (canonical_lines graph))

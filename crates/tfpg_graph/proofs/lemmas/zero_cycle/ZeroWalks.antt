@@ -38,7 +38,7 @@ pub ReachesUnmarked-any : (rows : List (List ℕ)) (marks : List (Option ℕ)) (
     → ReachesUnmarked rows [] from to
 ReachesUnmarked-any rows marks from to walk = ReachesUnmarked-weaker rows [] marks (λ node none. refl) from to walk
 
--- one step more in front
+-- one step more at the beginning
 pub ReachesUnmarked-step : (rows : List (List ℕ)) (marks : List (Option ℕ)) (from next to : ℕ) → IsStep rows from next
     → mark_of marks next ≡ None
     → ReachesUnmarked rows marks next to → ReachesUnmarked rows marks from to

@@ -1,8 +1,8 @@
 use Rattle.std.proofs.Common.{arith}
-use Rattle.tfpg_base.proofs.Appended.{Appends-err_after, appended_all}
+use Rattle.tfpg_base.proofs.Appended.{Appends-err_after, appended_next, appended_all}
+use Rattle.tfpg_base.proofs.lists.Elements.{All-at}
 use Rattle.tfpg_graph.specs.Valid.{IsValidEdge}
 use Rattle.tfpg_graph.specs.inside.writing.Written.{edge_text}
-use Rattle.tfpg_graph.proofs.AtNumbers.{All-at, appended_next}
 use Rattle.tfpg_graph.proofs.writing.put_edges.Goals as goal
 
 pub put_edge-requires-clause-edge : goal.put_edge-requires-clause-edge

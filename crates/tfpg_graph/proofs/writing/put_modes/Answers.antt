@@ -1,7 +1,6 @@
 use Rattle.std.proofs.Common.{arith}
-use Rattle.tfpg_base.proofs.Appended.{Appends-err_after, appended_all}
+use Rattle.tfpg_base.proofs.Appended.{Appends-err_after, appended_next, appended_all}
 use Rattle.tfpg_graph.specs.inside.writing.Written.{mode_text}
-use Rattle.tfpg_graph.proofs.AtNumbers.{appended_next}
 use Rattle.tfpg_graph.proofs.writing.put_modes.Goals as goal
 
 pub returns-in_err-put_line : goal.returns-in_err-put_line

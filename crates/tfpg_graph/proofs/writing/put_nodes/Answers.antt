@@ -1,7 +1,7 @@
 use Rattle.std.proofs.Common.{arith}
-use Rattle.tfpg_base.proofs.Appended.{Appends-err_after, appended_all}
+use Rattle.tfpg_base.proofs.Appended.{Appends-err_after, appended_next, appended_all}
 use Rattle.tfpg_graph.specs.inside.writing.Written.{node_text}
-use Rattle.tfpg_graph.proofs.AtNumbers.{appended_next, node_at}
+use Rattle.tfpg_graph.proofs.NodeAt.{node_at}
 use Rattle.tfpg_graph.proofs.writing.put_nodes.Goals as goal
 
 pub returns-in_err-put_node : goal.returns-in_err-put_node

@@ -5,7 +5,8 @@ use Rattle.std.proofs.Math.Nat.{one-mul, mul-zero, mul-add, mul_assoc, mod-eq_of
 use Rattle.std.proofs.lemmas.Nat.{pow-add}
 use Rattle.std.proofs.lemmas.List.Sums.{sum_by-cons, sum_by-append}
 use Rattle.std.proofs.lemmas.List.Elements.{All-head, All-tail}
-use Rattle.tfpg_base.specs.inside.SetBits.{members_of, bits_of, bits_of-members_of}
+use Rattle.tfpg_base.specs.SetBits.{members_of, bits_of}
+use Rattle.tfpg_base.proofs.Sets.{bits_of-members_of}
 
 -- the nodes that words keep, each word the next 64, where the first word begins with this node
 unfoldable pub nodes_from : ℕ → List ℕ → List ℕ

@@ -18,7 +18,7 @@ with_step rows from to = set rows from (row rows from ++ to ∷ [])
 abbrev pub AreWithin : List (List ℕ) → Type 0
 AreWithin rows = (from to : ℕ) → IsStep rows from to → to < length rows
 
--- the steps of the one list are those of the other, reversed round
+-- the steps of the one list are those of the other, reversed
 pub record AreReversed (rows reversed : List (List ℕ)) : Type 0 where
   pub count : length reversed ≡ length rows
   pub there : (from to : ℕ) → IsStep rows from to → IsStep reversed to from

@@ -1,6 +1,6 @@
 use Rattle.std.proofs.Common.{◌≡◌, ◌≤◌, ◌*◌}
 use Rattle.tfpg_hyp.specs.Ranking.{cost_of}
-use Rattle.tfpg_hyp.proofs.Below.{below}
+use Rattle.tfpg_base.proofs.lists.Below.{below}
 use Rattle.tfpg_hyp.proofs.ranking.cost.Given as goal
 
 abbrev pub invariant-loop-place : goal.invariant-loop-place

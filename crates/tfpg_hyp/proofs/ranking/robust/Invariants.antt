@@ -1,5 +1,5 @@
 use Rattle.std.proofs.Common.{◌≤◌}
-use Rattle.tfpg_hyp.proofs.Below.{below}
+use Rattle.tfpg_base.proofs.lists.Below.{below}
 use Rattle.tfpg_hyp.proofs.Ranks.{AreCounted}
 use Rattle.tfpg_hyp.proofs.ranking.robust.Given as goal
 

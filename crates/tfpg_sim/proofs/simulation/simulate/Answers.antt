@@ -3,6 +3,7 @@ use Rattle.tfpg_sim.specs.Script.{time_so_far}
 use Rattle.tfpg_sim.specs.Draws.{delays, latenesses}
 use Rattle.tfpg_sim.specs.Simulation.{IsSimulated}
 use Rattle.tfpg_sim.specs.SimulatedLog.{set_of, log_events, log_text}
+use Rattle.tfpg_sim.proofs.ExplainedLogs.{accepted, explained}
 use Rattle.tfpg_sim.proofs.simulation.simulate.Goals as goal
 
 pub log_events-requires-clause-few : goal.log_events-requires-clause-few
@@ -27,3 +28,9 @@ returns-clause-simulated c =
           ∙ ap (λ ls. log_events entries trace ls c.last_time-stop.result) (c.deref-5.ensures.value ∙ c.in_ok-draws.ensures.latenesses)
           ∙ ap (log_events entries trace lates) (c.last_time-stop.ensures ∙ ap time_so_far c.deref-3.ensures.value));
     }
+
+pub returns-clause-accepted : goal.returns-clause-accepted
+returns-clause-accepted c = accepted c.args.graph.now c.args.script.now c.args.number _ c.node_count-few.ensures.valid (returns-clause-simulated c)
+
+pub returns-clause-explained : goal.returns-clause-explained
+returns-clause-explained c = explained c.args.graph.now c.args.script.now c.args.number _ c.node_count-few.ensures.valid (returns-clause-simulated c)

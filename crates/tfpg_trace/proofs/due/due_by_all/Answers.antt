@@ -7,36 +7,36 @@ use Rattle.tfpg_trace.proofs.GapsOver.{gap_at}
 use Rattle.tfpg_trace.proofs.due.due_by_all.Goals as goal
 
 pub loop-place-init : goal.loop-place-init
-loop-place-init c log number here gaps =
-    each_of_none (DueAt c.args.graph.now log c.args.trace.now c.incoming-incoming.result.now) c.args.span.lo c.args.span.hi
-    (in_order log number c.args.span here)
+loop-place-init c log number starts =
+    each_of_none (DueAt c.args.graph.now log c.args.trace.now c.incoming-incoming.result.now) c.args.start.now.span.lo c.args.start.now.span.hi
+    (in_order log number c.args.start.now.span starts.here)
 
 pub due_by_edge-requires : goal.due_by_edge-requires
 due_by_edge-requires c =
-    in_graph c.args.graph.now c.args.node c.loop-place.place c.incoming-incoming.result.now c.incoming-incoming.ensures.edges c.loop-place-test.true
+    in_graph c.args.graph.now c.args.start.now.node c.loop-place.place c.incoming-incoming.result.now c.incoming-incoming.ensures.edges c.loop-place-test.true
 
 pub returns-in_err-due : goal.returns-in_err-due
-returns-in_err-due c log number here gaps =
+returns-in_err-due c log number starts =
     let numbers = c.incoming-incoming.result.now in
     let Due = DueAt c.args.graph.now log c.args.trace.now numbers in
-    let gap = gap_at c.args.graph.now log c.args.node number c.loop-place.place numbers c.args.gaps.now _
-    c.incoming-incoming.ensures.edges c.loop-place-test.true c.requires.room gaps in
-    let never : Begins (AllDue c.args.graph.now log c.args.trace.now c.args.node) c.args.span.lo c.args.span.hi None =
-    all_by_places c.args.graph.now log c.args.trace.now c.args.node c.args.span.lo c.args.span.hi (length numbers) numbers None
+    let gap = gap_at c.args.graph.now log c.args.start.now.node number c.loop-place.place numbers c.args.start.now.gaps.now _
+    c.incoming-incoming.ensures.edges c.loop-place-test.true c.requires.room starts.are in
+    let never : Begins (AllDue c.args.graph.now log c.args.trace.now c.args.start.now.node) c.args.start.now.span.lo c.args.start.now.span.hi None =
+    all_by_places c.args.graph.now log c.args.trace.now c.args.start.now.node c.args.start.now.span.lo c.args.start.now.span.hi (length numbers) numbers None
     c.incoming-incoming.ensures.edges (omega arith)
-    (never_each Due c.args.span.lo c.args.span.hi (length numbers) c.loop-place.place c.loop-place-test.true (c.in_err-due.ensures log number here gap)) in
-    subst (Begins (AllDue c.args.graph.now log c.args.trace.now c.args.node) c.args.span.lo c.args.span.hi) (sym c.from_residual.ensures) never
+    (never_each Due c.args.start.now.span.lo c.args.start.now.span.hi (length numbers) c.loop-place.place c.loop-place-test.true (c.in_err-due.ensures log number starts.here gap)) in
+    subst (Begins (AllDue c.args.graph.now log c.args.trace.now c.args.start.now.node) c.args.start.now.span.lo c.args.start.now.span.hi) (sym c.from_residual.ensures) never
 
 pub loop-place-preserved : goal.loop-place-preserved
-loop-place-preserved c log number here gaps =
+loop-place-preserved c log number starts =
     let Due = DueAt c.args.graph.now log c.args.trace.now c.incoming-incoming.result.now in
-    let gap = gap_at c.args.graph.now log c.args.node number c.loop-place.place c.incoming-incoming.result.now c.args.gaps.now _
-    c.incoming-incoming.ensures.edges c.loop-place-test.true c.requires.room gaps in
-    subst (λ first. Begins (EachOf Due (c.loop-place.place + 1)) c.args.span.lo c.args.span.hi (Some first)) (sym c.max-first.ensures)
-    (begins_each_more Due c.args.span.lo c.args.span.hi c.loop-place.place c.loop-place.first c.in_ok-due.due
-    (c.loop-place.invariant log number here gaps) (c.in_ok-due.ensures log number here gap))
+    let gap = gap_at c.args.graph.now log c.args.start.now.node number c.loop-place.place c.incoming-incoming.result.now c.args.start.now.gaps.now _
+    c.incoming-incoming.ensures.edges c.loop-place-test.true c.requires.room starts.are in
+    subst (λ first. Begins (EachOf Due (c.loop-place.place + 1)) c.args.start.now.span.lo c.args.start.now.span.hi (Some first)) (sym c.max-first.ensures)
+    (begins_each_more Due c.args.start.now.span.lo c.args.start.now.span.hi c.loop-place.place c.loop-place.first c.in_ok-due.due
+    (c.loop-place.invariant log number starts) (c.in_ok-due.ensures log number starts.here gap))
 
 pub returns : goal.returns
-returns c log number here gaps =
-    all_by_places c.args.graph.now log c.args.trace.now c.args.node c.args.span.lo c.args.span.hi c.loop-place.place
-    c.incoming-incoming.result.now (Some c.loop-place.first) c.incoming-incoming.ensures.edges (omega arith) (c.loop-place.invariant log number here gaps)
+returns c log number starts =
+    all_by_places c.args.graph.now log c.args.trace.now c.args.start.now.node c.args.start.now.span.lo c.args.start.now.span.hi c.loop-place.place
+    c.incoming-incoming.result.now (Some c.loop-place.first) c.incoming-incoming.ensures.edges (omega arith) (c.loop-place.invariant log number starts)

@@ -7,18 +7,18 @@ use Rattle.tfpg_trace.proofs.due.due_by_some.Goals as goal
 
 pub due_by_edge-requires : goal.due_by_edge-requires
 due_by_edge-requires c =
-    in_graph c.args.graph.now c.args.node c.loop-place.place c.incoming-incoming.result.now c.incoming-incoming.ensures.edges c.loop-place-test.true
+    in_graph c.args.graph.now c.args.start.now.node c.loop-place.place c.incoming-incoming.result.now c.incoming-incoming.ensures.edges c.loop-place-test.true
 
 pub loop-place-preserved : goal.loop-place-preserved
-loop-place-preserved c log number here gaps =
+loop-place-preserved c log number starts =
     let Due = DueAt c.args.graph.now log c.args.trace.now c.incoming-incoming.result.now in
-    let gap = gap_at c.args.graph.now log c.args.node number c.loop-place.place c.incoming-incoming.result.now c.args.gaps.now _
-    c.incoming-incoming.ensures.edges c.loop-place-test.true c.requires.room gaps in
-    subst (Begins (OneOf Due (c.loop-place.place + 1)) c.args.span.lo c.args.span.hi) (sym c.earlier-first.ensures)
-    (begins_one_more Due c.args.span.lo c.args.span.hi c.loop-place.place c.loop-place.first c.due_by_edge.result
-    (c.loop-place.invariant log number here gaps) (c.due_by_edge.ensures log number here gap))
+    let gap = gap_at c.args.graph.now log c.args.start.now.node number c.loop-place.place c.incoming-incoming.result.now c.args.start.now.gaps.now _
+    c.incoming-incoming.ensures.edges c.loop-place-test.true c.requires.room starts.are in
+    subst (Begins (OneOf Due (c.loop-place.place + 1)) c.args.start.now.span.lo c.args.start.now.span.hi) (sym c.earlier-first.ensures)
+    (begins_one_more Due c.args.start.now.span.lo c.args.start.now.span.hi c.loop-place.place c.loop-place.first c.due_by_edge.result
+    (c.loop-place.invariant log number starts) (c.due_by_edge.ensures log number starts.here gap))
 
 pub returns : goal.returns
-returns c log number here gaps =
-    some_by_places c.args.graph.now log c.args.trace.now c.args.node c.args.span.lo c.args.span.hi c.loop-place.place
-    c.incoming-incoming.result.now c.loop-place.first c.incoming-incoming.ensures.edges (omega arith) (c.loop-place.invariant log number here gaps)
+returns c log number starts =
+    some_by_places c.args.graph.now log c.args.trace.now c.args.start.now.node c.args.start.now.span.lo c.args.start.now.span.hi c.loop-place.place
+    c.incoming-incoming.result.now c.loop-place.first c.incoming-incoming.ensures.edges (omega arith) (c.loop-place.invariant log number starts)

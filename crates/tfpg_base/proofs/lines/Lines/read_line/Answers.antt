@@ -4,7 +4,7 @@ use Rattle.tfpg_base.specs.declared.line.Line.{Line}
 use Rattle.tfpg_base.specs.declared.line.LineFault.{LineFault}
 use Rattle.tfpg_base.specs.Lines.{HasNoLineEnd, CountsReadFault}
 use Rattle.tfpg_base.specs.inside.LineSearch.{IsAtLineEnd, Searched}
-use Rattle.tfpg_base.proofs.Searches.{IsReading-start, IsReading-more, Searched-read, Searched-given_last, Searched-fault, Searched-further, behind_seen}
+use Rattle.tfpg_base.proofs.Searches.{IsReading-start, IsReading-more, Searched-read, Searched-given_last, Searched-fault, Searched-further, after_seen}
 use Rattle.tfpg_base.proofs.Taking.{CountsReadFault-later}
 use Rattle.tfpg_base.proofs.lines.Lines.read_line.Goals as goal
 
@@ -54,11 +54,11 @@ returns-in-Some-clause-searched g c =
     let reading = c.loop-self.invariant in
     let filled = c.in_ok-refill.ensures.refilled in
     let seen : ℕ = length c.waiting-seen.result.now in
-    let behind = behind_seen c.args.self.now c.loop-self.self (state c.args.source.now) (state c.loop-self.source) reading c.refill.new.self (state c.refill.new.source) c.in_ok-refill.field-0 filled c.in_ok-refill.ensures.counted
+    let beyond = after_seen c.args.self.now c.loop-self.self (state c.args.source.now) (state c.loop-self.source) reading c.refill.new.self (state c.refill.new.source) c.in_ok-refill.field-0 filled c.in_ok-refill.ensures.counted
     c.waiting.result.now c.waiting-seen.result.now c.waiting.ensures c.waiting-seen.ensures in
     Searched-read c.args.self.now c.loop-self.self (state c.args.source.now) (state c.loop-self.source) reading c.refill.new.self (state c.refill.new.source) c.in_ok-refill.field-0 filled c.in_ok-refill.ensures.counted
     c.give_whole.new.self c.give_whole.result
-    seen c.in-Some.more (ap length c.waiting-seen.ensures) (subst (λ bytes. IsAtLineEnd bytes c.in-Some.more) behind c.in-Some.ensures.some)
+    seen c.in-Some.more (ap length c.waiting-seen.ensures) (subst (λ bytes. IsAtLineEnd bytes c.in-Some.more) beyond c.in-Some.ensures.some)
     c.give_whole.ensures.kind c.give_whole.ensures.waiting c.give_whole.ensures.text c.give_whole.ensures.number c.give_whole.ensures.taken c.give_whole.ensures.ended
 
 pub loop-self-preserved : goal.loop-self-preserved
@@ -66,7 +66,7 @@ loop-self-preserved g c =
     let state = g.S.Source.state in
     let reading = c.loop-self.invariant in
     let filled = c.in_ok-refill.ensures.refilled in
-    let behind = behind_seen c.args.self.now c.loop-self.self (state c.args.source.now) (state c.loop-self.source) reading c.refill.new.self (state c.refill.new.source) c.in_ok-refill.field-0 filled c.in_ok-refill.ensures.counted
+    let beyond = after_seen c.args.self.now c.loop-self.self (state c.args.source.now) (state c.loop-self.source) reading c.refill.new.self (state c.refill.new.source) c.in_ok-refill.field-0 filled c.in_ok-refill.ensures.counted
     c.waiting.result.now c.waiting-seen.result.now c.waiting.ensures c.waiting-seen.ensures in
     IsReading-more c.args.self.now c.loop-self.self (state c.args.source.now) (state c.loop-self.source) reading c.refill.new.self (state c.refill.new.source) c.in_ok-refill.field-0 filled c.in_ok-refill.ensures.counted
-    (subst HasNoLineEnd behind c.in_default.ensures.none)
+    (subst HasNoLineEnd beyond c.in_default.ensures.none)

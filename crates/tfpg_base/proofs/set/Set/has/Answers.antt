@@ -1,11 +1,11 @@
 use Rattle.std.proofs.Common.{arith}
 use Rattle.std.proofs.lemmas.Bool.{ltb-true}
-use Rattle.tfpg_base.proofs.Sets.{IsSet-from_bits, bit_tells_member, beyond_no_member}
+use Rattle.tfpg_base.proofs.Sets.{IsSet-from_bits, bit_says_member, beyond_no_member}
 use Rattle.tfpg_base.proofs.set.Set.has.Goals as goal
 
 pub returns-then-place-lt64-clause-member : goal.returns-then-place-lt64-clause-member
 returns-then-place-lt64-clause-member c =
-    bit_tells_member c.self.inside.bits c.args.place c.args.self c.self.view_is c.if-place-lt64.true
+    bit_says_member c.self.inside.bits c.args.place c.args.self c.self.view_is c.if-place-lt64.true
 
 pub returns-then-place-lt64-clause-set : goal.returns-then-place-lt64-clause-set
 returns-then-place-lt64-clause-set c = IsSet-from_bits c.self.inside.bits c.args.self c.self.view_is

@@ -20,7 +20,7 @@ start-requires-clause-few c = omega (arith, len (goal.at.start-requires-clause-f
 
 pub start-requires-clause-ceilings : goal.start-requires-clause-ceilings
 start-requires-clause-ceilings c = λ v b at.
-    let w = widest_from 0 c.args.count v b (sym (ap (λ (bs : List Bounds). slice_get bs v) (read (goal.at.start-requires-clause-ceilings c).After-deref)) ∙ at) in omega (arith, w.1)
+    let w = widest_from 0 c.args.count v b (sym (ap (λ (bs : List Bounds). slice_get bs v) (read (goal.at.start-requires-clause-ceilings c).After-deref)) ∙ at) in omega (arith, ap (λ (b : Bounds). b.ceiling) w.0)
 
 pub start-requires-clause-values : goal.start-requires-clause-values
 start-requires-clause-values c = omega (arith, len (goal.at.start-requires-clause-values c).After-deref, c.in_ok-labels.ensures.values)

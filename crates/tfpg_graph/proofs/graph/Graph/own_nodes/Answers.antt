@@ -8,14 +8,14 @@ pub loop-place-init : goal.loop-place-init
 loop-place-init c = rw c.empty-nodes.ensures (AreReachedBefore-none c.args.self.now c.args.set)
 
 pub with-nodes-requires : goal.with-nodes-requires
-with-nodes-requires c = own_small c.args.self.now c.args.set c.node_count-count.ensures.valid c.loop-place.place c.failure_node.result c.failure_node.ensures
+with-nodes-requires c = own_small c.args.self.now c.args.set c.node_count-count.ensures.valid c.loop-place.place c.failure_node.result c.failure_node.ensures.node
 
 pub loop-place-preserved : goal.loop-place-preserved
 loop-place-preserved c =
     elim c.if-has.branch [
       | then-has w ↦ rw w.nodes-is
           (AreReachedBefore-to c.args.self.now c.args.set c.loop-place.place c.loop-place.nodes c.loop-place.invariant w.with-nodes.result w.failure_node.result
-          c.node_count-count.ensures.valid w.with-nodes.ensures.nodes (c.has.ensures.member.0 w.if-has.true) w.failure_node.ensures)
+          c.node_count-count.ensures.valid w.with-nodes.ensures.nodes (c.has.ensures.member.0 w.if-has.true) w.failure_node.ensures.node)
       | else-has w ↦ rw w.nodes-is
           (AreReachedBefore-without c.args.self.now c.args.set c.loop-place.place c.loop-place.nodes c.loop-place.invariant
           (λ member. false≢true (sym w.if-has.false ∙ c.has.ensures.member.1 member)))

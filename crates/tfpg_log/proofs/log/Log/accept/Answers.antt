@@ -1,17 +1,19 @@
-use Rattle.std.proofs.Common.{◌<◌, ◌≤◌, length, inl, inr, sym, subst, arith, ap}
+use Rattle.std.proofs.Common.{◌≡◌, ◌<◌, ◌≤◌, [], ◌∷◌, ◌++◌, length, arith, ap, sym, subst}
+use Rattle.tfpg_base.specs.Times.{max_time}
+use Rattle.tfpg_log.specs.declared.event.Event.{Event}
 use Rattle.tfpg_log.specs.declared.limits.TheConstants.{MAX_EVENTS}
 use Rattle.tfpg_log.specs.Log.{Logbook, now_of, time_of_event}
-use Rattle.tfpg_log.proofs.Indexes.{IsQuiet, indexed_quiet}
+use Rattle.tfpg_log.specs.inside.LogIndex.{IsLogIndex}
+use Rattle.tfpg_log.proofs.Indexes.{indexed_tick}
 use Rattle.tfpg_log.proofs.log.Log.accept.Goals as goal
 
-pub invariant_of-self-in-Silent : goal.invariant_of-self-in-Silent
-invariant_of-self-in-Silent c =
+pub invariant_of-self-in-Tick : goal.invariant_of-self-in-Tick
+invariant_of-self-in-Tick c =
+    let at : time_of_event c.args.event ≡ c.in-Tick.time = ap time_of_event c.in-Tick.is in
     let room : length c.self.inside.events.items < MAX_EVENTS = omega (arith, ap (λ (log : Logbook). length log.events) c.self.view_is, c.requires.room) in
-    let not_back : now_of (record { events = c.self.inside.events.items }) ≤ time_of_event c.args.event = omega (arith, ap now_of c.self.view_is, c.requires.not_back) in
-    let quiet : IsQuiet c.args.event = elim c.in-Silent.is [
-      | inl silent ↦ subst IsQuiet (sym silent.2) tt
-      | inr (inl sweep) ↦ subst IsQuiet (sym sweep.1) tt
-      | inr (inr tick) ↦ subst IsQuiet (sym tick.1) tt
-    ] in
-    rw c.in_ok-push-in-Silent.ensures.items
-    (indexed_quiet c.self.inside.events.items c.self.inside.alarms.items c.self.inside.changes.items c.self.inside.change_count c.args.event c.self.invariant room not_back c.requires.in_range quiet)
+    let not_back : now_of (record { events = c.self.inside.events.items }) ≤ c.in-Tick.time = omega (arith, at, ap now_of c.self.view_is, c.requires.not_back) in
+    let in_range : c.in-Tick.time ≤ max_time = omega (arith, at, c.requires.in_range) in
+    rw c.in_ok-push-in-Tick.ensures.items
+    (subst (λ (event : Event). IsLogIndex (c.self.inside.events.items ++ event ∷ []) c.self.inside.nodes.items c.self.inside.last_sweep c.self.inside.changes.items c.self.inside.change_count)
+    (sym c.in-Tick.is)
+    (indexed_tick c.self.inside.events.items c.self.inside.nodes.items c.self.inside.last_sweep c.self.inside.changes.items c.self.inside.change_count c.self.invariant room c.in-Tick.time not_back in_range))

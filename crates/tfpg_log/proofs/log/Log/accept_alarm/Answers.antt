@@ -1,6 +1,7 @@
-use Rattle.std.proofs.Common.{◌<◌, ◌≤◌, ◌∙◌, length, arith, ap, sym}
+use Rattle.std.proofs.Common.{◌+◌, ◌<◌, ◌≤◌, ◌∙◌, length, arith, ap, sym, subst}
 use Rattle.tfpg_log.specs.declared.limits.TheConstants.{MAX_EVENTS}
 use Rattle.tfpg_log.specs.Log.{Logbook, alarm_of, now_of}
+use Rattle.tfpg_log.specs.inside.NodeEvents.{IsNodeEvents}
 use Rattle.tfpg_log.proofs.Indexes.{indexed_alarm}
 use Rattle.tfpg_log.proofs.log.Log.accept_alarm.Goals as goal
 
@@ -10,5 +11,7 @@ invariant_of-self-2 c =
     let room : length c.self.inside.events.items < MAX_EVENTS = omega (arith, length_is, c.requires.room) in
     let not_back : now_of (record { events = c.self.inside.events.items }) ≤ c.args.time = omega (arith, ap now_of c.self.view_is, c.requires.not_back) in
     let first = ap (λ (log : Logbook). alarm_of log c.args.node) c.self.view_is ∙ c.requires.first in
-    rw c.in_ok-push.ensures.items (indexed_alarm c.self.inside.events.items c.self.inside.alarms.items c.lengthen.new.alarms.items c.self.inside.changes.items c.self.inside.change_count c.args.time c.args.node
-    c.len-place.result c.self.invariant room not_back c.requires.in_range c.in_ok-lengthen.ensures.same (omega (arith, c.in_ok-lengthen.ensures.long)) first (c.len-place.ensures.len ∙ sym length_is))
+    let own = subst (λ log. IsNodeEvents log c.args.node c.node_events.result) (sym c.self.view_is) c.node_events.ensures in
+    rw c.in_ok-push.ensures.items (indexed_alarm c.self.inside.events.items c.self.inside.nodes.items c.self.inside.last_sweep c.self.inside.changes.items c.self.inside.change_count c.self.invariant room c.args.time not_back c.requires.in_range
+    c.lengthen.new.nodes.items c.in_ok-lengthen.ensures.same c.args.node (omega (arith, c.in_ok-lengthen.ensures.long)) c.node_events.result own
+    (c.len.result + 1) (omega (arith, c.len.ensures.len, length_is)) first)

@@ -1,11 +1,11 @@
 use Rattle.std.proofs.Common.{arith}
 use Rattle.std.proofs.lemmas.Bool.{ltb-true}
-use Rattle.tfpg_graph.proofs.lemmas.reach.NodeSets.{IsNodeSet-from_words, bit_tells_node, beyond_no_node}
+use Rattle.tfpg_graph.proofs.lemmas.reach.NodeSets.{IsNodeSet-from_words, bit_says_node, beyond_no_node}
 use Rattle.tfpg_graph.proofs.reach.node_set.NodeSet.has.Goals as goal
 
 pub returns-then-node-lt512-clause-node : goal.returns-then-node-lt512-clause-node
 returns-then-node-lt512-clause-node c =
-    bit_tells_node c.self.inside.words c.args.self.now c.self.invariant c.self.view_is c.args.node c.if-node-lt512.true
+    bit_says_node c.self.inside.words c.args.self.now c.self.invariant c.self.view_is c.args.node c.if-node-lt512.true
 
 pub returns-then-node-lt512-clause-set : goal.returns-then-node-lt512-clause-set
 returns-then-node-lt512-clause-set c = IsNodeSet-from_words c.self.inside.words c.args.self.now c.self.invariant c.self.view_is

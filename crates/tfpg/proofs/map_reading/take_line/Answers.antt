@@ -1,0 +1,36 @@
+use Rattle.std.proofs.Common.{Err, ap}
+use Rattle.tfpg.specs.inside.Faults.{no_map_of_lines}
+use Rattle.tfpg.proofs.MapCourse.{lacks_by_fault, lacks_is, met_end, met_long, met_read, met_faulty, met_no_memory}
+use Rattle.tfpg.proofs.map_reading.take_line.Goals as goal
+
+pub returns-in_err-next-clause-none : goal.returns-in_err-next-clause-none
+returns-in_err-next-clause-none g c before under =
+    lacks_is c.args.graph.now before (g.S.Source.state c.next.new.source) c.from_residual.result (no_map_of_lines c.in_err-next.field-0.0) c.from_residual.ensures.1
+    (lacks_by_fault c.args.graph.now before (g.S.Source.state c.args.input.now) c.args.lines.now c.next.new.self c.args.reader.now (g.S.Source.state c.next.new.source) under
+    c.in_err-next.field-0.0 (c.in_err-next.ensures under.reading under.represents))
+
+pub returns-in-End-clause-turn : goal.returns-in-End-clause-turn
+returns-in-End-clause-turn g c before under =
+    met_end c.args.graph.now before (g.S.Source.state c.args.input.now) c.args.lines.now c.next.new.self c.args.reader.now (g.S.Source.state c.next.new.source) under
+    c.in_ok-next.field-0 (c.in_ok-next.ensures under.reading under.represents) c.in-End.is
+
+pub returns-in-TooLong-clause-none : goal.returns-in-TooLong-clause-none
+returns-in-TooLong-clause-none g c before under =
+    met_long c.args.graph.now before (g.S.Source.state c.args.input.now) c.args.lines.now c.next.new.self c.args.reader.now (g.S.Source.state c.next.new.source) under
+    c.in_ok-next.field-0 (c.in_ok-next.ensures under.reading under.represents) c.in-TooLong.is c.refused.result c.refused.ensures
+
+pub returns-in-Ok-clause-turn : goal.returns-in-Ok-clause-turn
+returns-in-Ok-clause-turn g c before under =
+    met_read c.args.graph.now before (g.S.Source.state c.args.input.now) c.args.lines.now c.next.new.self c.args.reader.now (g.S.Source.state c.next.new.source) under
+    c.in_ok-next.field-0 (c.in_ok-next.ensures under.reading under.represents) c.text.result.now c.take.new.self c.in-Text.is c.text.ensures c.in-Ok.ensures.taken
+
+pub returns-in-Err-BadMap-clause-none : goal.returns-in-Err-BadMap-clause-none
+returns-in-Err-BadMap-clause-none g c before under =
+    met_faulty c.args.graph.now before (g.S.Source.state c.args.input.now) c.args.lines.now c.next.new.self c.args.reader.now (g.S.Source.state c.next.new.source) under
+    c.in_ok-next.field-0 (c.in_ok-next.ensures under.reading under.represents) c.text.result.now c.take.new.self c.in-Text.is c.text.ensures
+    (λ given read. c.in-Err-BadMap.ensures.bad given read (ap Err c.in-Err-BadMap.field-0-is)) c.refused-in-Err-BadMap.result c.refused-in-Err-BadMap.ensures
+
+pub returns-in-Err-NoMemory-clause-none : goal.returns-in-Err-NoMemory-clause-none
+returns-in-Err-NoMemory-clause-none g c before under =
+    met_no_memory c.args.graph.now before (g.S.Source.state c.args.input.now) c.args.lines.now c.next.new.self c.args.reader.now (g.S.Source.state c.next.new.source) under
+    c.in_ok-next.field-0 (c.in_ok-next.ensures under.reading under.represents) c.text.result.now c.take.new.self c.in-Text.is c.text.ensures

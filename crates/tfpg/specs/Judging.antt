@@ -1,0 +1,75 @@
+-- What `explain` does with the streams, once it has a graph and a log: it reads a map, and writes the verdict on it.
+use Rattle.std.specs.Prelude.{◌≡◌, ◌⊎◌, ℕ, ◌+◌, ◌≤◌, List, [], ◌++◌, length, take}
+use Rattle.tfpg_base.specs.declared.activation.Activation.{Activation}
+use Rattle.tfpg_base.specs.Lines.{lines_of, whole_lines, max_bytes}
+use Rattle.tfpg_base.specs.Outside.{SourceState, Rose, Takes, Puts, IsAtEnd}
+use Rattle.tfpg_graph.specs.Graph.{Tfpg}
+use Rattle.tfpg_log.specs.Log.{Logbook}
+use Rattle.tfpg_trace.specs.declared.verdict.Verdict.{Verdict}
+use Rattle.tfpg_trace.specs.FirstFault.{IsVerdict}
+use Rattle.tfpg.specs.declared.end.CheckCause.TheVariants.{BadMap}
+use Rattle.tfpg.specs.declared.end.End.{End}
+use Rattle.tfpg.specs.declared.end.End.TheVariants.{Done, NotAccepted, Usage, Graph, ReadFault, WriteFault, TooMuchInput, NoMemory}
+use Rattle.tfpg.specs.Map.{SpellsMap, BeginsMap, IsMapFault}
+use Rattle.tfpg.specs.Streams.{Streams, HasLeft, HasNoFault}
+use Rattle.tfpg.specs.Verdicts.{verdict_text}
+
+-- The whole input was taken, at most 2^32 bytes, and its lines spell this map.
+pub record GivesMap (graph : Tfpg) (input : SourceState) (taken set : List ℕ) (trace : List Activation) : Type 0 where
+  pub spells : SpellsMap graph (lines_of taken) set trace
+  pub few : length taken ≤ max_bytes
+  pub at_end : IsAtEnd input
+
+-- The whole input was taken, its lines spell a map, and this is the verdict on it.
+pub record HasVerdict (graph : Tfpg) (log : Logbook) (input : SourceState) (taken : List ℕ) (verdict : Verdict) : Type 0 where
+  pub set : List ℕ
+  pub trace : List Activation
+  pub gives : GivesMap graph input taken set trace
+  pub right : IsVerdict graph log set trace verdict
+
+-- The verdict on the map was written, and nothing failed.
+pub record WritesVerdict (graph : Tfpg) (log : Logbook) (before now : Streams) (taken : List ℕ) : Type 0 where
+  pub verdict : Verdict
+  pub has : HasVerdict graph log now.input taken verdict
+  pub writes : Puts before.output now.output (verdict_text graph verdict)
+  pub no_fault : HasNoFault before now
+
+-- The output failed, and what was written begins the verdict on the map.
+pub record BeginsVerdict (graph : Tfpg) (log : Logbook) (before now : Streams) (taken : List ℕ) : Type 0 where
+  pub verdict : Verdict
+  pub has : HasVerdict graph log now.input taken verdict
+  pub front : List ℕ
+  pub rest : List ℕ
+  pub parts : verdict_text graph verdict ≡ front ++ rest
+  pub writes : Puts before.output now.output front
+  pub rose : Rose before.output.faults now.output.faults
+
+-- The lines of the input, of what was taken and what is left, are no map, and this is the number of the first faulty one; an
+-- input without a line was read to its end. Nothing failed.
+pub record RefusesMap (graph : Tfpg) (before now : SourceState) (taken : List ℕ) (number : ℕ) : Type 0 where
+  pub rest : List ℕ
+  pub left : HasLeft now rest
+  pub fault : IsMapFault graph (lines_of (taken ++ rest)) number
+  pub ended : lines_of (taken ++ rest) ≡ [] → IsAtEnd now
+  pub no_fault : now.faults ≡ before.faults
+
+-- How judging a map ends, where these bytes were taken. Before the verdict is known, nothing is written. Where the input
+-- fails or is too long, no line that came whole is faulty.
+abbrev pub JudgingEnds : Tfpg → Logbook → Streams → Streams → List ℕ → End → Type 0
+JudgingEnds graph log before now taken Done = WritesVerdict graph log before now taken
+JudgingEnds graph log before now taken (NotAccepted line cause) =
+    RefusesMap graph before.input now.input taken line × (cause ≡ BadMap) × (now.output ≡ before.output)
+JudgingEnds graph log before now taken (Usage cause) = ⊥
+JudgingEnds graph log before now taken (Graph line cause) = ⊥
+JudgingEnds graph log before now taken ReadFault =
+    Rose before.input.faults now.input.faults × BeginsMap graph (whole_lines taken) × (now.output ≡ before.output)
+JudgingEnds graph log before now taken WriteFault = BeginsVerdict graph log before now taken
+JudgingEnds graph log before now taken TooMuchInput =
+    (length taken ≡ max_bytes + 1) × BeginsMap graph (whole_lines (take max_bytes taken)) × (now.output ≡ before.output)
+JudgingEnds graph log before now taken NoMemory = now.output ≡ before.output
+
+-- A map was read from the input and judged by the graph and the log, and so it ended.
+pub record JudgesMap (graph : Tfpg) (log : Logbook) (before now : Streams) (end : End) : Type 0 where
+  pub taken : List ℕ
+  pub takes : Takes before.input now.input taken
+  pub ends : JudgingEnds graph log before now taken end

@@ -1,0 +1,77 @@
+-- Reading the map of the input, under way and ended.
+use Rattle.std.specs.Prelude.{◌≡◌, ◌⊎◌, ℕ, ◌+◌, ◌<◌, ◌≤◌, List, length, take, Some, None, Result, Ok, Err}
+use Rattle.tfpg_base.specs.declared.line.Line.TheVariants as line
+use Rattle.tfpg_base.specs.Lines.{Reading, Buffered, LinesRepresent, lines_of, whole_lines, max_bytes}
+use Rattle.tfpg_base.specs.Outside.{SourceState, Rose, Takes, IsAtEnd}
+use Rattle.tfpg_graph.specs.Graph.{Tfpg}
+use Rattle.tfpg_trace.specs.declared.verdict.Verdict.{Verdict}
+use Rattle.tfpg_trace.specs.declared.verdict.Verdict.TheVariants as verdict
+use Rattle.tfpg.specs.Judging.{GivesMap, RefusesMap}
+use Rattle.tfpg.specs.Map.{BeginsMap}
+use Rattle.tfpg.specs.declared.map.Map.{Map}
+use Rattle.tfpg.specs.declared.map.MapReader.{MapReader}
+use Rattle.tfpg.specs.declared.map.NoMap.{NoMap}
+use Rattle.tfpg.specs.declared.map.NoMap.TheVariants.{Refused, ReadFault, TooMuchInput, NoMemory}
+use Rattle.tfpg.specs.declared.map_reading.MapTurn.{MapTurn}
+use Rattle.tfpg.specs.declared.map_reading.MapTurn.TheVariants.{Read, Ended}
+use Rattle.tfpg.specs.inside.MapLines.{MapRepresents}
+
+-- Reading that began with this input has come to this: each line that was returned is read, and nothing has failed.
+pub record IsReadingMap (graph : Tfpg) (before now : SourceState) (lines : Buffered) (map : MapReader) : Type 0 where
+  pub reading : Reading
+  pub takes : Takes before now reading.taken
+  pub few : length reading.taken ≤ max_bytes
+  pub represents : LinesRepresent lines reading
+  pub goes_on : (reading.ended ≡ None) ⊎ ((reading.ended ≡ Some (Ok line.End)) × IsAtEnd now)
+  pub front : take (length reading.given) (lines_of reading.taken) ≡ reading.given
+  pub read : MapRepresents graph map reading.given
+  pub no_fault : now.faults ≡ before.faults
+
+-- The whole input was taken, and each of its lines is read.
+pub record HasReadAll (graph : Tfpg) (before now : SourceState) (map : MapReader) : Type 0 where
+  pub taken : List ℕ
+  pub takes : Takes before now taken
+  pub few : length taken ≤ max_bytes
+  pub at_end : IsAtEnd now
+  pub read : MapRepresents graph map (lines_of taken)
+  pub no_fault : now.faults ≡ before.faults
+
+-- What a turn after the line of this number leads to: reading is under way still, one line on; or all is read.
+abbrev pub ReadsOn : Tfpg → SourceState → SourceState → ℕ → Buffered → MapReader → MapTurn → Type 0
+ReadsOn graph before now number lines map Read = IsReadingMap graph before now lines map × (lines.number ≡ number + 1)
+ReadsOn graph before now number lines map Ended = HasReadAll graph before now map
+
+-- The lines of the whole input spell this map.
+pub record ReadsMap (graph : Tfpg) (before now : SourceState) (map : Map) : Type 0 where
+  pub taken : List ℕ
+  pub takes : Takes before now taken
+  pub gives : GivesMap graph now taken map.set map.trace
+  pub no_fault : now.faults ≡ before.faults
+
+-- what a reader that has read all lines gives: its map, or that there is no line
+abbrev pub ReturnsMap : MapReader → Result Map NoMap → Type 0
+ReturnsMap reader (Ok map) = (reader.set ≡ Some map.set) × (reader.trace ≡ map.trace)
+ReturnsMap reader (Err fault) = (reader.set ≡ None) × (fault ≡ Refused 1)
+
+-- what shows why there is no map, where these bytes were taken
+abbrev pub ShowsNoMap : Tfpg → SourceState → SourceState → List ℕ → NoMap → Type 0
+ShowsNoMap graph before now taken (Refused number) = RefusesMap graph before now taken number
+ShowsNoMap graph before now taken ReadFault = Rose before.faults now.faults × BeginsMap graph (whole_lines taken)
+ShowsNoMap graph before now taken TooMuchInput = (length taken ≡ max_bytes + 1) × BeginsMap graph (whole_lines (take max_bytes taken))
+ShowsNoMap graph before now taken NoMemory = Unit {0}
+
+-- The input gives no map, for this reason.
+pub record LacksMap (graph : Tfpg) (before now : SourceState) (fault : NoMap) : Type 0 where
+  pub taken : List ℕ
+  pub takes : Takes before now taken
+  pub shown : ShowsNoMap graph before now taken fault
+
+-- a verdict names a node of the graph, where it names one
+abbrev pub NamesNode : Tfpg → Verdict → Type 0
+NamesNode graph verdict.Yes = Unit {0}
+NamesNode graph (verdict.Late node time) = node < length graph.nodes
+NamesNode graph (verdict.Stranger node time) = node < length graph.nodes
+NamesNode graph (verdict.May node time) = node < length graph.nodes
+NamesNode graph (verdict.Must node time) = node < length graph.nodes
+NamesNode graph (verdict.Alarm node time) = node < length graph.nodes
+NamesNode graph (verdict.Silence node time) = node < length graph.nodes

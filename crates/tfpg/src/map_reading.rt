@@ -1,0 +1,82 @@
+//! Reading the map of the input, line by line.
+
+ghost use Rattle.std.specs.Prelude.{◌<◌, ◌≡◌, IfOk, IfErr, All, length};
+ghost use Rattle.tfpg_base.specs.Outside.{SourceState};
+ghost use Rattle.tfpg.specs.inside.MapReading.{IsReadingMap, ReadsOn, LacksMap, ReadsMap, ReturnsMap};
+
+use crate::map::{Map, MapFault, MapReader, NoMap};
+use std::alloc::Global;
+use tfpg_base::{Line, Lines, Source};
+use tfpg_graph::Graph;
+
+/// Whether a line was read, or the input has ended.
+#[derive(Clone, Copy)]
+pub(crate) enum MapTurn {
+    Read,
+    Ended,
+}
+
+/// Reads the whole input, whose lines spell a map.
+///
+/// # Errors
+///
+/// `Refused` at the first faulty line; an input without a line is refused at line 1.
+pub(crate) fn read_map<S: Source>(alloc: Global, graph: &Graph, input: &mut S) -> Result<Map, NoMap>
+    ensures map { IfOk result (ReadsMap graph.now (S.state input.old) (S.state input.new)) }
+    ensures nodes { IfOk result (λ map. All (λ activation. activation.node < length graph.now.nodes) map.trace) }
+    ensures none { IfErr result (LacksMap graph.now (S.state input.old) (S.state input.new)) }
+{
+    let mut reader = MapReader::new(alloc);
+    let mut lines = Lines::new(alloc)?;
+    loop {
+        match take_line(&mut reader, &mut lines, graph, input)? {
+            MapTurn::Read => {}
+            MapTurn::Ended => return map_of(reader),
+        }
+    }
+}
+
+/// Takes the next line.
+fn take_line<S: Source>(
+    reader: &mut MapReader,
+    lines: &mut Lines,
+    graph: &Graph,
+    input: &mut S,
+) -> Result<MapTurn, NoMap>
+    ensures turn { (before : SourceState) → IsReadingMap graph.now before (S.state input.old) lines.old reader.old
+        → IfOk result (ReadsOn graph.now before (S.state input.new) lines.old.number lines.new reader.new) }
+    ensures none { (before : SourceState) → IsReadingMap graph.now before (S.state input.old) lines.old reader.old
+        → IfErr result (LacksMap graph.now before (S.state input.new)) }
+{
+    match lines.next(input)? {
+        Line::End => Ok(MapTurn::Ended),
+        Line::TooLong => Err(refused(lines)),
+        Line::Text => match reader.take(graph, lines.text()) {
+            Ok(()) => Ok(MapTurn::Read),
+            Err(MapFault::BadMap) => Err(refused(lines)),
+            Err(MapFault::NoMemory) => Err(NoMap::NoMemory),
+        },
+    }
+}
+
+/// The line that was returned last is faulty.
+fn refused(lines: &Lines) -> NoMap
+    ensures { result ≡ NoMap.Refused lines.now.number }
+{
+    NoMap::Refused {
+        line: lines.number(),
+    }
+}
+
+/// The map that was read, once all lines of the input are.
+fn map_of(reader: MapReader) -> Result<Map, NoMap>
+    ensures { ReturnsMap reader result }
+{
+    match reader.set {
+        Some(set) => Ok(Map {
+            set,
+            trace: reader.trace,
+        }),
+        None => Err(NoMap::Refused { line: 1 }),
+    }
+}

@@ -1,0 +1,53 @@
+-- Lists in which each element is related to all later ones.
+use Rattle.std.proofs.Common.{◌≡◌, ℕ, ◌<◌, ◌≤◌, List, [], ◌∷◌, ◌++◌, ⊎_elim, refl, arith, sym, ◌∙◌, subst}
+use Rattle.std.specs.List.{AllPairs, Contains}
+use Rattle.std.proofs.lemmas.List.Elements.{All-contains, Contains-append_cases}
+use Rattle.tfpg_base.proofs.lists.Elements.{AllPairs-head, AllPairs-tail, AllPairs-cons, All-from_members, Contains-head, Contains-tail, Contains-cons_cases, Contains-nil}
+
+module _ {X : Type 0} (R : X → X → Type 0) where
+  -- nothing is related in an empty list
+  pub AllPairs-nil : AllPairs R []
+  AllPairs-nil = λ i j d before within. absurd (omega arith)
+
+  -- one list after the other, where each element of the one is related to each of the other
+  pub AllPairs-append : (xs ys : List X) → AllPairs R xs → AllPairs R ys → ((x y : X) → Contains xs x → Contains ys y → R x y) → AllPairs R (xs ++ ys)
+  AllPairs-append [] ys first second across = second
+  AllPairs-append (x ∷ xs) ys first second across =
+      AllPairs-cons R x (xs ++ ys)
+      (All-from_members (R x) (xs ++ ys)
+      (λ y member. ⊎_elim (λ own. All-contains (R x) xs y (AllPairs-head R x xs first) own) (λ other. across x y (Contains-head x xs) other) (Contains-append_cases xs ys y member)))
+      (AllPairs-append xs ys (AllPairs-tail R x xs first) second (λ y z in_xs in_ys. across y z (Contains-tail x xs y in_xs) in_ys))
+
+  module _ (asymmetric : (x y : X) → R x y → R y x → ⊥) where
+    -- what stands in the rest of the one list stands in the rest of the other
+    in_rest : (x y : X) (xs ys : List X) → x ≡ y → AllPairs R (x ∷ xs) → ((z : X) → Contains (x ∷ xs) z → Contains (y ∷ ys) z) → (z : X) → Contains xs z → Contains ys z
+    in_rest x y xs ys same pairs to z member =
+        let after : R x z = All-contains (R x) xs z (AllPairs-head R x xs pairs) member in
+        ⊎_elim (λ is. absurd (asymmetric x z after (subst (λ w. R w x) (same ∙ is) (subst (λ w. R x w) (sym (same ∙ is)) after)))) (λ rest. rest)
+        (Contains-cons_cases y ys z (to z (Contains-tail x xs z member)))
+
+    -- Two lists in order with the same elements are equal.
+    pub same_in_order : (xs ys : List X) → AllPairs R xs → AllPairs R ys → ((x : X) → Contains xs x → Contains ys x) → ((x : X) → Contains ys x → Contains xs x) → xs ≡ ys
+    same_in_order [] [] first second to from = refl
+    same_in_order [] (y ∷ ys) first second to from = absurd (Contains-nil y (from y (Contains-head y ys)))
+    same_in_order (x ∷ xs) [] first second to from = absurd (Contains-nil x (to x (Contains-head x xs)))
+    same_in_order (x ∷ xs) (y ∷ ys) first second to from =
+        let heads : x ≡ y = ⊎_elim (λ is. sym is)
+        (λ x_later. ⊎_elim (λ is. is) (λ y_later. absurd (asymmetric x y (All-contains (R x) xs y (AllPairs-head R x xs first) y_later) (All-contains (R y) ys x (AllPairs-head R y ys second) x_later)))
+        (Contains-cons_cases x xs y (from y (Contains-head y ys))))
+        (Contains-cons_cases y ys x (to x (Contains-head x xs))) in
+        let rests = same_in_order xs ys (AllPairs-tail R x xs first) (AllPairs-tail R y ys second) (in_rest x y xs ys heads first to) (in_rest y x ys xs (sym heads) second from) in
+        cc
+
+-- the numbers rise strictly
+abbrev pub Rises : List ℕ → Type 0
+Rises members = AllPairs (λ earlier later. earlier < later) members
+
+-- a member of a rising list is no less than its head
+pub least_first : (first : ℕ) (others : List ℕ) (place : ℕ) → Rises (first ∷ others) → Contains (first ∷ others) place → first ≤ place
+least_first first others place rising member =
+    ⊎_elim (λ is. omega (arith, is)) (λ after. omega (arith, All-contains (λ later. first < later) others place (AllPairs-head ◌<◌ first others rising) after)) (Contains-cons_cases first others place member)
+
+-- Rising lists with the same members are equal.
+pub same_from_members : (xs ys : List ℕ) → Rises xs → Rises ys → ((place : ℕ) → Contains xs place → Contains ys place) → ((place : ℕ) → Contains ys place → Contains xs place) → xs ≡ ys
+same_from_members xs ys rises_x rises_y to from = same_in_order (λ earlier later. earlier < later) (λ x y above below. omega arith) xs ys rises_x rises_y to from

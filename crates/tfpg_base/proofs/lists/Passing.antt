@@ -1,0 +1,115 @@
+-- What stands in the list of those that pass a test, or of the values that there are.
+use Rattle.std.proofs.Common.{◌≡◌, ℕ, zero, suc, ◌<◌, ◌≤◌, Bool, true, false, cond, List, [], ◌∷◌, length, filter, filter_map, Option, Some, None, slice_get, inl, inr, ⊎_elim, refl, sym, ap, ◌∙◌, arith}
+use Rattle.std.specs.List.{Contains, cons_option}
+use Rattle.std.proofs.lemmas.Option.{slice_get_within}
+use Rattle.tfpg_base.proofs.lists.Elements.{Contains-head, Contains-tail, Contains-nil, Contains-cons_cases}
+
+-- an element at a place that passes is among those that pass
+pub Contains-filter : {X : Type 0} (p : X → Bool) (xs : List X) (place : ℕ) (x : X) → slice_get xs place ≡ Some x → p x ≡ true → Contains (filter p xs) x
+Contains-filter p [] place x at passes = absurd (omega (arith, slice_get_within [] place x at))
+Contains-filter p (y ∷ ys) zero x at passes = by (p y) (ap p same ∙ passes)
+  where
+    same : y ≡ x
+    same = cc
+
+    by : (b : Bool) → b ≡ true → Contains (cond b (y ∷ filter p ys) (filter p ys)) x
+    by true is = (0, omega arith, same)
+    by false is = absurd cc
+Contains-filter p (y ∷ ys) (suc place) x at passes = by (p y) (Contains-filter p ys place x at passes)
+  where
+    by : (b : Bool) → Contains (filter p ys) x → Contains (cond b (y ∷ filter p ys) (filter p ys)) x
+    by true more = Contains-tail y (filter p ys) x more
+    by false more = more
+
+-- and each of those stands at a place and passes
+pub Contains-filter_only : {X : Type 0} (p : X → Bool) (xs : List X) (x : X) → Contains (filter p xs) x → (place : ℕ) × (slice_get xs place ≡ Some x) × (p x ≡ true)
+Contains-filter_only p [] x member = absurd (Contains-nil x member)
+Contains-filter_only p (y ∷ ys) x member = by (p y) refl member (Contains-filter_only p ys x)
+  where
+    by : (b : Bool) → p y ≡ b → Contains (cond b (y ∷ filter p ys) (filter p ys)) x
+        → (Contains (filter p ys) x → (place : ℕ) × (slice_get ys place ≡ Some x) × (p x ≡ true))
+        → (place : ℕ) × (slice_get (y ∷ ys) place ≡ Some x) × (p x ≡ true)
+    by true passes among rest = elim (Contains-cons_cases y (filter p ys) x among) [
+      | inl same ↦ (0, ap Some same, ap p (sym same) ∙ passes)
+      | inr more ↦ (let found = rest more in (suc found.0, found.1, found.2))
+    ]
+    by false fails among rest = let found = rest among in (suc found.0, found.1, found.2)
+
+module _ {X Y : Type 0} (f : X → Option Y) where
+  -- the value of an element stands among the values
+  pub Contains-filter_map : (xs : List X) (x : X) (y : Y) → Contains xs x → f x ≡ Some y → Contains (filter_map f xs) y
+  Contains-filter_map [] x y member at = absurd (Contains-nil x member)
+  Contains-filter_map (first ∷ others) x y member at = elim (Contains-cons_cases first others x member) [
+    | inl same ↦ here (f first) (ap f same ∙ at)
+    | inr more ↦ further (f first) (Contains-filter_map others x y more at)
+  ]
+    where
+      here : (o : Option Y) → o ≡ Some y → Contains (cons_option o (filter_map f others)) y
+      here None is = absurd cc
+      here (Some z) is = (0, omega arith, cc)
+
+      further : (o : Option Y) → Contains (filter_map f others) y → Contains (cons_option o (filter_map f others)) y
+      further None among = among
+      further (Some z) among = Contains-tail z (filter_map f others) y among
+
+  -- and what stands there is the value of an element
+  pub Contains-filter_map_only : (xs : List X) (y : Y) → Contains (filter_map f xs) y → (x : X) × Contains xs x × (f x ≡ Some y)
+  Contains-filter_map_only [] y member = absurd (Contains-nil y member)
+  Contains-filter_map_only (first ∷ others) y member = by (f first) refl member (Contains-filter_map_only others y)
+    where
+      by : (o : Option Y) → f first ≡ o → Contains (cons_option o (filter_map f others)) y → (Contains (filter_map f others) y → (x : X) × Contains others x × (f x ≡ Some y))
+          → (x : X) × Contains (first ∷ others) x × (f x ≡ Some y)
+      by None at among rest = let found = rest among in (found.0, Contains-tail first others found.0 found.1, found.2)
+      by (Some z) at among rest = elim (Contains-cons_cases z (filter_map f others) y among) [
+        | inl same ↦ (first, Contains-head first others, at ∙ ap Some same)
+        | inr more ↦ (let found = rest more in (found.0, Contains-tail first others found.0 found.1, found.2))
+      ]
+
+  -- the value of an element stands at a place among the values
+  pub slice_get-filter_map : (xs : List X) (x : X) (y : Y) → Contains xs x → f x ≡ Some y → (place : ℕ) × (slice_get (filter_map f xs) place ≡ Some y)
+  slice_get-filter_map [] x y member is = absurd (Contains-nil x member)
+  slice_get-filter_map (first ∷ xs) x y member is =
+      ⊎_elim (λ here. (0, ap (λ o. slice_get (cons_option o (filter_map f xs)) 0) (ap f here ∙ is)))
+      (λ there. further (f first) (slice_get-filter_map xs x y there is)) (Contains-cons_cases first xs x member)
+    where
+      further : (o : Option Y) → (place : ℕ) × (slice_get (filter_map f xs) place ≡ Some y) → (place : ℕ) × (slice_get (cons_option o (filter_map f xs)) place ≡ Some y)
+      further None found = found
+      further (Some z) found = (suc found.0, found.1)
+
+  -- and at each place stands the value of an element
+  pub slice_get-filter_map_only : (xs : List X) (place : ℕ) (y : Y) → slice_get (filter_map f xs) place ≡ Some y → (x : X) × Contains xs x × (f x ≡ Some y)
+  slice_get-filter_map_only [] place y is = absurd (cc)
+  slice_get-filter_map_only (first ∷ xs) place y is = by (f first) refl place is (λ n at. slice_get-filter_map_only xs n y at)
+    where
+      by : (o : Option Y) → f first ≡ o → (n : ℕ) → slice_get (cons_option o (filter_map f xs)) n ≡ Some y
+          → ((m : ℕ) → slice_get (filter_map f xs) m ≡ Some y → (x : X) × Contains xs x × (f x ≡ Some y)) → (x : X) × Contains (first ∷ xs) x × (f x ≡ Some y)
+      by None own n at again = let found = again n at in (found.0, Contains-tail first xs found.0 found.1, found.2)
+      by (Some z) own zero at again = (first, Contains-head first xs, own ∙ at)
+      by (Some z) own (suc n) at again = let found = again n at in (found.0, Contains-tail first xs found.0 found.1, found.2)
+
+  -- there are no more values than elements
+  pub length-filter_map : (xs : List X) → length (filter_map f xs) ≤ length xs
+  length-filter_map [] = omega arith
+  length-filter_map (x ∷ xs) = by (f x) (length-filter_map xs)
+    where
+      by : (o : Option Y) → length (filter_map f xs) ≤ length xs → length (cons_option o (filter_map f xs)) ≤ length (x ∷ xs)
+      by None few = omega arith
+      by (Some y) few = omega arith
+
+  -- where there are as many, each element has a value
+  pub each_from_length-filter_map : (xs : List X) → length xs ≤ length (filter_map f xs) → (x : X) → Contains xs x → (y : Y) × (f x ≡ Some y)
+  each_from_length-filter_map [] many x member = absurd (Contains-nil x member)
+  each_from_length-filter_map (first ∷ xs) many x member = by (f first) refl many (λ enough there. each_from_length-filter_map xs enough x there)
+    where
+      by : (o : Option Y) → f first ≡ o → length (first ∷ xs) ≤ length (cons_option o (filter_map f xs))
+          → (length xs ≤ length (filter_map f xs) → Contains xs x → (y : Y) × (f x ≡ Some y)) → (y : Y) × (f x ≡ Some y)
+      by None own enough again = absurd (omega (arith, length-filter_map xs, enough))
+      by (Some z) own enough again = ⊎_elim (λ here. (z, ap f (sym here) ∙ own)) (λ there. again (omega arith) there) (Contains-cons_cases first xs x member)
+
+  -- where there are fewer, not each has one
+  pub not_each_from_length-filter_map : (xs : List X) → length (filter_map f xs) < length xs → ((x : X) → Contains xs x → (y : Y) × (f x ≡ Some y)) → ⊥
+  not_each_from_length-filter_map [] few each = omega arith
+  not_each_from_length-filter_map (first ∷ xs) few each =
+      let own = each first (Contains-head first xs) in
+      not_each_from_length-filter_map xs (let same : length (filter_map f (first ∷ xs)) ≡ suc (length (filter_map f xs)) = ap (λ o. length (cons_option o (filter_map f xs))) own.1 in omega arith)
+      (λ x member. each x (Contains-tail first xs x member))

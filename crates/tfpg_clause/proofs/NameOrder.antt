@@ -1,0 +1,54 @@
+-- The order of the clauses of one horizon is strict and total.
+use Rattle.std.proofs.Common.{◌≡◌, ℕ, ◌<◌, sym, ◌∙◌, ◌⊎◌, inl, inr, arith}
+use Rattle.std.proofs.lemmas.Bool.{cases_lt}
+use Rattle.tfpg_evidence.specs.declared.clause_name.ClauseName.{ClauseName}
+use Rattle.tfpg_clause.specs.Order.{rank_of, subject_of, span_of, horizon_of, ComesBefore}
+use Rattle.tfpg_clause.specs.inside.FirstSpan.{named}
+use Rattle.tfpg_clause.proofs.FirstOfAll.{kind_of, name_is, rank_is, same_kind}
+
+-- two numbers in order
+compared : (one other : ℕ) → (one < other) ⊎ ((one ≡ other) ⊎ (other < one))
+compared one other = elim (cases_lt one other) [
+  | inl less ↦ inl less
+  | inr more ↦ elim (cases_lt other one) [ inl greater ↦ inr (inr greater) | inr same ↦ inr (inl (omega arith)) ]
+]
+
+-- No name comes before itself.
+pub not_itself : (name : ClauseName) → ComesBefore name name → ⊥
+not_itself name (inl less) = omega (arith, less)
+not_itself name (inr (same, inl less)) = omega (arith, less)
+not_itself name (inr (same, inr (equal, less))) = omega (arith, less)
+
+-- What comes before a name comes before all that come after it.
+pub goes_through : (one middle other : ClauseName) → ComesBefore one middle → ComesBefore middle other → ComesBefore one other
+goes_through one middle other (inl less) (inl further) = inl (omega (arith, less, further))
+goes_through one middle other (inl less) (inr (same, rest)) = inl (omega (arith, less, same))
+goes_through one middle other (inr (same, rest)) (inl further) = inl (omega (arith, same, further))
+goes_through one middle other (inr (same, one_rest)) (inr (equal, other_rest)) = inr (same ∙ equal, through one_rest other_rest)
+  where
+    through : (subject_of one < subject_of middle) ⊎ ((subject_of one ≡ subject_of middle) × (span_of one < span_of middle))
+        → (subject_of middle < subject_of other) ⊎ ((subject_of middle ≡ subject_of other) × (span_of middle < span_of other))
+        → (subject_of one < subject_of other) ⊎ ((subject_of one ≡ subject_of other) × (span_of one < span_of other))
+    through (inl less) (inl further) = inl (omega (arith, less, further))
+    through (inl less) (inr (equal, later)) = inl (omega (arith, less, equal))
+    through (inr (equal, early)) (inl further) = inl (omega (arith, equal, further))
+    through (inr (equal, early)) (inr (alike, later)) = inr (equal ∙ alike, omega (arith, early, later))
+
+-- Of two names of one horizon one comes before the other, or they are the same.
+pub one_comes_first : (one other : ClauseName) → horizon_of one ≡ horizon_of other → (one ≡ other) ⊎ (ComesBefore one other ⊎ ComesBefore other one)
+one_comes_first one other horizon = elim (compared (rank_of one) (rank_of other)) [
+  | inl less ↦ inr (inl (inl less))
+  | inr (inr more) ↦ inr (inr (inl more))
+  | inr (inl rank) ↦ elim (compared (subject_of one) (subject_of other)) [
+    | inl less ↦ inr (inl (inr (rank, inl less)))
+    | inr (inr more) ↦ inr (inr (inr (sym rank, inl more)))
+    | inr (inl subject) ↦ elim (compared (span_of one) (span_of other)) [
+      | inl less ↦ inr (inl (inr (rank, inr (subject, less))))
+      | inr (inr more) ↦ inr (inr (inr (sym rank, inr (sym subject, more))))
+      | inr (inl span) ↦ (
+          let kind = same_kind (kind_of one) (kind_of other) (sym (rank_is one) ∙ rank ∙ rank_is other) in
+          inl (sym (name_is one) ∙ (λ i. named (kind i) (subject i) (span i) (horizon i)) ∙ name_is other)
+          )
+    ]
+  ]
+]

@@ -1,0 +1,380 @@
+//! The public calls of `tfpg_log`: lines that are accepted or refused, the limits, and what the look-ups and copies of
+//! logs are.
+
+ghost use Rattle.std.specs.Prelude.{◌≡◌, IfOk};
+ghost use Rattle.tfpg_log.specs.Log.{IsOf};
+
+use std::alloc::Global;
+use std::process::Abort;
+use std::test::Fail;
+use tfpg_graph::{Graph, read};
+use tfpg_log::{Event, Log, MAX_EVENTS, MAX_MODE_CHANGES, Offered, Refusal, Span, Window};
+
+/// A failure mode, two monitored discrepancies and a hidden one, in two modes.
+const GRAPH: &[u8] =
+    b"tfpg 1\nmode N\nmode D\nfailure F 1\nor A watch 0\nor B hidden\nor C watch 7\nedge F A 1 3 *\nedge F B 2 inf *\nedge B C 9 9 *\nend\n";
+
+/// Lines that a log refuses whose last event is an alarm of A at 10: one for each refusal alone, and for each two that hold
+/// of one line, of which the first decides.
+const REFUSED: [(&str, Refusal); 42] = [
+    ("", Refusal::BadLine),
+    ("11", Refusal::BadLine),
+    ("11  tick", Refusal::BadLine),
+    (" 11 tick", Refusal::BadLine),
+    ("11 tick ", Refusal::BadLine),
+    ("11 alarm", Refusal::BadLine),
+    ("11 Alarm C", Refusal::BadLine),
+    ("1 2 3 4 5 6 7 8 9 10", Refusal::BadLine),
+    ("eleven tick C", Refusal::BadLine),
+    ("1000000000001 tick C", Refusal::BadLine),
+    ("9 tick C", Refusal::BadLine),
+    ("11 alarm X X", Refusal::BadLine),
+    ("11 alarm F F", Refusal::BadLine),
+    ("11 mode B B", Refusal::BadLine),
+    ("11 alarm A A", Refusal::BadLine),
+    ("11 silent A A", Refusal::BadLine),
+    ("011 tick", Refusal::BadNumber),
+    ("01000000000001 tick", Refusal::BadNumber),
+    ("09 tick", Refusal::BadNumber),
+    ("eleven alarm X", Refusal::BadNumber),
+    ("11. alarm F", Refusal::BadNumber),
+    ("+11 mode B", Refusal::BadNumber),
+    ("-11 alarm A", Refusal::BadNumber),
+    ("0x11 silent A", Refusal::BadNumber),
+    ("1000000000001 tick", Refusal::TimeTooLarge),
+    ("99999999999999999999 alarm X", Refusal::TimeTooLarge),
+    ("1000000000001 silent B", Refusal::TimeTooLarge),
+    ("1000000000001 mode B", Refusal::TimeTooLarge),
+    ("1000000000001 alarm A", Refusal::TimeTooLarge),
+    ("1000000000001 silent A", Refusal::TimeTooLarge),
+    ("9 tick", Refusal::TimeBack { last: 10 }),
+    ("9 alarm X", Refusal::TimeBack { last: 10 }),
+    ("9 silent B", Refusal::TimeBack { last: 10 }),
+    ("9 mode B", Refusal::TimeBack { last: 10 }),
+    ("9 alarm A", Refusal::TimeBack { last: 10 }),
+    ("9 silent A", Refusal::TimeBack { last: 10 }),
+    ("11 silent X", Refusal::UnknownName),
+    ("11 alarm F", Refusal::NotMonitored),
+    ("11 silent B", Refusal::NotMonitored),
+    ("11 mode B", Refusal::NotAMode),
+    ("11 alarm A", Refusal::SecondAlarm { first: 10 }),
+    ("11 silent A", Refusal::SilentAfterAlarm { first: 10 }),
+];
+
+/// Lines that it accepts.
+const ACCEPTED: [(&str, Event); 5] = [
+    ("10 tick", Event::Tick { time: 10 }),
+    ("10 alarm C", Event::Alarm { time: 10, node: 3 }),
+    ("11 silent C", Event::Silent { time: 11, node: 3 }),
+    ("11 sweep", Event::Sweep { time: 11 }),
+    (
+        "1000000000000 mode N",
+        Event::Mode {
+            time: 1_000_000_000_000,
+            mode: 0,
+        },
+    ),
+];
+
+/// Lines that a log refuses that takes no further change of mode, and whose last event is an alarm of A at 10.
+const REFUSED_WITH_ALL_MODES: [(&str, Refusal); 6] = [
+    ("11 mode D D", Refusal::BadLine),
+    ("011 mode D", Refusal::BadNumber),
+    ("1000000000001 mode D", Refusal::TimeTooLarge),
+    ("9 mode D", Refusal::TimeBack { last: 10 }),
+    ("11 mode B", Refusal::NotAMode),
+    ("11 mode D", Refusal::ModesFull),
+];
+
+/// Lines that a full log refuses with such an alarm, and as many changes of mode.
+const REFUSED_WHEN_FULL: [(&str, Refusal); 11] = [
+    ("11 tick C", Refusal::BadLine),
+    ("011 tick", Refusal::BadNumber),
+    ("1000000000001 tick", Refusal::TimeTooLarge),
+    ("9 tick", Refusal::TimeBack { last: 10 }),
+    ("11 silent X", Refusal::UnknownName),
+    ("11 alarm F", Refusal::NotMonitored),
+    ("11 mode B", Refusal::NotAMode),
+    ("11 alarm A", Refusal::SecondAlarm { first: 10 }),
+    ("11 silent A", Refusal::SilentAfterAlarm { first: 10 }),
+    ("11 mode D", Refusal::LogFull),
+    ("11 tick", Refusal::LogFull),
+];
+
+/// The log of the lines.
+pub(crate) fn log_of(alloc: Global, graph: &Graph, lines: &[&[u8]]) -> Result<Log, Fail>
+    ensures { IfOk result (IsOf graph.now) }
+{
+    let mut log = Log::new(alloc);
+    for line in lines {
+        log.offer(graph, *line)?;
+    }
+    Ok(log)
+}
+
+/// Offers the line so many times.
+fn offer_often(log: &mut Log, graph: &Graph, line: &[u8], count: u32) -> Result<(), Fail>
+    requires { IsOf graph.now log.old }
+    ensures { IsOf graph.now log.new }
+{
+    for _turn in 0..count {
+        log.offer(graph, line)?;
+    }
+    Ok(())
+}
+
+/// Asserts that the log refuses each of the lines so.
+fn assert_refused(
+    rt: &impl Abort,
+    log: &mut Log,
+    graph: &Graph,
+    lines: &[(&'static str, Refusal)],
+) -> Result<(), Fail>
+    requires { IsOf graph.now log.old }
+    ensures { IsOf graph.now log.new }
+{
+    for (line, refusal) in lines {
+        let offered = log.offer(graph, line.as_bytes())?;
+        assert_eq!(rt; offered, Offered::Refused(*refusal), "{line}");
+    }
+    Ok(())
+}
+
+/// What becomes of the line that is offered to a copy of the log.
+fn offered_to_copy(log: &Log, graph: &Graph, line: &[u8]) -> Result<Offered, Fail>
+    requires { IsOf graph.now log.now }
+{
+    let mut copy = log.copy()?;
+    Ok(copy.offer(graph, line)?)
+}
+
+#[test]
+fn accepts_and_refuses_each_line(rt: HostRuntime) -> Result<(), Fail> {
+    let graph = read(rt.alloc(), GRAPH)?;
+    let mut log = log_of(rt.alloc(), &graph, &[b"10 alarm A"])?;
+    assert_refused(&rt, &mut log, &graph, &REFUSED)?;
+    assert_eq!(rt; log.len(), 1);
+    assert_eq!(rt; log.now(), 10);
+    for (line, event) in &ACCEPTED {
+        let offered = offered_to_copy(&log, &graph, line.as_bytes())?;
+        assert_eq!(rt; offered, Offered::Accepted(*event), "{line}");
+    }
+    Ok(())
+}
+
+#[test]
+fn takes_no_more_than_its_limits(rt: HostRuntime) -> Result<(), Fail> {
+    let graph = read(rt.alloc(), GRAPH)?;
+    let mut log = Log::new(rt.alloc());
+    offer_often(&mut log, &graph, b"0 mode D", MAX_MODE_CHANGES)?;
+    offer_often(&mut log, &graph, b"10 alarm A", 1)?;
+    assert_eq!(rt; log.len(), MAX_MODE_CHANGES + 1);
+    assert_refused(&rt, &mut log, &graph, &REFUSED_WITH_ALL_MODES)?;
+    offer_often(&mut log, &graph, b"10 tick", 15_359)?;
+    assert_eq!(rt; log.len(), MAX_EVENTS);
+    assert_refused(&rt, &mut log, &graph, &REFUSED_WHEN_FULL)?;
+    assert_eq!(rt; log.len(), MAX_EVENTS);
+    Ok(())
+}
+
+/// Lines of which each is accepted.
+const LINES: [&[u8]; 8] = [
+    b"5 sweep",
+    b"10 alarm C",
+    b"10 sweep",
+    b"12 silent A",
+    b"12 mode D",
+    b"20 mode N",
+    b"20 mode D",
+    b"25 mode N",
+];
+
+/// Numbers, also of no event, with the silences of the five first nodes, of which the last is none.
+const SILENCES: [(u32, [Option<u64>; 5]); 7] = [
+    (0, [None; 5]),
+    (1, [None, Some(5), None, Some(5), None]),
+    (2, [None; 5]),
+    (3, [None, Some(10), None, None, None]),
+    (4, [None, Some(12), None, None, None]),
+    (5, [None; 5]),
+    (9, [None; 5]),
+];
+
+/// Instants with their modes.
+const MODES: [(u64, u32); 8] = [
+    (0, 0),
+    (12, 0),
+    (13, 1),
+    (20, 1),
+    (21, 1),
+    (25, 1),
+    (26, 0),
+    (u64::MAX, 0),
+];
+
+/// The silences of the five first nodes by the event of this number.
+fn silences_of(graph: &Graph, log: &Log, number: u32) -> [Option<u64>; 5] {
+    [
+        log.quiet_at(graph, number, 0),
+        log.quiet_at(graph, number, 1),
+        log.quiet_at(graph, number, 2),
+        log.quiet_at(graph, number, 3),
+        log.quiet_at(graph, number, 4),
+    ]
+}
+
+/// Asserts what the look-ups of a log of these lines say.
+fn assert_looks_up(rt: &impl Abort, graph: &Graph, log: &Log) {
+    for (number, wanted) in &SILENCES {
+        assert_eq!(rt;
+            silences_of(graph, log, *number),
+            *wanted,
+            "by event {number}"
+        );
+    }
+    for (instant, mode) in &MODES {
+        assert_eq!(rt; log.mode_at(*instant), *mode, "at {instant}");
+    }
+    assert_eq!(rt; log.now(), 25);
+    assert_eq!(rt; log.len(), 8);
+    assert_eq!(rt; log.alarm_of(1), None);
+    assert_eq!(rt; log.alarm_of(3), Some(10));
+    assert_eq!(rt; log.alarm_of(4), None);
+    assert_eq!(rt; log.alarm_event(1), None);
+    assert_eq!(rt; log.alarm_event(3), Some(2));
+    assert_eq!(rt; log.last_quiet(graph, 1), Some(4));
+    assert_eq!(rt; log.last_quiet(graph, 2), None);
+    assert_eq!(rt; log.last_quiet(graph, 3), Some(1));
+}
+
+#[test]
+fn a_log_and_its_copy_have_the_same_look_ups(rt: HostRuntime) -> Result<(), Fail> {
+    let graph = read(rt.alloc(), GRAPH)?;
+    let log = log_of(rt.alloc(), &graph, &LINES)?;
+    let copy = log.copy()?;
+    assert_looks_up(&rt, &graph, &log);
+    assert_looks_up(&rt, &graph, &copy);
+    assert_eq!(rt; copy.len(), 8);
+    assert_eq!(rt; copy.event(2), Event::Alarm { time: 10, node: 3 });
+    assert_eq!(rt; copy.event(8), Event::Mode { time: 25, mode: 0 });
+    Ok(())
+}
+
+/// An AND node with an edge in one mode and an edge in both, and behind it a node with an edge in the other mode.
+const TWO_EDGES: &[u8] =
+    b"tfpg 1\nmode N\nmode D\nfailure F 1\nfailure G 1\nand A watch 0\nor B hidden\nedge F A 1 3 N\nedge G A 1 3 *\nedge A B 1 1 D\nend\n";
+
+/// Lines with changes of mode: two at one time, one to the mode that holds, and one at the last instant.
+const CHANGES: [&[u8]; 7] = [
+    b"10 mode D",
+    b"10 mode N",
+    b"20 mode D",
+    b"30 mode D",
+    b"40 mode N",
+    b"50 tick",
+    b"50 mode D",
+];
+
+/// Instants with the numbers of their spans.
+const NUMBERS: [(u64, Option<u32>); 8] = [
+    (0, Some(0)),
+    (11, Some(0)),
+    (20, Some(0)),
+    (21, Some(1)),
+    (40, Some(1)),
+    (41, Some(2)),
+    (50, Some(2)),
+    (51, None),
+];
+
+/// Numbers and horizons with their spans, as first and last instant and mode.
+const SPANS: [(u32, u64, Option<(u64, u64, u32)>); 8] = [
+    (0, 0, Some((0, 0, 0))),
+    (0, 50, Some((0, 20, 0))),
+    (0, 51, None),
+    (1, 20, None),
+    (1, 21, Some((21, 21, 1))),
+    (1, 50, Some((21, 40, 1))),
+    (2, 50, Some((41, 50, 0))),
+    (3, 50, None),
+];
+
+/// Edges, numbers and horizons with their windows, as first span, and first and last instant.
+const WINDOWS: [(u32, u32, u64, Option<(u32, u64, u64)>); 9] = [
+    (0, 0, 15, Some((0, 0, 15))),
+    (0, 0, 50, Some((0, 0, 20))),
+    (0, 1, 50, None),
+    (0, 2, 50, Some((2, 41, 50))),
+    (1, 1, 20, None),
+    (1, 1, 30, Some((0, 0, 30))),
+    (1, 1, 50, Some((0, 0, 50))),
+    (2, 1, 50, Some((1, 21, 40))),
+    (2, 2, 51, None),
+];
+
+/// The same of all edges into a node.
+const JOINT_WINDOWS: [(u32, u32, u64, Option<(u32, u64, u64)>); 5] = [
+    (0, 1, 50, Some((0, 0, 50))),
+    (2, 0, 50, Some((0, 0, 20))),
+    (2, 1, 50, None),
+    (2, 2, 45, Some((2, 41, 45))),
+    (3, 1, 50, Some((1, 21, 40))),
+];
+
+/// The first and last instant and the mode of a span.
+fn ends_of_span(span: Option<Span>) -> Option<(u64, u64, u32)> {
+    let span = span?;
+    Some((span.lo, span.hi, span.mode))
+}
+
+/// The first span, and the first and last instant, of a window.
+fn ends_of_window(window: Option<Window>) -> Option<(u32, u64, u64)> {
+    let window = window?;
+    Some((window.first, window.lo, window.hi))
+}
+
+/// The window of the edge, where there is such an edge.
+fn window_at(graph: &Graph, log: &Log, edge: u32, number: u32, horizon: u64) -> Option<Window> {
+    if edge >= graph.edge_count() {
+        return None;
+    }
+    log.window_of(graph, edge, number, horizon)
+}
+
+/// The joint window of the node, where there is such a node.
+fn joint_at(graph: &Graph, log: &Log, node: u32, number: u32, horizon: u64) -> Option<Window> {
+    if node >= graph.node_count() {
+        return None;
+    }
+    log.joint_of(graph, node, number, horizon)
+}
+
+#[test]
+fn finds_spans_and_windows(rt: HostRuntime) -> Result<(), Fail> {
+    let graph = read(rt.alloc(), TWO_EDGES)?;
+    let log = log_of(rt.alloc(), &graph, &CHANGES)?;
+    for (instant, wanted) in &NUMBERS {
+        assert_eq!(rt; log.span_of(*instant), *wanted, "at {instant}");
+    }
+    for (number, horizon, wanted) in &SPANS {
+        let found = ends_of_span(log.span(*number, *horizon));
+        assert_eq!(rt; found, *wanted, "span {number} up to {horizon}");
+    }
+    for (edge, number, horizon, wanted) in &WINDOWS {
+        let found = ends_of_window(window_at(&graph, &log, *edge, *number, *horizon));
+        assert_eq!(rt;
+            found,
+            *wanted,
+            "edge {edge} round span {number} up to {horizon}"
+        );
+    }
+    for (node, number, horizon, wanted) in &JOINT_WINDOWS {
+        let found = ends_of_window(joint_at(&graph, &log, *node, *number, *horizon));
+        assert_eq!(rt;
+            found,
+            *wanted,
+            "node {node} round span {number} up to {horizon}"
+        );
+    }
+    Ok(())
+}

@@ -1,0 +1,293 @@
+//! The public calls of `tfpg_report`: the texts of the blocks, by the shapes of the lines of a report.
+
+ghost use Rattle.std.specs.Prelude.{◌≡◌, All, IfOk, IsTrue};
+ghost use Rattle.tfpg_evidence.specs.RoundOf.{IsFindingOf, IsReasonOf, IsRoundOf, IsStepOf, is_ranked};
+ghost use Rattle.tfpg_model_tests.specs.Sizes.{small};
+
+use std::alloc::Global;
+use std::test::Fail;
+use tfpg_base::{NoMemory, NumberList, Set, Trace};
+use tfpg_evidence::{
+    ClauseName, Counts, Finding, Findings, Reason, Reasons, Round, Status, Step, StepList,
+};
+use tfpg_graph::read;
+use tfpg_log::Refusal;
+use tfpg_report::{RefusedLine, head, lost, refused, render};
+
+/// A line that was refused, and the block that says so.
+struct RefusedRow {
+    name: &'static str,
+    cause: RefusedLine,
+    wanted: &'static [u8],
+}
+
+const REFUSED_ROWS: [RefusedRow; 12] = [
+    RefusedRow {
+        name: "too long",
+        cause: RefusedLine::TooLong,
+        wanted: b"refused 7 TooLong\n",
+    },
+    RefusedRow {
+        name: "bad line",
+        cause: RefusedLine::Offer(Refusal::BadLine),
+        wanted: b"refused 7 BadLine\n",
+    },
+    RefusedRow {
+        name: "bad number",
+        cause: RefusedLine::Offer(Refusal::BadNumber),
+        wanted: b"refused 7 BadNumber\n",
+    },
+    RefusedRow {
+        name: "time too large",
+        cause: RefusedLine::Offer(Refusal::TimeTooLarge),
+        wanted: b"refused 7 TimeTooLarge\n",
+    },
+    RefusedRow {
+        name: "time back",
+        cause: RefusedLine::Offer(Refusal::TimeBack { last: 30 }),
+        wanted: b"refused 7 TimeBack 30\n",
+    },
+    RefusedRow {
+        name: "unknown name",
+        cause: RefusedLine::Offer(Refusal::UnknownName),
+        wanted: b"refused 7 UnknownName\n",
+    },
+    RefusedRow {
+        name: "not monitored",
+        cause: RefusedLine::Offer(Refusal::NotMonitored),
+        wanted: b"refused 7 NotMonitored\n",
+    },
+    RefusedRow {
+        name: "not a mode",
+        cause: RefusedLine::Offer(Refusal::NotAMode),
+        wanted: b"refused 7 NotAMode\n",
+    },
+    RefusedRow {
+        name: "second alarm",
+        cause: RefusedLine::Offer(Refusal::SecondAlarm { first: 5 }),
+        wanted: b"refused 7 SecondAlarm 5\n",
+    },
+    RefusedRow {
+        name: "silent after alarm",
+        cause: RefusedLine::Offer(Refusal::SilentAfterAlarm { first: 6 }),
+        wanted: b"refused 7 SilentAfterAlarm 6\n",
+    },
+    RefusedRow {
+        name: "log full",
+        cause: RefusedLine::Offer(Refusal::LogFull),
+        wanted: b"refused 7 LogFull\n",
+    },
+    RefusedRow {
+        name: "modes full",
+        cause: RefusedLine::Offer(Refusal::ModesFull),
+        wanted: b"refused 7 ModesFull\n",
+    },
+];
+
+#[test]
+fn blocks_of_refused_lines(rt: HostRuntime) -> Result<(), Fail> {
+    for row in &REFUSED_ROWS {
+        let mut text = Vec::new(rt.alloc());
+        refused(7, row.cause, &mut text)?;
+        assert_eq!(rt; text.as_slice(), row.wanted, "{}", row.name);
+    }
+    Ok(())
+}
+
+#[test]
+fn the_head_and_the_lines_of_lost_panels(rt: HostRuntime) -> Result<(), Fail> {
+    let mut text = Vec::new(rt.alloc());
+    head(1, 1000, &mut text)?;
+    lost(1, false, &mut text)?;
+    lost(2, true, &mut text)?;
+    let wanted = b"report 1 k 1 budget 1000\npanel 1 lost\npanel 2 memory\n";
+    assert_eq!(rt; text.as_slice(), wanted.as_slice());
+    Ok(())
+}
+
+/// The empty set is refuted: A can't be active at 30, and its alarm says that it was.
+fn rejected(alloc: Global) -> Result<Finding, NoMemory>
+    ensures { IfOk result (λ finding. IsFindingOf small finding × (finding.number ≡ 0)) }
+{
+    let reasons = vec![in alloc;
+        Reason::Unreached {
+            node: 2,
+            horizon: 30
+        },
+        Reason::Upto { event: 1 },
+    ]?;
+    let steps = vec![in alloc; Step::Cycle(Reasons::from_vec(reasons))]?;
+    Ok(Finding {
+        number: 0,
+        set: Set::empty(),
+        steps: StepList::from_vec(steps),
+        status: Status::Rejected,
+    })
+}
+
+/// F1 explains the alarm.
+fn ranked(alloc: Global) -> Result<Finding, NoMemory>
+    ensures { IfOk result
+        (λ finding. IsFindingOf small finding × (finding.number ≡ 1) × IsTrue (is_ranked finding.status)) }
+{
+    let clause = ClauseName::OrMay {
+        node: 2,
+        span: 0,
+        horizon: 30,
+    };
+    let reasons = vec![in alloc;
+        Reason::Pick { split: 1, place: 1 },
+        Reason::From { event: 1 },
+    ]?;
+    let steps = vec![in alloc;
+        Step::Split(clause),
+        Step::Cycle(Reasons::from_vec(reasons)),
+    ]?;
+    let mut trace = Trace::new(alloc);
+    trace.set(0, 20)?;
+    trace.set(2, 30)?;
+    Ok(Finding {
+        number: 1,
+        set: Set::empty().with(0),
+        steps: StepList::from_vec(steps),
+        status: Status::Ranked {
+            trace,
+            cost: 3,
+            alarmed: 1,
+            monitored: 2,
+        },
+    })
+}
+
+/// A reason of each kind.
+fn each_reason(alloc: Global) -> Result<Reasons, NoMemory>
+    ensures { IfOk result (All (IsReasonOf small)) }
+{
+    let reasons = vec![in alloc;
+        Reason::Zero { node: 0 },
+        Reason::Top { node: 1 },
+        Reason::Unreached {
+            node: 2,
+            horizon: 34
+        },
+        Reason::From { event: 1 },
+        Reason::Upto { event: 2 },
+        Reason::Quiet { event: 3, node: 2 },
+        Reason::Pick { split: 4, place: 5 },
+    ]?;
+    Ok(Reasons::from_vec(reasons))
+}
+
+/// A step of each kind.
+fn each_step(alloc: Global) -> Result<StepList, NoMemory>
+    ensures { IfOk result (All (IsStepOf small)) }
+{
+    let steps = vec![in alloc;
+        Step::Split(ClauseName::OrMay {
+            node: 2,
+            span: 0,
+            horizon: 30
+        }),
+        Step::Split(ClauseName::AndMay {
+            edge: 1,
+            span: 1,
+            horizon: 31
+        }),
+        Step::Split(ClauseName::OrMust {
+            edge: 0,
+            span: 2,
+            horizon: 32
+        }),
+        Step::Split(ClauseName::AndMust {
+            node: 2,
+            span: 3,
+            horizon: 33
+        }),
+        Step::Cycle(each_reason(alloc)?),
+    ]?;
+    Ok(StepList::from_vec(steps))
+}
+
+/// Both failure modes together, left open with a step of each kind.
+fn unsettled(alloc: Global) -> Result<Finding, NoMemory>
+    ensures { IfOk result (λ finding. IsFindingOf small finding × (finding.number ≡ 3)) }
+{
+    Ok(Finding {
+        number: 3,
+        set: Set::empty().with(1).with(0),
+        steps: each_step(alloc)?,
+        status: Status::Open,
+    })
+}
+
+/// The round of an alarm of A at 30.
+fn round_of_alarm(alloc: Global) -> Result<Round, NoMemory>
+    ensures { IfOk result (λ round. IsRoundOf small round) }
+{
+    let findings = vec![in alloc; rejected(alloc)?, ranked(alloc)?, unsettled(alloc)?]?;
+    let order = vec![in alloc; 1]?;
+    Ok(Round {
+        number: 1,
+        line: 1,
+        now: 30,
+        findings: Findings::from_vec(findings),
+        order: NumberList::from_vec(order),
+        counts: Counts {
+            ranked: 1,
+            covered: 2,
+            rejected: 3,
+            unsettled: 4,
+        },
+    })
+}
+
+#[test]
+fn a_round_with_each_kind_of_line(rt: HostRuntime) -> Result<(), Fail> {
+    let text = b"tfpg 1\n\
+        mode N\n\
+        failure F1 3\n\
+        failure F2 5\n\
+        or A watch 0\n\
+        edge F1 A 10 20 *\n\
+        edge F2 A 5 5 *\n\
+        end\n";
+    let graph = match read(rt.alloc(), text) {
+        Ok(graph) => graph,
+        Err(_) => panic!(rt; "the graph is small"),
+    };
+    assert!(rt; graph.node_count() == 3 && graph.edge_count() == 2 && graph.failure_count() == 2);
+    let round = round_of_alarm(rt.alloc())?;
+    let mut text = Vec::new(rt.alloc());
+    render(&graph, &round, &mut text)?;
+    let wanted = b"round 1 1 30\n\
+        hyp 0\n\
+        cycle 2\n\
+        why unreached A 30\n\
+        why upto 1\n\
+        hyp 1\n\
+        split ormay A 0 30\n\
+        cycle 2\n\
+        why pick 1 1\n\
+        why from 1\n\
+        hyp 3\n\
+        split ormay A 0 30\n\
+        split andmay F2 A 1 31\n\
+        split ormust F1 A 2 32\n\
+        split andmust A 3 33\n\
+        cycle 7\n\
+        why zero F1\n\
+        why top F2\n\
+        why unreached A 34\n\
+        why from 1\n\
+        why upto 2\n\
+        why quiet 3 A\n\
+        why pick 4 5\n\
+        ranked 1 cost 3 robust 1/2 set F1\n\
+        at F1 20\n\
+        at A 30\n\
+        open 3 set F1,F2\n\
+        rejected 0 set -\n\
+        counts ranked 1 covered 2 rejected 3 open 4\n";
+    assert_eq!(rt; text.as_slice(), wanted.as_slice());
+    Ok(())
+}

@@ -1,0 +1,183 @@
+-- What each call of the system of a leaf leaves.
+use Rattle.std.proofs.Common.{◌≡◌, ℕ, ◌+◌, ◌*◌, ◌<◌, List, [], ◌∷◌, ◌++◌, length, get_or, set, map, take, Option, Some, refl, sym, ◌∙◌, ap, subst, inr, arith}
+use Rattle.std.specs.Prelude.{pos, option_and_then, All}
+use Rattle.std.proofs.lemmas.Option.{slice_get_within, slice_get-get_or, slice_get_read}
+use Rattle.tfpg_base.specs.declared.constraint.Constraint.{Constraint}
+use Rattle.tfpg_evidence.specs.declared.reason.Reason.{Reason}
+use Rattle.tfpg_clause.specs.Bounds.{at_most, at_least}
+use Rattle.tfpg_diff.specs.declared.why.Why.{Why}
+use Rattle.tfpg_diff.specs.declared.why.Why.TheVariants.{Given}
+use Rattle.tfpg_diff.specs.declared.bounds.Bounds.{Bounds}
+use Rattle.tfpg_diff.specs.Demands.{Demands, Bounded}
+use Rattle.tfpg_diff.specs.State.{widest, with_floor, with_ceiling, with_pick, popped_to}
+use Rattle.tfpg_diff.specs.inside.Kept.{demands_of}
+use Rattle.tfpg_diff.specs.Cycle.{NamesNegativeCycle}
+use Rattle.tfpg_diff.proofs.Bounding.{under, over}
+use Rattle.tfpg_base.proofs.lists.Written.{slice_get-set_same, slice_get-set_other}
+use Rattle.tfpg_diff.proofs.Updates.{with_floor-tighter, with_ceiling-tighter}
+use Rattle.tfpg_search.specs.declared.add_fault.AddFault.{AddFault}
+use Rattle.tfpg_search.specs.Leaf.{Leaf, pick_reasons, IsStated}
+use Rattle.tfpg_search.specs.inside.Tags.{IsTagged, HasReason, reason_of}
+use Rattle.tfpg_search.specs.inside.Closing.{Closes, IsFaultOf}
+use Rattle.tfpg_search.proofs.Lists.{set_back}
+use Rattle.tfpg_search.proofs.Tagging.{IsTagged-write, IsTagged-push}
+use Rattle.tfpg_search.proofs.Stating.{leaf_of, named_by-floor, named_by-ceiling, IsPlaceOf, IsStated-write, IsStated-push, IsStated-pop, pick_reasons-pop}
+use Rattle.tfpg_search.proofs.Conflicts.{HasReason-cycle, AreDemandsNamed-stated, Closes-cycle}
+
+module _ (demands : Demands) (reasons read : List Reason) (tags lent : List Why) (is_read : read ≡ reasons) (is_lent : lent ≡ tags)
+    (tagged : IsTagged demands reasons) (found : NamesNegativeCycle demands tags) where
+  -- each tag of a cycle that was lent has its reason
+  pub HasReason-read : All (HasReason read) lent
+  HasReason-read =
+      subst (λ (rs : List Reason). All (HasReason rs) lent) (sym is_read)
+      (subst (All (HasReason reasons)) (sym is_lent) (HasReason-cycle demands reasons tagged tags found))
+
+  -- the reasons that were read of it close the leaf
+  pub Closes-read : (fact stated : Reason → Option Constraint) (fault : AddFault) → IsStated fact stated (leaf_of demands reasons) →
+      IsFaultOf (map (reason_of read) lent) fault → Closes stated fault
+  Closes-read fact stated fault is_stated is = Closes-cycle stated demands reasons tags fault
+      (AreDemandsNamed-stated demands reasons tagged fact stated is_stated) found
+      (subst (λ (rs : List Reason). IsFaultOf (map (reason_of rs) tags) fault) is_read
+      (subst (λ (whys : List Why). IsFaultOf (map (reason_of read) whys) fault) is_lent is))
+
+module _ (demands : Demands) (reasons : List Reason) (tagged : IsTagged demands reasons) (v : ℕ) (old : Bounds) (at : Bounded demands v old)
+    (reason : Reason) where
+  -- the node is one of those of the system
+  inside : v < length demands.bounds
+  inside = slice_get_within demands.bounds v old at
+
+  module _ (least tag : ℕ) (is_tag : tag ≡ v) (tighter : old.floor < least) where
+    -- the demands with the higher bound
+    raised_is : with_floor demands v least tag ≡ demands_of (set demands.bounds v (over old least v)) demands.picks
+    raised_is = ap (with_floor demands v least) is_tag ∙ with_floor-tighter demands.bounds demands.picks v old at least v tighter
+
+    -- a raised lower bound, with its reason in the node's place
+    IsTagged-raise : IsTagged (with_floor demands v least tag) (set reasons v reason)
+    IsTagged-raise = subst (λ (d : Demands). IsTagged d (set reasons v reason)) (sym raised_is)
+        (IsTagged-write demands reasons v (over old least v) v reason tagged (inr refl) (tagged.ceilings v old at))
+
+    IsStated-raise : (fact stated : Reason → Option Constraint) → IsStated fact stated (leaf_of demands reasons) →
+        fact reason ≡ Some (at_least v least) → IsStated fact stated (leaf_of (with_floor demands v least tag) (set reasons v reason))
+    IsStated-raise fact stated is_stated states =
+        let many = tagged.one_each in
+        let below = inside in
+        let place : IsPlaceOf demands v v = record { inside = omega arith; not_lower = λ u other here. other; not_upper = λ u other same. omega arith } in
+        subst (λ (d : Demands). IsStated fact stated (leaf_of d (set reasons v reason))) (sym raised_is)
+        (IsStated-write fact stated demands reasons tagged is_stated v (over old least v) v reason place
+        (ap (option_and_then fact) (slice_get-set_same reasons v reason (omega arith)) ∙ states)
+        (named_by-ceiling fact reasons (set reasons v reason) old.ceiling_why v (length demands.bounds + v) (tagged.ceilings v old at)
+        (slice_get-set_other reasons v (length demands.bounds + v) reason (λ same. omega arith))
+        ∙ is_stated.bounds.ceilings v old at))
+
+  module _ (most place : ℕ) (is_place : place ≡ length demands.bounds + v) (tighter : most < old.ceiling) where
+    -- the demands with the lower bound
+    lowered_is : with_ceiling demands v most place ≡ demands_of (set demands.bounds v (under old most place)) demands.picks
+    lowered_is = with_ceiling-tighter demands.bounds demands.picks v old at most place tighter
+
+    -- a lowered upper bound, with its reason in the place after all lower bounds
+    IsTagged-lower : IsTagged (with_ceiling demands v most place) (set reasons place reason)
+    IsTagged-lower = subst (λ (d : Demands). IsTagged d (set reasons place reason)) (sym lowered_is)
+        (IsTagged-write demands reasons v (under old most place) place reason tagged (tagged.floors v old at) (inr (ap Given is_place)))
+
+    IsStated-lower : (fact stated : Reason → Option Constraint) → IsStated fact stated (leaf_of demands reasons) →
+        fact reason ≡ Some (at_most v (pos most)) → IsStated fact stated (leaf_of (with_ceiling demands v most place) (set reasons place reason))
+    IsStated-lower fact stated is_stated states =
+        let many = tagged.one_each in
+        let below = inside in
+        let apart : IsPlaceOf demands v place = record { inside = omega arith; not_lower = λ u other here same. omega arith; not_upper = λ u other same. other (omega arith) } in
+        subst (λ (d : Demands). IsStated fact stated (leaf_of d (set reasons place reason))) (sym lowered_is)
+        (IsStated-write fact stated demands reasons tagged is_stated v (under old most place) place reason apart
+        (named_by-floor fact reasons (set reasons place reason) old.floor_why v (tagged.floors v old at)
+        (slice_get-set_other reasons place v reason (λ same. omega arith))
+        ∙ is_stated.bounds.floors v old at)
+        (ap (option_and_then fact) (slice_get-set_same reasons place reason (omega arith)) ∙ states))
+
+-- The fields of the system are what contracts see of it.
+module _ (leaf : Leaf) (demands : Demands) (reasons : List Reason) (view : leaf_of demands reasons ≡ leaf) (tagged : IsTagged demands reasons) where
+  -- a reason that is written back leaves what there was
+  pub restored : (new : Demands) (place : ℕ) (reason old : Reason) → new ≡ demands → old ≡ get_or reasons place old → place < length reasons →
+      leaf_of new (set (set reasons place reason) place old) ≡ leaf
+  restored new place reason old same read within =
+      ap (λ (d : Demands). leaf_of d (set (set reasons place reason) place old)) same
+      ∙ ap (leaf_of demands) (set_back reasons place old reason (slice_get_read reasons (length reasons) place old refl within read))
+      ∙ view
+
+  module _ (v : ℕ) (within : v < length leaf.demands.bounds) where
+    -- the bounds that the node has
+    abbrev bounds_of : Bounds
+    bounds_of = get_or demands.bounds v (widest 0)
+
+    at : Bounded demands v bounds_of
+    at = slice_get-get_or demands.bounds v (widest 0) (subst (λ (l : Leaf). v < length l.demands.bounds) (sym view) within)
+
+    seen : Bounded leaf.demands v bounds_of
+    seen = subst (λ (l : Leaf). Bounded l.demands v bounds_of) view at
+
+    -- the places of the reasons of its bounds
+    pub floor_within : v < length reasons
+    floor_within = let below = slice_get_within demands.bounds v bounds_of at in let many = tagged.one_each in omega arith
+
+    pub ceiling_within : (place : ℕ) → place ≡ length demands.bounds + v → place < length reasons
+    ceiling_within place is = let below = slice_get_within demands.bounds v bounds_of at in let many = tagged.one_each in omega arith
+
+    module _ (reason : Reason) (least tag : ℕ) (is_tag : tag ≡ v) (tighter : (bounds : Bounds) → Bounded leaf.demands v bounds → bounds.floor < least) where
+      -- a raised lower bound
+      pub raised_tagged : IsTagged (with_floor demands v least tag) (set reasons v reason)
+      raised_tagged = IsTagged-raise demands reasons tagged v bounds_of at reason least tag is_tag (tighter bounds_of seen)
+
+      pub raised_stated : (fact stated : Reason → Option Constraint) → IsStated fact stated leaf → fact reason ≡ Some (at_least v least) →
+          IsStated fact stated (leaf_of (with_floor demands v least tag) (set reasons v reason))
+      raised_stated fact stated is_stated = IsStated-raise demands reasons tagged v bounds_of at reason least tag is_tag (tighter bounds_of seen) fact stated
+          (subst (IsStated fact stated) (sym view) is_stated)
+
+    module _ (reason : Reason) (most place : ℕ) (is_place : place ≡ length demands.bounds + v)
+        (tighter : (bounds : Bounds) → Bounded leaf.demands v bounds → most < bounds.ceiling) where
+      -- a lowered upper bound
+      pub lowered_tagged : IsTagged (with_ceiling demands v most place) (set reasons place reason)
+      lowered_tagged = IsTagged-lower demands reasons tagged v bounds_of at reason most place is_place (tighter bounds_of seen)
+
+      pub lowered_stated : (fact stated : Reason → Option Constraint) → IsStated fact stated leaf → fact reason ≡ Some (at_most v (pos most)) →
+          IsStated fact stated (leaf_of (with_ceiling demands v most place) (set reasons place reason))
+      lowered_stated fact stated is_stated = IsStated-lower demands reasons tagged v bounds_of at reason most place is_place (tighter bounds_of seen) fact stated
+          (subst (IsStated fact stated) (sym view) is_stated)
+
+  module _ (constraint : Constraint) (reason : Reason) (tag : ℕ) (is_tag : tag ≡ length reasons) (longer : List Reason) (pushed : longer ≡ reasons ++ reason ∷ [])
+      (held : Demands) (same : held ≡ demands) where
+    -- the tag of a pick
+    tag_is : tag ≡ 2 * length demands.bounds + length demands.picks
+    tag_is = is_tag ∙ tagged.one_each
+
+    -- one more pick
+    pub pushed_tagged : IsTagged (with_pick held constraint tag) longer
+    pushed_tagged =
+        subst (IsTagged (with_pick held constraint tag)) (sym pushed)
+        (subst (λ (d : Demands). IsTagged (with_pick d constraint tag) (reasons ++ reason ∷ [])) (sym same)
+        (IsTagged-push demands reasons constraint tag reason tagged tag_is))
+
+    pub pushed_stated : (fact stated : Reason → Option Constraint) → IsStated fact stated leaf → stated reason ≡ Some constraint →
+        IsStated fact stated (leaf_of (with_pick held constraint tag) longer)
+    pushed_stated fact stated is_stated states =
+        subst (λ (rs : List Reason). IsStated fact stated (leaf_of (with_pick held constraint tag) rs)) (sym pushed)
+        (subst (λ (d : Demands). IsStated fact stated (leaf_of (with_pick d constraint tag) (reasons ++ reason ∷ []))) (sym same)
+        (IsStated-push fact stated demands reasons tagged (subst (IsStated fact stated) (sym view) is_stated) constraint tag reason states))
+
+    -- the demands, as contracts see them
+    pub pushed_is : with_pick held constraint tag ≡ with_pick leaf.demands constraint (2 * length leaf.demands.bounds + length leaf.demands.picks)
+    pushed_is =
+        ap (λ (d : Demands). with_pick d constraint tag) same
+        ∙ ap (with_pick demands constraint) tag_is
+        ∙ ap (λ (l : Leaf). with_pick l.demands constraint (2 * length l.demands.bounds + length l.demands.picks)) view
+
+  module _ (len kept : ℕ) (is_kept : kept ≡ 2 * length demands.bounds + len) (rest : List Reason) (cut : rest ≡ take kept reasons)
+      (new : Demands) (popped : new ≡ popped_to demands len) where
+    -- what is left
+    left_is : leaf_of new rest ≡ leaf_of (popped_to demands len) (take (2 * length demands.bounds + len) reasons)
+    left_is = ap (λ (d : Demands). leaf_of d rest) popped ∙ ap (leaf_of (popped_to demands len)) (cut ∙ ap (λ (n : ℕ). take n reasons) is_kept)
+
+    -- without the last picks
+    pub popped_stated : (fact stated : Reason → Option Constraint) → IsStated fact stated leaf → IsStated fact stated (leaf_of new rest)
+    popped_stated fact stated is_stated = subst (IsStated fact stated) (sym left_is)
+        (IsStated-pop fact stated demands reasons tagged (subst (IsStated fact stated) (sym view) is_stated) len)
+
+    pub popped_reasons : pick_reasons (leaf_of new rest) ≡ take len (pick_reasons leaf)
+    popped_reasons = ap pick_reasons left_is ∙ pick_reasons-pop demands reasons tagged len ∙ ap (λ (l : Leaf). take len (pick_reasons l)) view

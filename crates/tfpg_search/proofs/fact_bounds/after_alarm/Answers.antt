@@ -1,0 +1,30 @@
+-- The alarm says that the node became active at most its lag before.
+use Rattle.std.proofs.Common.{◌≡◌, ◌-◌, ℕ, Some, sym, ap, ◌∙◌, arith}
+use Rattle.std.specs.Prelude.{unwrap_or, option_and_then}
+use Rattle.tfpg_graph.specs.Graph.{lag_at, lag_of}
+use Rattle.tfpg_log.specs.Log.{time_of_event}
+use Rattle.tfpg_log.proofs.AlarmEvents.{alarm_event_within}
+use Rattle.tfpg_clause.specs.Bounds.{at_least}
+use Rattle.tfpg_clause.proofs.InRange.{now_in_range}
+use Rattle.tfpg_search.proofs.StatedBounds.{from_stated, number_by_now}
+use Rattle.tfpg_search.proofs.fact_bounds.after_alarm.Goals as goal
+
+pub event-requires-clause-high : goal.event-requires-clause-high
+event-requires-clause-high c = (alarm_event_within c.args.log.now c.args.node c.in-Some.event (sym c.in-Some.ensures.first)).1
+
+pub returns-in-Some-clause-stated : goal.returns-in-Some-clause-stated
+returns-in-Some-clause-stated c reach =
+    let lag = ap (option_and_then lag_of) c.kind.ensures in
+    let time : c.saturating_sub.result ≡ time_of_event c.event.result - unwrap_or (lag_at c.args.graph.now c.args.node) 0 = cc in
+    from_stated c.args.log.now c.args.node c.in-Some.event c.event.result (sym c.in-Some.ensures.first) c.event.ensures c.args.graph.now
+    ∙ ap (λ (t : ℕ). Some (at_least c.args.node t)) (sym time)
+
+pub returns-in-Some-clause-in_range : goal.returns-in-Some-clause-in_range
+returns-in-Some-clause-in_range c =
+    omega (
+      arith,
+      c.saturating_sub.ensures,
+      c.time.ensures,
+      number_by_now c.args.log.now c.in-Some.event c.event.result c.len-ordered.ensures.ordered c.event.ensures,
+      now_in_range c.args.log.now c.len-ordered.ensures.ordered,
+    )

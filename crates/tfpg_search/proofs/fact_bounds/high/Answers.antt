@@ -1,0 +1,34 @@
+-- The alarm says that the node was active by then.
+use Rattle.std.proofs.Common.{ℕ, Some, sym, ap, ◌∙◌, arith}
+use Rattle.std.specs.Prelude.{pos}
+use Rattle.tfpg_log.proofs.AlarmEvents.{alarm_event_within}
+use Rattle.tfpg_clause.specs.Bounds.{at_most}
+use Rattle.tfpg_clause.proofs.InRange.{now_in_range}
+use Rattle.tfpg_search.proofs.StatedBounds.{upto_stated, high_of_event, number_by_now}
+use Rattle.tfpg_search.proofs.fact_bounds.high.Goals as goal
+
+pub event-requires-clause-high : goal.event-requires-clause-high
+event-requires-clause-high c = (alarm_event_within c.args.log.now c.args.node c.in-Some.event (sym c.in-Some.ensures.first)).1
+
+pub returns-in-Some-clause-stated : goal.returns-in-Some-clause-stated
+returns-in-Some-clause-stated c reach =
+    upto_stated c.args.log.now c.args.node c.in-Some.event c.event.result (sym c.in-Some.ensures.first) c.event.ensures
+    ∙ ap (λ (t : ℕ). Some (at_most c.args.node (pos t))) (sym c.time.ensures)
+
+pub returns-in-Some-clause-least : goal.returns-in-Some-clause-least
+returns-in-Some-clause-least c reach other bound is =
+    omega (
+      arith,
+      c.time.ensures,
+      high_of_event c.args.log.now c.args.node c.in-Some.event c.event.result (sym c.in-Some.ensures.first) c.event.ensures
+          c.args.graph.now reach c.len-ordered.ensures.ordered c.in-Some.ensures.only other bound is,
+    )
+
+pub returns-in-Some-clause-in_range : goal.returns-in-Some-clause-in_range
+returns-in-Some-clause-in_range c =
+    omega (
+      arith,
+      c.time.ensures,
+      number_by_now c.args.log.now c.in-Some.event c.event.result c.len-ordered.ensures.ordered c.event.ensures,
+      now_in_range c.args.log.now c.len-ordered.ensures.ordered,
+    )

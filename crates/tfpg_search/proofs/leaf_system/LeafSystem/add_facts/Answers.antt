@@ -1,0 +1,65 @@
+-- Node by node the bounds say all that facts say.
+use Rattle.std.proofs.Common.{◌≡◌, ◌+◌, length, sym, subst, ap, ◌∙◌, arith, below_more}
+use Rattle.std.proofs.lemmas.Result.{err_from_is_err_and}
+use Rattle.tfpg_clause.specs.Facts.{fact}
+use Rattle.tfpg_diff.specs.Demands.{Demands}
+use Rattle.tfpg_diff.specs.State.{with_floor, with_ceiling}
+use Rattle.tfpg_search.specs.inside.Closing.{Closes}
+use Rattle.tfpg_search.specs.inside.Facts.{AreFactsIn}
+use Rattle.tfpg_search.proofs.FactsAdded.{facts_met, facts-tightened, facts-kept}
+use Rattle.tfpg_search.proofs.leaf_system.LeafSystem.add_facts.Goals as goal
+
+pub returns-in_err-raise_to-clause-stated : goal.returns-in_err-raise_to-clause-stated
+returns-in_err-raise_to-clause-stated g c stated before =
+    c.raise_to.ensures.stated (fact c.args.graph.now c.args.log.now c.args.reach.now) stated (c.loop-node.invariant.stated stated before) c.low.ensures.stated
+
+pub returns-in_err-raise_to-clause-closes : goal.returns-in_err-raise_to-clause-closes
+returns-in_err-raise_to-clause-closes g c stated before =
+    let F = fact c.args.graph.now c.args.log.now c.args.reach.now in
+    let p = err_from_is_err_and c.from_residual.result c.from_residual.ensures.1 in
+    rw p.1 (subst (Closes stated) (sym p.2) (c.in_err-raise_to.ensures.closes F stated (c.loop-node.invariant.stated stated before) c.low.ensures.stated))
+
+pub returns-in_err-lower_to-clause-stated : goal.returns-in_err-lower_to-clause-stated
+returns-in_err-lower_to-clause-stated g c stated before =
+    let F = fact c.args.graph.now c.args.log.now c.args.reach.now in
+    c.lower_to.ensures.stated F stated (c.raise_to.ensures.stated F stated (c.loop-node.invariant.stated stated before) c.low.ensures.stated)
+    (c.high.ensures.stated c.args.reach.now)
+
+pub returns-in_err-lower_to-clause-closes : goal.returns-in_err-lower_to-clause-closes
+returns-in_err-lower_to-clause-closes g c stated before =
+    let F = fact c.args.graph.now c.args.log.now c.args.reach.now in
+    let p = err_from_is_err_and c.from_residual-in_err-lower_to.result c.from_residual-in_err-lower_to.ensures.1 in
+    rw p.1 (subst (Closes stated) (sym p.2)
+    (c.in_err-lower_to.ensures.closes F stated (c.raise_to.ensures.stated F stated (c.loop-node.invariant.stated stated before) c.low.ensures.stated)
+    (c.high.ensures.stated c.args.reach.now)))
+
+pub loop-node-preserved : goal.loop-node-preserved
+loop-node-preserved g c =
+    let F = fact c.args.graph.now c.args.log.now c.args.reach.now in
+    let v = c.loop-node.node in
+    let before : Demands = c.loop-node.self.demands in
+    let tag = length c.raise_to.new.self.demands.bounds + v in
+    let is : c.lower_to.new.self.demands ≡ with_ceiling (with_floor before v c.low.result.time v) v c.high.result.time tag =
+    c.in_ok-lower_to.ensures.ok ∙ ap (λ (d : Demands). with_ceiling d v c.high.result.time tag) c.in_ok-raise_to.ensures.ok in
+    record {
+      picks = ap (λ (d : Demands). d.picks) is ∙ c.loop-node.invariant.picks;
+      reasons = c.lower_to.ensures.reasons ∙ c.raise_to.ensures.reasons ∙ c.loop-node.invariant.reasons;
+      nodes = c.lower_to.ensures.nodes ∙ c.raise_to.ensures.nodes ∙ c.loop-node.invariant.nodes;
+      stated = λ stated begun. c.lower_to.ensures.stated F stated
+          (c.raise_to.ensures.stated F stated (c.loop-node.invariant.stated stated begun) c.low.ensures.stated)
+          (c.high.ensures.stated c.args.reach.now);
+      facts = below_more (AreFactsIn F c.lower_to.new.self.demands) v
+          (λ u below. subst (λ (d : Demands). AreFactsIn F d u) (sym is)
+          (facts-kept F before v u c.low.result.time c.high.result.time v tag (c.loop-node.invariant.facts u below)))
+          (subst (λ (d : Demands). AreFactsIn F d v) (sym is)
+          (facts-tightened F before v c.low.result.time c.high.result.time v tag c.low.ensures.greatest (c.high.ensures.least c.args.reach.now)));
+      steps = (let one = c.raise_to.ensures.steps in let other = c.lower_to.ensures.steps in let so_far = c.loop-node.invariant.steps in omega arith);
+    }
+
+pub returns-clause-facts : goal.returns-clause-facts
+returns-clause-facts g c =
+    let count = c.node_count-node-end.ensures.count in
+    let ended = c.loop-node-test.false in
+    facts_met c.args.graph.now c.args.log.now c.requires.of c.args.reach.now c.loop-node.self.demands
+    (c.loop-node.invariant.nodes ∙ c.requires.nodes)
+    (λ node within. c.loop-node.invariant.facts node (omega arith))

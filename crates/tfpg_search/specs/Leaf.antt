@@ -1,0 +1,55 @@
+-- The system of the present leaf: what it demands of the times of the nodes, and for which reasons.
+use Rattle.std.specs.Prelude.{◌≡◌, ℕ, ◌*◌, ◌<ℤ◌, pos, List, length, map, drop, Option, Some, slice_get, option_and_then}
+use Rattle.tfpg_base.specs.Choice.{each_of}
+use Rattle.tfpg_base.specs.ConstraintCycle.{IsCycle, HasDistinctLefts, sum_of}
+use Rattle.tfpg_base.specs.declared.constraint.Constraint.{Constraint}
+use Rattle.tfpg_evidence.specs.declared.reason.Reason.{Reason}
+use Rattle.tfpg_evidence.specs.declared.reason.Reason.TheVariants.{Zero, Top}
+use Rattle.tfpg_clause.specs.Bounds.{at_most, at_least}
+use Rattle.tfpg_diff.specs.declared.why.Why.{Why}
+use Rattle.tfpg_diff.specs.declared.why.Why.TheVariants.{Floor, Ceiling, Given}
+use Rattle.tfpg_diff.specs.declared.bounds.Bounds.{Bounds}
+use Rattle.tfpg_diff.specs.declared.pick.Pick.{Pick}
+use Rattle.tfpg_diff.specs.Demands.{Demands, Bounded}
+
+-- What contracts see of it: the demands, and the reason of each tag. The lower bound of a node has the node's number as its
+-- tag, the upper bound that number after all lower bounds, and a pick its place after all bounds.
+pub record Leaf : Type 0 where
+  pub demands : Demands
+  pub reasons : List Reason
+
+-- the reasons of the picks, in their order
+abbrev pub pick_reasons : Leaf → List Reason
+pick_reasons leaf = drop (2 * length leaf.demands.bounds) leaf.reasons
+
+-- the constraint that a tag names, where these are the reasons of the tags
+abbrev pub named_by : (Reason → Option Constraint) → List Reason → Why → Option Constraint
+named_by stated reasons (Floor variable) = stated (Zero variable)
+named_by stated reasons (Ceiling variable) = stated (Top variable)
+named_by stated reasons (Given tag) = option_and_then stated (slice_get reasons tag)
+
+-- Each bound is stated by its reason, which is a fact.
+pub record AreBoundsStated (fact : Reason → Option Constraint) (leaf : Leaf) : Type 0 where
+  pub floors : (node : ℕ) (bounds : Bounds) → Bounded leaf.demands node bounds →
+      named_by fact leaf.reasons bounds.floor_why ≡ Some (at_least node bounds.floor)
+  pub ceilings : (node : ℕ) (bounds : Bounds) → Bounded leaf.demands node bounds →
+      named_by fact leaf.reasons bounds.ceiling_why ≡ Some (at_most node (pos bounds.ceiling))
+
+-- Each pick is stated by the reason in its place.
+abbrev pub ArePicksStated : (Reason → Option Constraint) → Leaf → Type 0
+ArePicksStated stated leaf =
+    (place : ℕ) (pick : Pick) → slice_get leaf.demands.picks place ≡ Some pick → option_and_then stated (slice_get (pick_reasons leaf) place) ≡ Some pick.constraint
+
+-- All that the system demands is stated: bounds by facts, picks by reasons that hold at the leaf, among them all facts.
+pub record IsStated (fact stated : Reason → Option Constraint) (leaf : Leaf) : Type 0 where
+  pub wider : (reason : Reason) (constraint : Constraint) → fact reason ≡ Some constraint → stated reason ≡ Some constraint
+  pub bounds : AreBoundsStated fact leaf
+  pub picks : ArePicksStated stated leaf
+
+-- The reasons chain into a cycle whose sum is negative, and in which no left side stands twice.
+pub record IsSimpleCycle (stated : Reason → Option Constraint) (reasons : List Reason) : Type 0 where
+  pub constraints : List Constraint
+  pub hold : each_of (map stated reasons) ≡ Some constraints
+  pub cycle : IsCycle constraints
+  pub simple : HasDistinctLefts constraints
+  pub negative : sum_of constraints <ℤ pos 0

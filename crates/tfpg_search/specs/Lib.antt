@@ -1,0 +1,4 @@
+-- What the contracts say.
+pub mod Leaf
+-- What the code and its proofs need besides. No public clause reaches it.
+pub mod inside

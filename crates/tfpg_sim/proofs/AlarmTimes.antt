@@ -1,0 +1,149 @@
+-- When a node is alarmed: after its activation, within its lag, and not after a sweep that comes then.
+use Rattle.std.proofs.Common.{◌≡◌, ℕ, zero, suc, ◌+◌, ◌%◌, ◌<◌, ◌≤◌, ⊎_elim, cond, min, leb, List, [], ◌∷◌, length, get_or, filter_map, Contains, IsTrue, Option, Some, None, unwrap_or, slice_get, refl, sym, ap, ◌∙◌, subst, arith}
+use Rattle.std.specs.Prelude.{AllPairs, nat_le, is_some, option_map, option_and_then, find}
+use Rattle.std.specs.Bool.{then_some}
+use Rattle.std.proofs.lemmas.Bool.{cond_both, le-leb, leb-true, false≢true}
+use Rattle.std.proofs.lemmas.List.Elements.{All-contains}
+use Rattle.tfpg_base.proofs.lists.Elements.{AllPairs-head, AllPairs-tail, Contains-cons_cases, Contains-nil}
+use Rattle.tfpg_base.specs.declared.activation.Activation.{Activation}
+use Rattle.tfpg_base.specs.Trace.{time_of}
+use Rattle.tfpg_graph.specs.Graph.{Tfpg, Node, lag_of, lag_at, is_monitored}
+use Rattle.tfpg_trace.proofs.Sweeps.{monitored_within}
+use Rattle.rand_pcg.specs.Lcg.{Lcg}
+use Rattle.tfpg_sim.specs.declared.entry.Entry.{Entry}
+use Rattle.tfpg_sim.specs.declared.entry.Entry.TheVariants.{Start, Mode, Sweep, Tick, Stop}
+use Rattle.tfpg_sim.specs.Draws.{drawn, after_edges, after_lag, generator, lateness_of, latenesses_from, latenesses}
+use Rattle.tfpg_sim.specs.Script.{time_of_entry}
+use Rattle.tfpg_sim.specs.SimulatedLog.{sweep_time, first_sweep, due_time, alarm_time}
+use Rattle.tfpg_sim.proofs.FilteredItems.{from_and_then}
+use Rattle.tfpg_sim.proofs.ScriptLines.{from_test}
+
+-- ---- latenesses
+
+length-latenesses_from : (state : Lcg) (nodes : List Node) → length (latenesses_from state nodes) ≡ length nodes
+length-latenesses_from state [] = refl
+length-latenesses_from state (node ∷ nodes) = ap suc (length-latenesses_from (after_lag state (lag_of node.kind)) nodes)
+
+-- the lateness of a node is drawn for it
+lateness_at : (state : Lcg) (nodes : List Node) (n : ℕ) → n < length nodes
+    → (before : Lcg) × (node : Node) × (slice_get nodes n ≡ Some node) × (get_or (latenesses_from state nodes) n None ≡ lateness_of before node)
+lateness_at state [] n within = absurd (omega arith)
+lateness_at state (node ∷ nodes) zero within = (state, node, refl, refl)
+lateness_at state (node ∷ nodes) (suc n) within = lateness_at (after_lag state (lag_of node.kind)) nodes n (omega arith)
+
+-- it is within the lag
+within_lag : (value late : ℕ) (lag : Option ℕ) → option_map (λ lag. value % (lag + 1)) lag ≡ Some late → (most : ℕ) × (lag ≡ Some most) × (late ≤ most)
+within_lag value late None is = absurd (let none : None ≡ Some late = is in cc)
+within_lag value late (Some lag) is =
+    let same : value % (lag + 1) ≡ late = cc in
+    let below : value % (lag + 1) < lag + 1 = omega arith in
+    (lag, refl, omega arith)
+
+-- and a node with a lag has one
+has_lateness : (value : ℕ) (lag : Option ℕ) → IsTrue (is_some lag) → (late : ℕ) × (option_map (λ lag. value % (lag + 1)) lag ≡ Some late)
+has_lateness value None no_lag = absurd (false≢true no_lag)
+has_lateness value (Some lag) some = (value % (lag + 1), refl)
+
+module _ (graph : Tfpg) (number : ℕ) where
+  pub length-latenesses : length (latenesses graph number) ≡ length graph.nodes
+  length-latenesses = length-latenesses_from (after_edges (generator number 2) graph.edges) graph.nodes
+
+  pub lateness_within : (node late : ℕ) → node < length graph.nodes → get_or (latenesses graph number) node None ≡ Some late
+      → (lag : ℕ) × (lag_at graph node ≡ Some lag) × (late ≤ lag)
+  lateness_within node late within is =
+      let at = lateness_at (after_edges (generator number 2) graph.edges) graph.nodes node within in
+      let found = within_lag (drawn at.0) late (lag_of at.1.kind) (sym at.3 ∙ is) in
+      (found.0, ap (λ (o : Option Node). option_and_then lag_of (option_map (λ n. n.kind) o)) at.2 ∙ found.1, found.2)
+
+  pub monitored_lateness : (node : ℕ) → IsTrue (is_monitored graph node) → (late : ℕ) × (get_or (latenesses graph number) node None ≡ Some late)
+  monitored_lateness node monitored =
+      let at = lateness_at (after_edges (generator number 2) graph.edges) graph.nodes node (monitored_within graph node monitored) in
+      let lag : lag_at graph node ≡ lag_of at.1.kind = ap (λ (o : Option Node). option_and_then lag_of (option_map (λ n. n.kind) o)) at.2 in
+      let found = has_lateness (drawn at.0) (lag_of at.1.kind) (sym (ap is_some lag) ∙ monitored) in
+      (found.0, at.3 ∙ found.1)
+
+-- ---- the first sweep
+
+-- a time that is found passes the test
+found_passes : (instant found : ℕ) (times : List ℕ) → find (λ time. leb instant time) times ≡ Some found → instant ≤ found
+found_passes instant found [] is = absurd (let none : None ≡ Some found = is in cc)
+found_passes instant found (time ∷ times) is =
+    cond_both (leb instant time) (Some time) (find (λ t. leb instant t) times) (λ o. o ≡ Some found → instant ≤ found)
+    (λ passes here. let same : time ≡ found = cc in let upto = leb-true instant time passes in omega arith)
+    (λ _ rest. found_passes instant found times rest) is
+
+-- the first sweep is not before the instant
+pub sweep_late : (instant found : ℕ) (entries : List Entry) → first_sweep instant entries ≡ Some found → instant ≤ found
+sweep_late instant found entries is = found_passes instant found (filter_map sweep_time entries) is
+
+-- a first sweep up to one
+abbrev SweepUpto : ℕ → List Entry → ℕ → Type 0
+SweepUpto instant entries time = (found : ℕ) × (first_sweep instant entries ≡ Some found) × (found ≤ time)
+
+-- a sweep that is not before the instant has the first one before it, or is it
+pub sweep_early : (instant time : ℕ) (entries : List Entry) → AllPairs (λ a b. time_of_entry a ≤ time_of_entry b) entries
+    → Contains entries (Sweep time) → instant ≤ time → SweepUpto instant entries time
+sweep_early instant time [] order member late = absurd (Contains-nil (Sweep time) member)
+sweep_early instant time (entry ∷ entries) order member late =
+    ⊎_elim
+    (λ here. subst (λ n. SweepUpto instant (n ∷ entries) time) (sym here)
+    (time, ap (λ b. cond b (Some time) (first_sweep instant entries)) (le-leb instant time late), omega arith))
+    (λ there. by entry (All-contains (λ later. time_of_entry entry ≤ time_of_entry later) entries (Sweep time) (AllPairs-head (λ a b. time_of_entry a ≤ time_of_entry b) entry entries order) there)
+    (sweep_early instant time entries (AllPairs-tail (λ a b. time_of_entry a ≤ time_of_entry b) entry entries order) there late))
+    (Contains-cons_cases entry entries (Sweep time) member)
+  where
+    by : (n : Entry) → time_of_entry n ≤ time → SweepUpto instant entries time → SweepUpto instant (n ∷ entries) time
+    by (Start other node) upto rest = rest
+    by (Mode other mode) upto rest = rest
+    by (Sweep other) upto rest =
+        cond_both (leb instant other) (Some other) (first_sweep instant entries) (λ o. (found : ℕ) × (o ≡ Some found) × (found ≤ time))
+        (λ _. (other, refl, upto)) (λ _. rest)
+    by (Tick other) upto rest = rest
+    by (Stop other) upto rest = rest
+
+-- ---- when an alarm is due
+
+module _ (entries : List Entry) (active late : ℕ) where
+  min_between : (sweep : Option ℕ) → ((found : ℕ) → sweep ≡ Some found → active ≤ found)
+      → (active ≤ min (unwrap_or sweep (active + late)) (active + late)) × (min (unwrap_or sweep (active + late)) (active + late) ≤ active + late)
+  min_between None not_early = (omega arith, omega arith)
+  min_between (Some found) not_early = let upto = not_early found refl in (omega arith, omega arith)
+
+  -- not before the activation, and not later than the lateness says
+  pub due_between : (active ≤ due_time entries active late) × (due_time entries active late ≤ active + late)
+  due_between = min_between (first_sweep active entries) (λ found is. sweep_late active found entries is)
+
+  -- and not after a sweep that is not before the activation
+  pub due_by_sweep : (time : ℕ) → SweepUpto active entries time → due_time entries active late ≤ time
+  due_by_sweep time sweep =
+      subst (λ o. min (unwrap_or o (active + late)) (active + late) ≤ time) (sym sweep.1) (let upto = sweep.2 in omega arith)
+
+-- What it means that a node is alarmed at a time.
+pub record IsAlarmed (entries : List Entry) (trace : List Activation) (lateness : Option ℕ) (node stop time : ℕ) : Type 0 where
+  pub late : ℕ
+  pub lateness_is : lateness ≡ Some late
+  pub active : ℕ
+  pub active_is : time_of trace node ≡ Some active
+  pub due : due_time entries active late ≡ time
+  pub by_stop : time ≤ stop
+
+module _ (entries : List Entry) (trace : List Activation) (lateness : Option ℕ) (node stop : ℕ) where
+  pub alarmed_at : (time : ℕ) → alarm_time entries trace lateness node stop ≡ Some time → IsAlarmed entries trace lateness node stop time
+  alarmed_at time is =
+      let late = from_and_then (λ late. option_and_then (λ active. then_some (nat_le (due_time entries active late) stop) (due_time entries active late)) (time_of trace node)) lateness time is in
+      let active = from_and_then (λ active. then_some (nat_le (due_time entries active late.0) stop) (due_time entries active late.0)) (time_of trace node) time late.2 in
+      let test = from_test (nat_le (due_time entries active.0 late.0) stop) (due_time entries active.0 late.0) time active.2 in
+      record {
+        late = late.0;
+        lateness_is = late.1;
+        active = active.0;
+        active_is = active.1;
+        due = test.1;
+        by_stop = subst (λ t. t ≤ stop) test.1 (leb-true (due_time entries active.0 late.0) stop test.0);
+      }
+
+  pub alarm_comes : (late active : ℕ) → lateness ≡ Some late → time_of trace node ≡ Some active → due_time entries active late ≤ stop
+      → alarm_time entries trace lateness node stop ≡ Some (due_time entries active late)
+  alarm_comes late active lateness_is active_is upto =
+      (λ i. option_and_then (λ l. option_and_then (λ a. then_some (nat_le (due_time entries a l) stop) (due_time entries a l)) (active_is i)) (lateness_is i))
+      ∙ ap (λ b. then_some b (due_time entries active late)) (le-leb (due_time entries active late) stop upto)

@@ -1,0 +1,78 @@
+-- The simulated trace shows each event of the simulated log.
+use Rattle.std.proofs.Common.{◌≡◌, ℕ, ◌≤◌, ◌⊎◌, ⊎_elim, Bool, true, false, cond, eqb, List, [], ◌∷◌, ◌++◌, length, get_or, All, Contains, IsTrue, Option, Some, None, is_some, refl, sym, ◌∙◌, subst, arith}
+use Rattle.std.proofs.lemmas.Bool.{leb-false, eq-eqb, false≢true}
+use Rattle.std.proofs.lemmas.List.Elements.{All-contains, Contains-append_cases}
+use Rattle.tfpg_base.proofs.lists.Elements.{Contains-cons_cases, Contains-nil}
+use Rattle.tfpg_base.specs.declared.activation.Activation.{Activation}
+use Rattle.tfpg_graph.specs.Graph.{Tfpg}
+use Rattle.tfpg_log.specs.declared.event.Event.{Event}
+use Rattle.tfpg_log.specs.declared.event.Event.TheVariants as event
+use Rattle.tfpg_log.specs.Log.{alarm_among}
+use Rattle.tfpg_log.specs.Explains.{Shows}
+use Rattle.tfpg_trace.proofs.Sweeps.{monitored_within}
+use Rattle.tfpg_sim.specs.declared.entry.Entry.{Entry}
+use Rattle.tfpg_sim.specs.Draws.{latenesses}
+use Rattle.tfpg_sim.specs.Script.{time_so_far}
+use Rattle.tfpg_sim.specs.SimulatedLog.{due_time}
+use Rattle.tfpg_sim.specs.inside.Entries.{IsScript}
+use Rattle.tfpg_sim.proofs.AlarmTimes.{length-latenesses, lateness_within, monitored_lateness, sweep_early, due_between, due_by_sweep, alarmed_at, alarm_comes}
+use Rattle.tfpg_sim.proofs.LoggedEvents.{IsLogged, AreLogged}
+use Rattle.tfpg_sim.proofs.PutAlarms.{Precedes, AreInOrder}
+use Rattle.tfpg_sim.proofs.ScriptOrder.{in_order}
+
+-- an alarm of a node that stands among events is found there
+alarm_found : (events : List Event) (time node : ℕ) → Contains events (event.Alarm time node) → IsTrue (is_some (alarm_among events node))
+alarm_found [] time node member = absurd (Contains-nil (event.Alarm time node) member)
+alarm_found (first ∷ events) time node member =
+    by first (Contains-cons_cases first events (event.Alarm time node) member) (λ there. alarm_found events time node there)
+  where
+    found_or : (b : Bool) (when : ℕ) → (b ≡ false → IsTrue (is_some (alarm_among events node))) → IsTrue (is_some (cond b (Some when) (alarm_among events node)))
+    found_or true when rest = refl
+    found_or false when rest = rest refl
+
+    by : (e : Event) → (e ≡ event.Alarm time node) ⊎ Contains events (event.Alarm time node)
+        → (Contains events (event.Alarm time node) → IsTrue (is_some (alarm_among events node))) → IsTrue (is_some (alarm_among (e ∷ events) node))
+    by (event.Alarm when alarmed) cases rest =
+        found_or (eqb alarmed node) when (λ unlike. ⊎_elim
+        (λ here. absurd (let same : alarmed ≡ node = cc in false≢true (sym unlike ∙ eq-eqb alarmed node same))) rest cases)
+    by (event.Silent when silent) cases rest = ⊎_elim (λ here. absurd (cc)) rest cases
+    by (event.Sweep when) cases rest = ⊎_elim (λ here. absurd (cc)) rest cases
+    by (event.Tick when) cases rest = ⊎_elim (λ here. absurd (cc)) rest cases
+    by (event.Mode when mode) cases rest = ⊎_elim (λ here. absurd (cc)) rest cases
+
+-- each event after another one in the list may stand after it
+after_each : (front back : List Event) (e : Event) → AreInOrder (front ++ e ∷ back) → All (Precedes e) back
+after_each [] back e order = order.0
+after_each (first ∷ front) back e order = after_each front back e order.1
+
+module _ (graph : Tfpg) (entries : List Entry) (script : IsScript graph entries) (trace : List Activation) (number : ℕ) (events : List Event)
+    (logged : AreLogged graph entries trace (latenesses graph number) (length (latenesses graph number)) events) where
+  abbrev lates : List (Option ℕ)
+  lates = latenesses graph number
+
+  -- The trace shows an event of the log, after those before it.
+  pub shown : (front back : List Event) (e : Event) → events ≡ front ++ e ∷ back → IsLogged graph entries trace lates (length lates) e → Shows graph trace front e
+  shown front back (event.Alarm time node) are is =
+      let alarm = alarmed_at entries trace (get_or lates node None) node (time_so_far entries) time is.1 in
+      let lag = lateness_within graph number node alarm.late (omega (arith, is.0, length-latenesses graph number)) alarm.lateness_is in
+      let between = due_between entries alarm.active alarm.late in
+      (lag.0, alarm.active, lag.1, alarm.active_is, omega (arith, between.1, alarm.due, lag.2), omega (arith, between.0, alarm.due))
+  shown front back (event.Silent time node) are is = absurd is
+  shown front back (event.Sweep time) are is = λ node monitored unalarmed active.
+      let late = monitored_lateness graph number node monitored in
+      let due : ℕ = due_time entries active.0 late.0 in
+      let early : due ≤ time = due_by_sweep entries active.0 late.0 time (sweep_early active.0 time entries (in_order graph entries script) is.0 active.2) in
+      let at = alarm_comes entries trace (get_or lates node None) node (time_so_far entries) late.0 active.0 late.1 active.1 (omega (arith, early, is.1)) in
+      let there = logged.alarmed node due (omega (arith, monitored_within graph node monitored, length-latenesses graph number)) at in
+      ⊎_elim
+      (λ before. false≢true (sym unalarmed ∙ alarm_found front due node before))
+      (λ rest. ⊎_elim
+      (λ here. absurd (cc))
+      (λ after.
+      let order = after_each front back (event.Sweep time) (subst AreInOrder are logged.order) in
+      let later = leb-false due time (All-contains (Precedes (event.Sweep time)) back (event.Alarm due node) order after).0 in
+      absurd (omega arith))
+      (Contains-cons_cases (event.Sweep time) back (event.Alarm due node) rest))
+      (Contains-append_cases front (event.Sweep time ∷ back) (event.Alarm due node) (subst (λ es. Contains es (event.Alarm due node)) are there))
+  shown front back (event.Tick time) are is = tt
+  shown front back (event.Mode time mode) are is = tt

@@ -1,0 +1,8 @@
+use Rattle.tfpg_sim.proofs.ExplainedLogs.{accepted, explained}
+use Rattle.tfpg_sim.proofs.laws.a_simulated_log_is_accepted_and_explained.Goals as goal
+
+pub returns-clause-accepted : goal.returns-clause-accepted
+returns-clause-accepted c = λ graph script number simulated valid is. accepted graph script number simulated valid is
+
+pub returns-clause-explained : goal.returns-clause-explained
+returns-clause-explained c = λ graph script number simulated valid is. explained graph script number simulated valid is

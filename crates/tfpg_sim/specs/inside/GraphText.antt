@@ -1,0 +1,32 @@
+-- The text of a generated graph, by the numbers of its nodes. No public contract cites this.
+use Rattle.std.specs.Prelude.{◌≡◌, ◌⊎◌, ℕ, List, [], ◌∷◌, ◌++◌, ◌==◌, if◌then◌else◌, codes, decimal}
+use Rattle.std.specs.List.{flat_map}
+use Rattle.tfpg_base.specs.TextLine.{text_line}
+use Rattle.tfpg_graph.specs.declared.edge.Edge.{Edge}
+use Rattle.tfpg_graph.specs.declared.kind.Kind.{Kind}
+use Rattle.tfpg_graph.specs.Text.{tmax_word}
+use Rattle.tfpg_graph.specs.inside.writing.Written.{node_text}
+use Rattle.tfpg_sim.specs.Generated.{node_name, failure_count, failure_kinds, named}
+
+-- the first line and those of the two modes
+abbrev pub head_text : List ℕ
+head_text = text_line (codes "tfpg" ∷ codes "1" ∷ []) ++ (text_line (codes "mode" ∷ codes "M0" ∷ []) ++ text_line (codes "mode" ∷ codes "M1" ∷ []))
+
+-- the word for the first mode alone, or for both
+abbrev pub modes_text : ℕ → List ℕ
+modes_text modes = if modes == 1 then codes "M0" else codes "*"
+
+-- the line of an edge, with its line end
+abbrev pub edge_text_by_number : Edge → List ℕ
+edge_text_by_number edge =
+    text_line (codes "edge" ∷ node_name edge.source ∷ node_name edge.target ∷ decimal edge.tmin ∷ tmax_word edge.tmax ∷ modes_text edge.modes ∷ [])
+
+-- the text of these discrepancies and edges
+abbrev pub draft_text : List Kind → List Edge → List ℕ
+draft_text kinds edges =
+    head_text ++ flat_map node_text (named 0 (failure_kinds failure_count)) ++ flat_map node_text (named failure_count kinds)
+    ++ flat_map edge_text_by_number edges ++ text_line (codes "end" ∷ [])
+
+-- the edge is active in the first mode alone, or in both
+abbrev pub HasDrawnModes : Edge → Type 0
+HasDrawnModes edge = (edge.modes ≡ 1) ⊎ (edge.modes ≡ 3)

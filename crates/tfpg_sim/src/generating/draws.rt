@@ -1,0 +1,50 @@
+//! What the generator draws of single words.
+
+ghost use Rattle.std.specs.Prelude.{◌≡◌, ◌<◌, ◌%◌, if◌then◌else◌};
+ghost use Rattle.tfpg_sim.specs.Generated.{next_word, after_word, after_words, edge_drawn};
+
+use rand_core::utils::NextWord;
+use rand_pcg::Lcg64Xsh32;
+use tfpg_graph::Edge;
+
+/// Draws a number below the bound.
+pub(crate) fn draw(state: &mut Lcg64Xsh32, bound: u32) -> u32
+    requires { 0 < bound }
+    ensures value { result ≡ next_word state.old % bound }
+    ensures below { result < bound }
+    ensures after { state.new ≡ after_word state.old }
+{
+    state.next_word() % bound
+}
+
+/// Draws the delays and the modes of an edge between the nodes.
+pub(crate) fn draw_edge(source: u32, target: u32, state: &mut Lcg64Xsh32) -> Edge
+    ensures edge { result ≡ edge_drawn source target state.old }
+    ensures after { state.new ≡ after_words 4 state.old }
+{
+    let least = u64::from(draw(state, 50));
+    let more = u64::from(draw(state, 50));
+    let is_open = draw(state, 16) == 0;
+    let is_in_first_alone = draw(state, 8) == 0;
+    Edge {
+        source,
+        target,
+        tmin: least,
+        tmax: greatest(least + more, is_open),
+        modes: modes(is_in_first_alone),
+    }
+}
+
+/// The greatest delay, which an open edge has not.
+fn greatest(most: u64, is_open: bool) -> Option<u64>
+    ensures { result ≡ (if is_open then None else Some most) }
+{
+    if is_open { None } else { Some(most) }
+}
+
+/// The bits of the first mode alone, or of both.
+fn modes(is_in_first_alone: bool) -> u64
+    ensures { result ≡ (if is_in_first_alone then 1 else 3) }
+{
+    if is_in_first_alone { 0b01 } else { 0b11 }
+}

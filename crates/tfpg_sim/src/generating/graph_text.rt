@@ -1,0 +1,143 @@
+//! The text of a generated graph, and the graph that is read of it.
+
+ghost use Rattle.std.specs.Prelude.{◌≡◌, ◌≤◌, ◌∷◌, length, All, IfOk};
+ghost use Rattle.std.specs.List.{flat_map};
+ghost use Rattle.tfpg_base.specs.Append.{Appends};
+ghost use Rattle.tfpg_graph.specs.Valid.{IsValid};
+ghost use Rattle.tfpg_graph.specs.inside.writing.Written.{node_text};
+ghost use Rattle.tfpg_sim.specs.Generated.{failure_kinds, named, graph_of};
+ghost use Rattle.tfpg_sim.specs.inside.GraphText.{modes_text, edge_text_by_number, draft_text, HasDrawnModes};
+ghost use Rattle.tfpg_base.specs.TextLine.{text_line};
+ghost use Rattle.tfpg_graph.specs.Text.{watch_words, node_words};
+ghost use Rattle.tfpg_sim.specs.Generated.{node_name};
+
+use crate::generating::draft::{Draft, FAILURE_COUNT};
+use crate::generating::node_name::node_name;
+use itoa::Buffer;
+use std::alloc::Global;
+use tfpg_base::{NoMemory, put_line};
+use tfpg_graph::{Edge, Graph, GraphRefusal, Kind, read};
+
+/// The graph of the draft, which is valid.
+pub(crate) fn graph_of(alloc: Global, draft: &Draft) -> Result<Graph, NoMemory>
+    requires valid { IsValid (graph_of draft.now.kinds.items draft.now.edges.items) }
+    requires few { length draft.now.kinds.items ≤ 400 }
+    requires modes { All HasDrawnModes draft.now.edges.items }
+    ensures { IfOk result (λ graph. graph ≡ graph_of draft.now.kinds.items draft.now.edges.items) }
+{
+    let text = draft_text(alloc, &draft.kinds, &draft.edges)?;
+    match read(alloc, &text) {
+        Ok(graph) => Ok(graph),
+        Err(GraphRefusal::NoMemory) => Err(NoMemory),
+        Err(GraphRefusal::Fault(_)) => unreachable!(),
+    }
+}
+
+/// The text of the graph of these discrepancies and edges.
+fn draft_text(alloc: Global, kinds: &[Kind], edges: &[Edge]) -> Result<Vec<u8>, NoMemory>
+    requires { length kinds.now ≤ 400 }
+    ensures { IfOk result (λ text. text.items ≡ draft_text kinds.now edges.now) }
+{
+    let mut text = Vec::new(alloc);
+    text.extend_from_slice(b"tfpg 1\nmode M0\nmode M1\n")?;
+    put_failures(alloc, &mut text)?;
+    put_discrepancies(alloc, kinds, &mut text)?;
+    put_edges(alloc, edges, &mut text)?;
+    text.extend_from_slice(b"end\n")?;
+    Ok(text)
+}
+
+/// Appends the lines of the failure modes.
+fn put_failures(alloc: Global, into: &mut Vec<u8>) -> Result<(), NoMemory>
+    ensures { Appends result into.old.items into.new.items (flat_map node_text (named 0 (failure_kinds 16))) }
+{
+    for place in 0..FAILURE_COUNT {
+        let rarity = u64::from(place) + 1;
+        put_node(alloc, place, Kind::Failure { rarity }, into)?;
+    }
+    Ok(())
+}
+
+/// Appends the lines of the discrepancies.
+fn put_discrepancies(alloc: Global, kinds: &[Kind], into: &mut Vec<u8>) -> Result<(), NoMemory>
+    requires { length kinds.now ≤ 400 }
+    ensures { Appends result into.old.items into.new.items (flat_map node_text (named 16 kinds.now)) }
+{
+    for place in 0..kinds.len() {
+        put_node(alloc, FAILURE_COUNT + place as u32, kinds[place], into)?;
+    }
+    Ok(())
+}
+
+/// Appends the line of a node of this number and kind.
+fn put_node(alloc: Global, node: u32, kind: Kind, into: &mut Vec<u8>) -> Result<(), NoMemory>
+    ensures { Appends result into.old.items into.new.items (text_line (node_words (node_name node) kind)) }
+{
+    let name = node_name(alloc, node)?;
+    match kind {
+        Kind::Failure { rarity } => {
+            let mut digits = Buffer::new();
+            put_line(into, &[b"failure", &name, digits.format(rarity).as_bytes()])
+        }
+        Kind::Or { lag } => put_discrepancy(b"or", &name, lag, into),
+        Kind::And { lag } => put_discrepancy(b"and", &name, lag, into),
+    }
+}
+
+/// Appends the line of a discrepancy of this keyword.
+fn put_discrepancy(
+    keyword: &[u8],
+    name: &[u8],
+    lag: Option<u64>,
+    into: &mut Vec<u8>,
+) -> Result<(), NoMemory>
+    ensures { Appends result into.old.items into.new.items
+        (text_line (keyword.now ∷ name.now ∷ watch_words lag)) }
+{
+    match lag {
+        Some(lag) => {
+            let mut digits = Buffer::new();
+            put_line(
+                into,
+                &[keyword, name, b"watch", digits.format(lag).as_bytes()],
+            )
+        }
+        None => put_line(into, &[keyword, name, b"hidden"]),
+    }
+}
+
+/// Appends the lines of the edges.
+fn put_edges(alloc: Global, edges: &[Edge], into: &mut Vec<u8>) -> Result<(), NoMemory>
+    ensures { Appends result into.old.items into.new.items (flat_map edge_text_by_number edges.now) }
+{
+    for edge in edges {
+        put_edge(alloc, *edge, into)?;
+    }
+    Ok(())
+}
+
+/// Appends the line of an edge.
+fn put_edge(alloc: Global, edge: Edge, into: &mut Vec<u8>) -> Result<(), NoMemory>
+    ensures { Appends result into.old.items into.new.items (edge_text_by_number edge) }
+{
+    let source = node_name(alloc, edge.source)?;
+    let target = node_name(alloc, edge.target)?;
+    let mut tmin_digits = Buffer::new();
+    let tmin = tmin_digits.format(edge.tmin).as_bytes();
+    let modes = modes_word(edge.modes);
+    match edge.tmax {
+        Some(tmax) => {
+            let mut tmax_digits = Buffer::new();
+            let tmax = tmax_digits.format(tmax).as_bytes();
+            put_line(into, &[b"edge", &source, &target, tmin, tmax, modes])
+        }
+        None => put_line(into, &[b"edge", &source, &target, tmin, b"inf", modes]),
+    }
+}
+
+/// The word for the first mode alone, or for both.
+fn modes_word(modes: u64) -> &'static [u8]
+    ensures { result.now ≡ modes_text modes }
+{
+    if modes == 1 { b"M0" } else { b"*" }
+}
