@@ -38,3 +38,5 @@ pub mod NoTrace
 pub mod PresentLeaf
 pub mod FramePaths
 pub mod LeafSteps
+-- Alternatives are small.
+pub mod Sizes

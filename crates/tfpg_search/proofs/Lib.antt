@@ -9,3 +9,20 @@ mod Fresh
 -- The facts of a log.
 mod StatedBounds
 mod FactsAdded
+-- Trees: steps that lead on, and what they come to for all steps before.
+mod Cuts
+mod Names
+mod Lifted
+mod Growing
+-- The picks of a path, and what moves do to the system.
+mod Picking
+mod Standing
+mod Closed
+mod Latest
+mod Carried
+mod Moving
+-- Calls of a search.
+mod CutTimes
+mod Settling
+mod Rounds
+mod Beginning

@@ -1,4 +1,12 @@
+pub use Rattle.tfpg_clause.specs.Trees
+pub use Rattle.tfpg_log.specs.Log
+pub use Rattle.tfpg_log.specs.Explains
 -- What the contracts say.
+pub mod Solutions
+pub mod Live
 pub mod Leaf
+pub mod Picks
+pub mod Searching
+pub mod Searched
 -- What the code and its proofs need besides. No public clause reaches it.
 pub mod inside

@@ -1,3 +1,5 @@
 pub mod Tags
 pub mod Closing
 pub mod Facts
+pub mod Leaving
+pub mod Moves

@@ -1,8 +1,19 @@
-//! The search of one hypothesis.
+//! The search of one hypothesis, over all rounds.
+//!
+//! - [`Search`] has one set of failure modes. [`Search::round`] searches on for a log that goes on, and appends its steps.
+//! - [`Found`] is what it found: a trace that explains the log, a refutation, or that the budget of the round was spent.
+//!
+//! The mathematics stands in `docs/search.md`.
 #![tactic(auto)]
 
 mod add_facts;
 mod add_fault;
 mod closing;
+mod cut;
 mod fact_bounds;
+mod found;
 mod leaf_system;
+mod search;
+
+pub use found::Found;
+pub use search::Search;

@@ -1,0 +1,67 @@
+-- A new search represents no steps.
+use Rattle.std.proofs.Common.{◌≡◌, ℕ, ◌+◌, ◌<◌, ◌≤◌, List, [], ◌∷◌, ◌++◌, length, Bool, true, Option, Some, None, refl, sym, ap, subst, ◌∙◌, arith}
+use Rattle.std.specs.Prelude.{All, AllPairs, nat_lt, pos, slice_get, map}
+use Rattle.std.specs.Bool.{then_some}
+use Rattle.std.proofs.lemmas.List.Elements.{All-nil}
+use Rattle.std.proofs.lemmas.Bool.Decides.{nat_tests}
+use Rattle.tfpg_base.specs.Times.{never}
+use Rattle.tfpg_base.specs.declared.constraint.Constraint.{Constraint}
+use Rattle.tfpg_graph.specs.Graph.{Tfpg}
+use Rattle.tfpg_graph.specs.Reach.{IsReach}
+use Rattle.tfpg_log.specs.Log.{Logbook}
+use Rattle.tfpg_log.specs.LogOfLines.{new_log}
+use Rattle.tfpg_evidence.specs.declared.reason.Reason.{Reason}
+use Rattle.tfpg_evidence.specs.declared.reason.Reason.TheVariants.{Zero, Top}
+use Rattle.tfpg_clause.specs.Bounds.{at_most, at_least}
+use Rattle.tfpg_clause.specs.Facts.{fact}
+use Rattle.tfpg_clause.specs.Trees.{Judged, PathSplit, IsPresentLeaf}
+use Rattle.tfpg_clause.specs.Paths.{stated_by}
+use Rattle.tfpg_clause.specs.declared.path.Frame.{Frame}
+use Rattle.tfpg_clause.proofs.LeafSteps.{leaf_begins, frames_begin}
+use Rattle.tfpg_clause.proofs.PresentLeaf.{one_leaf}
+use Rattle.tfpg_search.specs.Leaf.{Leaf, pick_reasons, IsStated}
+use Rattle.tfpg_search.specs.Live.{HasDistinctNames, HasNoNameTwice}
+use Rattle.tfpg_search.specs.Picks.{IsAllowed, IsInRange}
+use Rattle.tfpg_search.specs.Searching.{Searching, SearchRepresents}
+use Rattle.tfpg_search.proofs.Standing.{restated, fact_stated}
+
+within_is : (a b : ℕ) → a < b → nat_lt a b ≡ true
+within_is a b less = grind (arith, nat_tests)
+
+no_names : HasDistinctNames []
+no_names i j d before inside = absurd (omega arith)
+
+module _ (graph : Tfpg) (reach : List ℕ) where
+  pub zero_is : (log : Logbook) (node : ℕ) → node < length graph.nodes → fact graph log reach (Zero node) ≡ Some (at_least node 0)
+  zero_is log node less = ap (λ (b : Bool). then_some b (at_least node 0)) (within_is node (length graph.nodes) less)
+
+  pub top_is : (log : Logbook) (node : ℕ) → node < length graph.nodes → fact graph log reach (Top node) ≡ Some (at_most node (pos never))
+  top_is log node less = ap (λ (b : Bool). then_some b (at_most node (pos never))) (within_is node (length graph.nodes) less)
+
+  none_twice : (log : Logbook) → HasNoNameTwice graph log reach []
+  none_twice log [] back path is leaf = subst HasDistinctNames (one_leaf graph log reach [] [] path (leaf_begins graph log reach) leaf) no_names
+  none_twice log (first ∷ front) back path is leaf = cc
+
+  pub new_represents : (search : Searching) → search.reach ≡ reach → IsReach graph search.set reach → search.seen ≡ 0 → search.path ≡ [] → search.entered ≡ []
+      → length search.leaf.demands.bounds ≡ length graph.nodes → pick_reasons search.leaf ≡ [] → IsStated (fact graph new_log reach) (fact graph new_log reach) search.leaf
+      → SearchRepresents graph new_log search []
+  new_represents search reach_is is_reach seen path entered variables picks stated =
+      let same : search ≡ record search { reach = reach; seen = 0; path = []; entered = [] } = λ i. record search { reach = reach_is i; seen = seen i; path = path i; entered = entered i } in
+      subst (λ (s : Searching). SearchRepresents graph new_log s []) (sym same)
+      (record {
+        seen = refl;
+        leaf = frames_begin graph new_log reach;
+        names = none_twice new_log;
+        system = record {
+          reach_is = is_reach;
+          variables = variables;
+          allowed = All-nil (IsAllowed graph new_log);
+          range = All-nil IsInRange;
+          stated =
+              restated (fact graph new_log reach) (fact graph new_log reach) (stated_by graph new_log reach []) search.leaf stated
+              (λ r c states. fact_stated graph new_log reach [] r c states)
+              (λ place r c there states. fact_stated graph new_log reach [] r c states);
+          picks = record { few = omega arith; many = omega arith; counts = λ split before there. cc; reasons = picks };
+        };
+        all_entered = refl;
+      })

@@ -1,0 +1,111 @@
+-- At a settled leaf the solutions of the system are the times that solve what holds at the leaf.
+use Rattle.std.proofs.Common.{◌≡◌, ℕ, zero, suc, ◌+◌, ◌<◌, ◌≤◌, List, [], ◌∷◌, length, take, get_or, Option, Some, None, refl, sym, ap, subst, ◌∙◌, arith}
+use Rattle.std.specs.Prelude.{All, slice_get, slice_index, option_and_then, pos}
+use Rattle.std.proofs.lemmas.List.{take_all}
+use Rattle.std.proofs.lemmas.List.Elements.{All-get_or}
+use Rattle.std.proofs.lemmas.Option.{slice_get_within, slice_get-get_or}
+use Rattle.tfpg_base.specs.declared.constraint.Constraint.{Constraint}
+use Rattle.tfpg_base.specs.Constraint.{Meets}
+use Rattle.tfpg_graph.specs.Graph.{Tfpg}
+use Rattle.tfpg_log.specs.Log.{Logbook}
+use Rattle.tfpg_evidence.specs.declared.reason.Reason.{Reason}
+use Rattle.tfpg_evidence.specs.declared.reason.Reason.TheVariants.{Zero, Top, Unreached, From, Upto, Quiet, Pick}
+use Rattle.tfpg_clause.specs.Bounds.{at_most, at_least}
+use Rattle.tfpg_clause.specs.Facts.{fact}
+use Rattle.tfpg_clause.specs.Paths.{framed, stated_by}
+use Rattle.tfpg_clause.specs.declared.path.Frame.{Frame}
+use Rattle.tfpg_clause.proofs.Bounded.{says_at_least, says_at_most}
+use Rattle.tfpg_diff.specs.declared.why.Why.{Why}
+use Rattle.tfpg_diff.specs.declared.why.Why.TheVariants.{Floor, Ceiling, Given}
+use Rattle.tfpg_diff.specs.declared.bounds.Bounds.{Bounds}
+use Rattle.tfpg_diff.specs.declared.pick.Pick.{Pick as PickOf}
+use Rattle.tfpg_diff.specs.Demands.{Bounded}
+use Rattle.tfpg_diff.specs.Solution.{IsSolution, IsLatest}
+use Rattle.tfpg_search.specs.Leaf.{Leaf, named_by, pick_reasons}
+use Rattle.tfpg_search.specs.Picks.{picks_of}
+use Rattle.tfpg_search.specs.Searching.{Searching, IsAtItsLeaf}
+use Rattle.tfpg_search.specs.inside.Moves.{SolvesFramed, IsLatestFramed, IsSettled}
+use Rattle.tfpg_search.proofs.Names.{all_from}
+use Rattle.tfpg_search.proofs.Picking.{picks_have}
+
+-- the reason by which something is named
+named_fact : (facts : Reason → Option Constraint) (reasons : List Reason) (why : Why) (c : Constraint) → named_by facts reasons why ≡ Some c → (r : Reason) × (facts r ≡ Some c)
+named_fact facts reasons (Floor node) c is = (Zero node, is)
+named_fact facts reasons (Ceiling node) c is = (Top node, is)
+named_fact facts reasons (Given tag) c is = by (slice_get reasons tag) is
+  where
+    by : (o : Option Reason) → option_and_then facts o ≡ Some c → (r : Reason) × (facts r ≡ Some c)
+    by None none = cc
+    by (Some r) some = (r, some)
+
+some_reason : (stated : Reason → Option Constraint) (o : Option Reason) (c : Constraint) → option_and_then stated o ≡ Some c → (r : Reason) × (stated r ≡ Some c)
+some_reason stated None c is = cc
+some_reason stated (Some r) c is = (r, is)
+
+module _ (graph : Tfpg) (log : Logbook) (search : Searching) (at : IsAtItsLeaf graph log search) (settled : IsSettled graph log search)
+    (as_many : length search.leaf.demands.picks ≡ length (pick_reasons search.leaf)) where
+  abbrev states : Reason → Option Constraint
+  states = stated_by graph log search.reach search.path
+
+  all_picks : pick_reasons search.leaf ≡ picks_of graph log search.path
+  all_picks =
+      at.picks.reasons ∙ ap (λ (fs : List Frame). picks_of graph log fs) (take_all (length search.entered) search.path (let all = settled.all_entered in omega arith))
+
+  module _ (times : List ℕ) (solution : IsSolution search.leaf.demands times) where
+    -- the constraint of each pick on the path is met
+    pick_met : (i split place : ℕ) (c : Constraint) → slice_get (pick_reasons search.leaf) i ≡ Some (Pick split place) → framed graph log search.path split place ≡ Some c → Meets times c
+    pick_met i split place c there is =
+        let within : i < length search.leaf.demands.picks = let w = slice_get_within (pick_reasons search.leaf) i (Pick split place) there in omega arith in
+        let unread : PickOf = record { constraint = c; tag = 0 } in
+        let pick : PickOf = get_or search.leaf.demands.picks i unread in
+        let states_it : option_and_then states (slice_get (pick_reasons search.leaf) i) ≡ Some pick.constraint =
+        at.stated.picks i pick (slice_get-get_or search.leaf.demands.picks i unread within) in
+        let both : Some c ≡ Some pick.constraint = sym is ∙ sym (ap (option_and_then states) there) ∙ states_it in
+        let same : c ≡ pick.constraint = cc in
+        subst (Meets times) (sym same) (All-get_or (λ (p : PickOf). Meets times p.constraint) search.leaf.demands.picks i unread within solution.met)
+
+    picks_met : (split place : ℕ) (c : Constraint) → framed graph log search.path split place ≡ Some c → Meets times c
+    picks_met zero place c is = absurd cc
+    picks_met (suc k) place c is =
+        let number : 1 + k ≡ suc k = omega arith in
+        let have = picks_have graph log 1 search.path k place c is in
+        let there : slice_get (pick_reasons search.leaf) have.0 ≡ Some (Pick (suc k) place) =
+        ap (λ (rs : List Reason). slice_get rs have.0) all_picks ∙ have.1 ∙ ap (λ (n : ℕ). Some (Pick n place)) number in
+        pick_met have.0 (suc k) place c there is
+
+    solves : SolvesFramed graph log search.reach search.path times
+    solves = record { one_each = solution.complete ∙ at.variables; facts = settled.facts times solution; picks = picks_met }
+
+  module _ (times : List ℕ) (solves : SolvesFramed graph log search.reach search.path times) where
+    met_by_reason : (r : Reason) (c : Constraint) → states r ≡ Some c → Meets times c
+    met_by_reason (Pick split place) c is = solves.picks split place c is
+    met_by_reason (Zero node) c is = solves.facts (Zero node) c is
+    met_by_reason (Top node) c is = solves.facts (Top node) c is
+    met_by_reason (Unreached node horizon) c is = solves.facts (Unreached node horizon) c is
+    met_by_reason (From event) c is = solves.facts (From event) c is
+    met_by_reason (Upto event) c is = solves.facts (Upto event) c is
+    met_by_reason (Quiet event node) c is = solves.facts (Quiet event node) c is
+
+    is_solution : IsSolution search.leaf.demands times
+    is_solution = record {
+      complete = solves.one_each ∙ sym at.variables;
+      between = λ node bounds there.
+          let low = named_fact (fact graph log search.reach) search.leaf.reasons bounds.floor_why (at_least node bounds.floor) (at.stated.bounds.floors node bounds there) in
+          let high = named_fact (fact graph log search.reach) search.leaf.reasons bounds.ceiling_why (at_most node (pos bounds.ceiling)) (at.stated.bounds.ceilings node bounds there) in
+          record {
+            above = says_at_least times node bounds.floor (solves.facts low.0 (at_least node bounds.floor) low.1);
+            below = says_at_most times node bounds.ceiling (solves.facts high.0 (at_most node (pos bounds.ceiling)) high.1);
+          };
+      met = all_from (λ (p : PickOf). Meets times p.constraint) search.leaf.demands.picks
+          (λ place pick there.
+          let reason = some_reason states (slice_get (pick_reasons search.leaf) place) pick.constraint (at.stated.picks place pick there) in
+          met_by_reason reason.0 pick.constraint reason.1);
+    }
+
+  -- The latest solution of the system is the latest at the leaf.
+  pub latest_here : (times : List ℕ) → IsLatest search.leaf.demands times → IsLatestFramed graph log search.reach search.path times
+  latest_here times latest = record {
+    solves = solves times latest.solution;
+    latest = λ other also node within.
+        latest.greatest other (is_solution other also) node (let one = latest.solution.complete in let two = at.variables in omega arith);
+  }

@@ -1,0 +1,407 @@
+-- What the moves of a search come to.
+use Rattle.std.proofs.Common.{◌≡◌, ℕ, zero, suc, ◌+◌, ◌-◌, ◌<◌, ◌≤◌, List, [], ◌∷◌, ◌++◌, length, take, Bool, true, false, Option, Some, None, refl, sym, ap, subst, ◌∙◌, arith, length-append, append_assoc}
+use Rattle.std.specs.Prelude.{All, slice_get, IsTrue, is_some, option_and_then, Result, Ok, Err, OnOk, OnErr, IfErr}
+use Rattle.std.specs.Option.{option_map_or}
+use Rattle.std.proofs.lemmas.Option.{slice_get_within, slice_get_past, get_or_from_slice_get}
+use Rattle.std.proofs.lemmas.List.{append-nil}
+use Rattle.std.proofs.lemmas.List.Elements.{All-get_or}
+use Rattle.tfpg_base.specs.declared.constraint.Constraint.{Constraint}
+use Rattle.tfpg_graph.specs.Graph.{Tfpg}
+use Rattle.tfpg_log.specs.Log.{Logbook}
+use Rattle.tfpg_evidence.specs.declared.clause_name.ClauseName.{ClauseName}
+use Rattle.tfpg_evidence.specs.declared.reason.Reason.{Reason}
+use Rattle.tfpg_evidence.specs.declared.reason.Reason.TheVariants.{Pick}
+use Rattle.tfpg_evidence.specs.declared.step.Step.{Step}
+use Rattle.tfpg_evidence.specs.declared.step.Step.TheVariants.{Split, Cycle}
+use Rattle.tfpg_clause.specs.Facts.{fact}
+use Rattle.tfpg_clause.specs.Clauses.{alternatives, count_of, item_at, constraint_at}
+use Rattle.tfpg_clause.proofs.Sizes.{IsOver, IsSmall, small_clause}
+use Rattle.tfpg_graph.specs.Valid.{IsValid}
+use Rattle.tfpg_search.proofs.Picking.{of_frame, chosen, in_place, in_place_is, place_in, place_out, picks_push}
+use Rattle.tfpg_search.specs.declared.add_fault.AddFault.{AddFault}
+use Rattle.tfpg_search.specs.inside.Closing.{Closes}
+use Rattle.tfpg_clause.specs.Paths.{framed, stated_by, path_after, new_frame}
+use Rattle.tfpg_clause.specs.declared.path.Frame.{Frame}
+use Rattle.tfpg_diff.specs.State.{popped_to}
+use Rattle.tfpg_diff.specs.Solution.{IsSolution}
+use Rattle.tfpg_base.specs.Constraint.{Meets}
+use Rattle.tfpg_search.specs.Leaf.{Leaf, pick_reasons, IsStated, IsSimpleCycle}
+use Rattle.tfpg_search.specs.Picks.{place_count, places_at, picks_from}
+use Rattle.tfpg_search.specs.Searching.{Searching, IsAtItsLeaf}
+use Rattle.tfpg_search.specs.inside.Leaving.{KeepsBounds, Leaves, Pushing, PushesOne}
+use Rattle.tfpg_search.specs.inside.Moves.{IsLiveFramed, Goes, Grows, KeepsSet, HasEnteredAll, IsSettled, untaken}
+use Rattle.tfpg_search.proofs.Growing.{grows_none, grows_one, grows_on}
+use Rattle.tfpg_search.proofs.Standing.{leaf_stands, split_stands, enter_stands, entered_all, left_again}
+use Rattle.tfpg_search.proofs.Closed.{counted, next_stands, next_some, next_fewer}
+
+-- ---- leaving
+
+module _ (items entered : List ℕ) (kept : ℕ) (inside old : Leaf) (items_are : items ≡ entered) (leaf_is : inside ≡ old) where
+  pub leaves_some : (new : Leaf) (count before : ℕ) → count ≡ length items → kept < count → slice_get items kept ≡ Some before → new.demands ≡ popped_to inside.demands before
+      → ((facts stated : Reason → Option Constraint) → IsStated facts stated inside → IsStated facts stated new)
+      → pick_reasons new ≡ take before (pick_reasons inside) → Leaves (slice_get entered kept) old new
+  leaves_some new count before is less at demands stated reasons =
+      let there : slice_get entered kept ≡ Some before = ap (λ (xs : List ℕ). slice_get xs kept) (sym items_are) ∙ at in
+      let gone : Leaves (Some before) inside new = (record { variables = ap (λ d. length d.bounds) demands; stated = stated }, reasons) in
+      subst (λ (o : Option ℕ). Leaves o old new) (sym there) (subst (λ (l : Leaf). Leaves (Some before) l new) leaf_is gone)
+
+  pub leaves_none : (count : ℕ) → count ≡ length items → count ≤ kept → Leaves (slice_get entered kept) old old
+  leaves_none count is not_less =
+      let there : slice_get entered kept ≡ None = ap (λ (xs : List ℕ). slice_get xs kept) (sym items_are) ∙ slice_get_past items kept (omega arith) in
+      subst (λ (o : Option ℕ). Leaves o old old) (sym there) refl
+
+-- there is one, where there is not none
+pub some_left : (n m : ℕ) → n ≡ m → (m ≡ 0 → ⊥) → 1 ≤ n
+some_left zero m is not_none = absurd (not_none (sym is))
+some_left (suc n) m is not_none = omega arith
+
+-- ---- pushing
+
+-- each constraint on a path is small
+pub framed_small : (graph : Tfpg) (log : Logbook) → IsValid graph → (frames : List Frame) (split place : ℕ) (c : Constraint) → framed graph log frames split place ≡ Some c → IsOver (length graph.nodes) c
+framed_small graph log valid frames zero place c is = cc
+framed_small graph log valid frames (suc k) place c is = by (slice_get frames k) is
+  where
+    in_alternative : (alternative : List Constraint) (p : ℕ) → IsSmall (length graph.nodes) alternative → item_at alternative p ≡ Some c → IsOver (length graph.nodes) c
+    in_alternative alternative zero small at = cc
+    in_alternative alternative (suc i) small at =
+        subst (IsOver (length graph.nodes)) (get_or_from_slice_get alternative i c c at)
+        (All-get_or (IsOver (length graph.nodes)) alternative i c (slice_get_within alternative i c at) small.over)
+
+    in_clause : (clause : List (List Constraint)) (number : ℕ) → All (IsSmall (length graph.nodes)) clause → constraint_at clause number place ≡ Some c → IsOver (length graph.nodes) c
+    in_clause clause zero small at = cc
+    in_clause clause (suc i) small at = one (slice_get clause i) refl at
+      where
+        one : (o : Option (List Constraint)) → slice_get clause i ≡ o → option_and_then (λ (alternative : List Constraint). item_at alternative place) o ≡ Some c → IsOver (length graph.nodes) c
+        one None there none = cc
+        one (Some alternative) there some =
+            in_alternative alternative place
+            (subst (IsSmall (length graph.nodes)) (get_or_from_slice_get clause i alternative alternative there)
+            (All-get_or (IsSmall (length graph.nodes)) clause i alternative (slice_get_within clause i alternative there) small))
+            some
+
+    named : (frame : Frame) (clause : Option (List (List Constraint))) → alternatives graph log frame.name ≡ clause
+        → option_and_then (λ (c : List (List Constraint)). constraint_at c frame.alternative place) clause ≡ Some c → IsOver (length graph.nodes) c
+    named frame None there none = cc
+    named frame (Some clause) there some = in_clause clause frame.alternative (small_clause graph valid log frame.name clause there) some
+
+    by : (o : Option Frame) → option_and_then (λ (frame : Frame). option_and_then (λ clause. constraint_at clause frame.alternative place) (alternatives graph log frame.name)) o ≡ Some c
+        → IsOver (length graph.nodes) c
+    by None none = cc
+    by (Some frame) some = named frame (alternatives graph log frame.name) refl some
+
+-- an alternative on a path has at most three constraints
+pub few_places : (graph : Tfpg) (log : Logbook) → IsValid graph → (frames : List Frame) (split : ℕ) → places_at graph log frames split ≤ 3
+few_places graph log valid frames zero = omega arith
+few_places graph log valid frames (suc k) = by (slice_get frames k)
+  where
+    chosen_few : (o : Option (List Constraint)) → ((alternative : List Constraint) → o ≡ Some alternative → length alternative ≤ 3) → option_map_or length o 0 ≤ 3
+    chosen_few None few = omega arith
+    chosen_few (Some alternative) few = few alternative refl
+
+    in_clause : (clause : List (List Constraint)) (number : ℕ) → All (IsSmall (length graph.nodes)) clause → (alternative : List Constraint) → item_at clause number ≡ Some alternative → length alternative ≤ 3
+    in_clause clause zero small alternative at = cc
+    in_clause clause (suc i) small alternative at =
+        subst (λ (a : List Constraint). length a ≤ 3) (get_or_from_slice_get clause i alternative alternative at)
+        (All-get_or (IsSmall (length graph.nodes)) clause i alternative (slice_get_within clause i alternative at) small).few
+
+    named : (frame : Frame) (clause : Option (List (List Constraint))) → alternatives graph log frame.name ≡ clause
+        → option_map_or length (option_and_then (λ (c : List (List Constraint)). item_at c frame.alternative) clause) 0 ≤ 3
+    named frame None there = omega arith
+    named frame (Some clause) there = chosen_few (item_at clause frame.alternative) (in_clause clause frame.alternative (small_clause graph valid log frame.name clause there))
+
+    by : (o : Option Frame) → option_map_or (place_count graph log) o 0 ≤ 3
+    by None = omega arith
+    by (Some frame) = named frame (alternatives graph log frame.name) refl
+
+-- how many places there are, by whether there is a constraint in one
+module _ (graph : Tfpg) (log : Logbook) (frames : List Frame) where
+  places_by : (o : Option Frame) (place : ℕ)
+      → (IsTrue (is_some (of_frame graph log o place)) → place ≤ option_map_or (place_count graph log) o 0)
+      × (of_frame graph log o place ≡ None → 1 ≤ place → option_map_or (place_count graph log) o 0 < place)
+  places_by None place = (λ some. cc, λ none low. omega arith)
+  places_by (Some frame) place =
+      let same = in_place_is (alternatives graph log frame.name) frame.alternative place in (
+        λ some. upto (in_place (chosen graph log frame) place) refl (subst (λ (o : Option Constraint). IsTrue (is_some o)) same some),
+        λ none low. place_out (chosen graph log frame) place (sym same ∙ none) low,
+      )
+    where
+      upto : (o : Option Constraint) → in_place (chosen graph log frame) place ≡ o → IsTrue (is_some o) → place ≤ place_count graph log frame
+      upto None is some = cc
+      upto (Some c) is some = (place_in (chosen graph log frame) place c is).1
+
+  pub at_most_there : (split place : ℕ) → IsTrue (is_some (framed graph log frames split place)) → place ≤ places_at graph log frames split
+  at_most_there zero place some = cc
+  at_most_there (suc k) place some = (places_by (slice_get frames k) place).0 some
+
+  pub none_there : (split place : ℕ) → framed graph log frames split place ≡ None → 1 ≤ place → places_at graph log frames split < place
+  none_there zero place none low = omega arith
+  none_there (suc k) place none low = (places_by (slice_get frames k) place).1 none low
+
+module _ (graph : Tfpg) (log : Logbook) (reach : List ℕ) (path : List Frame) (old : Leaf) where
+  abbrev Pushed : Leaf → Type 0
+  Pushed new = Pushing graph log reach path old new
+
+  -- nothing is pushed yet
+  pub pushing_none : IsStated (fact graph log reach) (stated_by graph log reach path) old → Pushed old
+  pushing_none stated = record { variables = refl; stated = stated; more = ([], sym (append-nil (pick_reasons old))) }
+
+  pub pushing_same : (new : Leaf) → new ≡ old → IsStated (fact graph log reach) (stated_by graph log reach path) old → Pushed new
+  pushing_same new same stated = subst Pushed (sym same) (pushing_none stated)
+
+  -- one is pushed
+  pub pushing_one : (new : Leaf) (reason : Reason) (c : Constraint) → IsStated (fact graph log reach) (stated_by graph log reach path) old
+      → new.demands.bounds ≡ old.demands.bounds
+      → ((facts stated : Reason → Option Constraint) → IsStated facts stated old → stated reason ≡ Some c → IsStated facts stated new)
+      → pick_reasons new ≡ pick_reasons old ++ reason ∷ [] → stated_by graph log reach path reason ≡ Some c → Pushed new
+  pushing_one new reason c stated bounds keeps picks states = record {
+    variables = ap (λ (bs : List _). length bs) bounds;
+    stated = keeps (fact graph log reach) (stated_by graph log reach path) stated states;
+    more = (reason ∷ [], picks);
+  }
+
+  -- one is pushed, or none at a fault
+  pub pushing_by : (new : Leaf) (reason : Reason) (c : Constraint) (result : Result (Unit {0}) AddFault) → IsStated (fact graph log reach) (stated_by graph log reach path) old
+      → new.demands.bounds ≡ old.demands.bounds
+      → ((facts stated : Reason → Option Constraint) → IsStated facts stated old → stated reason ≡ Some c → IsStated facts stated new)
+      → OnOk result (pick_reasons new ≡ pick_reasons old ++ reason ∷ []) → OnErr result (new ≡ old) → stated_by graph log reach path reason ≡ Some c → Pushed new
+  pushing_by new reason c (Ok done) stated bounds keeps picks same states = pushing_one new reason c stated bounds keeps picks states
+  pushing_by new reason c (Err fault) stated bounds keeps picks same states = pushing_same new same stated
+
+  -- and more
+  pub pushing_on : (middle new : Leaf) → Pushed middle → Pushing graph log reach path middle new → Pushed new
+  pushing_on middle new one other = record {
+    variables = other.variables ∙ one.variables;
+    stated = other.stated;
+    more = (
+      one.more.0 ++ other.more.0,
+      other.more.1 ∙ ap (λ (rs : List Reason). rs ++ other.more.0) one.more.1 ∙ append_assoc (pick_reasons old) one.more.0 other.more.0,
+    );
+  }
+
+-- the picks go on by one more alternative's place
+module _ (graph : Tfpg) (log : Logbook) (now loop : Searching) (same : loop ≡ record now { leaf = loop.leaf })
+    (pushing : Pushing graph log now.reach now.path now.leaf loop.leaf) where
+  loop_path : loop.path ≡ now.path
+  loop_path = ap (λ (s : Searching). s.path) same
+
+  loop_reach : loop.reach ≡ now.reach
+  loop_reach = ap (λ (s : Searching). s.reach) same
+
+  pub loop_stated : IsStated (fact graph log loop.reach) (stated_by graph log loop.reach loop.path) loop.leaf
+  loop_stated =
+      subst (λ (fs : List Frame). IsStated (fact graph log loop.reach) (stated_by graph log loop.reach fs) loop.leaf) (sym loop_path)
+      (subst (λ (r : List ℕ). IsStated (fact graph log r) (stated_by graph log r now.path) loop.leaf) (sym loop_reach) pushing.stated)
+
+  pub loop_closes : (fault : AddFault) → Closes (stated_by graph log loop.reach loop.path) fault → Closes (stated_by graph log now.reach now.path) fault
+  loop_closes fault closes =
+      subst (λ (r : List ℕ). Closes (stated_by graph log r now.path) fault) loop_reach (subst (λ (fs : List Frame). Closes (stated_by graph log loop.reach fs) fault) loop_path closes)
+
+  module _ (new : Searching) (new_same : new ≡ record loop { leaf = new.leaf }) (step : Pushing graph log loop.reach loop.path loop.leaf new.leaf) where
+    pub step_same : new ≡ record now { leaf = new.leaf }
+    step_same = new_same ∙ ap (λ (s : Searching). record s { leaf = new.leaf }) same
+
+    pub step_pushing : Pushing graph log now.reach now.path now.leaf new.leaf
+    step_pushing =
+        pushing_on graph log now.reach now.path now.leaf loop.leaf new.leaf pushing
+        (subst (λ (r : List ℕ). Pushing graph log r now.path loop.leaf new.leaf) loop_reach
+        (subst (λ (fs : List Frame). Pushing graph log loop.reach fs loop.leaf new.leaf) loop_path step))
+
+    module _ (split before : ℕ) (picks : pick_reasons loop.leaf ≡ pick_reasons now.leaf ++ picks_from split 1 before) (within : before ≤ places_at graph log now.path split) where
+      pub step_last : PushesOne (framed graph log loop.path split (before + 1)) (Pick split (before + 1)) loop.leaf new.leaf false
+          → pick_reasons new.leaf ≡ pick_reasons now.leaf ++ picks_from split 1 (places_at graph log now.path split)
+      step_last last =
+          let none : framed graph log now.path split (before + 1) ≡ None = ap (λ (fs : List Frame). framed graph log fs split (before + 1)) (sym loop_path) ∙ last.1 in
+          let past = none_there graph log now.path split (before + 1) none (omega arith) in
+          let all : before ≡ places_at graph log now.path split = grind arith in
+          last.0 ∙ picks ∙ ap (λ (n : ℕ). pick_reasons now.leaf ++ picks_from split 1 n) all
+
+      pub step_picks : PushesOne (framed graph log loop.path split (before + 1)) (Pick split (before + 1)) loop.leaf new.leaf true
+          → pick_reasons new.leaf ≡ pick_reasons now.leaf ++ picks_from split 1 (before + 1)
+      step_picks one =
+          let number : suc before ≡ before + 1 = omega arith in
+          let place : 1 + before ≡ before + 1 = omega arith in
+          one.0
+          ∙ ap (λ (rs : List Reason). rs ++ Pick split (before + 1) ∷ []) picks
+          ∙ append_assoc (pick_reasons now.leaf) (picks_from split 1 before) (Pick split (before + 1) ∷ [])
+          ∙ ap (λ (n : ℕ). pick_reasons now.leaf ++ (picks_from split 1 before ++ Pick split n ∷ [])) (sym place)
+          ∙ ap (λ (rs : List Reason). pick_reasons now.leaf ++ rs) (sym (picks_push split 1 before))
+          ∙ ap (λ (n : ℕ). pick_reasons now.leaf ++ picks_from split 1 n) number
+
+      pub step_within : PushesOne (framed graph log loop.path split (before + 1)) (Pick split (before + 1)) loop.leaf new.leaf true → before + 1 ≤ places_at graph log now.path split
+      step_within one =
+          at_most_there graph log now.path split (before + 1) (subst (λ (fs : List Frame). IsTrue (is_some (framed graph log fs split (before + 1)))) loop_path one.1)
+
+-- all places were pushed
+pub all_pushed : (graph : Tfpg) (log : Logbook) → IsValid graph → (now : Searching) (leaf : Leaf) (split before : ℕ) → 3 ≤ before → before ≤ places_at graph log now.path split
+    → pick_reasons leaf ≡ pick_reasons now.leaf ++ picks_from split 1 before → pick_reasons leaf ≡ pick_reasons now.leaf ++ picks_from split 1 (places_at graph log now.path split)
+all_pushed graph log valid now leaf split before past within picks =
+    let few = few_places graph log valid now.path split in
+    let all : before ≡ places_at graph log now.path split = grind arith in
+    picks ∙ ap (λ (n : ℕ). pick_reasons now.leaf ++ picks_from split 1 n) all
+
+-- ---- moves
+
+module _ (graph : Tfpg) (log : Logbook) (old : Searching) (at : IsAtItsLeaf graph log old) (before : List Step) where
+  -- nothing happened
+  pub nothing : (end : Option (List Frame)) × Grows graph log old.reach old.path before before 0 end
+  nothing = (Some old.path, grows_none graph log old.reach old.path before)
+
+  -- ---- a split
+
+  pub split_ok : (new : Searching) (after : List Step) (name : ClauseName) (count : ℕ) → HasEnteredAll old → IsLiveFramed graph log old.reach old.path name
+      → count_of graph log name ≡ Some count → new ≡ record old { path = old.path ++ new_frame name count ∷ [] } → after ≡ before ++ Split name ∷ []
+      → IsAtItsLeaf graph log new × Grows graph log old.reach old.path before after 1 (Some new.path)
+  split_ok new after name count all live counted same appended = (
+    subst (IsAtItsLeaf graph log) (sym same) (split_stands graph log old at name count all counted),
+    grows_one graph log old.reach old.path before after (Split name) (Some new.path) appended (count, counted, live, ap (λ (s : Searching). Some s.path) same),
+  )
+
+  -- ---- a closed leaf
+
+  module _ (after : List Step) (reasons : List Reason) (cycle : IsSimpleCycle (stated_by graph log old.reach old.path) reasons) (appended : after ≡ before ++ Cycle reasons ∷ []) where
+    closes_to : (end : Option (List Frame)) → path_after old.path ≡ end → Grows graph log old.reach old.path before after 0 end
+    closes_to end is = grows_one graph log old.reach old.path before after (Cycle reasons) end appended (cycle, sym is)
+
+    pub close_none : path_after old.path ≡ None → Grows graph log old.reach old.path before after 0 None
+    close_none none = closes_to None none
+
+    module _ (middle : Searching) (same : middle ≡ record old { path = middle.path }) (is : path_after old.path ≡ Some middle.path) where
+      pub close_counted : (kept number : ℕ) → slice_get middle.entered kept ≡ Some number → number ≤ length (pick_reasons middle.leaf)
+      close_counted kept number there =
+          subst (λ (l : Leaf). number ≤ length (pick_reasons l)) (sym (ap (λ (s : Searching). s.leaf) same))
+          (counted graph log old at kept number (ap (λ (s : Searching). slice_get s.entered kept) (sym same) ∙ there))
+
+      pub close_some : length middle.path ≡ 0 → ⊥
+      close_some = next_some graph log old at middle.path is
+
+      pub close_ok : (new : Searching) (kept : ℕ) → kept ≡ length middle.path - 1 → new ≡ record middle { entered = take kept middle.entered; leaf = new.leaf }
+          → Leaves (slice_get middle.entered kept) middle.leaf new.leaf
+          → IsAtItsLeaf graph log new × Grows graph log old.reach old.path before after 0 (Some new.path) × (untaken new.path < untaken old.path)
+      close_ok new kept number new_is leaves =
+          let path_is : new.path ≡ middle.path = ap (λ (s : Searching). s.path) new_is in
+          let entered_is : middle.entered ≡ old.entered = ap (λ (s : Searching). s.entered) same in
+          let leaf_is : middle.leaf ≡ old.leaf = ap (λ (s : Searching). s.leaf) same in
+          let left : Leaves (slice_get old.entered kept) old.leaf new.leaf =
+          subst (λ (l : Leaf). Leaves (slice_get old.entered kept) l new.leaf) leaf_is (subst (λ (es : List ℕ). Leaves (slice_get es kept) middle.leaf new.leaf) entered_is leaves) in
+          let stands : IsAtItsLeaf graph log (record old { path = middle.path; entered = take kept old.entered; leaf = new.leaf }) =
+          next_stands graph log old at middle.path is kept number new.leaf left in
+          let all : new ≡ record old { path = middle.path; entered = take kept old.entered; leaf = new.leaf } =
+          new_is ∙ ap (λ (s : Searching). record s { path = middle.path; entered = take kept s.entered; leaf = new.leaf }) same in (
+            subst (IsAtItsLeaf graph log) (sym all) stands,
+            closes_to (Some new.path) (is ∙ ap (λ (fs : List Frame). Some fs) (sym path_is)),
+            subst (λ (fs : List Frame). untaken fs < untaken old.path) (sym path_is) (next_fewer graph log old at middle.path is),
+          )
+
+-- ---- entering
+
+module _ (graph : Tfpg) (log : Logbook) (old : Searching) (at : IsAtItsLeaf graph log old) where
+  module _ (marked : Searching) (marked_is : marked ≡ record old { entered = old.entered ++ length (pick_reasons old.leaf) ∷ [] }) where
+    same_leaf : old.leaf ≡ marked.leaf
+    same_leaf = sym (ap (λ (s : Searching). s.leaf) marked_is)
+
+    same_path : old.path ≡ marked.path
+    same_path = sym (ap (λ (s : Searching). s.path) marked_is)
+
+    same_reach : old.reach ≡ marked.reach
+    same_reach = sym (ap (λ (s : Searching). s.reach) marked_is)
+
+    pub marked_variables : length marked.leaf.demands.bounds ≡ length graph.nodes
+    marked_variables = subst (λ (l : Leaf). length l.demands.bounds ≡ length graph.nodes) same_leaf at.variables
+
+    pub marked_stated : IsStated (fact graph log marked.reach) (stated_by graph log marked.reach marked.path) marked.leaf
+    marked_stated =
+        subst (λ (s : Searching). IsStated (fact graph log s.reach) (stated_by graph log s.reach s.path) s.leaf) (sym marked_is) at.stated
+
+    pub marked_closes : (fault : AddFault) → Closes (stated_by graph log marked.reach marked.path) fault → Closes (stated_by graph log old.reach old.path) fault
+    marked_closes fault closes = subst (λ (s : Searching). Closes (stated_by graph log s.reach s.path) fault) marked_is closes
+
+    module _ (pushed : Searching) (pushed_is : pushed ≡ record marked { leaf = pushed.leaf }) (pushing : Pushing graph log marked.reach marked.path marked.leaf pushed.leaf) where
+      whole : pushed ≡ record old { entered = old.entered ++ length (pick_reasons old.leaf) ∷ []; leaf = pushed.leaf }
+      whole = pushed_is ∙ ap (λ (s : Searching). record s { leaf = pushed.leaf }) marked_is
+
+      pushing_old : Pushing graph log old.reach old.path old.leaf pushed.leaf
+      pushing_old = subst (λ (s : Searching). Pushing graph log s.reach s.path s.leaf pushed.leaf) marked_is pushing
+
+      pub pushed_keeps : KeepsSet old pushed
+      pushed_keeps = record { set = ap (λ (s : Searching). s.set) whole; reach = ap (λ (s : Searching). s.reach) whole; seen = ap (λ (s : Searching). s.seen) whole }
+
+      pub pushed_path : pushed.path ≡ old.path
+      pushed_path = ap (λ (s : Searching). s.path) whole
+
+      module _ (count : ℕ) (count_is : count ≡ length old.entered) where
+        module _ (not_all : count ≡ length old.path → ⊥) (split : ℕ) (split_is : split ≡ count + 1)
+            (picks : pick_reasons pushed.leaf ≡ pick_reasons marked.leaf ++ picks_from split 1 (places_at graph log marked.path split)) where
+          left_out : HasEnteredAll old → ⊥
+          left_out all = not_all (count_is ∙ all)
+
+          pub entered_stands : IsAtItsLeaf graph log pushed
+          entered_stands =
+              let number : split ≡ length old.entered + 1 = split_is ∙ ap (λ (n : ℕ). n + 1) count_is in
+              let picks_old : pick_reasons pushed.leaf ≡ pick_reasons old.leaf ++ picks_from split 1 (places_at graph log old.path split) =
+              subst (λ (s : Searching). pick_reasons pushed.leaf ≡ pick_reasons s.leaf ++ picks_from split 1 (places_at graph log s.path split)) marked_is picks in
+              let picks_there : pick_reasons pushed.leaf ≡ pick_reasons old.leaf ++ picks_from (length old.entered + 1) 1 (places_at graph log old.path (length old.entered + 1)) =
+              subst (λ (n : ℕ). pick_reasons pushed.leaf ≡ pick_reasons old.leaf ++ picks_from n 1 (places_at graph log old.path n)) number picks_old in
+              subst (IsAtItsLeaf graph log) (sym whole) (enter_stands graph log old at left_out pushed.leaf pushing_old picks_there)
+
+          pub now_all : HasEnteredAll pushed
+          now_all =
+              ap (λ (s : Searching). length s.entered) whole ∙ entered_all graph log old at left_out ∙ ap (λ (fs : List Frame). length fs) (sym pushed_path)
+
+        pub left_counted : (number : ℕ) → slice_get pushed.entered count ≡ Some number → number ≤ length (pick_reasons pushed.leaf)
+        left_counted number there =
+            let entered_is : pushed.entered ≡ old.entered ++ length (pick_reasons old.leaf) ∷ [] = ap (λ (s : Searching). s.entered) whole in
+            let here : slice_get (old.entered ++ length (pick_reasons old.leaf) ∷ []) (length old.entered) ≡ Some number =
+            ap (λ (es : List ℕ). slice_get es (length old.entered)) (sym entered_is) ∙ ap (λ (n : ℕ). slice_get pushed.entered n) (sym count_is) ∙ there in
+            let same : length (pick_reasons old.leaf) ≡ number = last_is old.entered (length (pick_reasons old.leaf)) number here in
+            let long : length (pick_reasons pushed.leaf) ≡ length (pick_reasons old.leaf) + length pushing_old.more.0 =
+            ap (λ (rs : List Reason). length rs) pushing_old.more.1 ∙ length-append (pick_reasons old.leaf) pushing_old.more.0 in
+            omega arith
+          where
+            last_is : (xs : List ℕ) (x y : ℕ) → slice_get (xs ++ x ∷ []) (length xs) ≡ Some y → x ≡ y
+            last_is [] x y is = cc
+            last_is (z ∷ xs) x y is = last_is xs x y is
+
+        pub left_stands : (new : Searching) → new ≡ record pushed { entered = take count pushed.entered; leaf = new.leaf }
+            → Leaves (slice_get pushed.entered count) pushed.leaf new.leaf → IsAtItsLeaf graph log new × KeepsSet old new × (new.path ≡ old.path)
+        left_stands new new_is leaves =
+            let marks : List ℕ = old.entered ++ length (pick_reasons old.leaf) ∷ [] in
+            let entered_is : pushed.entered ≡ old.entered ++ length (pick_reasons old.leaf) ∷ [] = ap (λ (s : Searching). s.entered) whole in
+            let left : Leaves (slice_get (old.entered ++ length (pick_reasons old.leaf) ∷ []) (length old.entered)) pushed.leaf new.leaf =
+            subst (λ (n : ℕ). Leaves (slice_get (old.entered ++ length (pick_reasons old.leaf) ∷ []) n) pushed.leaf new.leaf) count_is
+            (subst (λ (es : List ℕ). Leaves (slice_get es count) pushed.leaf new.leaf) entered_is leaves) in
+            let all : new ≡ record old { entered = take (length old.entered) (old.entered ++ length (pick_reasons old.leaf) ∷ []); leaf = new.leaf } =
+            new_is
+            ∙ ap (λ (s : Searching). record s { entered = take count s.entered; leaf = new.leaf }) whole
+            ∙ ap (λ (n : ℕ). record old { entered = take n (old.entered ++ length (pick_reasons old.leaf) ∷ []); leaf = new.leaf }) count_is in (
+              subst (IsAtItsLeaf graph log) (sym all) (left_again graph log old at pushed.leaf new.leaf pushing_old left),
+              record { set = ap (λ (s : Searching). s.set) all; reach = ap (λ (s : Searching). s.reach) all; seen = ap (λ (s : Searching). s.seen) all },
+              ap (λ (s : Searching). s.path) all,
+            )
+
+  -- ---- the facts are added
+
+  pub facts_stand : (new : Searching) → new ≡ record old { leaf = new.leaf } → length new.leaf.demands.bounds ≡ length old.leaf.demands.bounds
+      → pick_reasons new.leaf ≡ pick_reasons old.leaf
+      → ((stated : Reason → Option Constraint) → IsStated (fact graph log old.reach) stated old.leaf → IsStated (fact graph log old.reach) stated new.leaf)
+      → IsAtItsLeaf graph log new × KeepsSet old new × (new.path ≡ old.path)
+  facts_stand new new_is variables reasons stated = (
+    subst (IsAtItsLeaf graph log) (sym new_is) (leaf_stands graph log old at new.leaf variables (stated (stated_by graph log old.reach old.path) at.stated) reasons),
+    record { set = ap (λ (s : Searching). s.set) new_is; reach = ap (λ (s : Searching). s.reach) new_is; seen = ap (λ (s : Searching). s.seen) new_is },
+    ap (λ (s : Searching). s.path) new_is,
+  )
+
+-- All facts are added where all alternatives were entered: the leaf is settled.
+pub add_settled : (graph : Tfpg) (log : Logbook) (middle new : Searching) → new ≡ record middle { leaf = new.leaf } → HasEnteredAll middle → (result : Result (Unit {0}) AddFault)
+    → OnOk result ((reason : Reason) (constraint : Constraint) → fact graph log middle.reach reason ≡ Some constraint → (times : List ℕ) → IsSolution new.leaf.demands times → Meets times constraint)
+    → OnOk result (IsSettled graph log new)
+add_settled graph log middle new same all (Ok done) facts =
+    subst (λ (s : Searching). IsSettled graph log s) (sym same)
+    (record { all_entered = all; facts = λ times solution reason constraint is. facts reason constraint is times solution })
+add_settled graph log middle new same all (Err fault) facts = tt
+
+pub add_closes : (graph : Tfpg) (log : Logbook) (old middle : Searching) → KeepsSet old middle → middle.path ≡ old.path → (result : Result (Unit {0}) AddFault)
+    → IfErr result (Closes (stated_by graph log middle.reach middle.path)) → IfErr result (Closes (stated_by graph log old.reach old.path))
+add_closes graph log old middle keeps path result closes =
+    subst (λ (r : List ℕ). IfErr result (Closes (stated_by graph log r old.path))) keeps.reach
+    (subst (λ (fs : List Frame). IfErr result (Closes (stated_by graph log middle.reach fs))) path closes)

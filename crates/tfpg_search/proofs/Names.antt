@@ -1,0 +1,183 @@
+-- The names on the path of a search: no name stands twice, since the latest solution meets the clause of each.
+use Rattle.std.proofs.Common.{◌≡◌, ◌≢◌, ◌⊎◌, ℕ, zero, suc, ◌+◌, ◌<◌, ◌≤◌, List, [], ◌∷◌, ◌++◌, length, get_or, Option, Some, None, refl, sym, ap, subst, ◌∙◌, inl, inr, arith, length-append}
+use Rattle.std.specs.Prelude.{All, AllPairs, Bool, true, false, Contains, map, nat_lt, slice_get, option_map, option_and_then}
+use Rattle.std.specs.Option.{option_or}
+use Rattle.std.specs.Bool.{then_some}
+use Rattle.std.proofs.lemmas.List.{map-append, get_or_append_left}
+use Rattle.std.proofs.lemmas.List.Elements.{All-nil, All-cons, All-head, All-tail, All-get_or, All-map, All-append, Contains-get_or}
+use Rattle.std.proofs.lemmas.List.Quantifiers.{all_pairs_push}
+use Rattle.std.proofs.lemmas.Option.{slice_get-get_or, slice_get_within}
+use Rattle.std.proofs.lemmas.Bool.Decides.{nat_tests}
+use Rattle.tfpg_base.specs.declared.constraint.Constraint.{Constraint}
+use Rattle.tfpg_base.specs.Constraint.{Meets}
+use Rattle.tfpg_graph.specs.Graph.{Tfpg}
+use Rattle.tfpg_log.specs.Log.{Logbook, GoesOn, IsOrdered, first_events}
+use Rattle.tfpg_evidence.specs.declared.clause_name.ClauseName.{ClauseName}
+use Rattle.tfpg_clause.specs.Clauses.{alternatives, count_of, item_at, constraint_at, MeetsClause, Violates}
+use Rattle.tfpg_clause.specs.Trees.{PathSplit}
+use Rattle.tfpg_clause.specs.Paths.{AreFramesOf, framed, path_after, next_alternative, new_frame}
+use Rattle.tfpg_clause.specs.declared.path.Frame.{Frame}
+use Rattle.tfpg_clause.proofs.Kept.{clause_stays}
+use Rattle.tfpg_clause.proofs.TreesKept.{first_to_whole}
+use Rattle.tfpg_clause.proofs.SomeAlternative.{some_alternative}
+use Rattle.tfpg_search.specs.inside.Moves.{SolvesFramed}
+use Rattle.tfpg_search.specs.Picks.{IsInRange, AreInRange}
+
+abbrev pub frame_name : Frame → ClauseName
+frame_name frame = frame.name
+
+abbrev pub split_name : PathSplit → ClauseName
+split_name split = split.name
+
+-- the names of frames are those of the path
+pub same_names : (graph : Tfpg) (log : Logbook) (path : List PathSplit) (frames : List Frame) → AreFramesOf graph log path frames → map split_name path ≡ map frame_name frames
+same_names graph log [] [] are = refl
+same_names graph log [] (frame ∷ frames) are = absurd are
+same_names graph log (split ∷ path) [] are = absurd are
+same_names graph log (split ∷ path) (frame ∷ frames) are =
+    ap (λ (n : ClauseName). n ∷ map split_name path) (sym are.0.name) ∙ ap (λ (ns : List ClauseName). frame.name ∷ ns) (same_names graph log path frames are.1)
+
+-- ---- lists
+
+-- what holds of the item of each place holds of all
+pub all_from : {X : Type 0} (P : X → Type 0) (xs : List X) → ((place : ℕ) (x : X) → slice_get xs place ≡ Some x → P x) → All P xs
+all_from P [] each = All-nil P
+all_from P (x ∷ xs) each = All-cons P x xs (each 0 x refl) (all_from P xs (λ place y is. each (suc place) y is))
+
+-- pairs of a front are pairs of the whole
+pairs_front : {X : Type 0} (R : X → X → Type 0) (xs ys : List X) → AllPairs R (xs ++ ys) → AllPairs R xs
+pairs_front R xs ys pairs i j d less within =
+    subst (λ a. R a (get_or xs j d)) (get_or_append_left xs ys d i (omega arith))
+    (subst (λ b. R (get_or (xs ++ ys) i d) b) (get_or_append_left xs ys d j within) (pairs i j d less (omega (arith, length-append xs ys))))
+
+-- ---- the frames that name allowed clauses, in one of their alternatives
+
+module _ (graph : Tfpg) (log : Logbook) where
+  -- The frame has an allowed name, with as many alternatives as it says.
+  abbrev pub IsAllowed : Frame → Type 0
+  IsAllowed frame = count_of graph log frame.name ≡ Some frame.alternatives
+
+  count_later : (earlier : Logbook) → IsOrdered log → GoesOn earlier log → (name : ClauseName) (count : ℕ) (clause : Option (List (List Constraint))) → alternatives graph earlier name ≡ clause
+      → option_map length clause ≡ Some count → count_of graph log name ≡ Some count
+  count_later earlier ordered goes_on name count None is counted = cc
+  count_later earlier ordered goes_on name count (Some clause) is counted = ap (option_map length) (clause_stays graph earlier log ordered goes_on name clause is) ∙ counted
+
+  pub all_allowed : IsOrdered log → (path : List PathSplit) (frames : List Frame) → AreFramesOf graph log path frames → All IsAllowed frames
+  all_allowed ordered [] [] are = All-nil IsAllowed
+  all_allowed ordered [] (frame ∷ frames) are = absurd are
+  all_allowed ordered (split ∷ path) [] are = absurd are
+  all_allowed ordered (split ∷ path) (frame ∷ frames) are =
+      let of_split : count_of graph log split.name ≡ Some frame.alternatives =
+      count_later (first_events log split.seen) ordered (first_to_whole log split.seen) split.name frame.alternatives (alternatives graph (first_events log split.seen) split.name) refl are.0.alternatives in
+      All-cons IsAllowed frame frames (ap (count_of graph log) are.0.name ∙ of_split) (all_allowed ordered path frames are.1)
+
+  module _ (times : List ℕ) where
+    -- The times meet a clause, where they meet each constraint of one of its alternatives.
+    met_by : (clause : List (List Constraint)) (number : ℕ) → 1 ≤ number → number ≤ length clause
+        → ((place : ℕ) (constraint : Constraint) → constraint_at clause number place ≡ Some constraint → Meets times constraint) → MeetsClause times clause
+    met_by clause zero low high each = absurd (omega arith)
+    met_by clause (suc before) low high each =
+        let there : slice_get clause before ≡ Some (get_or clause before []) = slice_get-get_or clause before [] (omega arith) in (
+          get_or clause before [],
+          Contains-get_or clause before [] (omega arith),
+          all_from (Meets times) (get_or clause before [])
+              (λ place constraint at. each (suc place) constraint (ap (option_and_then (λ (a : List Constraint). item_at a (suc place))) there ∙ at)),
+        )
+
+    -- the constraints of the alternative of a frame are met
+    abbrev IsMet : Frame → Type 0
+    IsMet frame =
+        (place : ℕ) (constraint : Constraint)
+        → option_and_then (λ clause. constraint_at clause frame.alternative place) (alternatives graph log frame.name) ≡ Some constraint → Meets times constraint
+
+    not_violated : (frame : Frame) → IsInRange frame → IsAllowed frame → IsMet frame → Violates graph log times frame.name → ⊥
+    not_violated frame range allowed met violates =
+        let long : Some (length violates.clause) ≡ Some frame.alternatives = sym (ap (option_map length) violates.allowed) ∙ allowed in
+        let same : length violates.clause ≡ frame.alternatives = cc in
+        violates.not_met
+        (met_by violates.clause frame.alternative range.first (omega (arith, range.last, same))
+        (λ place constraint at. met place constraint (ap (option_and_then (λ clause. constraint_at clause frame.alternative place)) violates.allowed ∙ at)))
+
+    others : (frames : List Frame) (name : ClauseName) → AreInRange frames → All IsAllowed frames → ((place : ℕ) (frame : Frame) → slice_get frames place ≡ Some frame → IsMet frame)
+        → Violates graph log times name → All (λ (frame : Frame). frame.name ≢ name) frames
+    others [] name range allowed met violates = All-nil (λ (frame : Frame). frame.name ≢ name)
+    others (frame ∷ frames) name range allowed met violates =
+        All-cons (λ (f : Frame). f.name ≢ name) frame frames
+        (λ same. not_violated frame (All-head IsInRange frame frames range) (All-head IsAllowed frame frames allowed) (met 0 frame refl) (subst (λ (n : ClauseName). Violates graph log times n) (sym same) violates))
+        (others frames name (All-tail IsInRange frame frames range) (All-tail IsAllowed frame frames allowed) (λ place f at. met (suc place) f at) violates)
+
+    -- A clause that the times violate is that of no frame, where they meet each pick.
+    pub new_name : (frames : List Frame) (name : ClauseName) → AreInRange frames → All IsAllowed frames
+        → ((split place : ℕ) (constraint : Constraint) → framed graph log frames split place ≡ Some constraint → Meets times constraint)
+        → Violates graph log times name → All (λ (n : ClauseName). n ≢ name) (map frame_name frames)
+    new_name frames name range allowed picks violates =
+        All-map (λ (n : ClauseName). n ≢ name) frame_name frames
+        (others frames name range allowed
+        (λ place frame at where_ constraint is.
+        picks (suc place) where_ constraint
+        (ap (option_and_then (λ (f : Frame). option_and_then (λ clause. constraint_at clause f.alternative where_) (alternatives graph log f.name))) at ∙ is))
+        violates)
+
+-- ---- a new frame, and the next one
+
+abbrev pub AreDistinct : List Frame → Type 0
+AreDistinct frames = AllPairs ◌≢◌ (map frame_name frames)
+
+pub distinct_push : (frames : List Frame) (frame : Frame) → AreDistinct frames → All (λ (n : ClauseName). n ≢ frame.name) (map frame_name frames) → AreDistinct (frames ++ frame ∷ [])
+distinct_push frames frame distinct fresh =
+    subst (AllPairs ◌≢◌) (sym (map-append frame_name frames (frame ∷ [])))
+    (all_pairs_push ◌≢◌ (map frame_name frames) frame.name distinct (λ k d within. All-get_or (λ (n : ClauseName). n ≢ frame.name) (map frame_name frames) k d within fresh))
+
+-- After a leaf is closed the frames up to some one stay, that one with its next alternative.
+record Front (frames after : List Frame) : Type 0 where
+  rest : List ClauseName
+  names : map frame_name frames ≡ map frame_name after ++ rest
+  range : AreInRange after
+
+front_after : (frames after : List Frame) → AreInRange frames → path_after frames ≡ Some after → Front frames after
+front_after [] after range is = cc
+front_after (frame ∷ deeper) after range is =
+    by (λ d there. front_after deeper d (All-tail IsInRange frame deeper range) there) (path_after deeper) refl is
+  where
+    own : (more : Bool) → nat_lt frame.alternative frame.alternatives ≡ more → then_some more (next_alternative frame ∷ []) ≡ Some after → Front (frame ∷ deeper) after
+    own false none gives = cc
+    own true less gives =
+        let same : next_alternative frame ∷ [] ≡ after = cc in
+        subst (Front (frame ∷ deeper)) same
+        (record {
+          rest = map frame_name deeper;
+          names = refl;
+          range =
+              All-cons IsInRange (next_alternative frame) []
+              (record { first = grind arith; last = grind (arith, nat_tests) })
+              (All-nil IsInRange);
+        })
+
+    by : ((d : List Frame) → path_after deeper ≡ Some d → Front deeper d) → (found : Option (List Frame)) → path_after deeper ≡ found
+        → option_or (option_map (λ (fs : List Frame). frame ∷ fs) found) (then_some (nat_lt frame.alternative frame.alternatives) (next_alternative frame ∷ [])) ≡ Some after → Front (frame ∷ deeper) after
+    by next None there gives = own (nat_lt frame.alternative frame.alternatives) refl gives
+    by next (Some d) there gives =
+        let same : frame ∷ d ≡ after = cc in
+        let front = next d there in
+        subst (Front (frame ∷ deeper)) same
+        (record {
+          rest = front.rest;
+          names = ap (λ (ns : List ClauseName). frame.name ∷ ns) front.names;
+          range = All-cons IsInRange frame d (All-head IsInRange frame deeper range) front.range;
+        })
+
+pub range_after : (frames after : List Frame) → AreInRange frames → path_after frames ≡ Some after → AreInRange after
+range_after frames after range is = (front_after frames after range is).range
+
+pub distinct_after : (frames after : List Frame) → AreInRange frames → path_after frames ≡ Some after → AreDistinct frames → AreDistinct after
+distinct_after frames after range is distinct =
+    let front = front_after frames after range is in
+    pairs_front ◌≢◌ (map frame_name after) front.rest (subst (AllPairs ◌≢◌) front.names distinct)
+
+-- a new frame is in its first alternative, which there is
+pub range_push : (graph : Tfpg) (log : Logbook) (frames : List Frame) (name : ClauseName) (count : ℕ) → AreInRange frames → count_of graph log name ≡ Some count
+    → All IsInRange (frames ++ new_frame name count ∷ [])
+range_push graph log frames name count range counted =
+    let some : 0 < count = some_alternative graph log name count counted in
+    All-append IsInRange frames (new_frame name count ∷ []) range
+    (All-cons IsInRange (new_frame name count) [] (record { first = omega arith; last = omega (arith, some) }) (All-nil IsInRange))

@@ -1,0 +1,170 @@
+-- The picks of a path: which they are, and where each stands.
+use Rattle.std.proofs.Common.{◌≡◌, ◌⊎◌, ℕ, zero, suc, ◌+◌, ◌<◌, ◌≤◌, List, [], ◌∷◌, ◌++◌, length, take, min, Option, Some, None, refl, sym, ap, subst, ◌∙◌, inl, inr, arith, append_assoc, length-append}
+use Rattle.std.specs.Prelude.{slice_get, option_and_then}
+use Rattle.std.specs.Option.{option_map_or}
+use Rattle.std.proofs.lemmas.List.{append-nil, length-take}
+use Rattle.std.proofs.lemmas.Option.{slice_get_within}
+use Rattle.tfpg_base.specs.declared.constraint.Constraint.{Constraint}
+use Rattle.tfpg_graph.specs.Graph.{Tfpg}
+use Rattle.tfpg_log.specs.Log.{Logbook}
+use Rattle.tfpg_evidence.specs.declared.reason.Reason.{Reason}
+use Rattle.tfpg_evidence.specs.declared.reason.Reason.TheVariants.{Pick}
+use Rattle.tfpg_clause.specs.Clauses.{alternatives, item_at, constraint_at}
+use Rattle.tfpg_clause.specs.declared.path.Frame.{Frame}
+use Rattle.tfpg_search.specs.Picks.{place_count, picks_from, picks_of_from}
+
+-- ---- lists
+
+-- an item of two lists stands in the one or in the other
+pub get_append : {X : Type 0} (xs ys : List X) (i : ℕ) (x : X) → slice_get (xs ++ ys) i ≡ Some x → (slice_get xs i ≡ Some x) ⊎ ((j : ℕ) × (slice_get ys j ≡ Some x))
+get_append [] ys i x is = inr (i, is)
+get_append (y ∷ xs) ys zero x is = inl is
+get_append (y ∷ xs) ys (suc i) x is = get_append xs ys i x is
+
+pub get_front : {X : Type 0} (xs ys : List X) (i : ℕ) (x : X) → slice_get xs i ≡ Some x → slice_get (xs ++ ys) i ≡ Some x
+get_front [] ys i x is = cc
+get_front (y ∷ xs) ys zero x is = is
+get_front (y ∷ xs) ys (suc i) x is = get_front xs ys i x is
+
+-- an item of the second list stands somewhere in both
+pub get_back : {X : Type 0} (xs ys : List X) (j : ℕ) (x : X) → slice_get ys j ≡ Some x → (i : ℕ) × (slice_get (xs ++ ys) i ≡ Some x)
+get_back [] ys j x is = (j, is)
+get_back (y ∷ xs) ys j x is = let there = get_back xs ys j x is in (suc there.0, there.1)
+
+take_on : {X : Type 0} (xs ys zs : List X) → take (length ys) zs ≡ ys → take (length (xs ++ ys)) (xs ++ zs) ≡ xs ++ ys
+take_on [] ys zs is = is
+take_on (x ∷ xs) ys zs is = ap (λ l. x ∷ l) (take_on xs ys zs is)
+
+-- ---- the picks of one alternative
+
+pub pick_of : (split place count i : ℕ) (r : Reason) → slice_get (picks_from split place count) i ≡ Some r → (p : ℕ) × (r ≡ Pick split p)
+pick_of split place zero i r is = cc
+pick_of split place (suc count) zero r is = let same : Pick split place ≡ r = cc in (place, sym same)
+pick_of split place (suc count) (suc i) r is = pick_of split (place + 1) count i r is
+
+pub pick_at : (split place count i : ℕ) → i < count → slice_get (picks_from split place count) i ≡ Some (Pick split (place + i))
+pick_at split place zero i less = absurd (omega arith)
+pick_at split place (suc count) zero less = let same : place ≡ place + 0 = omega arith in ap (λ (n : ℕ). Some (Pick split n)) same
+pick_at split place (suc count) (suc i) less =
+    let same : place + 1 + i ≡ place + suc i = omega arith in
+    pick_at split (place + 1) count i (omega arith) ∙ ap (λ (n : ℕ). Some (Pick split n)) same
+
+pub picks_push : (split place count : ℕ) → picks_from split place (suc count) ≡ picks_from split place count ++ Pick split (place + count) ∷ []
+picks_push split place zero = let same : place ≡ place + 0 = omega arith in ap (λ (n : ℕ). Pick split n ∷ []) same
+picks_push split place (suc count) =
+    let same : place + 1 + count ≡ place + suc count = omega arith in
+    ap (λ (rs : List Reason). Pick split place ∷ rs) (picks_push split (place + 1) count)
+    ∙ ap (λ (n : ℕ). Pick split place ∷ picks_from split (place + 1) count ++ Pick split n ∷ []) same
+
+-- ---- constraints of an alternative
+
+-- the constraint in a place of an alternative, where there is one
+abbrev pub in_place : Option (List Constraint) → ℕ → Option Constraint
+in_place alternative place = option_and_then (λ (constraints : List Constraint). item_at constraints place) alternative
+
+pub in_place_is : (clause : Option (List (List Constraint))) (number place : ℕ)
+    → option_and_then (λ (c : List (List Constraint)). constraint_at c number place) clause ≡ in_place (option_and_then (λ (c : List (List Constraint)). item_at c number) clause) place
+in_place_is None number place = refl
+in_place_is (Some clause) number place = refl
+
+pub place_in : (alternative : Option (List Constraint)) (place : ℕ) (c : Constraint) → in_place alternative place ≡ Some c → (1 ≤ place) × (place ≤ option_map_or length alternative 0)
+place_in None place c is = cc
+place_in (Some constraints) zero c is = cc
+place_in (Some constraints) (suc before) c is = let within = slice_get_within constraints before c is in (omega arith, omega arith)
+
+pub none_past : {X : Type 0} (xs : List X) (i : ℕ) → slice_get xs i ≡ None → length xs ≤ i
+none_past [] i is = omega arith
+none_past (x ∷ xs) zero is = cc
+none_past (x ∷ xs) (suc i) is = let others = none_past xs i is in omega arith
+
+pub place_out : (alternative : Option (List Constraint)) (place : ℕ) → in_place alternative place ≡ None → 1 ≤ place → option_map_or length alternative 0 < place
+place_out None place is low = omega arith
+place_out (Some constraints) zero is low = absurd (omega arith)
+place_out (Some constraints) (suc before) is low = let past = none_past constraints before is in omega arith
+
+-- ---- the picks of a path
+
+module _ (graph : Tfpg) (log : Logbook) where
+  -- the constraint in a place of the alternative of a frame
+  abbrev pub of_frame : Option Frame → ℕ → Option Constraint
+  of_frame frame place = option_and_then (λ (f : Frame). option_and_then (λ clause. constraint_at clause f.alternative place) (alternatives graph log f.name)) frame
+
+  -- the alternative of a frame
+  abbrev pub chosen : Frame → Option (List Constraint)
+  chosen frame = option_and_then (λ clause. item_at clause frame.alternative) (alternatives graph log frame.name)
+
+  -- The reason is a pick at one of the splits of these frames.
+  pub record IsPickOf (start : ℕ) (frames : List Frame) (r : Reason) : Type 0 where
+    pub k : ℕ
+    pub place : ℕ
+    pub within : k < length frames
+    pub is : r ≡ Pick (start + k) place
+
+  pub picks_are : (start : ℕ) (frames : List Frame) (i : ℕ) (r : Reason) → slice_get (picks_of_from graph log start frames) i ≡ Some r → IsPickOf start frames r
+  picks_are start [] i r is = cc
+  picks_are start (frame ∷ deeper) i r is =
+      elim (get_append (picks_from start 1 (place_count graph log frame)) (picks_of_from graph log (start + 1) deeper) i r is) [
+        | inl first ↦
+            let pick = pick_of start 1 (place_count graph log frame) i r first in
+            let same : start ≡ start + 0 = omega arith in
+            record { k = 0; place = pick.0; within = omega arith; is = pick.1 ∙ ap (λ (n : ℕ). Pick n pick.0) same }
+        | inr others ↦
+            let pick = picks_are (start + 1) deeper others.0 r others.1 in
+            let same : start + 1 + pick.k ≡ start + suc pick.k = omega arith in
+            record { k = suc pick.k; place = pick.place; within = (let w = pick.within in omega arith); is = pick.is ∙ ap (λ (n : ℕ). Pick n pick.place) same }
+      ]
+
+  -- each constraint of an alternative on the path is picked
+  pub picks_have : (start : ℕ) (frames : List Frame) (k place : ℕ) (c : Constraint) → of_frame (slice_get frames k) place ≡ Some c
+      → (i : ℕ) × (slice_get (picks_of_from graph log start frames) i ≡ Some (Pick (start + k) place))
+  picks_have start [] k place c is = cc
+  picks_have start (frame ∷ deeper) zero place c is =
+      let range = place_in (chosen frame) place c (sym (in_place_is (alternatives graph log frame.name) frame.alternative place) ∙ is) in
+      first place range.0 range.1
+    where
+      first : (p : ℕ) → 1 ≤ p → p ≤ place_count graph log frame → (i : ℕ) × (slice_get (picks_of_from graph log start (frame ∷ deeper)) i ≡ Some (Pick (start + 0) p))
+      first zero low high = absurd (omega arith)
+      first (suc before) low high =
+          let same_place : 1 + before ≡ suc before = omega arith in
+          let same_split : start ≡ start + 0 = omega arith in (
+            before,
+            get_front (picks_from start 1 (place_count graph log frame)) (picks_of_from graph log (start + 1) deeper) before (Pick (start + 0) (suc before))
+                (pick_at start 1 (place_count graph log frame) before (omega arith)
+                ∙ ap (λ (n : ℕ). Some (Pick start n)) same_place
+                ∙ ap (λ (n : ℕ). Some (Pick n (suc before))) same_split),
+          )
+  picks_have start (frame ∷ deeper) (suc k) place c is =
+      let there = picks_have (start + 1) deeper k place c is in
+      let same : start + 1 + k ≡ start + suc k = omega arith in
+      let back = get_back (picks_from start 1 (place_count graph log frame)) (picks_of_from graph log (start + 1) deeper) there.0 (Pick (start + 1 + k) place) there.1 in
+      (back.0, back.1 ∙ ap (λ (n : ℕ). Some (Pick n place)) same)
+
+  pub picks_last : (start : ℕ) (frames : List Frame) (frame : Frame)
+      → picks_of_from graph log start (frames ++ frame ∷ []) ≡ picks_of_from graph log start frames ++ picks_from (start + length frames) 1 (place_count graph log frame)
+  picks_last start [] frame =
+      let same : start ≡ start + 0 = omega arith in
+      append-nil (picks_from start 1 (place_count graph log frame)) ∙ ap (λ (n : ℕ). picks_from n 1 (place_count graph log frame)) same
+  picks_last start (first ∷ frames) frame =
+      let same : start + 1 + length frames ≡ start + suc (length frames) = omega arith in
+      ap (λ (rs : List Reason). picks_from start 1 (place_count graph log first) ++ rs) (picks_last (start + 1) frames frame)
+      ∙ sym (append_assoc (picks_from start 1 (place_count graph log first)) (picks_of_from graph log (start + 1) frames) (picks_from (start + 1 + length frames) 1 (place_count graph log frame)))
+      ∙ ap (λ (n : ℕ). (picks_from start 1 (place_count graph log first) ++ picks_of_from graph log (start + 1) frames) ++ picks_from n 1 (place_count graph log frame)) same
+
+  -- the picks of the first frames are the first picks
+  pub picks_take : (start : ℕ) (frames : List Frame) (n m : ℕ) → n ≤ m
+      → take (length (picks_of_from graph log start (take n frames))) (picks_of_from graph log start (take m frames)) ≡ picks_of_from graph log start (take n frames)
+  picks_take start frames zero m less = refl
+  picks_take start frames (suc n) zero less = absurd (omega arith)
+  picks_take start [] (suc n) (suc m) less = refl
+  picks_take start (frame ∷ deeper) (suc n) (suc m) less =
+      take_on (picks_from start 1 (place_count graph log frame)) (picks_of_from graph log (start + 1) (take n deeper)) (picks_of_from graph log (start + 1) (take m deeper))
+      (picks_take (start + 1) deeper n m (omega arith))
+
+  pub picks_fewer : (start : ℕ) (frames : List Frame) (n m : ℕ) → n ≤ m
+      → length (picks_of_from graph log start (take n frames)) ≤ length (picks_of_from graph log start (take m frames))
+  picks_fewer start frames n m less =
+      let front = picks_of_from graph log start (take n frames) in
+      let whole = picks_of_from graph log start (take m frames) in
+      let cut : length (take (length front) whole) ≡ length front = ap (λ (rs : List Reason). length rs) (picks_take start frames n m less) in
+      let long : length (take (length front) whole) ≡ min (length front) (length whole) = length-take (length front) whole in
+      omega arith

@@ -1,0 +1,67 @@
+-- What settling, looking and searching on come to.
+use Rattle.std.proofs.Common.{◌≡◌, ℕ, ◌+◌, ◌<◌, ◌≤◌, List, length, Option, Some, None, refl, sym, ap, subst, ◌∙◌, arith}
+use Rattle.std.specs.Prelude.{Result, Ok, Err, IfOk}
+use Rattle.tfpg_base.specs.declared.no_memory.NoMemory.{NoMemory}
+use Rattle.tfpg_graph.specs.Graph.{Tfpg}
+use Rattle.tfpg_log.specs.Log.{Logbook}
+use Rattle.tfpg_evidence.specs.declared.step.Step.{Step}
+use Rattle.tfpg_clause.specs.declared.path.Frame.{Frame}
+use Rattle.tfpg_search.specs.declared.found.Found.{Found}
+use Rattle.tfpg_search.specs.declared.search.Look.{Look}
+use Rattle.tfpg_search.specs.declared.search.Look.TheVariants.{Violated, Shown, Closed}
+use Rattle.tfpg_search.specs.Searching.{Searching, IsAtItsLeaf}
+use Rattle.tfpg_search.specs.inside.Moves.{Grows, KeepsSet, IsSettled, Sees, Looking, Ends, SearchesOn}
+use Rattle.tfpg_search.proofs.Growing.{grows_on}
+
+pub keeps_none : (s : Searching) → KeepsSet s s
+keeps_none s = record { set = refl; reach = refl; seen = refl }
+
+pub keeps_on : (a b c : Searching) → KeepsSet a b → KeepsSet b c → KeepsSet a c
+keeps_on a b c one other = record { set = other.set ∙ one.set; reach = other.reach ∙ one.reach; seen = other.seen ∙ one.seen }
+
+module _ (graph : Tfpg) (log : Logbook) where
+  -- steps of one call after another
+  pub grows_after : (initial middle : Searching) (path : List Frame) (before between after : List Step) (splits more : ℕ) (end : Option (List Frame)) → KeepsSet initial middle → middle.path ≡ path
+      → Grows graph log initial.reach initial.path before between splits (Some path) → Grows graph log middle.reach middle.path between after more end
+      → Grows graph log initial.reach initial.path before after (splits + more) end
+  grows_after initial middle path before between after splits more end keeps path_is one other =
+      grows_on graph log initial.reach initial.path path before between after splits more end one
+      (subst (λ (fs : List Frame). Grows graph log initial.reach fs between after more end) path_is
+      (subst (λ (r : List ℕ). Grows graph log r middle.path between after more end) keeps.reach other))
+
+  -- the same path by another name
+  pub grows_same : (initial : Searching) (path other : List Frame) (before after : List Step) (splits : ℕ) → other ≡ path
+      → Grows graph log initial.reach initial.path before after splits (Some path) → Grows graph log initial.reach initial.path before after splits (Some other)
+  grows_same initial path other before after splits same grows =
+      subst (λ (fs : List Frame). Grows graph log initial.reach initial.path before after splits (Some fs)) (sym same) grows
+
+  pub look_ok : (old new : Searching) (before after : List Step) (result : Result Look NoMemory) → IfOk result (Sees graph log new) → IsAtItsLeaf graph log new → IsSettled graph log new
+      → Grows graph log old.reach old.path before after 0 (Some new.path) → Looking graph log old new before after result
+  look_ok old new before after (Ok (Violated name)) sees stands settled grows = (stands, settled.all_entered, sees, grows)
+  look_ok old new before after (Ok (Shown trace)) sees stands settled grows = (stands, settled.all_entered, sees, grows)
+  look_ok old new before after (Ok Closed) sees stands settled grows = absurd sees
+  look_ok old new before after (Err no_memory) sees stands settled grows = (Some new.path, grows)
+
+  -- what was grown, and no split more
+  pub grows_still : (initial middle : Searching) (path : List Frame) (before between after : List Step) (splits : ℕ) (end : Option (List Frame)) → KeepsSet initial middle → middle.path ≡ path
+      → Grows graph log initial.reach initial.path before between splits (Some path) → Grows graph log middle.reach middle.path between after 0 end
+      → Grows graph log initial.reach initial.path before after splits end
+  grows_still initial middle path before between after splits end keeps path_is one other =
+      let same : splits + 0 ≡ splits = omega arith in
+      subst (λ (n : ℕ). Grows graph log initial.reach initial.path before after n end) same (grows_after initial middle path before between after splits 0 end keeps path_is one other)
+
+  -- what is found at the end
+  pub found_on : (budget : ℕ) (initial middle new : Searching) (before between after : List Step) (splits : ℕ) (end : Option (List Frame)) (result : Result Found NoMemory) → KeepsSet initial middle
+      → Grows graph log initial.reach initial.path before between splits (Some middle.path) → Grows graph log middle.reach middle.path between after 0 end → splits ≤ budget
+      → Ends graph log budget new splits end result → SearchesOn graph log budget initial new before after result
+  found_on budget initial middle new before between after splits end result keeps one other within ends = record {
+    splits = splits;
+    end = end;
+    grows = grows_still initial middle middle.path before between after splits end keeps refl one other;
+    within = within;
+    ends = ends;
+  }
+
+-- there is one more to spend
+pub more_spent : (spent budget : ℕ) → spent ≤ budget → (spent ≡ budget → ⊥) → spent + 1 ≤ budget
+more_spent spent budget within not_all = grind arith

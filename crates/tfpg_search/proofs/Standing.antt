@@ -1,0 +1,221 @@
+-- What moves do to the system of a search.
+use Rattle.std.proofs.Common.{◌≡◌, ◌⊎◌, ℕ, zero, suc, ◌+◌, ◌-◌, ◌<◌, ◌≤◌, List, [], ◌∷◌, ◌++◌, length, take, get_or, Bool, true, false, Option, Some, None, refl, sym, ap, subst, ◌∙◌, inl, inr, arith, length-append}
+use Rattle.std.specs.Prelude.{All, nat_lt, slice_get, option_map, option_and_then}
+use Rattle.std.specs.Option.{option_or, option_map_or}
+use Rattle.std.specs.Bool.{then_some}
+use Rattle.std.proofs.lemmas.List.{take-append-le, take-take, take_all, take_more, take_at, length-take-le}
+use Rattle.std.proofs.lemmas.List.Elements.{All-push, All-take, All-get_or}
+use Rattle.std.proofs.lemmas.Option.{slice_get_within, slice_get-get_or, slice_get_past, get_or_from_slice_get}
+use Rattle.std.proofs.lemmas.Bool.Decides.{nat_tests}
+use Rattle.tfpg_base.specs.declared.constraint.Constraint.{Constraint}
+use Rattle.tfpg_graph.specs.Graph.{Tfpg}
+use Rattle.tfpg_log.specs.Log.{Logbook}
+use Rattle.tfpg_evidence.specs.declared.clause_name.ClauseName.{ClauseName}
+use Rattle.tfpg_evidence.specs.declared.clause_name.ClauseName.TheVariants.{OrMay}
+use Rattle.tfpg_evidence.specs.declared.reason.Reason.{Reason}
+use Rattle.tfpg_evidence.specs.declared.reason.Reason.TheVariants.{Zero, Top, Unreached, From, Upto, Quiet, Pick}
+use Rattle.tfpg_clause.specs.Facts.{fact}
+use Rattle.tfpg_clause.specs.Clauses.{count_of, item_at}
+use Rattle.tfpg_clause.specs.Paths.{framed, stated_by, path_after, new_frame, next_alternative}
+use Rattle.tfpg_clause.specs.declared.path.Frame.{Frame}
+use Rattle.tfpg_search.specs.Leaf.{Leaf, pick_reasons, IsStated}
+use Rattle.tfpg_search.specs.Picks.{IsAllowed, IsInRange, AreInRange, place_count, places_at, picks_from, picks_of, HasEntered}
+use Rattle.tfpg_search.specs.Searching.{Searching, IsAtItsLeaf}
+use Rattle.tfpg_search.specs.inside.Leaving.{KeepsBounds, Leaves, Pushing}
+use Rattle.tfpg_search.specs.inside.Moves.{HasEnteredAll, untaken}
+use Rattle.tfpg_search.proofs.Names.{range_after, range_push}
+use Rattle.tfpg_search.proofs.Picking.{get_front, of_frame, picks_are, picks_last, picks_take, picks_fewer}
+
+-- ---- what is stated
+
+module _ (facts stated other : Reason → Option Constraint) (leaf : Leaf) where
+  through : (o : Option Reason) (c : Constraint) → ((r : Reason) → o ≡ Some r → stated r ≡ Some c → other r ≡ Some c) → option_and_then stated o ≡ Some c → option_and_then other o ≡ Some c
+  through None c same is = cc
+  through (Some r) c same is = same r refl is
+
+  -- all is stated by other reasons that state what the picks do
+  pub restated : IsStated facts stated leaf → ((r : Reason) (c : Constraint) → facts r ≡ Some c → other r ≡ Some c)
+      → ((place : ℕ) (r : Reason) (c : Constraint) → slice_get (pick_reasons leaf) place ≡ Some r → stated r ≡ Some c → other r ≡ Some c) → IsStated facts other leaf
+  restated is wider same = record {
+    wider = wider;
+    bounds = is.bounds;
+    picks = λ place pick at. through (slice_get (pick_reasons leaf) place) pick.constraint (λ r there states. same place r pick.constraint there states) (is.picks place pick at);
+  }
+
+-- the number of an item that stands in a list with one more item
+push_cases : {X : Type 0} (xs : List X) (y : X) (i : ℕ) (x : X) → slice_get (xs ++ y ∷ []) i ≡ Some x → (slice_get xs i ≡ Some x) ⊎ ((i ≡ length xs) × (y ≡ x))
+push_cases [] y zero x is = let same : y ≡ x = cc in inr (refl, same)
+push_cases [] y (suc i) x is = cc
+push_cases (z ∷ xs) y zero x is = inl is
+push_cases (z ∷ xs) y (suc i) x is = elim (push_cases xs y i x is) [
+  | inl there ↦ inl there
+  | inr last ↦ inr (ap suc last.0, last.1)
+]
+
+-- an item of a front is that of the whole
+pub get_take : {X : Type 0} (n : ℕ) (xs : List X) (i : ℕ) (x : X) → slice_get (take n xs) i ≡ Some x → (i < n) × (slice_get xs i ≡ Some x)
+get_take zero xs i x is = cc
+get_take (suc n) [] i x is = cc
+get_take (suc n) (y ∷ xs) zero x is = (omega arith, is)
+get_take (suc n) (y ∷ xs) (suc i) x is = let there = get_take n xs i x is in let less = there.0 in (omega arith, there.1)
+
+-- what is read past the end
+abbrev no_frame : Frame
+no_frame = record { name = OrMay 0 0 0; alternative = 0; alternatives = 0 }
+
+module _ (graph : Tfpg) (log : Logbook) where
+  pub of_same : (one other : Option Frame) (place : ℕ) (c : Constraint) → ((f : Frame) → one ≡ Some f → other ≡ Some f) → of_frame graph log one place ≡ Some c → of_frame graph log other place ≡ Some c
+  of_same None other place c same is = cc
+  of_same (Some f) other place c same is = ap (λ (o : Option Frame). of_frame graph log o place) (same f refl) ∙ is
+
+  framed_push : (frames : List Frame) (last : Frame) (split place : ℕ) (c : Constraint) → framed graph log frames split place ≡ Some c → framed graph log (frames ++ last ∷ []) split place ≡ Some c
+  framed_push frames last zero place c is = cc
+  framed_push frames last (suc k) place c is = of_same (slice_get frames k) (slice_get (frames ++ last ∷ []) k) place c (λ f at. get_front frames (last ∷ []) k f at) is
+
+  module _ (reach : List ℕ) where
+    pub states_more : (frames others : List Frame) → ((split place : ℕ) (c : Constraint) → framed graph log frames split place ≡ Some c → framed graph log others split place ≡ Some c)
+        → (r : Reason) (c : Constraint) → stated_by graph log reach frames r ≡ Some c → stated_by graph log reach others r ≡ Some c
+    states_more frames others more (Pick split place) c is = more split place c is
+    states_more frames others more (Zero node) c is = is
+    states_more frames others more (Top node) c is = is
+    states_more frames others more (Unreached node horizon) c is = is
+    states_more frames others more (From event) c is = is
+    states_more frames others more (Upto event) c is = is
+    states_more frames others more (Quiet event node) c is = is
+
+    -- a fact is stated on any path
+    pub fact_stated : (frames : List Frame) (r : Reason) (c : Constraint) → fact graph log reach r ≡ Some c → stated_by graph log reach frames r ≡ Some c
+    fact_stated frames (Pick split place) c is = cc
+    fact_stated frames (Zero node) c is = is
+    fact_stated frames (Top node) c is = is
+    fact_stated frames (Unreached node horizon) c is = is
+    fact_stated frames (From event) c is = is
+    fact_stated frames (Upto event) c is = is
+    fact_stated frames (Quiet event node) c is = is
+
+  module _ (old : Searching) (at : IsAtItsLeaf graph log old) where
+    -- ---- the system changes, and its picks stay
+
+    pub leaf_stands : (leaf : Leaf) → length leaf.demands.bounds ≡ length old.leaf.demands.bounds → IsStated (fact graph log old.reach) (stated_by graph log old.reach old.path) leaf
+        → pick_reasons leaf ≡ pick_reasons old.leaf → IsAtItsLeaf graph log (record old { leaf = leaf })
+    leaf_stands leaf variables stated reasons = record {
+      reach_is = at.reach_is;
+      variables = variables ∙ at.variables;
+      allowed = at.allowed;
+      range = at.range;
+      stated = stated;
+      picks = record { few = at.picks.few; many = at.picks.many; counts = at.picks.counts; reasons = reasons ∙ at.picks.reasons };
+    }
+
+    -- ---- a split is put at the end of the path
+
+    pub split_stands : (name : ClauseName) (count : ℕ) → HasEnteredAll old → count_of graph log name ≡ Some count
+        → IsAtItsLeaf graph log (record old { path = old.path ++ new_frame name count ∷ [] })
+    split_stands name count all counted =
+        let frame : Frame = new_frame name count in
+        let long : length (old.path ++ frame ∷ []) ≡ length old.path + 1 = length-append old.path (frame ∷ []) in
+        record {
+          reach_is = at.reach_is;
+          variables = at.variables;
+          allowed = All-push (IsAllowed graph log) old.path frame at.allowed counted;
+          range = range_push graph log old.path name count at.range counted;
+          stated =
+              restated (fact graph log old.reach) (stated_by graph log old.reach old.path) (stated_by graph log old.reach (old.path ++ frame ∷ [])) old.leaf at.stated
+              (λ r c is. fact_stated old.reach (old.path ++ frame ∷ []) r c is)
+              (λ place r c there is. states_more old.reach old.path (old.path ++ frame ∷ []) (framed_push old.path frame) r c is);
+          picks = record {
+            few = omega arith;
+            many = omega arith;
+            counts = λ split before there.
+                let within = slice_get_within old.entered split before there in
+                at.picks.counts split before there
+                ∙ ap (λ (fs : List Frame). length (picks_of graph log fs)) (sym (take-append-le split old.path (frame ∷ []) (omega arith)));
+            reasons =
+                at.picks.reasons ∙ ap (λ (fs : List Frame). picks_of graph log fs) (sym (take-append-le (length old.entered) old.path (frame ∷ []) (omega arith)));
+          };
+        }
+
+    -- ---- the alternative of the last split is entered
+
+    module _ (not_all : HasEnteredAll old → ⊥) where
+      one_left : length old.path ≡ length old.entered + 1
+      one_left = let few = at.picks.few in let many = at.picks.many in grind arith
+
+      abbrev last_frame : Frame
+      last_frame = get_or old.path (length old.entered) no_frame
+
+      last_at : slice_get old.path (length old.entered) ≡ Some last_frame
+      last_at = slice_get-get_or old.path (length old.entered) no_frame (let one = one_left in omega arith)
+
+      whole_path : take (length old.entered + 1) old.path ≡ take (length old.entered) old.path ++ last_frame ∷ []
+      whole_path = take_more old.path (length old.entered) no_frame (let one = one_left in omega arith)
+
+      last_places : places_at graph log old.path (length old.entered + 1) ≡ place_count graph log last_frame
+      last_places =
+          let number : length old.entered + 1 ≡ suc (length old.entered) = omega arith in
+          ap (λ (n : ℕ). option_map_or (place_count graph log) (item_at old.path n) 0) number
+          ∙ ap (λ (o : Option Frame). option_map_or (place_count graph log) o 0) last_at
+
+      all_picks : (leaf : Leaf) → pick_reasons leaf ≡ pick_reasons old.leaf ++ picks_from (length old.entered + 1) 1 (places_at graph log old.path (length old.entered + 1))
+          → pick_reasons leaf ≡ picks_of graph log (take (length old.entered + 1) old.path)
+      all_picks leaf pushed =
+          let front : List Frame = take (length old.entered) old.path in
+          let short : length front ≡ length old.entered = length-take-le (length old.entered) old.path (let one = one_left in omega arith) in
+          let number : 1 + length front ≡ length old.entered + 1 = omega arith in
+          pushed
+          ∙ ap (λ (rs : List Reason). rs ++ picks_from (length old.entered + 1) 1 (places_at graph log old.path (length old.entered + 1))) at.picks.reasons
+          ∙ ap (λ (n : ℕ). picks_of graph log front ++ picks_from (length old.entered + 1) 1 n) last_places
+          ∙ ap (λ (n : ℕ). picks_of graph log front ++ picks_from n 1 (place_count graph log last_frame)) (sym number)
+          ∙ sym (picks_last graph log 1 front last_frame)
+          ∙ ap (λ (fs : List Frame). picks_of graph log fs) (sym whole_path)
+
+      abbrev marked : List ℕ
+      marked = old.entered ++ length (pick_reasons old.leaf) ∷ []
+
+      marked_long : length marked ≡ length old.entered + 1
+      marked_long = length-append old.entered (length (pick_reasons old.leaf) ∷ [])
+
+      counted_now : (split before : ℕ) → slice_get marked split ≡ Some before → before ≡ length (picks_of graph log (take split old.path))
+      counted_now split before there = elim (push_cases old.entered (length (pick_reasons old.leaf)) split before there) [
+        | inl earlier ↦ at.picks.counts split before earlier
+        | inr last ↦
+            sym last.1 ∙ ap (λ (rs : List Reason). length rs) at.picks.reasons ∙ ap (λ (n : ℕ). length (picks_of graph log (take n old.path))) (sym last.0)
+      ]
+
+      pub enter_stands : (leaf : Leaf) → Pushing graph log old.reach old.path old.leaf leaf
+          → pick_reasons leaf ≡ pick_reasons old.leaf ++ picks_from (length old.entered + 1) 1 (places_at graph log old.path (length old.entered + 1))
+          → IsAtItsLeaf graph log (record old { entered = old.entered ++ length (pick_reasons old.leaf) ∷ []; leaf = leaf })
+      enter_stands leaf pushing pushed = record {
+        reach_is = at.reach_is;
+        variables = pushing.variables ∙ at.variables;
+        allowed = at.allowed;
+        range = at.range;
+        stated = pushing.stated;
+        picks = record {
+          few = (let m = marked_long in let one = one_left in omega arith);
+          many = (let m = marked_long in let one = one_left in omega arith);
+          counts = counted_now;
+          reasons = all_picks leaf pushed ∙ ap (λ (n : ℕ). picks_of graph log (take n old.path)) (sym marked_long);
+        };
+      }
+
+      pub entered_all : length (old.entered ++ length (pick_reasons old.leaf) ∷ []) ≡ length old.path
+      entered_all = let m = marked_long in let one = one_left in omega arith
+
+    -- ---- it is left again
+
+    pub left_again : (pushed left : Leaf) → Pushing graph log old.reach old.path old.leaf pushed
+        → Leaves (slice_get (old.entered ++ length (pick_reasons old.leaf) ∷ []) (length old.entered)) pushed left
+        → IsAtItsLeaf graph log (record old { entered = take (length old.entered) (old.entered ++ length (pick_reasons old.leaf) ∷ []); leaf = left })
+    left_again pushed left pushing leaves =
+        let count : ℕ = length (pick_reasons old.leaf) in
+        let there : slice_get (old.entered ++ count ∷ []) (length old.entered) ≡ Some count = get_last old.entered count in
+        let gone : KeepsBounds pushed left × (pick_reasons left ≡ take count (pick_reasons pushed)) = subst (λ (o : Option ℕ). Leaves o pushed left) there leaves in
+        let back : pick_reasons left ≡ pick_reasons old.leaf =
+        gone.1 ∙ ap (λ (rs : List Reason). take count rs) pushing.more.1 ∙ take_at (pick_reasons old.leaf) pushing.more.0 count refl in
+        subst (λ (es : List ℕ). IsAtItsLeaf graph log (record old { entered = es; leaf = left })) (sym (take_at old.entered (count ∷ []) (length old.entered) refl))
+        (leaf_stands left (gone.0.variables ∙ pushing.variables) (gone.0.stated (fact graph log old.reach) (stated_by graph log old.reach old.path) pushing.stated) back)
+      where
+        get_last : (xs : List ℕ) (x : ℕ) → slice_get (xs ++ x ∷ []) (length xs) ≡ Some x
+        get_last [] x = refl
+        get_last (y ∷ xs) x = get_last xs x

@@ -1,0 +1,32 @@
+use Rattle.std.proofs.Common.{ap, sym, subst, ◌∙◌, ◌-◌, ℕ, List, Option, length}
+use Rattle.std.proofs.lemmas.Result.{err_from_is_err_and}
+use Rattle.tfpg_evidence.specs.declared.step.Step.{Step}
+use Rattle.tfpg_clause.specs.declared.path.Frame.{Frame}
+use Rattle.tfpg_search.specs.inside.Moves.{Grows}
+use Rattle.tfpg_search.proofs.Moving.{nothing, some_left, close_counted, close_some, close_ok}
+use Rattle.tfpg_search.proofs.search.Search.close.Goals as goal
+
+pub returns-in_err-push-clause-closing : goal.returns-in_err-push-clause-closing
+returns-in_err-push-clause-closing c =
+    let error = err_from_is_err_and c.from_residual.result c.from_residual.ensures.1 in
+    rw error.1
+    (subst (λ (after : List Step). (end : Option (List Frame)) × Grows c.args.graph.now c.args.log.now c.args.self.now.reach c.args.self.now.path c.args.steps.now after 0 end)
+    (sym c.in_err-push.ensures.err) (nothing c.args.graph.now c.args.log.now c.args.self.now c.requires.stands c.args.steps.now))
+
+pub overflow_sub-kept : goal.overflow_sub-kept
+overflow_sub-kept c =
+    some_left c.depth-kept.result (length c.advance.new.self.path) c.depth-kept.ensures
+    (close_some c.args.graph.now c.args.log.now c.args.self.now c.requires.stands c.args.steps.now c.push.new.self c.args.reasons c.requires.cycle c.in_ok-push.ensures.ok c.advance.new.self
+    c.if-not-advance.ensures.same c.if-not-advance.ensures.path)
+
+pub leave-requires : goal.leave-requires
+leave-requires c = record {
+  counted = λ number there.
+      close_counted c.args.graph.now c.args.log.now c.args.self.now c.requires.stands c.args.steps.now c.push.new.self c.args.reasons c.requires.cycle c.in_ok-push.ensures.ok c.advance.new.self
+      c.if-not-advance.ensures.same c.if-not-advance.ensures.path (c.depth-kept.result - 1) number there;
+}
+
+pub returns-clause-closing : goal.returns-clause-closing
+returns-clause-closing c =
+    close_ok c.args.graph.now c.args.log.now c.args.self.now c.requires.stands c.args.steps.now c.push.new.self c.args.reasons c.requires.cycle c.in_ok-push.ensures.ok c.advance.new.self
+    c.if-not-advance.ensures.same c.if-not-advance.ensures.path c.leave.new.self (c.depth-kept.result - 1) (ap (λ (n : ℕ). n - 1) c.depth-kept.ensures) c.leave.ensures.same c.leave.ensures.leaf

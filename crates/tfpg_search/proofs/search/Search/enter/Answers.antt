@@ -1,0 +1,27 @@
+use Rattle.std.proofs.Common.{refl, sym, ◌∙◌, ◌+◌}
+use Rattle.tfpg_search.proofs.Moving.{marked_stated, marked_closes, left_counted, entered_stands, left_stands}
+use Rattle.tfpg_search.proofs.search.Search.enter.Goals as goal
+
+pub push_all-requires-clause-stated : goal.push_all-requires-clause-stated
+push_all-requires-clause-stated g c = marked_stated c.args.graph.now c.args.log.now c.args.self.now c.requires.stands c.mark.new.self c.in_ok-mark.ensures.ok
+
+pub leave-requires : goal.leave-requires
+leave-requires g c = record {
+  counted = λ number there.
+      left_counted c.args.graph.now c.args.log.now c.args.self.now c.requires.stands c.mark.new.self c.in_ok-mark.ensures.ok c.push_all.new.self c.push_all.ensures.same c.push_all.ensures.pushing
+      c.entered_count-split.result c.entered_count-split.ensures number there;
+}
+
+pub returns-in-Ok-clause-stands : goal.returns-in-Ok-clause-stands
+returns-in-Ok-clause-stands g c =
+    entered_stands c.args.graph.now c.args.log.now c.args.self.now c.requires.stands c.mark.new.self c.in_ok-mark.ensures.ok c.push_all.new.self c.push_all.ensures.same c.push_all.ensures.pushing
+    c.entered_count-split.result c.entered_count-split.ensures (λ all. c.if-split-depth.false (all ∙ sym c.depth.ensures)) (c.entered_count-split.result + 1) refl c.in-Ok.ensures.ok
+
+pub returns-in-Err-clause-stands : goal.returns-in-Err-clause-stands
+returns-in-Err-clause-stands g c =
+    (left_stands c.args.graph.now c.args.log.now c.args.self.now c.requires.stands c.mark.new.self c.in_ok-mark.ensures.ok c.push_all.new.self c.push_all.ensures.same c.push_all.ensures.pushing
+    c.entered_count-split.result c.entered_count-split.ensures c.leave.new.self c.leave.ensures.same c.leave.ensures.leaf).0
+
+pub returns-in-Err-clause-closes : goal.returns-in-Err-clause-closes
+returns-in-Err-clause-closes g c =
+    marked_closes c.args.graph.now c.args.log.now c.args.self.now c.requires.stands c.mark.new.self c.in_ok-mark.ensures.ok c.in-Err.fault c.in-Err.ensures.closes

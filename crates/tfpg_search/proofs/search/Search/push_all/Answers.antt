@@ -1,0 +1,58 @@
+use Rattle.std.proofs.Common.{subst, ◌+◌, Bool}
+use Rattle.tfpg_evidence.specs.declared.reason.Reason.TheVariants.{Pick}
+use Rattle.tfpg_clause.specs.Paths.{framed}
+use Rattle.tfpg_search.specs.inside.Leaving.{PushesOne}
+use Rattle.tfpg_search.proofs.Moving.{loop_stated, loop_closes, step_same, step_pushing, step_last, step_picks, step_within, all_pushed}
+use Rattle.tfpg_search.proofs.search.Search.push_all.Goals as goal
+
+pub push_one-requires-clause-stated : goal.push_one-requires-clause-stated
+push_one-requires-clause-stated g c =
+    loop_stated c.args.graph.now c.args.log.now c.args.self.now c.loop-before.self c.loop-before.invariant.same c.loop-before.invariant.pushing
+
+pub returns-in-Ok-false-clause-pushing : goal.returns-in-Ok-false-clause-pushing
+returns-in-Ok-false-clause-pushing g c =
+    step_pushing c.args.graph.now c.args.log.now c.args.self.now c.loop-before.self c.loop-before.invariant.same c.loop-before.invariant.pushing c.push_one.new.self c.push_one.ensures.same
+    c.push_one.ensures.pushing
+
+pub returns-in-Ok-false-clause-ok : goal.returns-in-Ok-false-clause-ok
+returns-in-Ok-false-clause-ok g c =
+    step_last c.args.graph.now c.args.log.now c.args.self.now c.loop-before.self c.loop-before.invariant.same c.loop-before.invariant.pushing c.push_one.new.self c.push_one.ensures.same
+    c.push_one.ensures.pushing c.args.split c.loop-before.before c.loop-before.invariant.picks c.loop-before.invariant.within
+    (subst
+    (λ (b : Bool). PushesOne (framed c.args.graph.now c.args.log.now c.loop-before.self.path c.args.split (c.loop-before.before + 1)) (Pick c.args.split (c.loop-before.before + 1))
+    c.loop-before.self.leaf c.push_one.new.self.leaf b) c.in-Ok-false.field-0-test c.in-Ok-false.ensures.ok)
+
+pub returns-in-Err-clause-pushing : goal.returns-in-Err-clause-pushing
+returns-in-Err-clause-pushing g c =
+    step_pushing c.args.graph.now c.args.log.now c.args.self.now c.loop-before.self c.loop-before.invariant.same c.loop-before.invariant.pushing c.push_one.new.self c.push_one.ensures.same
+    c.push_one.ensures.pushing
+
+pub returns-in-Err-clause-closes : goal.returns-in-Err-clause-closes
+returns-in-Err-clause-closes g c =
+    loop_closes c.args.graph.now c.args.log.now c.args.self.now c.loop-before.self c.loop-before.invariant.same c.loop-before.invariant.pushing c.in-Err.fault c.in-Err.ensures.closes
+
+pub loop-before-preserved : goal.loop-before-preserved
+loop-before-preserved g c =
+    let one =
+    subst
+    (λ (b : Bool). PushesOne (framed c.args.graph.now c.args.log.now c.loop-before.self.path c.args.split (c.loop-before.before + 1)) (Pick c.args.split (c.loop-before.before + 1))
+    c.loop-before.self.leaf c.push_one.new.self.leaf b) c.in-Ok-true.field-0-test c.in-Ok-true.ensures.ok in
+    record {
+      same =
+          step_same c.args.graph.now c.args.log.now c.args.self.now c.loop-before.self c.loop-before.invariant.same c.loop-before.invariant.pushing c.push_one.new.self c.push_one.ensures.same
+          c.push_one.ensures.pushing;
+      pushing =
+          step_pushing c.args.graph.now c.args.log.now c.args.self.now c.loop-before.self c.loop-before.invariant.same c.loop-before.invariant.pushing c.push_one.new.self c.push_one.ensures.same
+          c.push_one.ensures.pushing;
+      picks =
+          step_picks c.args.graph.now c.args.log.now c.args.self.now c.loop-before.self c.loop-before.invariant.same c.loop-before.invariant.pushing c.push_one.new.self c.push_one.ensures.same
+          c.push_one.ensures.pushing c.args.split c.loop-before.before c.loop-before.invariant.picks c.loop-before.invariant.within one;
+      within =
+          step_within c.args.graph.now c.args.log.now c.args.self.now c.loop-before.self c.loop-before.invariant.same c.loop-before.invariant.pushing c.push_one.new.self c.push_one.ensures.same
+          c.push_one.ensures.pushing c.args.split c.loop-before.before c.loop-before.invariant.picks c.loop-before.invariant.within one;
+    }
+
+pub returns-clause-ok : goal.returns-clause-ok
+returns-clause-ok g c =
+    all_pushed c.args.graph.now c.args.log.now c.node_count-valid.ensures.valid c.args.self.now c.loop-before.self.leaf c.args.split c.loop-before.before c.loop-before-test.false
+    c.loop-before.invariant.within c.loop-before.invariant.picks

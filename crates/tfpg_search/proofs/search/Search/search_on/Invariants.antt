@@ -1,0 +1,15 @@
+use Rattle.std.proofs.Common.{Some, ◌≤◌, ◌-◌}
+use Rattle.tfpg_search.specs.Searching.{IsAtItsLeaf}
+use Rattle.tfpg_search.specs.inside.Moves.{KeepsSet, Grows}
+use Rattle.tfpg_search.proofs.search.Search.search_on.Given as goal
+
+abbrev pub invariant-loop-trace : goal.invariant-loop-trace
+invariant-loop-trace g l = record {
+  stands : IsAtItsLeaf l.graph l.log l.self;
+  keeps : KeepsSet l.initial.self l.self;
+  grows : Grows l.graph l.log l.initial.self.reach l.initial.self.path l.initial.steps l.steps l.spent (Some l.self.path);
+  within : l.spent ≤ l.budget;
+}
+
+abbrev pub decreases-loop-trace : goal.decreases-loop-trace
+decreases-loop-trace g l = l.budget - l.spent

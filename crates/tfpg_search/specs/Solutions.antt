@@ -1,0 +1,22 @@
+-- Solutions at a leaf, and the latest of them.
+use Rattle.std.specs.Prelude.{◌≡◌, ℕ, ◌<◌, ◌≤◌, List, length, Some, slice_index}
+use Rattle.tfpg_base.specs.declared.constraint.Constraint.{Constraint}
+use Rattle.tfpg_base.specs.Constraint.{Meets}
+use Rattle.tfpg_graph.specs.Graph.{Tfpg}
+use Rattle.tfpg_log.specs.Log.{Logbook}
+use Rattle.tfpg_evidence.specs.declared.reason.Reason.{Reason}
+use Rattle.tfpg_clause.specs.Facts.{fact}
+use Rattle.tfpg_clause.specs.Trees.{PathSplit, picked}
+
+-- The times solve what holds at a leaf of this path: there is one for each node, and they meet each fact of the log and each
+-- constraint that was picked on the path.
+pub record Solves (graph : Tfpg) (log : Logbook) (reach : List ℕ) (path : List PathSplit) (times : List ℕ) : Type 0 where
+  pub one_each : length times ≡ length graph.nodes
+  pub facts : (reason : Reason) (constraint : Constraint) → fact graph log reach reason ≡ Some constraint → Meets times constraint
+  pub picks : (split place : ℕ) (constraint : Constraint) → picked graph log path split place ≡ Some constraint → Meets times constraint
+
+-- They are the latest that do: no others that do give any node a later time.
+pub record IsLatestAt (graph : Tfpg) (log : Logbook) (reach : List ℕ) (path : List PathSplit) (times : List ℕ) : Type 0 where
+  pub solves : Solves graph log reach path times
+  pub latest : (other : List ℕ) → Solves graph log reach path other →
+      (node : ℕ) → node < length graph.nodes → slice_index other node ≤ slice_index times node

@@ -1,0 +1,31 @@
+-- What entering and leaving alternatives does to the system.
+use Rattle.std.specs.Prelude.{◌≡◌, ℕ, List, [], ◌∷◌, ◌++◌, length, take, Bool, true, false, IsTrue, Option, Some, None, is_some}
+use Rattle.tfpg_base.specs.declared.constraint.Constraint.{Constraint}
+use Rattle.tfpg_evidence.specs.declared.reason.Reason.{Reason}
+use Rattle.tfpg_graph.specs.Graph.{Tfpg}
+use Rattle.tfpg_log.specs.Log.{Logbook}
+use Rattle.tfpg_clause.specs.Facts.{fact}
+use Rattle.tfpg_clause.specs.Paths.{stated_by}
+use Rattle.tfpg_clause.specs.declared.path.Frame.{Frame}
+use Rattle.tfpg_search.specs.Leaf.{Leaf, IsStated, pick_reasons}
+
+-- The bounds are as they were, and so is all that is stated.
+pub record KeepsBounds (old new : Leaf) : Type 0 where
+  pub variables : length new.demands.bounds ≡ length old.demands.bounds
+  pub stated : (fact stated : Reason → Option Constraint) → IsStated fact stated old → IsStated fact stated new
+
+-- Where there is such a number, the picks after so many are gone.
+abbrev pub Leaves : Option ℕ → Leaf → Leaf → Type 0
+Leaves None old new = new ≡ old
+Leaves (Some count) old new = KeepsBounds old new × (pick_reasons new ≡ take count (pick_reasons old))
+
+-- Constraints of the alternatives on the path were pushed, or none: all is stated still, and the picks go on from the old ones.
+pub record Pushing (graph : Tfpg) (log : Logbook) (reach : List ℕ) (path : List Frame) (old new : Leaf) : Type 0 where
+  pub variables : length new.demands.bounds ≡ length old.demands.bounds
+  pub stated : IsStated (fact graph log reach) (stated_by graph log reach path) new
+  pub more : (added : List Reason) × (pick_reasons new ≡ pick_reasons old ++ added)
+
+-- Where there is a constraint, it was pushed with its reason; and returned whether there is one.
+abbrev pub PushesOne : Option Constraint → Reason → Leaf → Leaf → Bool → Type 0
+PushesOne constraint reason old new true = (pick_reasons new ≡ pick_reasons old ++ reason ∷ []) × IsTrue (is_some constraint)
+PushesOne constraint reason old new false = (pick_reasons new ≡ pick_reasons old) × (constraint ≡ None)

@@ -1,0 +1,146 @@
+-- What the steps of a search do to its path, by the frames that it keeps.
+use Rattle.std.specs.Prelude.{◌≡◌, ℕ, ◌<◌, ◌+◌, ◌-◌, ◌≤◌, List, [], ◌∷◌, ◌++◌, length, Bool, true, false, Option, Some, None, slice_index, Result, Ok, Err}
+use Rattle.tfpg_base.specs.declared.constraint.Constraint.{Constraint}
+use Rattle.tfpg_base.specs.Constraint.{Meets}
+use Rattle.tfpg_graph.specs.Graph.{Tfpg}
+use Rattle.tfpg_log.specs.Log.{Logbook}
+use Rattle.tfpg_evidence.specs.declared.clause_name.ClauseName.{ClauseName}
+use Rattle.tfpg_evidence.specs.declared.reason.Reason.{Reason}
+use Rattle.tfpg_evidence.specs.declared.step.Step.{Step}
+use Rattle.tfpg_evidence.specs.declared.step.Step.TheVariants.{Split, Cycle}
+use Rattle.tfpg_clause.specs.Facts.{fact}
+use Rattle.tfpg_clause.specs.Clauses.{count_of}
+use Rattle.tfpg_clause.specs.Order.{IsFirstViolated}
+use Rattle.tfpg_clause.specs.Trees.{Judged, IsRefutation}
+use Rattle.tfpg_clause.specs.Paths.{framed, stated_by, path_after, new_frame, IsAtLeaf}
+use Rattle.tfpg_clause.specs.declared.path.Frame.{Frame}
+use Rattle.tfpg_base.specs.declared.no_memory.NoMemory.{NoMemory}
+use Rattle.tfpg_log.specs.Explains.{Explains}
+use Rattle.tfpg_diff.specs.Solution.{IsSolution}
+use Rattle.tfpg_search.specs.Leaf.{IsSimpleCycle}
+use Rattle.tfpg_search.specs.Live.{HasNoNameTwice}
+use Rattle.tfpg_search.specs.Picks.{AreInRange}
+use Rattle.tfpg_search.specs.Searched.{split_count}
+use Rattle.tfpg_search.specs.Searching.{Searching, IsAtItsLeaf}
+use Rattle.tfpg_search.specs.declared.found.Found.{Found}
+use Rattle.tfpg_search.specs.declared.found.Found.TheVariants.{Shown as FoundShown, Closed as FoundClosed, Spent}
+use Rattle.tfpg_search.specs.declared.search.Look.{Look}
+use Rattle.tfpg_search.specs.declared.search.Look.TheVariants.{Violated, Shown, Closed}
+
+-- The times solve what holds at the leaf of these frames.
+pub record SolvesFramed (graph : Tfpg) (log : Logbook) (reach : List ℕ) (frames : List Frame) (times : List ℕ) : Type 0 where
+  pub one_each : length times ≡ length graph.nodes
+  pub facts : (reason : Reason) (constraint : Constraint) → fact graph log reach reason ≡ Some constraint → Meets times constraint
+  pub picks : (split place : ℕ) (constraint : Constraint) → framed graph log frames split place ≡ Some constraint → Meets times constraint
+
+-- They are the latest that do.
+pub record IsLatestFramed (graph : Tfpg) (log : Logbook) (reach : List ℕ) (frames : List Frame) (times : List ℕ) : Type 0 where
+  pub solves : SolvesFramed graph log reach frames times
+  pub latest : (other : List ℕ) → SolvesFramed graph log reach frames other →
+      (node : ℕ) → node < length graph.nodes → slice_index other node ≤ slice_index times node
+
+-- A split on the name would be live at the leaf of these frames.
+pub record IsLiveFramed (graph : Tfpg) (log : Logbook) (reach : List ℕ) (frames : List Frame) (name : ClauseName) : Type 0 where
+  pub times : List ℕ
+  pub latest : IsLatestFramed graph log reach frames times
+  pub first : IsFirstViolated graph log times name
+
+-- A step goes from the leaf of these frames to the next leaf, where there is one: a live split enters its first alternative,
+-- and a cycle closes the leaf.
+abbrev pub Goes : Tfpg → Logbook → List ℕ → List Frame → Step → Option (List Frame) → Type 0
+Goes graph log reach frames (Split name) next =
+    (count : ℕ) × (count_of graph log name ≡ Some count) × IsLiveFramed graph log reach frames name × (next ≡ Some (frames ++ new_frame name count ∷ []))
+Goes graph log reach frames (Cycle reasons) next =
+    IsSimpleCycle (stated_by graph log reach frames) reasons × (next ≡ path_after frames)
+
+-- The steps lead from the leaf of these frames to that leaf, where there is one.
+abbrev pub Leads : Tfpg → Logbook → List ℕ → Option (List Frame) → List Step → Option (List Frame) → Type 0
+Leads graph log reach start [] end = start ≡ end
+Leads graph log reach None (step ∷ steps) end = ⊥
+Leads graph log reach (Some frames) (step ∷ steps) end =
+    (next : Option (List Frame)) × Goes graph log reach frames step next × Leads graph log reach next steps end
+
+-- The steps have led there: to a refutation where there is no leaf left, and else to the leaf of these frames, with no name twice
+-- on a path.
+abbrev pub LeadsTo : Tfpg → Logbook → List ℕ → List Judged → Option (List Frame) → Type 0
+LeadsTo graph log reach steps None = IsRefutation graph log reach steps × HasNoNameTwice graph log reach steps
+LeadsTo graph log reach steps (Some frames) =
+    IsAtLeaf graph log reach frames steps × HasNoNameTwice graph log reach steps × AreInRange frames
+
+-- The steps that were appended lead from the leaf of these frames to that leaf, and so many of them split.
+pub record Grows (graph : Tfpg) (log : Logbook) (reach : List ℕ) (start : List Frame) (before after : List Step) (splits : ℕ) (end : Option (List Frame)) : Type 0 where
+  pub added : List Step
+  pub appended : after ≡ before ++ added
+  pub count : split_count added ≡ splits
+  pub leads : Leads graph log reach (Some start) added end
+
+-- The set, what it reaches, and how many events were seen are unchanged.
+pub record KeepsSet (old new : Searching) : Type 0 where
+  pub set : new.set ≡ old.set
+  pub reach : new.reach ≡ old.reach
+  pub seen : new.seen ≡ old.seen
+
+-- Each alternative on the path was entered.
+abbrev pub HasEnteredAll : Searching → Type 0
+HasEnteredAll search = length search.entered ≡ length search.path
+
+-- The system has all constraints of the leaf: each alternative on the path was entered, and its solutions meet each fact.
+pub record IsSettled (graph : Tfpg) (log : Logbook) (search : Searching) : Type 0 where
+  pub all_entered : HasEnteredAll search
+  pub facts : (times : List ℕ) → IsSolution search.leaf.demands times →
+      (reason : Reason) (constraint : Constraint) → fact graph log search.reach reason ≡ Some constraint → Meets times constraint
+
+-- how many alternatives on a path were not taken yet
+abbrev pub untaken : List Frame → ℕ
+untaken [] = 0
+untaken (frame ∷ deeper) = (frame.alternatives - frame.alternative) + untaken deeper
+
+-- What closing the present leaf comes to: a next leaf with fewer alternatives not taken, or none.
+abbrev pub Closing : Tfpg → Logbook → Searching → Searching → List Step → List Step → Result Bool NoMemory → Type 0
+Closing graph log old new before after (Ok true) =
+    IsAtItsLeaf graph log new × Grows graph log old.reach old.path before after 0 (Some new.path) × (untaken new.path < untaken old.path)
+Closing graph log old new before after (Ok false) = Grows graph log old.reach old.path before after 0 None
+Closing graph log old new before after (Err no_memory) = (end : Option (List Frame)) × Grows graph log old.reach old.path before after 0 end
+
+-- What settling the present leaf comes to: a settled leaf, or none.
+abbrev pub Settling : Tfpg → Logbook → Searching → Searching → List Step → List Step → Result Bool NoMemory → Type 0
+Settling graph log old new before after (Ok true) =
+    IsAtItsLeaf graph log new × IsSettled graph log new × Grows graph log old.reach old.path before after 0 (Some new.path)
+Settling graph log old new before after (Ok false) = Grows graph log old.reach old.path before after 0 None
+Settling graph log old new before after (Err no_memory) = (end : Option (List Frame)) × Grows graph log old.reach old.path before after 0 end
+
+-- What is seen at a settled leaf: a trace that explains the log, or the clause on which a split would be live.
+abbrev pub Sees : Tfpg → Logbook → Searching → Look → Type 0
+Sees graph log search (Violated name) = IsLiveFramed graph log search.reach search.path name
+Sees graph log search (Shown trace) = Explains graph log search.set trace
+Sees graph log search Closed = ⊥
+
+-- What a look comes to: what is seen at a settled leaf; or no leaf.
+abbrev pub Looking : Tfpg → Logbook → Searching → Searching → List Step → List Step → Result Look NoMemory → Type 0
+Looking graph log old new before after (Ok (Violated name)) =
+    IsAtItsLeaf graph log new × HasEnteredAll new × IsLiveFramed graph log new.reach new.path name × Grows graph log old.reach old.path before after 0 (Some new.path)
+Looking graph log old new before after (Ok (Shown trace)) =
+    IsAtItsLeaf graph log new × HasEnteredAll new × Explains graph log new.set trace × Grows graph log old.reach old.path before after 0 (Some new.path)
+Looking graph log old new before after (Ok Closed) = Grows graph log old.reach old.path before after 0 None
+Looking graph log old new before after (Err no_memory) = (end : Option (List Frame)) × Grows graph log old.reach old.path before after 0 end
+
+-- What a split comes to: one split more.
+abbrev pub Splitting : Tfpg → Logbook → Searching → Searching → List Step → List Step → Result (Unit {0}) NoMemory → Type 0
+Splitting graph log old new before after (Ok done) = IsAtItsLeaf graph log new × Grows graph log old.reach old.path before after 1 (Some new.path)
+Splitting graph log old new before after (Err no_memory) = (end : Option (List Frame)) × Grows graph log old.reach old.path before after 0 end
+
+-- What was found, after so many splits, where the steps lead to that leaf.
+abbrev pub Ends : Tfpg → Logbook → ℕ → Searching → ℕ → Option (List Frame) → Result Found NoMemory → Type 0
+Ends graph log budget new splits end (Ok (FoundShown trace)) = Explains graph log new.set trace × IsAtItsLeaf graph log new × HasEnteredAll new × (end ≡ Some new.path)
+Ends graph log budget new splits end (Ok FoundClosed) = end ≡ None
+Ends graph log budget new splits end (Ok Spent) =
+    (splits ≡ budget) × ((name : ClauseName) × IsLiveFramed graph log new.reach new.path name) × IsAtItsLeaf graph log new × HasEnteredAll new × (end ≡ Some new.path)
+Ends graph log budget new splits end (Err no_memory) = Unit {0}
+
+-- What searching on comes to.
+pub record SearchesOn (graph : Tfpg) (log : Logbook) (budget : ℕ) (old new : Searching) (before after : List Step) (result : Result Found NoMemory) : Type 0 where
+  pub splits : ℕ
+  pub end : Option (List Frame)
+  pub grows : Grows graph log old.reach old.path before after splits end
+  pub within : splits ≤ budget
+  pub ends : Ends graph log budget new splits end result
