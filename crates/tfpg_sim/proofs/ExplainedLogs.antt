@@ -155,6 +155,10 @@ module _ (graph : Tfpg) (script : List ℕ) (number : ℕ) (simulated : Simulate
   log_is : log_of_lines graph (lines_of simulated.log) ≡ log
   log_is = ap (λ text. log_of_lines graph (lines_of text)) is.log ∙ log_there graph valid entries is_script trace number events logs
 
+  -- and the lines make the events of the definition
+  pub events_are : (log_of_lines graph (lines_of simulated.log)).events ≡ events
+  events_are = ap (λ (book : Logbook). book.events) log_is
+
   -- now is the stop
   stop_by_now : time_so_far entries ≤ now_of log
   stop_by_now = now_from events 0 (event.Tick (time_so_far entries)) logs.order logs.last

@@ -1,6 +1,6 @@
 //! What the definitions of this crate come to, as functions that do nothing: each says its law in its clause.
 
-ghost use Rattle.std.specs.Prelude.{ℕ, ◌≤◌, ◌<◌, List, length};
+ghost use Rattle.std.specs.Prelude.{◌≡◌, ℕ, ◌≤◌, ◌<◌, List, length};
 ghost use Rattle.tfpg_base.specs.declared.activation.Activation.{Activation};
 ghost use Rattle.tfpg_graph.specs.Graph.{Tfpg};
 ghost use Rattle.tfpg_graph.specs.Valid.{IsValid};
@@ -13,7 +13,8 @@ ghost use Rattle.tfpg_sim.specs.declared.simulated.Simulated.{Simulated};
 ghost use Rattle.tfpg_sim.specs.AcceptedLog.{AreAccepted};
 ghost use Rattle.tfpg_sim.specs.Simulated.{IsSimulationOf};
 ghost use Rattle.tfpg_sim.specs.Script.{time_so_far};
-ghost use Rattle.tfpg_sim.specs.Draws.{delays};
+ghost use Rattle.tfpg_sim.specs.Draws.{delays, latenesses};
+ghost use Rattle.tfpg_sim.specs.SimulatedLog.{log_events};
 ghost use Rattle.tfpg_sim.specs.Generated.{generated_graph};
 ghost use Rattle.tfpg_sim.specs.Simulation.{IsSimulated, script_log};
 
@@ -27,11 +28,15 @@ pub fn a_simulated_trace_keeps_the_rules()
         KeepsMust graph (script_log entries) trace node instant }
 {}
 
-/// The lines of a simulated log are all accepted, in their order, and the simulated trace explains their log from the
-/// simulated set.
+/// The lines of a simulated log are all accepted, in their order, and make its events: the script's own with the alarms
+/// among them. The simulated trace explains their log from the simulated set.
 pub fn a_simulated_log_is_accepted_and_explained()
     ensures accepted { (graph : Tfpg) (script : List ℕ) (number : ℕ) (simulated : Simulated) →
         IsValid graph → IsSimulationOf graph script number simulated → AreAccepted graph (lines_of simulated.log) }
+    ensures events { (graph : Tfpg) (script : List ℕ) (number : ℕ) (simulated : Simulated) →
+        IsValid graph → (is : IsSimulationOf graph script number simulated) →
+        (log_of_lines graph (lines_of simulated.log)).events ≡
+        log_events is.entries simulated.trace (latenesses graph number) (time_so_far is.entries) }
     ensures explained { (graph : Tfpg) (script : List ℕ) (number : ℕ) (simulated : Simulated) →
         IsValid graph → IsSimulationOf graph script number simulated →
         Explains graph (log_of_lines graph (lines_of simulated.log)) simulated.set simulated.trace }
