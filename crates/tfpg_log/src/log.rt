@@ -1,14 +1,13 @@
 //! The log of accepted lines, with its look-ups.
 
-ghost use Rattle.std.specs.Prelude.{◌≡◌, ◌≤◌, ◌<◌, ◌-◌, ℕ, length, take, true, false, ◌&&◌, if◌then◌else◌, nat_lt, nat_le, Some, None, is_none, IfOk, OnOk, OnErr, count_by, vec_len, option_and_then, slice_get};
-ghost use Rattle.tfpg_log.specs.Log.{IsOf, IsOrdered, now_of, event_at, alarm_of, alarm_event, alarm_among, mode_at, quiet_at, with_event, time_of_event, is_mode_change};
+ghost use Rattle.std.specs.Prelude.{◌≡◌, ◌≤◌, ◌<◌, ◌-◌, ℕ, length, take, true, ◌&&◌, if◌then◌else◌, nat_le, Some, None, is_none, IfOk, count_by, option_and_then, slice_get};
+ghost use Rattle.tfpg_log.specs.Log.{IsOf, IsOrdered, now_of, event_at, alarm_of, alarm_event, alarm_among, mode_at, quiet_at, is_mode_change};
 ghost use Rattle.tfpg_log.specs.Spans.{span_number, span_at, window_round, window_of, joint_of};
 ghost use Rattle.tfpg_log.specs.inside.ActiveModes.{has_mode};
 ghost use Rattle.tfpg_log.specs.declared.limits.TheConstants.{MAX_EVENTS, MAX_MODE_CHANGES};
 ghost use Rattle.tfpg_log.specs.LogOfLines.{new_log};
 ghost use Rattle.tfpg_log.specs.Quiet.{IsLastQuiet};
-ghost use Rattle.tfpg_log.specs.inside.NodeEvents.{AreSameOfNodes, IsLast, IsNodeEvents, IsSwept, later_of};
-ghost use Rattle.tfpg_base.specs.Times.{max_time};
+ghost use Rattle.tfpg_log.specs.inside.NodeEvents.{IsLast, IsNodeEvents, IsSwept, later_of};
 ghost use Rattle.tfpg_graph.specs.Graph.{Tfpg, is_monitored};
 
 mod accepting;

@@ -13,5 +13,6 @@ pub fn a_trace_has_one_verdict()
     ensures some { (graph : Tfpg) (log : Logbook) (set : List ℕ) (trace : List Activation) →
         IsTraceOf graph trace → (said : Verdict) × IsVerdict graph log set trace said }
     ensures one { (graph : Tfpg) (log : Logbook) (set : List ℕ) (trace : List Activation) →
-        (one other : Verdict) → IsVerdict graph log set trace one → IsVerdict graph log set trace other → one ≡ other }
+        (one other : Verdict) → IsVerdict graph log set trace one → IsVerdict graph log set trace other →
+        one ≡ other }
 {}

@@ -4,7 +4,6 @@ ghost use Rattle.std.specs.Prelude.{◌≡◌, ◌<◌, ◌≤◌, ◌+◌, ℕ,
 ghost use Rattle.tfpg_graph.specs.Graph.{incoming};
 ghost use Rattle.tfpg_log.specs.Log.{Logbook, now_of};
 ghost use Rattle.tfpg_log.specs.Rules.{IsActive};
-ghost use Rattle.tfpg_log.specs.Spans.{span_at};
 ghost use Rattle.tfpg_trace.specs.inside.FirstFaultIn.{IsFirstMustFault};
 ghost use Rattle.tfpg_trace.specs.inside.Gaps.{AreGaps, HasGaps, StartsSpan};
 ghost use Rattle.tfpg_trace.specs.inside.FirstFaultIn.{IsFirstFaultIn};
