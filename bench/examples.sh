@@ -1,6 +1,6 @@
 #!/usr/bin/env bash
-# Compares what the program writes on each example with the report beside it, byte for byte, and the program's stored run
-# with the example of the pump. Ends with status 1 where something differs.
+# Compares what the program writes on each example with the report or the verdict beside it, byte for byte, and the program's
+# stored run with the example of the pump. Ends with status 1 where something differs.
 set -u
 
 top=$(dirname "$(dirname "$(readlink -f "${BASH_SOURCE[0]}")")")
@@ -14,6 +14,12 @@ differs() {
 for report in "$top"/examples/*.report; do
     name=$(basename "$report" .report)
     "$top/tfpg" diagnose --k 0 "$top/examples/${name%%-*}.tfpg" < "${report%.report}.log" | cmp -s - "$report" || differs "$name"
+done
+
+for verdict in "$top"/examples/*.verdict; do
+    name=$(basename "$verdict" .verdict)
+    system=$top/examples/${name%%-*}
+    "$top/tfpg" explain "$system.tfpg" "$system.log" < "${verdict%.verdict}.map" | cmp -s - "$verdict" || differs "$name"
 done
 
 stored=$top/crates/tfpg

@@ -25,7 +25,7 @@ use Rattle.tfpg_evidence.specs.declared.round.Round.{Round}
 use Rattle.tfpg_report.specs.declared.refused_line.RefusedLine.TheVariants.{TooLong}
 use Rattle.tfpg_report.specs.Blocks.{Block, block_text, head_text, refused_text}
 use Rattle.tfpg_check.specs.Report.{Progress, IsBlock, AreBlocks, report_text, rounds_of, progress_of}
-use Rattle.tfpg_check.specs.inside.Progress.{start, after}
+use Rattle.tfpg_check.specs.Report.{new_progress as start, progress_after as after}
 use Rattle.tfpg.specs.declared.diagnoser.Diagnoser.{Diagnoser}
 use Rattle.tfpg.specs.declared.fault.StreamFault.{StreamFault}
 use Rattle.tfpg.specs.declared.fault.StreamFault.TheVariants as faults

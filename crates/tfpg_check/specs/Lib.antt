@@ -3,5 +3,3 @@ pub use Rattle.tfpg_hyp.specs.Rounds
 pub use Rattle.tfpg_log.specs.Log
 pub use Rattle.tfpg_graph.specs.Graph
 pub mod Report
--- What no public contract cites.
-pub mod inside

@@ -6,19 +6,19 @@ use Rattle.tfpg_log.specs.declared.event.Offered.{Offered}
 use Rattle.tfpg_log.specs.declared.event.Offered.TheVariants.{Accepted, Refused}
 use Rattle.tfpg_log.specs.Log.{Logbook, with_event}
 use Rattle.tfpg_log.specs.Accepted.{reply_to}
-use Rattle.tfpg_log.specs.LogOfLines.{is_too_long, log_of_lines}
+use Rattle.tfpg_log.specs.LogOfLines.{is_too_long, new_log, log_after, log_of_lines}
 use Rattle.tfpg_evidence.specs.declared.round.Round.{Round}
 use Rattle.tfpg_hyp.specs.Rounds.{IsRound}
 use Rattle.tfpg_report.specs.declared.refused_line.RefusedLine.{RefusedLine}
 use Rattle.tfpg_report.specs.declared.refused_line.RefusedLine.TheVariants.{TooLong, Offer}
 use Rattle.tfpg_report.specs.Blocks.{head_text, Loss, Block, RefusedBlock, RoundBlock, block_text}
 
--- the event that a log's reply gives, or why there is none
+-- the event of a log's reply, or why there is none
 abbrev pub event_of_reply : Offered → Result Event RefusedLine
 event_of_reply (Accepted event) = Ok event
 event_of_reply (Refused refusal) = Err (Offer refusal)
 
--- the event that a line gives, or why there is none
+-- the event that a line brings, or why there is none
 abbrev pub event_of_line : Tfpg → Logbook → List ℕ → Result Event RefusedLine
 event_of_line graph log line = if is_too_long line then Err TooLong else event_of_reply (reply_to graph log line)
 
@@ -31,6 +31,15 @@ pub record Progress : Type 0 where
 abbrev pub rounds_of : Block → List Round
 rounds_of (RefusedBlock line cause) = []
 rounds_of (RoundBlock round losses) = round ∷ []
+
+-- nothing is reported yet
+abbrev pub new_progress : Progress
+new_progress = record { rounds = []; log = new_log }
+
+-- how far a report has come after the block of one more line
+abbrev pub progress_after : Tfpg → Progress → List ℕ → Block → Progress
+progress_after graph before line block =
+    record { rounds = before.rounds ++ rounds_of block; log = log_after graph before.log line }
 
 -- how far a report of these lines with these blocks has come
 abbrev pub progress_of : Tfpg → List (List ℕ) → List Block → Progress

@@ -1,4 +1,8 @@
-//! What a report of a list of lines is, and its judge.
+//! What a report of a list of lines is.
 //!
-//! So far the crate has the definition of a report alone, in `specs/`.
+//! So far the crate has the definition alone, in `specs/`. The judge of reports is still to come.
+//!
+//! [`laws`] says how far a report has come after each block.
 #![tactic(auto)]
+
+pub mod laws;

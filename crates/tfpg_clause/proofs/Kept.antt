@@ -131,7 +131,7 @@ unreached_stays true c horizon before after states stated rises at = by (leb hor
     by false after_ kept = absurd cc
 
 -- an event that is a silence is an event of the log
-quiet_within : (graph : Tfpg) (log : Logbook) (event node : ℕ) (stated : Constraint) → option_map (λ time. at_least node (time + 1)) (quiet_at graph log event node) ≡ Some stated
+pub quiet_within : (graph : Tfpg) (log : Logbook) (event node : ℕ) (stated : Constraint) → option_map (λ time. at_least node (time + 1)) (quiet_at graph log event node) ≡ Some stated
     → event ≤ length log.events
 quiet_within graph log zero node stated at = absurd cc
 quiet_within graph log (suc before) node stated at = by (slice_get log.events before) refl at

@@ -22,6 +22,7 @@ pub mod MustSpans
 pub mod MustFamilies
 pub mod FirstOfAll
 pub mod NameOrder
+pub mod LowHigh
 pub mod FactsMet
 pub mod GivesTrace
 pub mod OwnModes

@@ -1,6 +1,6 @@
 //! What facts, clauses and refutations come to, as functions that do nothing: each says its law in its clauses.
 
-ghost use Rattle.std.specs.Prelude.{◌≡◌, ℕ, pos, ◌≤ℤ◌, ◌↔◌, ◌⊎◌, List, All, IsTrue, Some};
+ghost use Rattle.std.specs.Prelude.{◌≡◌, ℕ, pos, ◌≤ℤ◌, ◌↔◌, ◌⊎◌, ◌<◌, length, List, All, IsTrue, Some};
 ghost use Rattle.tfpg_base.specs.declared.activation.Activation.{Activation};
 ghost use Rattle.tfpg_base.specs.declared.constraint.Constraint.{Constraint};
 ghost use Rattle.tfpg_graph.specs.Graph.{Tfpg, is_kind_at, is_failure};
@@ -12,7 +12,7 @@ ghost use Rattle.tfpg_log.specs.Explains.{Explains, Fits, ShowsAll, IsMember};
 ghost use Rattle.tfpg_evidence.specs.declared.clause_name.ClauseName.{ClauseName};
 ghost use Rattle.tfpg_evidence.specs.declared.reason.Reason.{Reason};
 ghost use Rattle.tfpg_base.specs.Constraint.{Meets};
-ghost use Rattle.tfpg_clause.specs.Facts.{fact};
+ghost use Rattle.tfpg_clause.specs.Facts.{fact, IsLow, IsHigh};
 ghost use Rattle.tfpg_clause.specs.Clauses.{alternatives, MeetsClause};
 ghost use Rattle.tfpg_clause.specs.Order.{horizon_of, ComesBefore};
 ghost use Rattle.tfpg_clause.specs.Cut.{cut, AreNumbers, AreNumbersOf};
@@ -46,6 +46,19 @@ pub fn clauses_of_one_horizon_have_an_order()
         ComesBefore one middle → ComesBefore middle other → ComesBefore one other }
     ensures one_first { (one other : ClauseName) → horizon_of one ≡ horizon_of other →
         (one ≡ other) ⊎ (ComesBefore one other ⊎ ComesBefore other one) }
+{}
+
+/// The facts give each node one greatest lower bound, and one least upper bound: `low` and `high` say that there is one, and
+/// `one_low` and `one_high` that there is no other.
+pub fn facts_give_a_node_one_low_and_one_high()
+    ensures low { (graph : Tfpg) (log : Logbook) (reach : List ℕ) (node : ℕ) →
+        node < length graph.nodes → (low : ℕ) × IsLow graph log reach node low }
+    ensures high { (graph : Tfpg) (log : Logbook) (reach : List ℕ) (node : ℕ) →
+        node < length graph.nodes → (high : ℕ) × IsHigh graph log reach node high }
+    ensures one_low { (graph : Tfpg) (log : Logbook) (reach : List ℕ) (node one other : ℕ) →
+        IsLow graph log reach node one → IsLow graph log reach node other → one ≡ other }
+    ensures one_high { (graph : Tfpg) (log : Logbook) (reach : List ℕ) (node one other : ℕ) →
+        IsHigh graph log reach node one → IsHigh graph log reach node other → one ≡ other }
 {}
 
 /// Where times meet constraints that chain into a cycle, the sum of their bounds is at least 0.

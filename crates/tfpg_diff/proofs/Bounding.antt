@@ -12,10 +12,10 @@ use Rattle.tfpg_diff.specs.declared.why.Why.TheVariants.{Given}
 use Rattle.tfpg_diff.specs.declared.bounds.Bounds.{Bounds}
 use Rattle.tfpg_diff.specs.declared.pick.Pick.{Pick}
 use Rattle.tfpg_base.specs.Constraint.{Meets}
-use Rattle.tfpg_diff.specs.Demands.{Demands, Demanded, Bounded, floor_of, ceiling_of, picked}
+use Rattle.tfpg_diff.specs.Demands.{Demands, Demanded, Bounded, floor_of, ceiling_of, picked, demands_of}
 use Rattle.tfpg_diff.specs.Solution.{IsBetween, IsSolution}
 use Rattle.tfpg_diff.specs.Cycle.{NamesNegativeCycle}
-use Rattle.tfpg_diff.specs.inside.Kept.{IsMetBy, IsRooted, Walked, IsLink, IsKept, IsStart, demands_of}
+use Rattle.tfpg_diff.specs.inside.Kept.{IsMetBy, IsRooted, Walked, IsLink, IsKept, IsStart}
 use Rattle.tfpg_base.proofs.lists.Elements.{AllPairs-cons}
 use Rattle.tfpg_diff.proofs.Totals.{NamesNegativeCycle-chain}
 use Rattle.tfpg_diff.proofs.Solutions.{IsMetBy-solution, Meets-IsMetBy}

@@ -9,10 +9,10 @@ use Rattle.tfpg_diff.specs.declared.demand.Demand.{Demand}
 use Rattle.tfpg_diff.specs.declared.bounds.Bounds.{Bounds}
 use Rattle.tfpg_diff.specs.declared.pick.Pick.{Pick}
 use Rattle.tfpg_base.specs.Constraint.{Meets}
-use Rattle.tfpg_diff.specs.Demands.{Demands, Demanded, Bounded, picked}
+use Rattle.tfpg_diff.specs.Demands.{Demands, Demanded, Bounded, picked, demands_of}
 use Rattle.tfpg_diff.specs.Solution.{IsBetween, IsSolution}
 use Rattle.tfpg_base.specs.Times.{never}
-use Rattle.tfpg_diff.specs.inside.Kept.{IsLink, IsKept, IsSound, demands_of}
+use Rattle.tfpg_diff.specs.inside.Kept.{IsLink, IsKept, IsSound}
 use Rattle.tfpg_base.proofs.lists.Elements.{All-front}
 use Rattle.tfpg_base.proofs.lists.Written.{slice_get-set_other, slice_get-set_same}
 

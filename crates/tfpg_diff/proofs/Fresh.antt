@@ -7,12 +7,12 @@ use Rattle.tfpg_diff.specs.declared.demand.Demand.{Demand}
 use Rattle.tfpg_diff.specs.declared.why.Why.{Why}
 use Rattle.tfpg_diff.specs.declared.bounds.Bounds.{Bounds}
 use Rattle.tfpg_diff.specs.declared.pick.Pick.{Pick}
-use Rattle.tfpg_diff.specs.Demands.{picked}
+use Rattle.tfpg_diff.specs.Demands.{picked, demands_of}
 use Rattle.tfpg_diff.specs.Cycle.{NamesNegativeCycle}
 use Rattle.tfpg_base.specs.Times.{never}
 use Rattle.tfpg_diff.specs.State.{widest, unbounded_from}
 use Rattle.tfpg_diff.specs.Solution.{IsBetween}
-use Rattle.tfpg_diff.specs.inside.Kept.{IsMetBy, IsKept, IsStart, IsReady, demands_of}
+use Rattle.tfpg_diff.specs.inside.Kept.{IsMetBy, IsKept, IsStart, IsReady}
 use Rattle.tfpg_diff.proofs.Totals.{HasNoSolution-cycle}
 use Rattle.tfpg_diff.proofs.Changes.{IsSolution-take}
 use Rattle.tfpg_diff.proofs.Bounding.{IsKept-start}

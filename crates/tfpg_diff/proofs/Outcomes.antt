@@ -10,11 +10,11 @@ use Rattle.tfpg_diff.specs.declared.why.Why.{Why}
 use Rattle.tfpg_diff.specs.declared.why.Why.TheVariants.{Given}
 use Rattle.tfpg_diff.specs.declared.bounds.Bounds.{Bounds}
 use Rattle.tfpg_diff.specs.declared.pick.Pick.{Pick}
-use Rattle.tfpg_diff.specs.Demands.{Demands, ceiling_of, picked}
+use Rattle.tfpg_diff.specs.Demands.{Demands, ceiling_of, picked, demands_of}
 use Rattle.tfpg_diff.specs.Solution.{IsBetween, HasSolution, HasNoSolution}
 use Rattle.tfpg_diff.specs.Cycle.{NamesNegativeCycle}
 use Rattle.tfpg_diff.specs.State.{with_floor, with_ceiling, with_pick}
-use Rattle.tfpg_diff.specs.inside.Kept.{IsMetBy, IsKept, IsSound, IsReady, MeetsPicks, Walked, demands_of}
+use Rattle.tfpg_diff.specs.inside.Kept.{IsMetBy, IsKept, IsSound, IsReady, MeetsPicks, Walked}
 use Rattle.tfpg_diff.proofs.Latest.{IsLatest-kept}
 use Rattle.tfpg_diff.proofs.Totals.{HasNoSolution-cycle}
 use Rattle.tfpg_diff.proofs.Bounding.{under, over, ceiling_pick, IsKept-floor, IsKept-ceiling, cycle_from_raised, cycle_from_ceiling}

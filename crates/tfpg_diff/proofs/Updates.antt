@@ -5,7 +5,7 @@ use Rattle.std.proofs.lemmas.Option.{same_Some, none-some}
 use Rattle.tfpg_diff.specs.declared.bounds.Bounds.{Bounds}
 use Rattle.tfpg_diff.specs.declared.pick.Pick.{Pick}
 use Rattle.tfpg_diff.specs.State.{raised, lowered, changed_at, with_floor, with_ceiling}
-use Rattle.tfpg_diff.specs.inside.Kept.{demands_of}
+use Rattle.tfpg_diff.specs.Demands.{demands_of}
 use Rattle.tfpg_diff.proofs.Bounding.{under, over}
 
 -- a change of one item is a write of the changed item

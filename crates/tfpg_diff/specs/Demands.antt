@@ -11,6 +11,10 @@ pub record Demands : Type 0 where
   pub bounds : List Bounds
   pub picks : List Pick
 
+-- the demands of these bounds and picks
+abbrev pub demands_of : List Bounds → List Pick → Demands
+demands_of bounds picks = record { bounds = bounds; picks = picks }
+
 -- The upper bound of a variable: it less zero is at most that.
 abbrev pub ceiling_of : ℕ → Bounds → Demand
 ceiling_of variable bounds = record {

@@ -7,7 +7,7 @@ use Rattle.tfpg_diff.specs.declared.why.Why.TheVariants.{Floor, Ceiling, Given}
 use Rattle.tfpg_diff.specs.declared.why.Conflict.{Conflict}
 use Rattle.tfpg_diff.specs.declared.bounds.Bounds.{Bounds}
 use Rattle.tfpg_diff.specs.declared.pick.Pick.{Pick}
-use Rattle.tfpg_diff.specs.Demands.{Demands}
+use Rattle.tfpg_diff.specs.Demands.{Demands, demands_of}
 use Rattle.tfpg_diff.specs.Solution.{HasSolution, HasNoSolution}
 use Rattle.tfpg_diff.specs.Cycle.{NamesNegativeCycle}
 
@@ -46,22 +46,22 @@ changed_at change (first ∷ others) (suc place) = first ∷ changed_at change o
 -- the demands with a lower bound of a variable
 abbrev pub with_floor : Demands → ℕ → ℕ → ℕ → Demands
 with_floor demands variable least tag =
-    record { bounds = changed_at (raised least tag) demands.bounds variable; picks = demands.picks }
+    demands_of (changed_at (raised least tag) demands.bounds variable) demands.picks
 
 -- the demands with an upper bound of a variable
 abbrev pub with_ceiling : Demands → ℕ → ℕ → ℕ → Demands
 with_ceiling demands variable most tag =
-    record { bounds = changed_at (lowered most tag) demands.bounds variable; picks = demands.picks }
+    demands_of (changed_at (lowered most tag) demands.bounds variable) demands.picks
 
 -- the demands with one more pick
 abbrev pub with_pick : Demands → Constraint → ℕ → Demands
 with_pick demands constraint tag =
     let pick : Pick = record { constraint = constraint; tag = tag } in
-    record { bounds = demands.bounds; picks = demands.picks ++ pick ∷ [] }
+    demands_of demands.bounds (demands.picks ++ pick ∷ [])
 
 -- the demands without the picks after so many
 abbrev pub popped_to : Demands → ℕ → Demands
-popped_to demands len = record { bounds = demands.bounds; picks = take len demands.picks }
+popped_to demands len = demands_of demands.bounds (take len demands.picks)
 
 -- What adding to a system returns. Ok: the system demands all of it, and that has a solution. Conflict: all of it together
 -- has no solution; what the system demands is unchanged, and it lends the tags of a negative cycle among all of it.

@@ -24,21 +24,24 @@ pub fn tags_name_what_is_new()
 /// Tags that name the constraints of a system go on doing so: after a bound or a pick that the new tag names, and after
 /// picks were popped.
 pub fn tags_name_what_is_added()
-    ensures floor { (demands : Demands) (named : Why → Option Constraint) (variable least tag : ℕ) → AreDemandsNamed demands named →
+    ensures floor { (demands : Demands) (named : Why → Option Constraint) (variable least tag : ℕ) →
+        AreDemandsNamed demands named →
         named (Given tag) ≡ Some (record { left = 0; right = variable + 1; most = neg_ℤ (pos least) }) →
         AreDemandsNamed (with_floor demands variable least tag) named }
-    ensures ceiling { (demands : Demands) (named : Why → Option Constraint) (variable most tag : ℕ) → AreDemandsNamed demands named →
+    ensures ceiling { (demands : Demands) (named : Why → Option Constraint) (variable most tag : ℕ) →
+        AreDemandsNamed demands named →
         named (Given tag) ≡ Some (record { left = variable + 1; right = 0; most = pos most }) →
         AreDemandsNamed (with_ceiling demands variable most tag) named }
     ensures pick { (demands : Demands) (named : Why → Option Constraint) (constraint : Constraint) (tag : ℕ) →
         AreDemandsNamed demands named → named (Given tag) ≡ Some constraint →
         AreDemandsNamed (with_pick demands constraint tag) named }
-    ensures popped { (demands : Demands) (named : Why → Option Constraint) (len : ℕ) → AreDemandsNamed demands named →
-        AreDemandsNamed (popped_to demands len) named }
+    ensures popped { (demands : Demands) (named : Why → Option Constraint) (len : ℕ) →
+        AreDemandsNamed demands named → AreDemandsNamed (popped_to demands len) named }
 {}
 
 /// Where tags name the constraints of a system, those of a negative cycle name constraints that chain into one.
 pub fn tags_name_the_cycle()
-    ensures { (demands : Demands) (named : Why → Option Constraint) (tags : List Why) → AreDemandsNamed demands named →
-        NamesNegativeCycle demands tags → (constraints : List Constraint) × IsCycleOf named tags constraints }
+    ensures { (demands : Demands) (named : Why → Option Constraint) (tags : List Why) →
+        AreDemandsNamed demands named → NamesNegativeCycle demands tags →
+        (constraints : List Constraint) × IsCycleOf named tags constraints }
 {}

@@ -4,7 +4,7 @@
 //! - [`System`] has some variables, a lower and an upper bound of each, and a stack of picks. [`System::raise`],
 //!   [`System::lower`] and [`System::push`] add to it, [`System::pop_to`] takes picks off again, and
 //!   [`System::solution`] lends the latest solution.
-//! - [`Conflict`] is the answer where there would be no solution; [`System::cycle`] then lends the tags, [`Why`], of
+//! - [`Conflict`] is returned where there would be no solution; [`System::cycle`] then lends the tags, [`Why`], of
 //!   constraints that chain into a cycle whose bounds sum up to less than 0.
 //! - [`Bounds`], [`Pick`] and [`Demand`] are what contracts see of a system; [`laws`] says what its tags name.
 //!

@@ -1,10 +1,10 @@
 //! One test of one constraint, and what follows where the values break it.
 
 ghost use Rattle.std.specs.Prelude.{◌≡◌, ◌^◌, ◌+◌, ◌<◌, ◌≤◌, pos, ◌+ℤ◌, ◌≤ℤ◌, ◌<ℤ◌, [], ◌∷◌, ◌++◌, length, vec_len, vec_capacity, IsTrue, IfOk, OnOk, OnErr, IfSome, IsNone, if◌then◌else◌, slice_index, slice_get, All, Some, false, true};
-ghost use Rattle.tfpg_diff.specs.Demands.{picked};
+ghost use Rattle.tfpg_diff.specs.Demands.{picked, demands_of};
 ghost use Rattle.tfpg_diff.specs.Cycle.{NamesNegativeCycle};
 ghost use Rattle.tfpg_base.specs.Times.{never};
-ghost use Rattle.tfpg_diff.specs.inside.Kept.{IsMetBy, IsRooted, IsLabelled, Walked, IsSound, IsKept, IsBrokenBy, Relaxes, allowed_by, demands_of};
+ghost use Rattle.tfpg_diff.specs.inside.Kept.{IsMetBy, IsRooted, IsLabelled, Walked, IsSound, IsKept, IsBrokenBy, Relaxes, allowed_by};
 
 use crate::bounds::Bounds;
 use crate::demand::Demand;

@@ -2,10 +2,10 @@
 
 ghost use Rattle.std.specs.Prelude.{◌≡◌, ℕ, ◌+◌, ◌-◌, ◌^◌, ◌<◌, ◌≤◌, length, vec_len, vec_capacity, IfOk, OnOk, OnErr, Some, slice_get, slice_index};
 ghost use Rattle.tfpg_diff.specs.declared.bounds.Bounds.{Bounds as BoundsOf};
-ghost use Rattle.tfpg_diff.specs.Demands.{ceiling_of};
+ghost use Rattle.tfpg_diff.specs.Demands.{ceiling_of, demands_of};
 ghost use Rattle.tfpg_diff.specs.Cycle.{NamesNegativeCycle};
 ghost use Rattle.tfpg_base.specs.Times.{never};
-ghost use Rattle.tfpg_diff.specs.inside.Kept.{IsSound, IsKept, IsStart, MeetsPicks, Passes, demands_of};
+ghost use Rattle.tfpg_diff.specs.inside.Kept.{IsSound, IsKept, IsStart, MeetsPicks, Passes};
 
 use crate::bounds::Bounds;
 use crate::demand::Demand;

@@ -114,7 +114,7 @@ impl System {
         &self.labels.values[1..]
     }
 
-    /// Lends the tags of the negative cycle that the last call found, where its answer was Conflict.
+    /// Lends the tags of the negative cycle that the last call found, where it returned Conflict.
     pub fn cycle(&self) -> &[Why]
         ensures { result.now ≡ self.now.cycle }
     {

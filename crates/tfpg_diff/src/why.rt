@@ -1,4 +1,4 @@
-//! What names the constraints of a cycle, and the answer that there is one.
+//! What names the constraints of a cycle, and the error that there is one.
 
 /// The tag of a constraint.
 #[derive(Clone, Copy, Debug, PartialEq, Eq)]

@@ -7,10 +7,11 @@ ghost use Rattle.tfpg_log.specs.inside.ActiveModes.{has_mode};
 ghost use Rattle.tfpg_log.specs.declared.limits.TheConstants.{MAX_EVENTS, MAX_MODE_CHANGES};
 ghost use Rattle.tfpg_log.specs.LogOfLines.{new_log};
 ghost use Rattle.tfpg_log.specs.Quiet.{IsLastQuiet};
-ghost use Rattle.tfpg_log.specs.inside.LogIndex.{IsNoSecondAlarm};
 ghost use Rattle.tfpg_log.specs.inside.NodeEvents.{AreSameOfNodes, IsLast, IsNodeEvents, IsSwept, later_of};
 ghost use Rattle.tfpg_base.specs.Times.{max_time};
 ghost use Rattle.tfpg_graph.specs.Graph.{Tfpg, is_monitored};
+
+mod accepting;
 
 use crate::active_modes::{ActiveModes, modes_into};
 use crate::event::Event;
@@ -18,7 +19,7 @@ use crate::limits::{MAX_EVENTS, MAX_MODE_CHANGES};
 use crate::mode_change::ModeChange;
 use crate::node_events::NodeEvents;
 use crate::span::{Span, Window};
-use crate::spans::{mode_of_span, number_of, span_in, take_change};
+use crate::spans::{mode_of_span, number_of, span_in};
 use crate::windows::window_round;
 use std::alloc::Global;
 use std::marker::Model;
@@ -288,107 +289,6 @@ impl Log {
             None => true,
         }
     }
-
-    /// Takes the event as its last. Where there is no memory for it, the log stays as it was.
-    pub(crate) fn accept(&mut self, event: Event) -> Result<(), NoMemory>
-        requires room { length self.old.events < MAX_EVENTS }
-        requires not_back { now_of self.old ≤ time_of_event event }
-        requires in_range { time_of_event event ≤ max_time }
-        requires first { IsNoSecondAlarm self.old event }
-        ensures ok { OnOk result (self.new ≡ with_event self.old event) }
-        ensures err { OnErr result (self.new ≡ self.old) }
-    {
-        match event {
-            Event::Alarm { time, node } => self.accept_alarm(time, node),
-            Event::Silent { time, node } => self.accept_silence(time, node),
-            Event::Sweep { time } => self.accept_sweep(time),
-            Event::Tick { .. } => {
-                self.events.push(event)?;
-                Ok(())
-            }
-            Event::Mode { time, mode } => self.accept_mode_change(time, mode),
-        }
-    }
-
-    /// Takes a node's first alarm.
-    fn accept_alarm(&mut self, time: u64, node: u32) -> Result<(), NoMemory>
-        requires room { length self.old.events < MAX_EVENTS }
-        requires not_back { now_of self.old ≤ time }
-        requires in_range { time ≤ max_time }
-        requires first { alarm_of self.old node ≡ None }
-        ensures ok { OnOk result (self.new ≡ with_event self.old (Event.Alarm time node)) }
-        ensures err { OnErr result (self.new ≡ self.old) }
-    {
-        let events = NodeEvents {
-            alarm: Some(self.len() + 1),
-            silence: self.node_events(node).silence,
-            sweep: self.last_sweep,
-        };
-        lengthen(&mut self.nodes, node as usize + 1)?;
-        self.events.push(Event::Alarm { time, node })?;
-        self.nodes[node as usize] = events;
-        Ok(())
-    }
-
-    /// Takes a silence of a node's own.
-    fn accept_silence(&mut self, time: u64, node: u32) -> Result<(), NoMemory>
-        requires room { length self.old.events < MAX_EVENTS }
-        requires not_back { now_of self.old ≤ time }
-        requires in_range { time ≤ max_time }
-        ensures ok { OnOk result (self.new ≡ with_event self.old (Event.Silent time node)) }
-        ensures err { OnErr result (self.new ≡ self.old) }
-    {
-        let before = self.node_events(node);
-        let events = NodeEvents {
-            alarm: before.alarm,
-            silence: Some(self.len() + 1),
-            sweep: before.sweep,
-        };
-        lengthen(&mut self.nodes, node as usize + 1)?;
-        self.events.push(Event::Silent { time, node })?;
-        self.nodes[node as usize] = events;
-        Ok(())
-    }
-
-    /// Takes a sweep.
-    fn accept_sweep(&mut self, time: u64) -> Result<(), NoMemory>
-        requires room { length self.old.events < MAX_EVENTS }
-        requires not_back { now_of self.old ≤ time }
-        requires in_range { time ≤ max_time }
-        ensures ok { OnOk result (self.new ≡ with_event self.old (Event.Sweep time)) }
-        ensures err { OnErr result (self.new ≡ self.old) }
-    {
-        let number = self.len() + 1;
-        self.events.push(Event::Sweep { time })?;
-        self.last_sweep = Some(number);
-        Ok(())
-    }
-
-    /// Takes a change of mode.
-    fn accept_mode_change(&mut self, time: u64, mode: u32) -> Result<(), NoMemory>
-        requires room { length self.old.events < MAX_EVENTS }
-        requires not_back { now_of self.old ≤ time }
-        requires in_range { time ≤ max_time }
-        ensures ok { OnOk result (self.new ≡ with_event self.old (Event.Mode time mode)) }
-        ensures err { OnErr result (self.new ≡ self.old) }
-    {
-        self.changes.reserve(1)?;
-        self.events.push(Event::Mode { time, mode })?;
-        take_change(&mut self.changes, time, mode)?;
-        self.change_count += 1;
-        Ok(())
-    }
-}
-
-/// Makes the list at least so long. What it says of each node stays as it was.
-fn lengthen(nodes: &mut Vec<NodeEvents>, len: usize) -> Result<(), NoMemory>
-    ensures long { OnOk result (len ≤ vec_len nodes.new) }
-    ensures same { AreSameOfNodes nodes.new.items nodes.old.items }
-{
-    if nodes.len() < len {
-        nodes.resize(len, NodeEvents::none())?;
-    }
-    Ok(())
 }
 
 /// The later of two events, by their numbers, where there are any.

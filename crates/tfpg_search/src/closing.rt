@@ -1,6 +1,6 @@
 //! The reasons of a negative cycle.
 
-ghost use Rattle.std.specs.Prelude.{◌≡◌, length, map, All, IfOk};
+ghost use Rattle.std.specs.Prelude.{◌≡◌, map, All, IfOk};
 ghost use Rattle.tfpg_search.specs.inside.Tags.{HasReason, reason_of};
 ghost use Rattle.tfpg_search.specs.inside.Closing.{IsFaultOf};
 

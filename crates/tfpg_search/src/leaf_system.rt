@@ -1,7 +1,7 @@
 //! The system of the present leaf: the bounds of the facts below, the constraints of the alternatives on the path above,
 //! each with its reason.
 
-ghost use Rattle.std.specs.Prelude.{◌≡◌, ◌<◌, ◌≤◌, ◌+◌, ◌*◌, ◌++◌, ◌∷◌, [], ℕ, pos, List, length, take, All, Option, Some, Ok, Err, IfOk, OnOk, OnErr, IfErr};
+ghost use Rattle.std.specs.Prelude.{◌≡◌, ◌<◌, ◌≤◌, ◌+◌, ◌*◌, ◌++◌, ◌∷◌, [], ℕ, pos, length, take, All, Option, Some, Ok, Err, IfOk, OnOk, OnErr, IfErr};
 ghost use Rattle.tfpg_base.specs.Times.{never};
 ghost use Rattle.tfpg_base.specs.declared.constraint.Constraint.{Constraint};
 ghost use Rattle.tfpg_evidence.specs.declared.reason.Reason.{Reason};
@@ -10,8 +10,8 @@ ghost use Rattle.tfpg_clause.specs.Bounds.{at_most, at_least};
 ghost use Rattle.tfpg_diff.specs.declared.bounds.Bounds.{Bounds};
 ghost use Rattle.tfpg_diff.specs.Demands.{Bounded};
 ghost use Rattle.tfpg_diff.specs.Solution.{IsLatest};
-ghost use Rattle.tfpg_diff.specs.State.{unbounded_from, with_floor, with_ceiling, with_pick, popped_to};
-ghost use Rattle.tfpg_search.specs.Leaf.{pick_reasons, IsStated, IsSimpleCycle};
+ghost use Rattle.tfpg_diff.specs.State.{with_floor, with_ceiling, with_pick, popped_to};
+ghost use Rattle.tfpg_search.specs.Leaf.{pick_reasons, IsStated};
 ghost use Rattle.tfpg_search.specs.inside.Closing.{Closes};
 
 use crate::add_fault::AddFault;

@@ -12,8 +12,7 @@ use Rattle.tfpg_clause.specs.Trees.{Judged}
 use Rattle.tfpg_evidence.specs.RoundOf.{Sizes, IsRoundOf}
 use Rattle.tfpg_hyp.specs.Rounds.{steps_so_far, IsRound, HasNoneOpen}
 use Rattle.tfpg_report.specs.Blocks.{Block, RefusedBlock, RoundBlock, block_text}
-use Rattle.tfpg_check.specs.Report.{Progress, IsBlock}
-use Rattle.tfpg_check.specs.inside.Progress.{after}
+use Rattle.tfpg_check.specs.Report.{Progress, IsBlock, progress_after as after}
 use Rattle.tfpg.specs.declared.diagnoser.Diagnoser.{Diagnoser}
 use Rattle.tfpg.specs.declared.diagnoser.Told.{Told}
 use Rattle.tfpg.specs.declared.diagnoser.Told.TheVariants as answer

@@ -6,6 +6,7 @@ use Rattle.tfpg_diff.specs.declared.bounds.Bounds.{Bounds}
 use Rattle.tfpg_diff.specs.declared.pick.Pick.{Pick}
 use Rattle.tfpg_diff.specs.declared.demand.Demand.{Demand}
 use Rattle.tfpg_diff.specs.Demands.{Demands, Demanded, Bounded, picked, ceiling_of}
+pub use Rattle.tfpg_diff.specs.Demands.{demands_of}
 use Rattle.tfpg_diff.specs.Solution.{IsBetween, IsSolution}
 use Rattle.tfpg_base.specs.Times.{never}
 
@@ -73,10 +74,6 @@ pub record IsKept (demands : Demands) (values : List ℕ) (links : List Demand) 
 -- Values meet each pick.
 abbrev pub MeetsPicks : List ℕ → List Pick → Type 0
 MeetsPicks values picks = All (λ pick. IsMetBy values (picked pick)) picks
-
--- the demands of these bounds and picks
-abbrev pub demands_of : List Bounds → List Pick → Demands
-demands_of bounds picks = record { bounds = bounds; picks = picks }
 
 -- What testing one pick does to values: where it was broken they sum up to less, else they stay and meet it.
 abbrev pub Relaxes : List Pick → ℕ → List ℕ → Bool → List ℕ → Type 0

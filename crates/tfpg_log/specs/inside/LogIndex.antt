@@ -1,11 +1,12 @@
 -- What a log keeps beside its events: which of them bound when each node became active, the last sweep, and the changes
 -- that begin its spans.
-use Rattle.std.specs.Prelude.{◌≡◌, ℕ, ◌+◌, ◌≤◌, List, length, count_by, Option, Some, None}
+use Rattle.std.specs.Prelude.{◌≡◌, ℕ, ◌+◌, ◌<◌, ◌≤◌, List, length, count_by, Option, Some, None}
 use Rattle.std.specs.List.Sorted.{IsNonDecreasingBy}
 use Rattle.tfpg_log.specs.declared.event.Event.{Event}
 use Rattle.tfpg_log.specs.declared.event.Event.TheVariants.{Alarm, Silent, Sweep, Tick, Mode}
 use Rattle.tfpg_log.specs.declared.mode_change.ModeChange.{ModeChange}
 use Rattle.tfpg_log.specs.Log.{Logbook, IsOrdered, now_of, event_at, alarm_of, alarm_event, is_mode_change, mode_after}
+use Rattle.tfpg_base.specs.Times.{max_time}
 use Rattle.tfpg_log.specs.declared.limits.TheConstants.{MAX_EVENTS}
 use Rattle.tfpg_log.specs.declared.node_events.NodeEvents.{NodeEvents}
 use Rattle.tfpg_log.specs.inside.NodeEvents.{IsLast, IsSweep, IsNodeEvents, events_of}
@@ -28,6 +29,12 @@ pub record IsLogIndex (events : List Event) (nodes : List NodeEvents) (sweep : O
   pub by_now : begin_of_span changes (length changes) ≤ now_of (record { events = events }) + 1
   pub ordered : IsOrdered (record { events = events })
   pub first_alarms : AreFirstAlarms (record { events = events })
+
+-- One more event may come at this time: there is room for it, and the time is neither before now nor too large.
+pub record MayComeAt (log : Logbook) (time : ℕ) : Type 0 where
+  pub room : length log.events < MAX_EVENTS
+  pub not_back : now_of log ≤ time
+  pub in_range : time ≤ max_time
 
 -- the event is no second alarm of its node
 abbrev pub IsNoSecondAlarm : Logbook → Event → Type 0

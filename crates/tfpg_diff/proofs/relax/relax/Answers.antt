@@ -5,7 +5,8 @@ use Rattle.std.proofs.lemmas.Bool.{cases_eq, false≢true}
 use Rattle.std.proofs.lemmas.List.Elements.{All-same}
 use Rattle.tfpg_diff.specs.declared.demand.Demand.{Demand}
 use Rattle.tfpg_diff.specs.declared.why.Why.{Why}
-use Rattle.tfpg_diff.specs.inside.Kept.{demands_of, IsRooted, IsLabelled, Walked}
+use Rattle.tfpg_diff.specs.Demands.{demands_of}
+use Rattle.tfpg_diff.specs.inside.Kept.{IsRooted, IsLabelled, Walked}
 use Rattle.tfpg_base.specs.Times.{never}
 use Rattle.tfpg_diff.proofs.Lowering.{IsBroken, cycle_from_met, cycle_from_floor, IsKept-lowered, Labelled-kept}
 use Rattle.tfpg_diff.proofs.Relaxing.{small-kept, IsBroken-pick, Bounded-read, no_bounds, no_pick, length-cycle, floor-kept}

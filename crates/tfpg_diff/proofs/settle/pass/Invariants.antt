@@ -1,6 +1,7 @@
 -- The picks that were tested are met, or the values sum up to less.
 use Rattle.std.proofs.Common.{◌≤◌, take, vec_capacity}
-use Rattle.tfpg_diff.specs.inside.Kept.{IsKept, Passes, demands_of}
+use Rattle.tfpg_diff.specs.Demands.{demands_of}
+use Rattle.tfpg_diff.specs.inside.Kept.{IsKept, Passes}
 use Rattle.tfpg_diff.proofs.settle.pass.Given as goal
 
 abbrev pub invariant-loop-place : goal.invariant-loop-place

@@ -1,6 +1,7 @@
 -- Each pass that lowers leaves a smaller sum of the values.
 use Rattle.std.proofs.Common.{◌≤◌, sum, vec_capacity}
-use Rattle.tfpg_diff.specs.inside.Kept.{IsKept, demands_of}
+use Rattle.tfpg_diff.specs.Demands.{demands_of}
+use Rattle.tfpg_diff.specs.inside.Kept.{IsKept}
 use Rattle.tfpg_diff.proofs.settle.settle.Given as goal
 
 abbrev pub invariant-loop : goal.invariant-loop

@@ -7,12 +7,12 @@ use Rattle.tfpg_diff.specs.declared.demand.Demand.{Demand}
 use Rattle.tfpg_diff.specs.declared.why.Why.{Why}
 use Rattle.tfpg_diff.specs.declared.why.Why.TheVariants.{Given}
 use Rattle.tfpg_diff.specs.declared.bounds.Bounds.{Bounds}
-use Rattle.tfpg_diff.specs.Demands.{Demands}
+use Rattle.tfpg_diff.specs.Demands.{Demands, demands_of}
 use Rattle.tfpg_diff.specs.Solution.{HasSolution}
 use Rattle.tfpg_diff.proofs.Totals.{HasNoSolution-cycle}
 use Rattle.tfpg_diff.specs.Cycle.{NamesNegativeCycle}
 use Rattle.tfpg_diff.specs.State.{State, with_ceiling}
-use Rattle.tfpg_diff.specs.inside.Kept.{IsKept, IsSound, demands_of}
+use Rattle.tfpg_diff.specs.inside.Kept.{IsKept, IsSound}
 use Rattle.tfpg_diff.proofs.Bounding.{under}
 use Rattle.tfpg_diff.proofs.Updates.{set_same}
 use Rattle.tfpg_diff.proofs.Outcomes as outcome

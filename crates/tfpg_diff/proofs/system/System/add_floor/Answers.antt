@@ -4,9 +4,9 @@ use Rattle.std.specs.Prelude.{slice_get, slice_index, vec_capacity, if◌then◌
 use Rattle.std.proofs.lemmas.List.{get_or_read_under}
 use Rattle.tfpg_diff.specs.declared.demand.Demand.{Demand}
 use Rattle.tfpg_diff.specs.declared.why.Why.TheVariants.{Given}
-use Rattle.tfpg_diff.specs.Demands.{Demands}
+use Rattle.tfpg_diff.specs.Demands.{Demands, demands_of}
 use Rattle.tfpg_diff.specs.State.{State}
-use Rattle.tfpg_diff.specs.inside.Kept.{IsRooted, IsLabelled, Walked, demands_of}
+use Rattle.tfpg_diff.specs.inside.Kept.{IsRooted, IsLabelled, Walked}
 use Rattle.tfpg_diff.proofs.Lowering.{Labelled-kept}
 use Rattle.tfpg_diff.proofs.Outcomes as outcome
 use Rattle.tfpg_diff.proofs.system.System.add_floor.Goals as goal

@@ -5,12 +5,12 @@ use Rattle.std.proofs.lemmas.List.{take_at}
 use Rattle.std.proofs.lemmas.List.Elements.{All-same}
 use Rattle.tfpg_diff.specs.declared.demand.Demand.{Demand}
 use Rattle.tfpg_diff.specs.declared.pick.Pick.{Pick}
-use Rattle.tfpg_diff.specs.Demands.{Demands, picked}
+use Rattle.tfpg_diff.specs.Demands.{Demands, picked, demands_of}
 use Rattle.tfpg_diff.specs.Solution.{HasSolution}
 use Rattle.tfpg_diff.specs.Cycle.{NamesNegativeCycle}
 use Rattle.tfpg_base.specs.Times.{never}
 use Rattle.tfpg_diff.specs.State.{State, with_pick}
-use Rattle.tfpg_diff.specs.inside.Kept.{IsMetBy, IsKept, IsReady, demands_of}
+use Rattle.tfpg_diff.specs.inside.Kept.{IsMetBy, IsKept, IsReady}
 use Rattle.tfpg_diff.proofs.Totals.{HasNoSolution-cycle}
 use Rattle.tfpg_diff.proofs.Relaxing.{small-kept}
 use Rattle.tfpg_diff.proofs.Changes.{IsKept-pick}

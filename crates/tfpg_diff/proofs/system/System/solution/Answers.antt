@@ -1,11 +1,10 @@
 -- The values are kept and meet the picks, and what is lent is what comes after zero.
 use Rattle.std.proofs.Common.{ℕ, ◌≤◌, List, drop, sym, ap, subst}
 use Rattle.std.proofs.lemmas.List.{take_rest}
-use Rattle.tfpg_diff.specs.Demands.{Demands}
+use Rattle.tfpg_diff.specs.Demands.{Demands, demands_of}
 use Rattle.tfpg_diff.specs.Solution.{IsLatest}
 use Rattle.tfpg_base.specs.Times.{never}
 use Rattle.tfpg_diff.specs.State.{State}
-use Rattle.tfpg_diff.specs.inside.Kept.{demands_of}
 use Rattle.std.specs.Prelude.{All}
 use Rattle.std.proofs.lemmas.List.Elements.{All-drop}
 use Rattle.tfpg_diff.proofs.Relaxing.{small-kept}

@@ -1,0 +1,87 @@
+#!/usr/bin/env python3
+"""Times `explain` on the largest log.
+
+    bench/explain.py [FOLDER]
+
+It writes a graph of 512 nodes and 2,048 edges, a log of 16,384 events of which 1,024 change the mode, and a map of all nodes
+into the folder, or into a temporary one, and prints the shortest of five runs.
+
+The verdict is yes, so that nothing is left out: each edge is active in one of two modes, and the mode changes before a failure
+is due, so that the must rule looks at each span; and the other events are sweeps before anything is active, so that each asks
+for each node.
+
+The program is the one that `./tfpg` has built; where it is not built yet, proving and building it takes minutes.
+"""
+
+import pathlib
+import subprocess
+import sys
+import tempfile
+import time
+
+HERE = pathlib.Path(__file__).resolve().parent.parent
+PROGRAM = HERE / "tfpg"
+
+FAILURES = 64
+EFFECTS = 448
+EDGES = 2048
+CHANGES = 1024
+EVENTS = 16384
+STEP = 10  # milliseconds from one change of mode to the next
+RUNS = 5
+
+
+def graph():
+    """Each effect has edges from failure modes alone. A failure needs 5 ms, and is due after 15, but no mode lasts so long."""
+    lines = ["tfpg 1", "mode Day", "mode Night"]
+    lines += [f"failure F{number} 1" for number in range(FAILURES)]
+    lines += [f"{'and' if number % 4 == 3 else 'or'} E{number} watch 1000" for number in range(EFFECTS)]
+    for edge in range(EDGES):
+        effect, turn = edge % EFFECTS, edge // EFFECTS
+        lines.append(f"edge F{(effect + 7 * turn) % FAILURES} E{effect} 5 15 Day")
+    return lines + ["end"]
+
+
+def log():
+    """The mode changes every 10 ms; sweeps come between, and a tick at the end."""
+    lines = []
+    sweeps = EVENTS - CHANGES - 1
+    for change in range(1, CHANGES + 1):
+        count = sweeps * change // CHANGES - sweeps * (change - 1) // CHANGES
+        lines += [f"{STEP * change} sweep"] * count
+        lines.append(f"{STEP * change} mode {'Night' if change % 2 else 'Day'}")
+    return lines + [f"{STEP * CHANGES + 6} tick"]
+
+
+def all_nodes():
+    """All failure modes from the beginning, and all effects 5 ms after the last change of mode."""
+    failures = [f"F{number}" for number in range(FAILURES)]
+    lines = ["set " + ",".join(failures)] + [f"at {name} 0" for name in failures]
+    return lines + [f"at E{number} {STEP * CHANGES + 6}" for number in range(EFFECTS)]
+
+
+def run(folder):
+    texts = {"graph": graph(), "log": log(), "map": all_nodes()}
+    for name, lines in texts.items():
+        (folder / name).write_text("".join(line + "\n" for line in lines))
+    shortest = None
+    for _ in range(RUNS + 1):  # the first one may build the program
+        with open(folder / "map", "rb") as text:
+            begin = time.monotonic()
+            done = subprocess.run([PROGRAM, "explain", folder / "graph", folder / "log"], stdin=text, capture_output=True)
+            took = time.monotonic() - begin
+        if done.returncode != 0 or done.stdout != b"yes\n":
+            sys.exit(f"status {done.returncode}: {done.stdout!r} {done.stderr!r}")
+        shortest = took if shortest is None else min(shortest, took)
+    print(f"{len(texts['log'])} events, {CHANGES} changes of mode, {FAILURES + EFFECTS} nodes, {EDGES} edges: {shortest:.3f} s")
+
+
+def main():
+    if len(sys.argv) > 1:
+        run(pathlib.Path(sys.argv[1]))
+    else:
+        with tempfile.TemporaryDirectory() as folder:
+            run(pathlib.Path(folder))
+
+
+main()

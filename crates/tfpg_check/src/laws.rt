@@ -1,0 +1,15 @@
+//! What the definitions of this crate come to, as functions that do nothing: each says its law in its clauses.
+
+ghost use Rattle.std.specs.Prelude.{◌≡◌, ℕ, List, [], ◌∷◌, ◌++◌};
+ghost use Rattle.tfpg_graph.specs.Graph.{Tfpg};
+ghost use Rattle.tfpg_report.specs.Blocks.{Block};
+ghost use Rattle.tfpg_check.specs.Report.{new_progress, progress_after, progress_of};
+
+/// A report goes on block by block: what it has come to after one more line and its block follows from what it had come to
+/// before.
+pub fn a_report_goes_on_block_by_block()
+    ensures start { (graph : Tfpg) → progress_of graph [] [] ≡ new_progress }
+    ensures step { (graph : Tfpg) (lines : List (List ℕ)) (blocks : List Block) (line : List ℕ) (block : Block) →
+        progress_of graph (lines ++ line ∷ []) (blocks ++ block ∷ [])
+        ≡ progress_after graph (progress_of graph lines blocks) line block }
+{}

@@ -1,0 +1,338 @@
+-- The facts give each node one greatest lower and one least upper bound.
+use Rattle.std.proofs.Common.{◌≡◌, ℕ, zero, suc, ◌+◌, ◌<◌, ◌≤◌, Bool, true, false, ◌&&◌, not, cond, eqb, leb, ltb, List, [], ◌∷◌, length, Option, Some, None, refl, sym, ap, subst, ◌∙◌, ◌⊎◌, inl, inr, arith, pos}
+use Rattle.std.specs.Prelude.{Contains, ℤ, negsuc, neg_ℤ, option_map, option_and_then, slice_get}
+use Rattle.std.specs.Bool.{then_some}
+use Rattle.std.proofs.lemmas.Bool.{eqb-true, eq-eqb, cases_lt, lt-ltb, leb-true, le-leb, and_parts, and_from}
+use Rattle.std.proofs.lemmas.Option.{option_and_then_some, slice_get_within}
+use Rattle.tfpg_base.specs.Times.{never}
+use Rattle.tfpg_base.specs.declared.constraint.Constraint.{Constraint}
+use Rattle.tfpg_base.proofs.lists.Elements.{Contains-head, Contains-tail, Contains-nil, Contains-cons_cases}
+use Rattle.tfpg_graph.specs.Graph.{Tfpg}
+use Rattle.tfpg_graph.specs.Reach.{is_among}
+use Rattle.tfpg_log.specs.Log.{Logbook, now_of, event_at, quiet_at}
+use Rattle.tfpg_evidence.specs.declared.reason.Reason.{Reason}
+use Rattle.tfpg_evidence.specs.declared.reason.Reason.TheVariants.{Zero, Top, Unreached, From, Upto, Quiet, Pick}
+use Rattle.tfpg_clause.specs.Bounds.{at_most, at_least}
+use Rattle.tfpg_clause.specs.Facts.{fact, from_alarm, upto_alarm, IsLow, IsHigh}
+use Rattle.tfpg_clause.proofs.Dues.{passed}
+use Rattle.tfpg_clause.proofs.Kept.{quiet_within}
+
+-- ---- the best of some bounds
+
+module _ (Below : ℕ → ℕ → Type 0) (total : (one other : ℕ) → Below one other ⊎ Below other one) (through : (one middle other : ℕ) → Below one middle → Below middle other → Below one other)
+    (bound_of : Reason → Option ℕ) where
+  -- This bound is that of a reason, and those of all these reasons are below it.
+  pub record IsBest (reasons : List Reason) (best : ℕ) : Type 0 where
+    pub reason : Reason
+    pub is : bound_of reason ≡ Some best
+    pub others : (other : Reason) (bound : ℕ) → Contains reasons other → bound_of other ≡ Some bound → Below bound best
+
+  itself : (bound : ℕ) → Below bound bound
+  itself bound = elim (total bound bound) [ inl so ↦ so | inr so ↦ so ]
+
+  -- the best of some reasons and one bound more
+  best_from : (reasons : List Reason) (bound : ℕ) (reason : Reason) → bound_of reason ≡ Some bound → (best : ℕ) × IsBest reasons best × Below bound best
+  best_from [] bound reason is = (
+    bound,
+    record {
+      reason = reason;
+      is = is;
+      others = λ other b member at. absurd (Contains-nil other member);
+    },
+    itself bound,
+  )
+  best_from (first ∷ reasons) bound reason is = by (best_from reasons) (bound_of first) refl
+    where
+      longer : (own : Option ℕ) → bound_of first ≡ own → (best : ℕ) → IsBest reasons best → ((b : ℕ) → own ≡ Some b → Below b best) → IsBest (first ∷ reasons) best
+      longer own at best rest here = record {
+        reason = rest.reason;
+        is = rest.is;
+        others = λ other b member of.
+            elim (Contains-cons_cases first reasons other member) [
+              | inl same ↦ here b (sym at ∙ ap bound_of same ∙ of)
+              | inr more ↦ rest.others other b more of
+            ];
+      }
+
+      by : ((b : ℕ) (r : Reason) → bound_of r ≡ Some b → (best : ℕ) × IsBest reasons best × Below b best) → (own : Option ℕ) → bound_of first ≡ own
+          → (best : ℕ) × IsBest (first ∷ reasons) best × Below bound best
+      by further None at =
+          let rest = further bound reason is in
+          (rest.0, longer None at rest.0 rest.1 (λ b of. absurd cc), rest.2)
+      by further (Some b) at = elim (total bound b) [
+        | inl more ↦ (
+            let rest = further b first at in
+            (rest.0, longer (Some b) at rest.0 rest.1 (λ own of. subst (λ x. Below x rest.0) (let same : b ≡ own = cc in same) rest.2), through bound b rest.0 more rest.2)
+            )
+        | inr less ↦ (
+            let rest = further bound reason is in
+            (rest.0, longer (Some b) at rest.0 rest.1 (λ own of. subst (λ x. Below x rest.0) (let same : b ≡ own = cc in same) (through b bound rest.0 less rest.2)), rest.2)
+            )
+      ]
+
+-- ---- bounds of a node in constraints
+
+-- the number at least which the integer's opposite is
+least_of : ℤ → Option ℕ
+least_of (pos zero) = Some 0
+least_of (pos (suc number)) = None
+least_of (negsuc number) = Some (suc number)
+
+most_of : ℤ → Option ℕ
+most_of (pos number) = Some number
+most_of (negsuc number) = None
+
+-- the lower, and the upper bound that a constraint gives a node
+low_in : ℕ → Constraint → Option ℕ
+low_in node constraint = cond (eqb constraint.left 0 && eqb constraint.right (node + 1)) (least_of constraint.most) None
+
+high_in : ℕ → Constraint → Option ℕ
+high_in node constraint = cond (eqb constraint.left (node + 1) && eqb constraint.right 0) (most_of constraint.most) None
+
+least_is : (bound : ℕ) → least_of (neg_ℤ (pos bound)) ≡ Some bound
+unfolding least_of
+least_is zero = refl
+least_is (suc bound) = refl
+
+of_least : (most : ℤ) (bound : ℕ) → least_of most ≡ Some bound → most ≡ neg_ℤ (pos bound)
+unfolding least_of
+of_least (pos zero) bound is = let same : 0 ≡ bound = cc in ap (λ b. neg_ℤ (pos b)) same
+of_least (pos (suc number)) bound is = absurd cc
+of_least (negsuc number) bound is = let same : suc number ≡ bound = cc in ap (λ b. neg_ℤ (pos b)) same
+
+of_most : (most : ℤ) (bound : ℕ) → most_of most ≡ Some bound → most ≡ pos bound
+unfolding most_of
+of_most (pos number) bound is = let same : number ≡ bound = cc in ap pos same
+of_most (negsuc number) bound is = absurd cc
+
+chosen : {X : Type 0} (test : Bool) (here : Option X) (x : X) → cond test here None ≡ Some x → (test ≡ true) × (here ≡ Some x)
+chosen true here x is = (refl, is)
+chosen false here x is = absurd cc
+
+module _ (node : ℕ) where
+  -- a lower bound is read off, and what is read off is one
+  low_read : (bound : ℕ) → low_in node (at_least node bound) ≡ Some bound
+  unfolding low_in
+  low_read bound =
+      let here : eqb (node + 1) (node + 1) ≡ true = eq-eqb (node + 1) (node + 1) refl in
+      ap (λ (b : Bool). cond b (least_of (neg_ℤ (pos bound))) None) here ∙ least_is bound
+
+  low_is : (constraint : Constraint) (bound : ℕ) → low_in node constraint ≡ Some bound → constraint ≡ at_least node bound
+  unfolding low_in
+  low_is constraint bound is =
+      let parts = chosen (eqb constraint.left 0 && eqb constraint.right (node + 1)) (least_of constraint.most) bound is in
+      let both = and_parts (eqb constraint.left 0) (eqb constraint.right (node + 1)) parts.0 in
+      let left = eqb-true constraint.left 0 both.0 in
+      let right = eqb-true constraint.right (node + 1) both.1 in
+      let most = of_least constraint.most bound parts.1 in
+      λ i. record { left = left i; right = right i; most = most i }
+
+  high_read : (bound : ℕ) → high_in node (at_most node (pos bound)) ≡ Some bound
+  unfolding high_in most_of
+  high_read bound =
+      let here : eqb (node + 1) (node + 1) ≡ true = eq-eqb (node + 1) (node + 1) refl in
+      ap (λ (b : Bool). cond (b && true) (Some bound) None) here
+
+  high_is : (constraint : Constraint) (bound : ℕ) → high_in node constraint ≡ Some bound → constraint ≡ at_most node (pos bound)
+  unfolding high_in
+  high_is constraint bound is =
+      let parts = chosen (eqb constraint.left (node + 1) && eqb constraint.right 0) (most_of constraint.most) bound is in
+      let both = and_parts (eqb constraint.left (node + 1)) (eqb constraint.right 0) parts.0 in
+      let left = eqb-true constraint.left (node + 1) both.0 in
+      let right = eqb-true constraint.right 0 both.1 in
+      let most = of_most constraint.most bound parts.1 in
+      λ i. record { left = left i; right = right i; most = most i }
+
+  -- ---- reasons enough
+
+  -- the reasons by the events up to a number
+  by_events : ℕ → List Reason
+  by_events zero = []
+  by_events (suc count) = From (suc count) ∷ Upto (suc count) ∷ Quiet (suc count) node ∷ by_events count
+
+  -- each event has its three
+  event_there : (count event : ℕ) → 0 < event → event ≤ count
+      → Contains (by_events count) (From event) × Contains (by_events count) (Upto event) × Contains (by_events count) (Quiet event node)
+  unfolding by_events
+  event_there zero event some upto = absurd (omega arith)
+  event_there (suc count) event some upto = elim (cases_lt event (suc count)) [
+    | inl below ↦ (
+        let rest = event_there count event some (omega arith) in
+        (further (From event) rest.0, further (Upto event) rest.1, further (Quiet event node) rest.2)
+        )
+    | inr from ↦ (
+        let same : suc count ≡ event = omega arith in (
+          (0, omega arith, ap From same),
+          (1, omega arith, ap Upto same),
+          (2, omega arith, ap (λ e. Quiet e node) same),
+        )
+        )
+  ]
+    where
+      further : (reason : Reason) → Contains (by_events count) reason → Contains (From (suc count) ∷ Upto (suc count) ∷ Quiet (suc count) node ∷ by_events count) reason
+      further reason more =
+          Contains-tail (From (suc count)) (Upto (suc count) ∷ Quiet (suc count) node ∷ by_events count) reason
+          (Contains-tail (Upto (suc count)) (Quiet (suc count) node ∷ by_events count) reason (Contains-tail (Quiet (suc count) node) (by_events count) reason more))
+
+module _ (graph : Tfpg) (log : Logbook) (reach : List ℕ) (node : ℕ) where
+  -- the bounds of a reason
+  low_of : Reason → Option ℕ
+  low_of reason = option_and_then (low_in node) (fact graph log reach reason)
+
+  high_of : Reason → Option ℕ
+  high_of reason = option_and_then (high_in node) (fact graph log reach reason)
+
+  low_stated : (reason : Reason) (bound : ℕ) → low_of reason ≡ Some bound → fact graph log reach reason ≡ Some (at_least node bound)
+  unfolding low_of
+  low_stated reason bound is = option_and_then_some (low_in node) (fact graph log reach reason) bound is (λ c at rest. at ∙ ap Some (low_is node c bound rest))
+
+  low_given : (reason : Reason) (bound : ℕ) → fact graph log reach reason ≡ Some (at_least node bound) → low_of reason ≡ Some bound
+  unfolding low_of
+  low_given reason bound at = ap (option_and_then (low_in node)) at ∙ low_read node bound
+
+  high_stated : (reason : Reason) (bound : ℕ) → high_of reason ≡ Some bound → fact graph log reach reason ≡ Some (at_most node (pos bound))
+  unfolding high_of
+  high_stated reason bound is = option_and_then_some (high_in node) (fact graph log reach reason) bound is (λ c at rest. at ∙ ap Some (high_is node c bound rest))
+
+  high_given : (reason : Reason) (bound : ℕ) → fact graph log reach reason ≡ Some (at_most node (pos bound)) → high_of reason ≡ Some bound
+  unfolding high_of
+  high_given reason bound at = ap (option_and_then (high_in node)) at ∙ high_read node bound
+
+  -- reasons enough for the bounds of the node
+  abbrev all_reasons : List Reason
+  all_reasons = Top node ∷ Unreached node (now_of log) ∷ by_events node (length log.events)
+
+  by_event : (reason : Reason) → Contains (by_events node (length log.events)) reason → Contains all_reasons reason
+  by_event reason member =
+      Contains-tail (Top node) (Unreached node (now_of log) ∷ by_events node (length log.events)) reason
+      (Contains-tail (Unreached node (now_of log)) (by_events node (length log.events)) reason member)
+
+  -- an event that is there has a number
+  numbered : {X : Type 0} (f : _ → Option X) (event : ℕ) (x : X) → option_and_then f (event_at log event) ≡ Some x → (0 < event) × (event ≤ length log.events)
+  numbered f zero x at = absurd cc
+  numbered f (suc before) x at = option_and_then_some f (slice_get log.events before) x at (λ e there rest. let within = slice_get_within log.events before e there in (omega arith, omega arith))
+
+  -- no bound is of another node, or of the other side
+  same_node : (other bound given : ℕ) → at_least other given ≡ at_least node bound → other ≡ node
+  same_node other bound given is = omega (arith, ap (λ (c : Constraint). c.right) is)
+
+  same_most : (other bound given : ℕ) → at_most other (pos given) ≡ at_most node (pos bound) → other ≡ node
+  same_most other bound given is = omega (arith, ap (λ (c : Constraint). c.left) is)
+
+  apart : (one other bound : ℕ) (given : ℤ) → at_most one given ≡ at_least other bound → ⊥
+  apart one other bound given is = omega (arith, ap (λ (c : Constraint). c.left) is)
+
+  bound_is : (other bound given : ℕ) → at_least other given ≡ at_least node bound → given ≡ bound
+  bound_is other bound given is =
+      let read : Some given ≡ Some bound = sym (least_is given) ∙ ap (λ (c : Constraint). least_of c.most) is ∙ least_is bound in cc
+
+  -- each lower bound is at most 0, or at most that of one of these reasons
+  low_covered : (reason : Reason) (bound : ℕ) → fact graph log reach reason ≡ Some (at_least node bound)
+      → (bound ≡ 0) ⊎ ((other : Reason) × (more : ℕ) × Contains all_reasons other
+      × (fact graph log reach other ≡ Some (at_least node more)) × (bound ≤ more))
+  low_covered (Zero other) bound at = inl (sym (bound_is other bound 0 (passed (ltb other (length graph.nodes)) (at_least other 0) (at_least node bound) at).1))
+  low_covered (Top other) bound at = absurd (apart other node bound (pos never) (passed (ltb other (length graph.nodes)) (at_most other (pos never)) (at_least node bound) at).1)
+  low_covered (Unreached other horizon) bound at =
+      let parts = passed (ltb other (length graph.nodes) && (leb horizon (now_of log) && not (is_among reach other))) (at_least other (horizon + 1)) (at_least node bound) at in
+      let both = and_parts (ltb other (length graph.nodes)) (leb horizon (now_of log) && not (is_among reach other)) parts.0 in
+      let rest = and_parts (leb horizon (now_of log)) (not (is_among reach other)) both.1 in
+      let same : other ≡ node = same_node other bound (horizon + 1) parts.1 in
+      let test : (ltb node (length graph.nodes) && (leb (now_of log) (now_of log) && not (is_among reach node))) ≡ true =
+      and_from (ltb node (length graph.nodes)) (leb (now_of log) (now_of log) && not (is_among reach node)) (ap (λ n. ltb n (length graph.nodes)) (sym same) ∙ both.0)
+      (and_from (leb (now_of log) (now_of log)) (not (is_among reach node)) (le-leb (now_of log) (now_of log) (omega arith)) (ap (λ n. not (is_among reach n)) (sym same) ∙ rest.1)) in
+      inr (
+        Unreached node (now_of log),
+        now_of log + 1,
+        Contains-tail (Top node) (Unreached node (now_of log) ∷ by_events node (length log.events)) (Unreached node (now_of log)) (Contains-head (Unreached node (now_of log)) (by_events node (length log.events))),
+        ap (λ (b : Bool). then_some b (at_least node (now_of log + 1))) test,
+        omega (arith, bound_is other bound (horizon + 1) parts.1, leb-true horizon (now_of log) rest.0),
+      )
+  low_covered (From event) bound at =
+      let there = numbered (from_alarm graph) event (at_least node bound) at in
+      inr (From event, bound, by_event (From event) (event_there node (length log.events) event there.0 there.1).0, at, omega arith)
+  low_covered (Upto event) bound at =
+      let there = numbered upto_alarm event (at_least node bound) at in
+      inr (Upto event, bound, by_event (Upto event) (event_there node (length log.events) event there.0 there.1).1, at, omega arith)
+  low_covered (Quiet event other) bound at = by event (quiet_at graph log event other) refl at
+    where
+      by : (event : ℕ) (time : Option ℕ) → quiet_at graph log event other ≡ time → option_map (λ t. at_least other (t + 1)) time ≡ Some (at_least node bound)
+          → (bound ≡ 0) ⊎ ((other : Reason) × (more : ℕ) × Contains all_reasons other
+          × (fact graph log reach other ≡ Some (at_least node more)) × (bound ≤ more))
+      by event None is at = absurd cc
+      by zero (Some time) is at = absurd cc
+      by (suc before) (Some time) is at =
+          let stated : at_least other (time + 1) ≡ at_least node bound = cc in
+          let same : other ≡ node = same_node other bound (time + 1) stated in
+          let whole : fact graph log reach (Quiet (suc before) other) ≡ Some (at_least node bound) = ap (option_map (λ t. at_least other (t + 1))) is ∙ at in
+          let own : fact graph log reach (Quiet (suc before) node) ≡ Some (at_least node bound) = ap (λ n. fact graph log reach (Quiet (suc before) n)) (sym same) ∙ whole in
+          let within = quiet_within graph log (suc before) other (at_least node bound) whole in
+          inr (Quiet (suc before) node, bound, by_event (Quiet (suc before) node) (event_there node (length log.events) (suc before) (omega arith) within).2, own, omega arith)
+  low_covered (Pick split place) bound at = absurd cc
+
+  -- each upper bound is that of one of these reasons
+  high_covered : (reason : Reason) (bound : ℕ) → fact graph log reach reason ≡ Some (at_most node (pos bound))
+      → (other : Reason) × Contains all_reasons other × (fact graph log reach other ≡ Some (at_most node (pos bound)))
+  high_covered (Zero other) bound at =
+      absurd (apart node other 0 (pos bound) (sym (passed (ltb other (length graph.nodes)) (at_least other 0) (at_most node (pos bound)) at).1))
+  high_covered (Top other) bound at =
+      let same : other ≡ node = same_most other bound never (passed (ltb other (length graph.nodes)) (at_most other (pos never)) (at_most node (pos bound)) at).1 in
+      (Top node, Contains-head (Top node) (Unreached node (now_of log) ∷ by_events node (length log.events)), ap (λ n. fact graph log reach (Top n)) (sym same) ∙ at)
+  high_covered (Unreached other horizon) bound at =
+      absurd
+      (apart node other (horizon + 1) (pos bound)
+      (sym (passed (ltb other (length graph.nodes) && (leb horizon (now_of log) && not (is_among reach other))) (at_least other (horizon + 1)) (at_most node (pos bound)) at).1))
+  high_covered (From event) bound at =
+      let there = numbered (from_alarm graph) event (at_most node (pos bound)) at in
+      (From event, by_event (From event) (event_there node (length log.events) event there.0 there.1).0, at)
+  high_covered (Upto event) bound at =
+      let there = numbered upto_alarm event (at_most node (pos bound)) at in
+      (Upto event, by_event (Upto event) (event_there node (length log.events) event there.0 there.1).1, at)
+  high_covered (Quiet event other) bound at = by (quiet_at graph log event other) at
+    where
+      by : (time : Option ℕ) → option_map (λ t. at_least other (t + 1)) time ≡ Some (at_most node (pos bound))
+          → (other : Reason) × Contains all_reasons other × (fact graph log reach other ≡ Some (at_most node (pos bound)))
+      by None at = absurd cc
+      by (Some time) at = absurd (let stated : at_least other (time + 1) ≡ at_most node (pos bound) = cc in apart node other (time + 1) (pos bound) (sym stated))
+  high_covered (Pick split place) bound at = absurd cc
+
+  -- The facts give the node a greatest lower bound,
+  pub low_there : node < length graph.nodes → (low : ℕ) × IsLow graph log reach node low
+  low_there within =
+      let zero_stated : fact graph log reach (Zero node) ≡ Some (at_least node 0) = ap (λ (b : Bool). then_some b (at_least node 0)) (lt-ltb node (length graph.nodes) within) in
+      let best = best_from (λ one other. one ≤ other) rises (λ one middle other first second. omega arith) low_of all_reasons 0 (Zero node) (low_given (Zero node) 0 zero_stated) in (
+        best.0,
+        record {
+          reason = best.1.reason;
+          stated = low_stated best.1.reason best.0 best.1.is;
+          greatest = λ other bound at. elim (low_covered other bound at) [
+            | inl none ↦ omega (arith, none)
+            | inr (cover, more, member, stated, below) ↦ omega (arith, below, best.1.others cover more member (low_given cover more stated))
+          ];
+        },
+      )
+    where
+      rises : (one other : ℕ) → (one ≤ other) ⊎ (other ≤ one)
+      rises one other = elim (cases_lt one other) [ inl less ↦ inl (omega arith) | inr more ↦ inr more ]
+
+  -- and a least upper one.
+  pub high_there : node < length graph.nodes → (high : ℕ) × IsHigh graph log reach node high
+  high_there within =
+      let top_stated : fact graph log reach (Top node) ≡ Some (at_most node (pos never)) = ap (λ (b : Bool). then_some b (at_most node (pos never))) (lt-ltb node (length graph.nodes) within) in
+      let best = best_from (λ one other. other ≤ one) falls (λ one middle other first second. omega arith) high_of all_reasons never (Top node) (high_given (Top node) never top_stated) in (
+        best.0,
+        record {
+          reason = best.1.reason;
+          stated = high_stated best.1.reason best.0 best.1.is;
+          least = λ other bound at. let cover = high_covered other bound at in best.1.others cover.0 bound cover.1 (high_given cover.0 bound cover.2);
+        },
+      )
+    where
+      falls : (one other : ℕ) → (other ≤ one) ⊎ (one ≤ other)
+      falls one other = elim (cases_lt one other) [ inl less ↦ inr (omega arith) | inr more ↦ inl more ]
+
+  -- There is one of each.
+  pub one_low : (one other : ℕ) → IsLow graph log reach node one → IsLow graph log reach node other → one ≡ other
+  one_low one other is also = omega (arith, is.greatest also.reason other also.stated, also.greatest is.reason one is.stated)
+
+  pub one_high : (one other : ℕ) → IsHigh graph log reach node one → IsHigh graph log reach node other → one ≡ other
+  one_high one other is also = omega (arith, is.least also.reason other also.stated, also.least is.reason one is.stated)
