@@ -1,8 +1,8 @@
 -- What a search keeps stays right at a log that goes on.
-use Rattle.std.proofs.Common.{◌≡◌, ℕ, zero, suc, ◌+◌, ◌<◌, ◌≤◌, List, [], ◌∷◌, ◌++◌, length, take, Option, Some, None, refl, sym, ap, subst, ◌∙◌, arith}
+use Rattle.std.proofs.Common.{◌≡◌, ℕ, zero, suc, ◌+◌, List, [], ◌∷◌, ◌++◌, length, take, Option, Some, None, refl, sym, ap, ◌∙◌}
 use Rattle.std.specs.Prelude.{All, slice_get, option_map, option_and_then}
 use Rattle.std.specs.Option.{option_map_or}
-use Rattle.std.proofs.lemmas.List.Elements.{All-nil, All-cons, All-head, All-tail, All-weaker, All-take}
+use Rattle.std.proofs.lemmas.List.Elements.{All-head, All-tail, All-weaker, All-take}
 use Rattle.tfpg_base.specs.declared.constraint.Constraint.{Constraint}
 use Rattle.tfpg_graph.specs.Graph.{Tfpg}
 use Rattle.tfpg_log.specs.Log.{Logbook, GoesOn, IsOrdered}
@@ -10,18 +10,17 @@ use Rattle.tfpg_evidence.specs.declared.clause_name.ClauseName.{ClauseName}
 use Rattle.tfpg_evidence.specs.declared.reason.Reason.{Reason}
 use Rattle.tfpg_evidence.specs.declared.reason.Reason.TheVariants.{Zero, Top, Unreached, From, Upto, Quiet, Pick}
 use Rattle.tfpg_clause.specs.Facts.{fact}
-use Rattle.tfpg_clause.specs.Clauses.{alternatives, count_of, item_at, constraint_at}
-use Rattle.tfpg_clause.specs.Trees.{Judged, PathSplit, IsPresentLeaf}
+use Rattle.tfpg_clause.specs.Clauses.{alternatives, item_at, constraint_at}
 use Rattle.tfpg_clause.specs.Paths.{framed, stated_by}
 use Rattle.tfpg_clause.specs.declared.path.Frame.{Frame}
 use Rattle.tfpg_clause.proofs.Kept.{clause_stays, fact_stays}
 use Rattle.tfpg_diff.specs.declared.why.Why.{Why}
 use Rattle.tfpg_diff.specs.declared.why.Why.TheVariants.{Floor, Ceiling, Given}
 use Rattle.tfpg_search.specs.Leaf.{Leaf, named_by, pick_reasons, IsStated}
-use Rattle.tfpg_search.specs.Picks.{IsAllowed, place_count, picks_from, picks_of_from, picks_of, HasEntered}
+use Rattle.tfpg_search.specs.Picks.{IsAllowed, place_count, picks_from, picks_of_from}
 use Rattle.tfpg_search.specs.Searching.{Searching, IsAtItsLeaf}
 use Rattle.tfpg_search.proofs.Picking.{of_frame}
-use Rattle.tfpg_search.proofs.Standing.{restated, fact_stated}
+use Rattle.tfpg_search.proofs.Standing.{fact_stated}
 
 module _ (graph : Tfpg) (earlier later : Logbook) (ordered : IsOrdered later) (goes_on : GoesOn earlier later) where
   -- an allowed frame names the same alternatives

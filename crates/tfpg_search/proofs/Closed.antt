@@ -1,9 +1,9 @@
 -- A leaf is closed: the search goes on to the next one.
-use Rattle.std.proofs.Common.{◌≡◌, ℕ, zero, suc, ◌+◌, ◌-◌, ◌<◌, ◌≤◌, List, [], ◌∷◌, ◌++◌, length, take, get_or, Bool, true, false, Option, Some, None, refl, sym, ap, subst, ◌∙◌, arith, length-append}
+use Rattle.std.proofs.Common.{◌≡◌, ℕ, zero, suc, ◌+◌, ◌-◌, ◌<◌, ◌≤◌, List, [], ◌∷◌, ◌++◌, length, take, Bool, true, false, Option, Some, None, refl, sym, ap, subst, ◌∙◌, arith, length-append}
 use Rattle.std.specs.Prelude.{All, nat_lt, slice_get, option_map}
 use Rattle.std.specs.Option.{option_or}
 use Rattle.std.specs.Bool.{then_some}
-use Rattle.std.proofs.lemmas.List.{take-append-le, take-take, take_at, length-take-le}
+use Rattle.std.proofs.lemmas.List.{take-append-le, take-take, length-take-le}
 use Rattle.std.proofs.lemmas.List.Elements.{All-push, All-take, All-get_or}
 use Rattle.std.proofs.lemmas.Option.{slice_get_within, get_or_from_slice_get}
 use Rattle.std.proofs.lemmas.Bool.Decides.{nat_tests}
@@ -15,7 +15,7 @@ use Rattle.tfpg_evidence.specs.declared.reason.Reason.TheVariants.{Pick}
 use Rattle.tfpg_clause.specs.Facts.{fact}
 use Rattle.tfpg_clause.specs.Paths.{framed, stated_by, path_after, next_alternative}
 use Rattle.tfpg_clause.specs.declared.path.Frame.{Frame}
-use Rattle.tfpg_search.specs.Leaf.{Leaf, pick_reasons, IsStated}
+use Rattle.tfpg_search.specs.Leaf.{Leaf, pick_reasons}
 use Rattle.tfpg_search.specs.Picks.{IsAllowed, picks_of}
 use Rattle.tfpg_search.specs.Searching.{Searching, IsAtItsLeaf}
 use Rattle.tfpg_search.specs.inside.Leaving.{KeepsBounds, Leaves}

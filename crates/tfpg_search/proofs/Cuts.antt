@@ -1,5 +1,5 @@
 -- Where a list with one more item is cut in two.
-use Rattle.std.proofs.Common.{◌≡◌, ◌⊎◌, ℕ, List, [], ◌∷◌, ◌++◌, refl, sym, ap, ◌∙◌, inl, inr}
+use Rattle.std.proofs.Common.{◌≡◌, ◌⊎◌, List, [], ◌∷◌, ◌++◌, refl, sym, ap, ◌∙◌, inl, inr}
 
 -- The front ends before the last item: what comes after the front but for that item.
 pub record Before {X : Type 0} (xs front : List X) : Type 0 where

@@ -1,6 +1,6 @@
 -- At a settled leaf the solutions of the system are the times that solve what holds at the leaf.
-use Rattle.std.proofs.Common.{◌≡◌, ℕ, zero, suc, ◌+◌, ◌<◌, ◌≤◌, List, [], ◌∷◌, length, take, get_or, Option, Some, None, refl, sym, ap, subst, ◌∙◌, arith}
-use Rattle.std.specs.Prelude.{All, slice_get, slice_index, option_and_then, pos}
+use Rattle.std.proofs.Common.{◌≡◌, ℕ, zero, suc, ◌+◌, ◌<◌, List, length, get_or, Option, Some, None, sym, ap, subst, ◌∙◌, arith}
+use Rattle.std.specs.Prelude.{slice_get, option_and_then, pos}
 use Rattle.std.proofs.lemmas.List.{take_all}
 use Rattle.std.proofs.lemmas.List.Elements.{All-get_or}
 use Rattle.std.proofs.lemmas.Option.{slice_get_within, slice_get-get_or}
@@ -17,11 +17,9 @@ use Rattle.tfpg_clause.specs.declared.path.Frame.{Frame}
 use Rattle.tfpg_clause.proofs.Bounded.{says_at_least, says_at_most}
 use Rattle.tfpg_diff.specs.declared.why.Why.{Why}
 use Rattle.tfpg_diff.specs.declared.why.Why.TheVariants.{Floor, Ceiling, Given}
-use Rattle.tfpg_diff.specs.declared.bounds.Bounds.{Bounds}
 use Rattle.tfpg_diff.specs.declared.pick.Pick.{Pick as PickOf}
-use Rattle.tfpg_diff.specs.Demands.{Bounded}
 use Rattle.tfpg_diff.specs.Solution.{IsSolution, IsLatest}
-use Rattle.tfpg_search.specs.Leaf.{Leaf, named_by, pick_reasons}
+use Rattle.tfpg_search.specs.Leaf.{named_by, pick_reasons}
 use Rattle.tfpg_search.specs.Picks.{picks_of}
 use Rattle.tfpg_search.specs.Searching.{Searching, IsAtItsLeaf}
 use Rattle.tfpg_search.specs.inside.Moves.{SolvesFramed, IsLatestFramed, IsSettled}

@@ -1,7 +1,7 @@
 -- The steps that lead on from the leaf of some frames are right after the steps that lead there.
-use Rattle.std.proofs.Common.{◌≡◌, ◌≢◌, ◌⊎◌, ℕ, List, [], ◌∷◌, ◌++◌, length, Option, Some, None, refl, sym, ap, subst, ◌∙◌, inl, inr, append_assoc}
+use Rattle.std.proofs.Common.{◌≡◌, ◌≢◌, ℕ, List, [], ◌∷◌, ◌++◌, Option, Some, None, sym, ap, subst, ◌∙◌, inl, inr, append_assoc}
 use Rattle.std.specs.Prelude.{AllPairs, map}
-use Rattle.std.proofs.lemmas.List.{map-append, append-nil}
+use Rattle.std.proofs.lemmas.List.{append-nil}
 use Rattle.tfpg_base.specs.Choice.{each_of}
 use Rattle.tfpg_base.specs.declared.constraint.Constraint.{Constraint}
 use Rattle.tfpg_graph.specs.Graph.{Tfpg}
@@ -11,21 +11,21 @@ use Rattle.tfpg_evidence.specs.declared.reason.Reason.{Reason}
 use Rattle.tfpg_evidence.specs.declared.reason.Reason.TheVariants.{Pick}
 use Rattle.tfpg_evidence.specs.declared.step.Step.{Step}
 use Rattle.tfpg_evidence.specs.declared.step.Step.TheVariants.{Split, Cycle}
-use Rattle.tfpg_clause.specs.Trees.{Judged, PathSplit, IsRefutation, IsPresentLeaf, stated}
-use Rattle.tfpg_clause.specs.Paths.{judged_by, with_step, IsAtLeaf, AreFramesOf, framed, stated_by, new_frame, path_after, IsClosedBy}
+use Rattle.tfpg_clause.specs.Trees.{Judged, PathSplit, IsRefutation, IsPresentLeaf}
+use Rattle.tfpg_clause.specs.Paths.{judged_by, with_step, IsAtLeaf, stated_by, new_frame, path_after, IsClosedBy}
 use Rattle.tfpg_clause.specs.declared.path.Frame.{Frame}
 use Rattle.tfpg_clause.proofs.FramePaths.{states_same}
 use Rattle.tfpg_clause.proofs.LeafSteps.{frames_split, frames_go, frames_end}
 use Rattle.tfpg_clause.proofs.PresentLeaf.{one_leaf}
 use Rattle.tfpg_clause.proofs.TreeSteps.{no_partial}
 use Rattle.tfpg_search.specs.Leaf.{IsSimpleCycle}
-use Rattle.tfpg_search.specs.Solutions.{Solves, IsLatestAt}
+use Rattle.tfpg_search.specs.Solutions.{Solves}
 use Rattle.tfpg_search.specs.Live.{IsLive, IsSimpleAfter, HasDistinctNames, HasNoNameTwice}
 use Rattle.tfpg_search.specs.Searched.{with_steps, IsSearchStep, AreSearchSteps}
-use Rattle.tfpg_search.specs.inside.Moves.{SolvesFramed, IsLatestFramed, IsLiveFramed, Goes, Leads, LeadsTo}
+use Rattle.tfpg_search.specs.inside.Moves.{SolvesFramed, IsLiveFramed, Goes, Leads, LeadsTo}
 use Rattle.tfpg_search.specs.Picks.{AreInRange}
 use Rattle.tfpg_search.proofs.Cuts.{cut_last}
-use Rattle.tfpg_search.proofs.Names.{split_name, same_names, all_allowed, new_name, AreDistinct, distinct_push, distinct_after, range_after, range_push}
+use Rattle.tfpg_search.proofs.Names.{same_names, all_allowed, new_name, AreDistinct, distinct_push, distinct_after, range_after, range_push}
 
 module _ (graph : Tfpg) (log : Logbook) (reach : List ℕ) (ordered : IsOrdered log) where
   -- ---- solutions by frames are those of the path

@@ -1,5 +1,5 @@
 -- What the moves of a search come to.
-use Rattle.std.proofs.Common.{◌≡◌, ℕ, zero, suc, ◌+◌, ◌-◌, ◌<◌, ◌≤◌, List, [], ◌∷◌, ◌++◌, length, take, Bool, true, false, Option, Some, None, refl, sym, ap, subst, ◌∙◌, arith, length-append, append_assoc}
+use Rattle.std.proofs.Common.{◌≡◌, ℕ, zero, suc, ◌+◌, ◌-◌, ◌<◌, ◌≤◌, List, [], ◌∷◌, ◌++◌, length, take, true, false, Option, Some, None, refl, sym, ap, subst, ◌∙◌, arith, length-append, append_assoc}
 use Rattle.std.specs.Prelude.{All, slice_get, IsTrue, is_some, option_and_then, Result, Ok, Err, OnOk, OnErr, IfErr}
 use Rattle.std.specs.Option.{option_map_or}
 use Rattle.std.proofs.lemmas.Option.{slice_get_within, slice_get_past, get_or_from_slice_get}
@@ -28,9 +28,9 @@ use Rattle.tfpg_base.specs.Constraint.{Meets}
 use Rattle.tfpg_search.specs.Leaf.{Leaf, pick_reasons, IsStated, IsSimpleCycle}
 use Rattle.tfpg_search.specs.Picks.{place_count, places_at, picks_from}
 use Rattle.tfpg_search.specs.Searching.{Searching, IsAtItsLeaf}
-use Rattle.tfpg_search.specs.inside.Leaving.{KeepsBounds, Leaves, Pushing, PushesOne}
-use Rattle.tfpg_search.specs.inside.Moves.{IsLiveFramed, Goes, Grows, KeepsSet, HasEnteredAll, IsSettled, untaken}
-use Rattle.tfpg_search.proofs.Growing.{grows_none, grows_one, grows_on}
+use Rattle.tfpg_search.specs.inside.Leaving.{Leaves, Pushing, PushesOne}
+use Rattle.tfpg_search.specs.inside.Moves.{IsLiveFramed, Grows, KeepsSet, HasEnteredAll, IsSettled, untaken}
+use Rattle.tfpg_search.proofs.Growing.{grows_none, grows_one}
 use Rattle.tfpg_search.proofs.Standing.{leaf_stands, split_stands, enter_stands, entered_all, left_again}
 use Rattle.tfpg_search.proofs.Closed.{counted, next_stands, next_some, next_fewer}
 

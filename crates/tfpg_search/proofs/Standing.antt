@@ -1,12 +1,10 @@
 -- What moves do to the system of a search.
-use Rattle.std.proofs.Common.{◌≡◌, ◌⊎◌, ℕ, zero, suc, ◌+◌, ◌-◌, ◌<◌, ◌≤◌, List, [], ◌∷◌, ◌++◌, length, take, get_or, Bool, true, false, Option, Some, None, refl, sym, ap, subst, ◌∙◌, inl, inr, arith, length-append}
-use Rattle.std.specs.Prelude.{All, nat_lt, slice_get, option_map, option_and_then}
-use Rattle.std.specs.Option.{option_or, option_map_or}
-use Rattle.std.specs.Bool.{then_some}
-use Rattle.std.proofs.lemmas.List.{take-append-le, take-take, take_all, take_more, take_at, length-take-le}
-use Rattle.std.proofs.lemmas.List.Elements.{All-push, All-take, All-get_or}
-use Rattle.std.proofs.lemmas.Option.{slice_get_within, slice_get-get_or, slice_get_past, get_or_from_slice_get}
-use Rattle.std.proofs.lemmas.Bool.Decides.{nat_tests}
+use Rattle.std.proofs.Common.{◌≡◌, ◌⊎◌, ℕ, zero, suc, ◌+◌, ◌<◌, List, [], ◌∷◌, ◌++◌, length, take, get_or, Option, Some, None, refl, sym, ap, subst, ◌∙◌, inl, inr, arith, length-append}
+use Rattle.std.specs.Prelude.{slice_get, option_and_then}
+use Rattle.std.specs.Option.{option_map_or}
+use Rattle.std.proofs.lemmas.List.{take-append-le, take_more, take_at, length-take-le}
+use Rattle.std.proofs.lemmas.List.Elements.{All-push}
+use Rattle.std.proofs.lemmas.Option.{slice_get_within, slice_get-get_or}
 use Rattle.tfpg_base.specs.declared.constraint.Constraint.{Constraint}
 use Rattle.tfpg_graph.specs.Graph.{Tfpg}
 use Rattle.tfpg_log.specs.Log.{Logbook}
@@ -16,15 +14,15 @@ use Rattle.tfpg_evidence.specs.declared.reason.Reason.{Reason}
 use Rattle.tfpg_evidence.specs.declared.reason.Reason.TheVariants.{Zero, Top, Unreached, From, Upto, Quiet, Pick}
 use Rattle.tfpg_clause.specs.Facts.{fact}
 use Rattle.tfpg_clause.specs.Clauses.{count_of, item_at}
-use Rattle.tfpg_clause.specs.Paths.{framed, stated_by, path_after, new_frame, next_alternative}
+use Rattle.tfpg_clause.specs.Paths.{framed, stated_by, new_frame}
 use Rattle.tfpg_clause.specs.declared.path.Frame.{Frame}
 use Rattle.tfpg_search.specs.Leaf.{Leaf, pick_reasons, IsStated}
-use Rattle.tfpg_search.specs.Picks.{IsAllowed, IsInRange, AreInRange, place_count, places_at, picks_from, picks_of, HasEntered}
+use Rattle.tfpg_search.specs.Picks.{IsAllowed, place_count, places_at, picks_from, picks_of}
 use Rattle.tfpg_search.specs.Searching.{Searching, IsAtItsLeaf}
 use Rattle.tfpg_search.specs.inside.Leaving.{KeepsBounds, Leaves, Pushing}
-use Rattle.tfpg_search.specs.inside.Moves.{HasEnteredAll, untaken}
-use Rattle.tfpg_search.proofs.Names.{range_after, range_push}
-use Rattle.tfpg_search.proofs.Picking.{get_front, of_frame, picks_are, picks_last, picks_take, picks_fewer}
+use Rattle.tfpg_search.specs.inside.Moves.{HasEnteredAll}
+use Rattle.tfpg_search.proofs.Names.{range_push}
+use Rattle.tfpg_search.proofs.Picking.{get_front, of_frame, picks_last}
 
 -- ---- what is stated
 

@@ -1,4 +1,4 @@
-use Rattle.std.proofs.Common.{ap, sym, subst, ◌∙◌, ◌-◌, ℕ, List, Option, length}
+use Rattle.std.proofs.Common.{ap, sym, subst, ◌-◌, ℕ, List, Option, length}
 use Rattle.std.proofs.lemmas.Result.{err_from_is_err_and}
 use Rattle.tfpg_evidence.specs.declared.step.Step.{Step}
 use Rattle.tfpg_clause.specs.declared.path.Frame.{Frame}

@@ -1,4 +1,4 @@
-use Rattle.std.proofs.Common.{subst, Bool, Some, None, Option, List}
+use Rattle.std.proofs.Common.{subst, Bool, Some, None}
 use Rattle.std.specs.Prelude.{Ok}
 use Rattle.tfpg_search.specs.inside.Moves.{Closing}
 use Rattle.tfpg_search.proofs.Settling.{keeps_on, grows_after}
