@@ -19,6 +19,8 @@ use Rattle.tfpg_clause.specs.Paths.{stated_by}
 use Rattle.tfpg_clause.specs.declared.path.Frame.{Frame}
 use Rattle.tfpg_clause.proofs.LeafSteps.{leaf_begins, frames_begin}
 use Rattle.tfpg_clause.proofs.PresentLeaf.{one_leaf}
+use Rattle.tfpg_clause.specs.Order.{horizon_of}
+use Rattle.tfpg_search.specs.Enough.{IsEventTime}
 use Rattle.tfpg_search.specs.Leaf.{Leaf, pick_reasons, IsStated}
 use Rattle.tfpg_search.specs.Live.{HasDistinctNames, HasNoNameTwice}
 use Rattle.tfpg_search.specs.Picks.{IsAllowed, IsInRange}
@@ -52,6 +54,7 @@ module _ (graph : Tfpg) (reach : List ℕ) where
         seen = refl;
         leaf = frames_begin graph new_log reach;
         names = none_twice new_log;
+        horizons = All-nil (λ (frame : Frame). IsEventTime new_log (horizon_of frame.name));
         system = record {
           reach_is = is_reach;
           variables = variables;
