@@ -40,3 +40,4 @@ pub mod FramePaths
 pub mod LeafSteps
 -- Alternatives are small.
 pub mod Sizes
+pub mod FewAlternatives

@@ -26,3 +26,10 @@ mod CutTimes
 mod Settling
 mod Rounds
 mod Beginning
+-- The budget that is always enough.
+mod Pigeons
+mod Measure
+mod Horizons
+mod Enough
+mod AllNames
+mod MostIncoming

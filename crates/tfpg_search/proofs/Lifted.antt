@@ -78,7 +78,7 @@ module _ (graph : Tfpg) (log : Logbook) (reach : List ℕ) (ordered : IsOrdered 
         let same : at.path ≡ path = one_leaf graph log reach earlier at.path path at.leaf leaf in
         subst HasDistinctNames same (subst (AllPairs ◌≢◌) (sym (same_names graph log at.path frames at.frames_are)) distinct)
 
-    distinct_frames : HasNoNameTwice graph log reach earlier → AreDistinct frames
+    pub distinct_frames : HasNoNameTwice graph log reach earlier → AreDistinct frames
     distinct_frames names =
         subst (AllPairs ◌≢◌) (same_names graph log at.path frames at.frames_are) (names earlier [] at.path (sym (append-nil earlier)) at.leaf)
 
@@ -127,7 +127,7 @@ module _ (graph : Tfpg) (log : Logbook) (reach : List ℕ) (ordered : IsOrdered 
         range_after frames after here.2 is,
       )
 
-  after_step : (frames : List Frame) (earlier : List Judged) → Here frames earlier → (step : Step) (next : Option (List Frame)) → Goes graph log reach frames step next
+  pub after_step : (frames : List Frame) (earlier : List Judged) → Here frames earlier → (step : Step) (next : Option (List Frame)) → Goes graph log reach frames step next
       → LeadsTo graph log reach (with_step earlier log step) next
   after_step frames earlier here (Split name) next goes = after_split frames earlier here name next goes
   after_step frames earlier here (Cycle reasons) next goes = after_cycle frames earlier here reasons next goes.0 (sym goes.1)

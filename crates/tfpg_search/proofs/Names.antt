@@ -43,6 +43,11 @@ pub all_from : {X : Type 0} (P : X → Type 0) (xs : List X) → ((place : ℕ) 
 all_from P [] each = All-nil P
 all_from P (x ∷ xs) each = All-cons P x xs (each 0 x refl) (all_from P xs (λ place y is. each (suc place) y is))
 
+-- what holds of all holds of those in front
+all_front : {X : Type 0} (P : X → Type 0) (xs ys : List X) → All P (xs ++ ys) → All P xs
+all_front P [] ys all = All-nil P
+all_front P (x ∷ xs) ys all = All-cons P x xs (All-head P x (xs ++ ys) all) (all_front P xs ys (All-tail P x (xs ++ ys) all))
+
 -- pairs of a front are pairs of the whole
 pairs_front : {X : Type 0} (R : X → X → Type 0) (xs ys : List X) → AllPairs R (xs ++ ys) → AllPairs R xs
 pairs_front R xs ys pairs i j d less within =
@@ -167,6 +172,12 @@ front_after (frame ∷ deeper) after range is =
 
 pub range_after : (frames after : List Frame) → AreInRange frames → path_after frames ≡ Some after → AreInRange after
 range_after frames after range is = (front_after frames after range is).range
+
+-- what holds of the names of the frames holds of those after
+pub names_after : (P : ClauseName → Type 0) (frames after : List Frame) → AreInRange frames → path_after frames ≡ Some after → All P (map frame_name frames) → All P (map frame_name after)
+names_after P frames after range is all =
+    let front = front_after frames after range is in
+    all_front P (map frame_name after) front.rest (subst (All P) front.names all)
 
 pub distinct_after : (frames after : List Frame) → AreInRange frames → path_after frames ≡ Some after → AreDistinct frames → AreDistinct after
 distinct_after frames after range is distinct =

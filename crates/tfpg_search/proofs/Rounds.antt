@@ -1,13 +1,18 @@
 -- What a call of a search comes to, for all steps that it represented before.
-use Rattle.std.proofs.Common.{◌≡◌, ℕ, ◌+◌, ◌≤◌, List, ◌++◌, length, take, Option, Some, sym, ap, subst, ◌∙◌, arith, append_assoc, length-append}
-use Rattle.std.specs.Prelude.{All, Result, Ok, Err}
+use Rattle.std.proofs.Common.{◌≡◌, ℕ, ◌+◌, ◌<◌, ◌≤◌, List, [], ◌∷◌, ◌++◌, length, take, Option, Some, None, refl, sym, ap, subst, ◌∙◌, arith, append_assoc, length-append}
+use Rattle.std.specs.Prelude.{All, Result, Ok, Err, map, option_map}
 use Rattle.std.proofs.lemmas.List.{take-take}
-use Rattle.std.proofs.lemmas.List.Elements.{All-take}
+use Rattle.std.proofs.lemmas.List.Elements.{All-take, All-nil, All-cons, All-head, All-tail}
+use Rattle.tfpg_base.specs.declared.constraint.Constraint.{Constraint}
 use Rattle.tfpg_base.specs.declared.no_memory.NoMemory.{NoMemory}
 use Rattle.tfpg_graph.specs.Graph.{Tfpg}
 use Rattle.tfpg_log.specs.Log.{Logbook, IsOrdered, first_events}
+use Rattle.tfpg_evidence.specs.declared.clause_name.ClauseName.{ClauseName}
 use Rattle.tfpg_evidence.specs.declared.step.Step.{Step}
-use Rattle.tfpg_clause.specs.Trees.{Judged, places_of, IsRight, IsPartial}
+use Rattle.tfpg_clause.specs.Trees.{Judged, PathSplit, StepPlace, places_of, IsRight, IsPartial, IsPresentLeaf}
+use Rattle.tfpg_clause.specs.Clauses.{alternatives}
+use Rattle.tfpg_clause.specs.Order.{horizon_of}
+use Rattle.tfpg_clause.specs.Paths.{IsAtLeaf}
 use Rattle.tfpg_clause.specs.declared.path.Frame.{Frame}
 use Rattle.tfpg_clause.proofs.TreesKept.{first_to_whole, leaf_stays}
 use Rattle.tfpg_clause.proofs.LeafSteps.{frames_remain}
@@ -20,6 +25,11 @@ use Rattle.tfpg_search.specs.Searched.{with_steps, split_count, AreSearchSteps, 
 use Rattle.tfpg_search.specs.inside.Moves.{Leads, LeadsTo, HasEnteredAll, Ends, SearchesOn}
 use Rattle.tfpg_search.proofs.Lifted.{live_here, lift}
 use Rattle.tfpg_search.proofs.Carried.{carried}
+use Rattle.tfpg_search.specs.Enough.{IsEventTime, IsNameAt, IsEnough}
+use Rattle.tfpg_search.specs.Picks.{IsAllowed}
+use Rattle.tfpg_search.proofs.Names.{frame_name, all_allowed}
+use Rattle.tfpg_search.proofs.Horizons.{AtTimes, now_is_a_time, times_stay, times_after}
+use Rattle.tfpg_search.proofs.Enough.{not_spent}
 
 -- ---- the steps of earlier rounds
 
@@ -53,45 +63,81 @@ seen_stands graph log old new ordered some same =
     subst (IsAtItsLeaf graph log) (sym same) (carried graph (first_events log old.seen) log ordered (first_to_whole log old.seen) old (length log.events) some.1.system)
 
 module _ (graph : Tfpg) (log : Logbook) (ordered : IsOrdered log) (budget : ℕ) (new : Searching) (seen : new.seen ≡ length log.events) where
-  represents : (steps : List Judged) → LeadsTo graph log new.reach steps (Some new.path) → IsAtItsLeaf graph log new → HasEnteredAll new → SearchRepresents graph log new steps
-  represents steps leads stands all = record { seen = seen; leaf = leads.0; names = leads.1; system = stands; all_entered = all }
+  represents : (steps : List Judged) → LeadsTo graph log new.reach steps (Some new.path) → AtTimes log new.path → IsAtItsLeaf graph log new → HasEnteredAll new → SearchRepresents graph log new steps
+  represents steps leads times stands all = record { seen = seen; leaf = leads.0; names = leads.1; horizons = times; system = stands; all_entered = all }
 
   finds : (added : List Step) (steps : List Judged) (splits : ℕ) (end : Option (List Frame)) (result : Result Found NoMemory) → split_count added ≡ splits → LeadsTo graph log new.reach steps end
-      → Ends graph log budget new splits end result → FindsOrNot graph log budget added steps new result
-  finds added steps splits end (Ok (Shown trace)) count leads ends = (ends.0, represents steps (subst (LeadsTo graph log new.reach steps) ends.3 leads) ends.1 ends.2)
-  finds added steps splits end (Ok Closed) count leads ends = (subst (LeadsTo graph log new.reach steps) ends leads).0
-  finds added steps splits end (Ok Spent) count leads ends =
+      → (end ≡ Some new.path → AtTimes log new.path) → Ends graph log budget new splits end result → FindsOrNot graph log budget added steps new result
+  finds added steps splits end (Ok (Shown trace)) count leads times ends = (ends.0, represents steps (subst (LeadsTo graph log new.reach steps) ends.3 leads) (times ends.3) ends.1 ends.2)
+  finds added steps splits end (Ok Closed) count leads times ends = (subst (LeadsTo graph log new.reach steps) ends leads).0
+  finds added steps splits end (Ok Spent) count leads times ends =
       let here : LeadsTo graph log new.reach steps (Some new.path) = subst (LeadsTo graph log new.reach steps) ends.4 leads in (
         count ∙ ends.0,
         (ends.1.0, live_here graph log new.reach ordered new.path steps here.0 ends.1.0 ends.1.1),
-        represents steps here ends.2 ends.3,
+        represents steps here (times ends.4) ends.2 ends.3,
       )
-  finds added steps splits end (Err no_memory) count leads ends = tt
+  finds added steps splits end (Err no_memory) count leads times ends = tt
 
-pub searched : (graph : Tfpg) (log : Logbook) (budget : ℕ) (old middle new : Searching) (before after : List Step) (result : Result Found NoMemory) → IsOrdered log
-    → middle ≡ record old { seen = length log.events } → new.reach ≡ middle.reach → new.seen ≡ middle.seen → SearchesOn graph log budget middle new before after result
-    → IsSearched graph log budget old new before after result
-searched graph log budget old middle new before after result ordered middle_is reach seen on = record {
-  added = on.grows.added;
-  appended = on.grows.appended;
-  within = subst (λ (n : ℕ). n ≤ budget) (sym on.grows.count) on.within;
-  right = λ earlier represents. (lifted earlier represents).0;
-  found = λ earlier represents.
-      finds graph log ordered budget new seen_is on.grows.added (with_steps earlier log on.grows.added) on.splits on.end result on.grows.count
-      (subst (λ (r : List ℕ). LeadsTo graph log r (with_steps earlier log on.grows.added) on.end) (sym reach_is) (lifted earlier represents).1) on.ends;
-}
-  where
-    reach_is : new.reach ≡ old.reach
-    reach_is = reach ∙ ap (λ (s : Searching). s.reach) middle_is
+module _ (graph : Tfpg) (log : Logbook) (budget : ℕ) (old middle new : Searching) (before after : List Step) (result : Result Found NoMemory) (ordered : IsOrdered log) (some : 1 ≤ length log.events)
+    (middle_is : middle ≡ record old { seen = length log.events }) (reach : new.reach ≡ middle.reach) (seen : new.seen ≡ middle.seen)
+    (on : SearchesOn graph log budget middle new before after result) where
+  reach_is : new.reach ≡ old.reach
+  reach_is = reach ∙ ap (λ (s : Searching). s.reach) middle_is
 
-    seen_is : new.seen ≡ length log.events
-    seen_is = seen ∙ ap (λ (s : Searching). s.seen) middle_is
+  seen_is : new.seen ≡ length log.events
+  seen_is = seen ∙ ap (λ (s : Searching). s.seen) middle_is
 
-    lifted : (earlier : List Judged) → SearchRepresents graph (first_events log old.seen) old earlier
-        → AreSearchSteps graph log old.reach earlier on.grows.added × LeadsTo graph log old.reach (with_steps earlier log on.grows.added) on.end
-    lifted earlier represents =
-        lift graph log old.reach ordered old.path earlier on.grows.added on.end
-        (frames_remain graph (first_events log old.seen) log old.reach old.path earlier ordered (first_to_whole log old.seen) represents.leaf)
-        (names_stay graph log old.seen ordered old.reach earlier represents.leaf.leaf.partial represents.names)
-        represents.system.range
-        (subst (λ (s : Searching). Leads graph log s.reach (Some s.path) on.grows.added on.end) middle_is on.grows.leads)
+  leads : Leads graph log old.reach (Some old.path) on.grows.added on.end
+  leads = subst (λ (s : Searching). Leads graph log s.reach (Some s.path) on.grows.added on.end) middle_is on.grows.leads
+
+  module _ (earlier : List Judged) (represented : SearchRepresents graph (first_events log old.seen) old earlier) where
+    at_start : LeadsTo graph log old.reach earlier (Some old.path)
+    at_start = (
+      frames_remain graph (first_events log old.seen) log old.reach old.path earlier ordered (first_to_whole log old.seen) represented.leaf,
+      names_stay graph log old.seen ordered old.reach earlier represented.leaf.leaf.partial represented.names,
+      represented.system.range,
+    )
+
+    times_at_start : AtTimes log old.path
+    times_at_start = times_stay log old.seen old.path represented.horizons
+
+    lifted : AreSearchSteps graph log old.reach earlier on.grows.added × LeadsTo graph log old.reach (with_steps earlier log on.grows.added) on.end
+    lifted = lift graph log old.reach ordered old.path earlier on.grows.added on.end at_start.0 at_start.1 at_start.2 leads
+
+    times_at_end : on.end ≡ Some new.path → AtTimes log new.path
+    times_at_end is = times_after log graph old.reach (now_is_a_time log some) old.path new.path on.grows.added on.end times_at_start leads is
+
+  pub searched : IsSearched graph log budget old new before after result
+  searched = record {
+    added = on.grows.added;
+    appended = on.grows.appended;
+    within = subst (λ (n : ℕ). n ≤ budget) (sym on.grows.count) on.within;
+    right = λ earlier represents. (lifted earlier represents).0;
+    found = λ earlier represents.
+        finds graph log ordered budget new seen_is on.grows.added (with_steps earlier log on.grows.added) on.splits on.end result on.grows.count
+        (subst (λ (r : List ℕ). LeadsTo graph log r (with_steps earlier log on.grows.added) on.end) (sym reach_is) (lifted earlier represents).1)
+        (times_at_end earlier represents) on.ends;
+  }
+
+  -- ---- a budget that is enough
+
+  named : (frame : Frame) (clause : Option (List (List Constraint))) → alternatives graph log frame.name ≡ clause → option_map length clause ≡ Some frame.alternatives
+      → IsEventTime log (horizon_of frame.name) → IsNameAt graph log frame.name
+  named frame None is counted time = cc
+  named frame (Some clause) is counted time = record { clause = clause; allowed = is; horizon = time }
+
+  all_named : (frames : List Frame) → All (IsAllowed graph log) frames → AtTimes log frames → All (IsNameAt graph log) (map frame_name frames)
+  all_named [] allowed times = All-nil (IsNameAt graph log)
+  all_named (frame ∷ frames) allowed times =
+      All-cons (IsNameAt graph log) frame.name (map frame_name frames)
+      (named frame (alternatives graph log frame.name) refl (All-head (IsAllowed graph log) frame frames allowed) (All-head (λ (f : Frame). IsEventTime log (horizon_of f.name)) frame frames times))
+      (all_named frames (All-tail (IsAllowed graph log) frame frames allowed) (All-tail (λ (f : Frame). IsEventTime log (horizon_of f.name)) frame frames times))
+
+  pub never_spent : RepresentsSome graph log old → IsEnough graph log budget → result ≡ Ok Spent → ⊥
+  never_spent represented enough spent =
+      let here = at_start represented.0 represented.1 in
+      let ends : Ends graph log budget new on.splits on.end (Ok Spent) = subst (Ends graph log budget new on.splits on.end) spent on.ends in
+      let led : Leads graph log old.reach (Some old.path) on.grows.added (Some new.path) = subst (Leads graph log old.reach (Some old.path) on.grows.added) ends.4 leads in
+      not_spent graph log old.reach ordered (now_is_a_time log some) budget enough old.path represented.0 here
+      (all_named old.path (all_allowed graph log ordered here.0.path old.path here.0.frames_are) (times_at_start represented.0 represented.1))
+      on.grows.added new.path led (on.grows.count ∙ ends.0)

@@ -7,6 +7,8 @@ use Rattle.tfpg_clause.specs.Facts.{fact}
 use Rattle.tfpg_clause.specs.Trees.{Judged}
 use Rattle.tfpg_clause.specs.Paths.{IsAtLeaf, stated_by}
 use Rattle.tfpg_clause.specs.declared.path.Frame.{Frame}
+use Rattle.tfpg_clause.specs.Order.{horizon_of}
+use Rattle.tfpg_search.specs.Enough.{IsEventTime}
 use Rattle.tfpg_search.specs.Leaf.{Leaf, IsStated}
 use Rattle.tfpg_search.specs.Live.{HasNoNameTwice}
 use Rattle.tfpg_search.specs.Picks.{IsAllowed, AreInRange, HasEntered}
@@ -31,11 +33,12 @@ pub record IsAtItsLeaf (graph : Tfpg) (log : Logbook) (search : Searching) : Typ
   pub picks : HasEntered graph log search.path search.entered search.leaf
 
 -- The search represents these steps at this log: it has seen all its events, its path is that of their present leaf, all
--- alternatives on it were entered, and no clause name stands twice on a path.
+-- alternatives on it were entered, no clause name stands twice on a path, and each horizon is the time of an event.
 pub record SearchRepresents (graph : Tfpg) (log : Logbook) (search : Searching) (steps : List Judged) : Type 0 where
   pub seen : search.seen ≡ length log.events
   pub leaf : IsAtLeaf graph log search.reach search.path steps
   pub names : HasNoNameTwice graph log search.reach steps
+  pub horizons : All (λ (frame : Frame). IsEventTime log (horizon_of frame.name)) search.path
   pub system : IsAtItsLeaf graph log search
   pub all_entered : length search.entered ≡ length search.path
 

@@ -3,6 +3,8 @@
 //! - [`Search`] has one set of failure modes. [`Search::round`] searches on for a log that goes on, and appends its steps.
 //! - [`Found`] is what it found: a trace that explains the log, a refutation, or that the budget of the round was spent.
 //!
+//! - [`laws`] says that there is a budget that is always enough.
+//!
 //! The mathematics stands in `docs/search.md`.
 #![tactic(auto)]
 
@@ -12,6 +14,7 @@ mod closing;
 mod cut;
 mod fact_bounds;
 mod found;
+pub mod laws;
 mod leaf_system;
 mod search;
 

@@ -1,6 +1,6 @@
 //! The search of one set of failure modes, over all rounds.
 
-ghost use Rattle.std.specs.Prelude.{◌≡◌, ◌≤◌, ◌<◌, ◌++◌, ◌∷◌, ℕ, [], All, IfOk, OnOk, OnErr, IfErr, length, Option, Some, None, List, take, slice_get};
+ghost use Rattle.std.specs.Prelude.{◌≡◌, ◌≤◌, ◌<◌, ◌++◌, ◌∷◌, ℕ, [], All, IfOk, OnOk, OnErr, IfErr, Ok, length, Option, Some, None, List, take, slice_get};
 ghost use Rattle.std.specs.Bool.{MatchBool};
 ghost use Rattle.tfpg_base.specs.Constraint.{Meets};
 ghost use Rattle.tfpg_diff.specs.Solution.{IsSolution};
@@ -16,6 +16,7 @@ ghost use Rattle.tfpg_clause.specs.Paths.{framed, stated_by, path_after};
 ghost use Rattle.tfpg_search.specs.Leaf.{Leaf, pick_reasons, IsStated, IsSimpleCycle};
 ghost use Rattle.tfpg_search.specs.Picks.{picks_from, places_at};
 ghost use Rattle.tfpg_search.specs.Searching.{SearchRepresents, RepresentsSome, IsAtItsLeaf};
+ghost use Rattle.tfpg_search.specs.Enough.{IsEnough};
 ghost use Rattle.tfpg_search.specs.Searched.{IsSearched};
 ghost use Rattle.tfpg_search.specs.inside.Closing.{Closes};
 ghost use Rattle.tfpg_search.specs.inside.Leaving.{Leaves, Pushing, PushesOne};
@@ -120,6 +121,7 @@ impl Search {
         requires budget { 1 ≤ budget }
         requires represents { RepresentsSome graph.now log.now self.old }
         ensures searched { IsSearched graph.now log.now budget self.old self.new steps.old steps.new result }
+        ensures enough { IsEnough graph.now log.now budget → result ≡ Ok Found.Spent → ⊥ }
         ensures set { self.new.set ≡ self.old.set }
         ensures reach { self.new.reach ≡ self.old.reach }
         ensures seen { self.new.seen ≡ length log.now.events }

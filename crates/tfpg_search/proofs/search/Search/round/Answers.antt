@@ -1,4 +1,6 @@
-use Rattle.tfpg_search.proofs.Rounds.{seen_stands, searched}
+use Rattle.std.proofs.Common.{ap, ◌∙◌}
+use Rattle.tfpg_search.specs.Searching.{Searching}
+use Rattle.tfpg_search.proofs.Rounds.{seen_stands, searched, never_spent}
 use Rattle.tfpg_search.proofs.search.Search.round.Goals as goal
 
 pub search_on-requires-clause-stands : goal.search_on-requires-clause-stands
@@ -7,4 +9,9 @@ search_on-requires-clause-stands g c = seen_stands c.args.graph.now c.args.log.n
 pub returns-clause-searched : goal.returns-clause-searched
 returns-clause-searched g c =
     searched c.args.graph.now c.args.log.now c.args.budget c.args.self.now c.see.new.self c.search_on.new.self c.args.steps.now c.search_on.new.steps c.search_on.result c.see.ensures.ordered
-    c.see.ensures.same c.search_on.ensures.keeps.reach c.search_on.ensures.keeps.seen c.search_on.ensures.searches
+    c.requires.event c.see.ensures.same c.search_on.ensures.keeps.reach c.search_on.ensures.keeps.seen c.search_on.ensures.searches
+
+pub returns-clause-enough : goal.returns-clause-enough
+returns-clause-enough g c =
+    never_spent c.args.graph.now c.args.log.now c.args.budget c.args.self.now c.see.new.self c.search_on.new.self c.args.steps.now c.search_on.new.steps c.search_on.result c.see.ensures.ordered
+    c.requires.event c.see.ensures.same c.search_on.ensures.keeps.reach c.search_on.ensures.keeps.seen c.search_on.ensures.searches c.requires.represents

@@ -1,0 +1,430 @@
+-- The clause names of a log are finitely many: they can be listed.
+use Rattle.std.proofs.Common.{◌≡◌, ◌≢◌, ◌⊎◌, ◌↔◌, ℕ, zero, suc, ◌+◌, ◌<◌, ◌≤◌, List, [], ◌∷◌, ◌++◌, length, Bool, true, false, Option, Some, None, refl, sym, ap, subst, ◌∙◌, inl, inr, arith}
+use Rattle.std.specs.Prelude.{All, AllPairs, Contains, cond, map, flat_map, nat_le, ◌==◌, ◌&&◌, ◌||◌, if◌then◌else◌, is_some, option_map, option_and_then, slice_get, filter_map}
+use Rattle.std.specs.Bool.{then_some}
+use Rattle.std.specs.Option.{option_or, option_map_or}
+use Rattle.std.specs.List.{list_any}
+use Rattle.std.proofs.lemmas.Bool.Decides.{nat_tests}
+use Rattle.std.proofs.lemmas.List.Elements.{All-nil, All-cons, Contains-append_left, Contains-append_right, Contains-append_cases}
+use Rattle.std.proofs.lemmas.Option.{slice_get_within}
+use Rattle.std.proofs.lemmas.List.Kept.{AllPairs-cons}
+use Rattle.tfpg_base.specs.declared.constraint.Constraint.{Constraint}
+use Rattle.tfpg_graph.specs.declared.edge.Edge.{Edge}
+use Rattle.tfpg_graph.specs.declared.kind.Kind.{Kind}
+use Rattle.tfpg_graph.specs.Graph.{Tfpg, Node, is_kind_at, is_or, is_and, edges_into}
+use Rattle.tfpg_log.specs.declared.span.Span.{Span}
+use Rattle.tfpg_log.specs.declared.span.Window.{Window}
+use Rattle.tfpg_log.specs.Log.{Logbook, now_of, mode_at, time_of_event}
+use Rattle.tfpg_log.specs.Spans.{least, greatest, span_number, span_between, span_at, window_round, window_of, joint_of, is_allowed_at, are_allowed_at}
+use Rattle.tfpg_evidence.specs.declared.clause_name.ClauseName.{ClauseName}
+use Rattle.tfpg_evidence.specs.declared.clause_name.ClauseName.TheVariants.{OrMay, AndMay, OrMust, AndMust}
+use Rattle.tfpg_base.specs.Choice.{each_of}
+use Rattle.tfpg_clause.specs.Clauses.{alternatives, outside_span, arrival, due_over, may_by, must_by}
+use Rattle.tfpg_clause.specs.Order.{horizon_of}
+use Rattle.tfpg_search.specs.Enough.{IsEventTime, IsNameAt, AreNamesAt, IsMostIncoming}
+use Rattle.tfpg_search.proofs.Pigeons.{contains_head, contains_tail, contains_cases}
+
+-- ---- lists
+
+or_cases : (a b : Bool) → (a || b) ≡ true → (a ≡ true) ⊎ (b ≡ true)
+or_cases true b is = inl refl
+or_cases false b is = inr is
+
+or_right : (a b : Bool) → b ≡ true → (a || b) ≡ true
+or_right true b is = refl
+or_right false b is = is
+
+and_left : (a b : Bool) → (a && b) ≡ true → a ≡ true
+and_left true b is = refl
+and_left false b is = cc
+
+and_right : (a b : Bool) → (a && b) ≡ true → b ≡ true
+and_right true b is = is
+and_right false b is = cc
+
+and_both : (a b : Bool) → a ≡ true → b ≡ true → (a && b) ≡ true
+and_both true b one other = other
+and_both false b one other = cc
+
+module _ {X : Type 0} where
+  -- some item passes where the test passes some
+  pub any_passes : (p : X → Bool) (xs : List X) → list_any p xs ≡ true → (x : X) × Contains xs x × (p x ≡ true)
+  any_passes p [] is = absurd cc
+  any_passes p (x ∷ xs) is =
+      elim (or_cases (p x) (list_any p xs) is) [
+        | inl here ↦ (x, contains_head x xs, here)
+        | inr later ↦ (let found = any_passes p xs later in (found.0, contains_tail x xs found.0 found.1, found.2))
+      ]
+
+  pub passes_any : (p : X → Bool) (xs : List X) (x : X) → Contains xs x → p x ≡ true → list_any p xs ≡ true
+  passes_any p [] x has is = absurd (omega (arith, has.1))
+  passes_any p (y ∷ xs) x has is =
+      elim (contains_cases y xs x has) [
+        | inl same ↦ first (p y) (ap p same ∙ is)
+        | inr later ↦ or_right (p y) (list_any p xs) (passes_any p xs x later is)
+      ]
+    where
+      first : (b : Bool) → b ≡ true → (b || list_any p xs) ≡ true
+      first true yes_ = refl
+      first false no_ = cc
+
+  -- the items that pass
+  abbrev pub passing : (X → Bool) → List X → List X
+  passing p [] = []
+  passing p (x ∷ xs) = cond (p x) (x ∷ passing p xs) (passing p xs)
+
+  kept_passing : (p : X → Bool) (xs : List X) (x : X) → Contains xs x → p x ≡ true → Contains (passing p xs) x
+  kept_passing p [] x has is = absurd (omega (arith, has.1))
+  kept_passing p (y ∷ xs) x has is = by (λ there. kept_passing p xs x there is) (p y) refl (contains_cases y xs x has)
+    where
+      by : (Contains xs x → Contains (passing p xs) x) → (b : Bool) → p y ≡ b → (y ≡ x) ⊎ Contains xs x → Contains (cond b (y ∷ passing p xs) (passing p xs)) x
+      by later true at (inl same) = subst (Contains (y ∷ passing p xs)) same (contains_head y (passing p xs))
+      by later true at (inr there) = contains_tail y (passing p xs) x (later there)
+      by later false at (inl same) = let is_not : p x ≡ false = ap p (sym same) ∙ at in cc
+      by later false at (inr there) = later there
+
+  was_passing : (p : X → Bool) (xs : List X) (x : X) → Contains (passing p xs) x → p x ≡ true
+  was_passing p [] x has = absurd (omega (arith, has.1))
+  was_passing p (y ∷ xs) x has = by (λ later. was_passing p xs x later) (p y) refl has
+    where
+      by : (Contains (passing p xs) x → p x ≡ true) → (b : Bool) → p y ≡ b → Contains (cond b (y ∷ passing p xs) (passing p xs)) x → p x ≡ true
+      by next true at there =
+          elim (contains_cases y (passing p xs) x there) [
+            | inl same ↦ ap p (sym same) ∙ at
+            | inr later ↦ next later
+          ]
+      by next false at there = next there
+
+  module _ (same : X → X → Bool) (exact : (x y : X) → same x y ≡ true → x ≡ y) (itself : (x : X) → same x x ≡ true) where
+    -- the list, of each item the last time that it stands there
+    abbrev pub once : List X → List X
+    once [] = []
+    once (x ∷ xs) = cond (list_any (same x) xs) (once xs) (x ∷ once xs)
+
+    pub in_once : (xs : List X) (x : X) → Contains xs x → Contains (once xs) x
+    in_once [] x has = absurd (omega (arith, has.1))
+    in_once (y ∷ xs) x has = by (λ there. in_once xs x there) (list_any (same y) xs) refl (contains_cases y xs x has)
+      where
+        by : (Contains xs x → Contains (once xs) x) → (b : Bool) → list_any (same y) xs ≡ b → (y ≡ x) ⊎ Contains xs x → Contains (cond b (once xs) (y ∷ once xs)) x
+        by next true at (inl is) =
+            let found = any_passes (same y) xs at in
+            next (subst (Contains xs) (sym (exact y found.0 found.2) ∙ is) found.1)
+        by next true at (inr there) = next there
+        by next false at (inl is) = subst (Contains (y ∷ once xs)) is (contains_head y (once xs))
+        by next false at (inr there) = contains_tail y (once xs) x (next there)
+
+    pub from_once : (xs : List X) (x : X) → Contains (once xs) x → Contains xs x
+    from_once [] x has = has
+    from_once (y ∷ xs) x has = by (λ there. from_once xs x there) (list_any (same y) xs) has
+      where
+        by : (Contains (once xs) x → Contains xs x) → (b : Bool) → Contains (cond b (once xs) (y ∷ once xs)) x → Contains (y ∷ xs) x
+        by next true there = contains_tail y xs x (next there)
+        by next false there =
+            elim (contains_cases y (once xs) x there) [
+              | inl is ↦ subst (Contains (y ∷ xs)) is (contains_head y xs)
+              | inr later ↦ contains_tail y xs x (next later)
+            ]
+
+    none_later : (y : X) (xs all : List X) → list_any (same y) all ≡ false → ((x : X) → Contains xs x → Contains all x) → All (λ (x : X). y ≢ x) xs
+    none_later y [] all none in_all = All-nil (λ (x : X). y ≢ x)
+    none_later y (x ∷ xs) all none in_all =
+        All-cons (λ (z : X). y ≢ z) x xs
+        (λ is. (let there : list_any (same y) all ≡ true = passes_any (same y) all x (in_all x (contains_head x xs)) (ap (same y) (sym is) ∙ itself y) in absurd cc))
+        (none_later y xs all none (λ z has. in_all z (contains_tail x xs z has)))
+
+    pub once_differ : (xs : List X) → AllPairs ◌≢◌ (once xs)
+    once_differ [] = λ i j d less within. absurd (omega (arith, within))
+    once_differ (y ∷ xs) = by (once_differ xs) (list_any (same y) xs) refl
+      where
+        by : AllPairs ◌≢◌ (once xs) → (b : Bool) → list_any (same y) xs ≡ b → AllPairs ◌≢◌ (cond b (once xs) (y ∷ once xs))
+        by others true at = others
+        by others false at = AllPairs-cons ◌≢◌ y (once xs) (none_later y (once xs) xs at (λ x has. from_once xs x has)) others
+
+in_flat_map : {X Y : Type 0} (f : X → List Y) (xs : List X) (x : X) (y : Y) → Contains xs x → Contains (f x) y → Contains (flat_map f xs) y
+in_flat_map f [] x y has there = absurd (omega (arith, has.1))
+in_flat_map f (z ∷ xs) x y has there =
+    elim (contains_cases z xs x has) [
+      | inl is ↦ Contains-append_left (f z) (flat_map f xs) y (subst (λ w. Contains (f w) y) (sym is) there)
+      | inr later ↦ Contains-append_right (f z) (flat_map f xs) y (in_flat_map f xs x y later there)
+    ]
+
+-- the numbers below a limit
+abbrev below : ℕ → List ℕ
+below zero = []
+below (suc n) = n ∷ below n
+
+in_below : (limit k : ℕ) → k < limit → Contains (below limit) k
+in_below zero k less = absurd (omega arith)
+in_below (suc n) k less = by (λ smaller. in_below n k smaller) (k == n) refl
+  where
+    by : (k < n → Contains (below n) k) → (b : Bool) → (k == n) ≡ b → Contains (n ∷ below n) k
+    by next true at = (let is : n ≡ k = grind (arith, nat_tests) in subst (Contains (n ∷ below n)) is (contains_head n (below n)))
+    by next false at = (let smaller : k < n = grind (arith, nat_tests) in contains_tail n (below n) k (next smaller))
+
+-- ---- names
+
+abbrev names_of_subject : ℕ → ℕ → ℕ → List ClauseName
+names_of_subject horizon span subject = OrMay subject span horizon ∷ AndMay subject span horizon ∷ OrMust subject span horizon ∷ AndMust subject span horizon ∷ []
+
+abbrev names_of_span : ℕ → ℕ → ℕ → List ClauseName
+names_of_span limit horizon span = flat_map (names_of_subject horizon span) (below limit)
+
+abbrev names_of_horizon : ℕ → ℕ → List ClauseName
+names_of_horizon limit horizon = flat_map (names_of_span limit horizon) (below limit)
+
+-- all names of numbers below a limit
+abbrev names_below : ℕ → List ClauseName
+names_below limit = flat_map (names_of_horizon limit) (below limit)
+
+in_names : (limit horizon span subject : ℕ) (name : ClauseName) → Contains (names_of_subject horizon span subject) name → horizon < limit → span < limit → subject < limit → Contains (names_below limit) name
+in_names limit horizon span subject name there low_horizon low_span low_subject =
+    in_flat_map (names_of_horizon limit) (below limit) horizon name (in_below limit horizon low_horizon)
+    (in_flat_map (names_of_span limit horizon) (below limit) span name (in_below limit span low_span)
+    (in_flat_map (names_of_subject horizon span) (below limit) subject name (in_below limit subject low_subject) there))
+
+-- the test of being the same name
+abbrev same_numbers : ℕ → ℕ → ℕ → ℕ → ℕ → ℕ → Bool
+same_numbers a b c x y z = (a == x) && ((b == y) && (c == z))
+
+abbrev same_name : ClauseName → ClauseName → Bool
+same_name (OrMay a b c) (OrMay x y z) = same_numbers a b c x y z
+same_name (OrMay a b c) (AndMay x y z) = false
+same_name (OrMay a b c) (OrMust x y z) = false
+same_name (OrMay a b c) (AndMust x y z) = false
+same_name (AndMay a b c) (OrMay x y z) = false
+same_name (AndMay a b c) (AndMay x y z) = same_numbers a b c x y z
+same_name (AndMay a b c) (OrMust x y z) = false
+same_name (AndMay a b c) (AndMust x y z) = false
+same_name (OrMust a b c) (OrMay x y z) = false
+same_name (OrMust a b c) (AndMay x y z) = false
+same_name (OrMust a b c) (OrMust x y z) = same_numbers a b c x y z
+same_name (OrMust a b c) (AndMust x y z) = false
+same_name (AndMust a b c) (OrMay x y z) = false
+same_name (AndMust a b c) (AndMay x y z) = false
+same_name (AndMust a b c) (OrMust x y z) = false
+same_name (AndMust a b c) (AndMust x y z) = same_numbers a b c x y z
+
+number_is : (a x : ℕ) → (a == x) ≡ true → a ≡ x
+number_is a x is = grind (arith, nat_tests)
+
+number_itself : (a : ℕ) → (a == a) ≡ true
+number_itself a = grind (arith, nat_tests)
+
+three_are : {Y : Type 0} (f : ℕ → ℕ → ℕ → Y) (a b c x y z : ℕ) → same_numbers a b c x y z ≡ true → f a b c ≡ f x y z
+three_are f a b c x y z is =
+    let others : ((b == y) && (c == z)) ≡ true = and_right (a == x) ((b == y) && (c == z)) is in
+    ap (λ n. f n b c) (number_is a x (and_left (a == x) ((b == y) && (c == z)) is))
+    ∙ ap (λ n. f x n c) (number_is b y (and_left (b == y) (c == z) others))
+    ∙ ap (λ n. f x y n) (number_is c z (and_right (b == y) (c == z) others))
+
+three_itself : (a b c : ℕ) → same_numbers a b c a b c ≡ true
+three_itself a b c = and_both (a == a) ((b == b) && (c == c)) (number_itself a) (and_both (b == b) (c == c) (number_itself b) (number_itself c))
+
+exact_name : (one other : ClauseName) → same_name one other ≡ true → one ≡ other
+exact_name (OrMay a b c) (OrMay x y z) is = three_are OrMay a b c x y z is
+exact_name (OrMay a b c) (AndMay x y z) is = cc
+exact_name (OrMay a b c) (OrMust x y z) is = cc
+exact_name (OrMay a b c) (AndMust x y z) is = cc
+exact_name (AndMay a b c) (OrMay x y z) is = cc
+exact_name (AndMay a b c) (AndMay x y z) is = three_are AndMay a b c x y z is
+exact_name (AndMay a b c) (OrMust x y z) is = cc
+exact_name (AndMay a b c) (AndMust x y z) is = cc
+exact_name (OrMust a b c) (OrMay x y z) is = cc
+exact_name (OrMust a b c) (AndMay x y z) is = cc
+exact_name (OrMust a b c) (OrMust x y z) is = three_are OrMust a b c x y z is
+exact_name (OrMust a b c) (AndMust x y z) is = cc
+exact_name (AndMust a b c) (OrMay x y z) is = cc
+exact_name (AndMust a b c) (AndMay x y z) is = cc
+exact_name (AndMust a b c) (OrMust x y z) is = cc
+exact_name (AndMust a b c) (AndMust x y z) is = three_are AndMust a b c x y z is
+
+name_itself : (name : ClauseName) → same_name name name ≡ true
+name_itself (OrMay a b c) = three_itself a b c
+name_itself (AndMay a b c) = three_itself a b c
+name_itself (OrMust a b c) = three_itself a b c
+name_itself (AndMust a b c) = three_itself a b c
+
+-- ---- what is allowed has small numbers
+
+number_small : (log : Logbook) (instant : ℕ) → span_number log instant ≤ instant
+number_small log zero = omega arith
+number_small log (suc instant) = by (number_small log instant) (mode_at log instant == mode_at log (suc instant))
+  where
+    by : span_number log instant ≤ instant → (b : Bool) → span_number log instant + (if b then 0 else 1) ≤ suc instant
+    by before true = omega (arith, before)
+    by before false = omega (arith, before)
+
+-- the least number that passes is within the limit, and passes
+least_is : (passes : ℕ → Bool) (limit n : ℕ) → least passes limit ≡ Some n → (n ≤ limit) × (passes n ≡ true)
+least_is passes zero n is = by (passes 0) refl is
+  where
+    by : (b : Bool) → passes 0 ≡ b → (if b then Some 0 else None) ≡ Some n → (n ≤ 0) × (passes n ≡ true)
+    by true at gives = (let same : 0 ≡ n = cc in (omega (arith, same), subst (λ k. passes k ≡ true) same at))
+    by false at gives = absurd cc
+least_is passes (suc limit) n is = by (λ k at. least_is passes limit k at) (least passes limit) refl is
+  where
+    own : (b : Bool) → passes (suc limit) ≡ b → (if b then Some (suc limit) else None) ≡ Some n → (n ≤ suc limit) × (passes n ≡ true)
+    own true at gives = (let same : suc limit ≡ n = cc in (omega (arith, same), subst (λ k. passes k ≡ true) same at))
+    own false at gives = absurd cc
+
+    by : ((k : ℕ) → least passes limit ≡ Some k → (k ≤ limit) × (passes k ≡ true)) → (found : Option ℕ) → least passes limit ≡ found → option_or found (if passes (suc limit) then Some (suc limit) else None) ≡ Some n → (n ≤ suc limit) × (passes n ≡ true)
+    by next None at gives = own (passes (suc limit)) refl gives
+    by next (Some k) at gives =
+        let same : k ≡ n = cc in
+        let there = next k at in
+        (omega (arith, there.0, same), subst (λ m. passes m ≡ true) same there.1)
+
+-- a span that there is has a number up to its horizon, which is not after now
+pub record IsSmallSpan (log : Logbook) (number horizon : ℕ) : Type 0 where
+  pub span_small : number ≤ horizon
+  pub horizon_small : horizon ≤ now_of log
+
+pub span_small_at : (log : Logbook) (number horizon : ℕ) → is_some (span_at log number horizon) ≡ true → IsSmallSpan log number horizon
+span_small_at log number horizon some = by (nat_le horizon (now_of log)) refl some
+  where
+    passes : ℕ → Bool
+    passes instant = span_number log instant == number
+
+    found_by : (lo : Option ℕ) → least (λ instant. span_number log instant == number) horizon ≡ lo → (hi : Option ℕ) → is_some (span_between log lo hi) ≡ true → number ≤ horizon
+    found_by None at hi there = absurd cc
+    found_by (Some lo) at hi there =
+        let is = least_is (λ instant. span_number log instant == number) horizon lo at in
+        let same : span_number log lo ≡ number = number_is (span_number log lo) number is.1 in
+        omega (arith, is.0, same, number_small log lo)
+
+    by : (b : Bool) → nat_le horizon (now_of log) ≡ b
+        → is_some (if b then span_between log (least (λ instant. span_number log instant == number) horizon) (greatest (λ instant. span_number log instant == number) horizon) else None) ≡ true
+        → IsSmallSpan log number horizon
+    by true at there = record {
+      span_small = found_by (least (λ instant. span_number log instant == number) horizon) refl (greatest (λ instant. span_number log instant == number) horizon) there;
+      horizon_small = grind (arith, nat_tests);
+    }
+    by false at there = absurd cc
+
+-- ---- allowed names
+
+within_list : {X : Type 0} (xs : List X) (k : ℕ) (found : Option X) → slice_get xs k ≡ found → is_some found ≡ true → k < length xs
+within_list xs k None at some = absurd cc
+within_list xs k (Some x) at some = slice_get_within xs k x at
+
+kind_within : (is_kind : Kind → Bool) (graph : Tfpg) (node : ℕ) → is_kind_at is_kind graph node ≡ true → node < length graph.nodes
+kind_within is_kind graph node is = by (slice_get graph.nodes node) refl is
+  where
+    by : (found : Option Node) → slice_get graph.nodes node ≡ found → option_map_or is_kind (option_map (λ (n : Node). n.kind) found) false ≡ true → node < length graph.nodes
+    by None at there = absurd cc
+    by (Some n) at there = slice_get_within graph.nodes node n at
+
+span_there : {X : Type 0} (f : Span → Option X) (span : Option Span) → is_some (option_and_then f span) ≡ true → is_some span ≡ true
+span_there f None is = cc
+span_there f (Some s) is = refl
+
+first_there : {X Y : Type 0} (f : X → Option Y) (found : Option X) → is_some (option_and_then f found) ≡ true → is_some found ≡ true
+first_there f None is = cc
+first_there f (Some x) is = refl
+
+never_there : {X Y : Type 0} (f : X → Option Y) (found : Option X) → ((x : X) → f x ≡ None) → is_some (option_and_then f found) ≡ true → ⊥
+never_there f None none is = cc
+never_there f (Some x) none is = let same : is_some (f x) ≡ false = ap is_some (none x) in cc
+
+if_holds : {X : Type 0} (holds : Bool) (x : X) → is_some (then_some holds x) ≡ true → holds ≡ true
+if_holds true x is = refl
+if_holds false x is = cc
+
+module _ (log : Logbook) where
+  -- a may clause has a span, and its test holds
+  may_there : (holds : Bool) (target : ℕ) (edges : List Edge) (number horizon : ℕ) → is_some (may_by log holds target edges number horizon) ≡ true
+      → IsSmallSpan log number horizon × (holds ≡ true)
+  may_there holds target edges number horizon some = (
+    span_small_at log number horizon (first_there (λ (s : Span). then_some holds (outside_span target s ++ filter_map (arrival log number horizon s) edges)) (span_at log number horizon) some),
+    by (span_at log number horizon) some,
+  )
+    where
+      by : (span : Option Span) → is_some (option_and_then (λ (s : Span). then_some holds (outside_span target s ++ filter_map (arrival log number horizon s) edges)) span) ≡ true → holds ≡ true
+      by None there = cc
+      by (Some s) there = if_holds holds (outside_span target s ++ filter_map (arrival log number horizon s) edges) there
+
+  -- a must clause has a window, and its test holds
+  must_there : (holds : Bool) (target : ℕ) (edges : List Edge) (window : Option Window) (number horizon : ℕ) → is_some (must_by log holds target edges window number horizon) ≡ true
+      → (is_some window ≡ true) × (holds ≡ true)
+  must_there false target edges window number horizon some = absurd cc
+  must_there true target edges None number horizon some = absurd (never_there _ (each_of (map (due_over log number horizon) edges)) (λ x. refl) some)
+  must_there true target edges (Some w) number horizon some = (refl, refl)
+
+module _ (graph : Tfpg) (log : Logbook) where
+  -- all numbers of an allowed name are below this
+  abbrev limit : ℕ
+  limit = now_of log + length graph.nodes + length graph.edges + 1
+
+  -- the test of an allowed name
+  abbrev allowed : ClauseName → Bool
+  allowed name = is_some (alternatives graph log name)
+
+  of_window : {X : Type 0} (f : Span → Option X) (number horizon : ℕ) → is_some (option_and_then f (span_at log number horizon)) ≡ true → IsSmallSpan log number horizon
+  of_window f number horizon some = span_small_at log number horizon (first_there f (span_at log number horizon) some)
+
+  of_edge : (f : Edge → Option (List (List Constraint))) (number : ℕ) (found : Option Edge) → slice_get graph.edges number ≡ found → is_some (option_and_then f found) ≡ true
+      → (number < length graph.edges) × (edge : Edge) × (is_some (f edge) ≡ true)
+  of_edge f number None at some = absurd cc
+  of_edge f number (Some edge) at some = (slice_get_within graph.edges number edge at, edge, some)
+
+  small : (horizon span subject : ℕ) (name : ClauseName) → Contains (names_of_subject horizon span subject) name → IsSmallSpan log span horizon → subject < length graph.nodes + length graph.edges
+      → Contains (names_below limit) name
+  small horizon span subject name there is low =
+      in_names limit horizon span subject name there (omega (arith, is.horizon_small)) (omega (arith, is.span_small, is.horizon_small)) (omega (arith, low))
+
+  -- an allowed name is among those of small numbers
+  listed : (name : ClauseName) → allowed name ≡ true → Contains (names_below limit) name
+  listed (OrMay node number horizon) some =
+      let there = may_there log (is_kind_at is_or graph node) node (edges_into graph node) number horizon some in
+      small horizon number node (OrMay node number horizon) (0, omega arith, refl) there.0 (omega (arith, kind_within is_or graph node there.1))
+  listed (AndMay edge number horizon) some =
+      let own = of_edge (λ (e : Edge). may_by log (is_kind_at is_and graph e.target) e.target (e ∷ []) number horizon) edge (slice_get graph.edges edge) refl some in
+      let there = may_there log (is_kind_at is_and graph own.1.target) own.1.target (own.1 ∷ []) number horizon own.2 in
+      small horizon number edge (AndMay edge number horizon) (1, omega arith, refl) there.0 (omega (arith, own.0))
+  listed (OrMust edge number horizon) some =
+      let own = of_edge (λ (e : Edge). must_by log (is_kind_at is_or graph e.target) e.target (e ∷ []) (window_of log e number horizon) number horizon) edge (slice_get graph.edges edge) refl some in
+      let there = must_there log (is_kind_at is_or graph own.1.target) own.1.target (own.1 ∷ []) (window_of log own.1 number horizon) number horizon own.2 in
+      small horizon number edge (OrMust edge number horizon) (2, omega arith, refl)
+      (of_window (λ span. window_round log (is_allowed_at log own.1) span horizon) number horizon there.0) (omega (arith, own.0))
+  listed (AndMust node number horizon) some =
+      let there = must_there log (is_kind_at is_and graph node) node (edges_into graph node) (joint_of graph log node number horizon) number horizon some in
+      small horizon number node (AndMust node number horizon) (3, omega arith, refl)
+      (of_window (λ span. window_round log (are_allowed_at graph log node) span horizon) number horizon there.0) (omega (arith, kind_within is_and graph node there.1))
+
+  -- the test of a name whose horizon is the time of an event
+  abbrev at_event : ClauseName → Bool
+  at_event name = list_any (λ event. time_of_event event == horizon_of name) log.events
+
+  abbrev is_name : ClauseName → Bool
+  is_name name = allowed name && at_event name
+
+  clause_of : (clause : Option (List (List Constraint))) → is_some clause ≡ true → (c : List (List Constraint)) × (clause ≡ Some c)
+  clause_of None some = absurd cc
+  clause_of (Some c) some = (c, refl)
+
+  name_from : (name : ClauseName) → is_name name ≡ true → IsNameAt graph log name
+  name_from name is =
+      let clause = clause_of (alternatives graph log name) (and_left (allowed name) (at_event name) is) in
+      let event = any_passes (λ event. time_of_event event == horizon_of name) log.events (and_right (allowed name) (at_event name) is) in
+      record { clause = clause.0; allowed = clause.1; horizon = record { event = event.0; accepted = event.1; at = number_is (time_of_event event.0) (horizon_of name) event.2 } }
+
+  name_to : (name : ClauseName) → IsNameAt graph log name → is_name name ≡ true
+  name_to name is =
+      and_both (allowed name) (at_event name) (ap is_some is.allowed)
+      (passes_any (λ event. time_of_event event == horizon_of name) log.events is.horizon.event is.horizon.accepted
+      (ap (λ n. n == horizon_of name) is.horizon.at ∙ number_itself (horizon_of name)))
+
+  -- There is a list of all names.
+  pub names_listed : (names : List ClauseName) × AreNamesAt graph log names
+  names_listed = (
+    once same_name exact_name name_itself (passing is_name (names_below limit)),
+    record {
+      once = once_differ same_name exact_name name_itself (passing is_name (names_below limit));
+      exact = λ name. (
+        λ has. name_from name (was_passing is_name (names_below limit) name (from_once same_name exact_name name_itself (passing is_name (names_below limit)) name has)),
+        λ is.
+            in_once same_name exact_name name_itself (passing is_name (names_below limit)) name
+            (kept_passing is_name (names_below limit) name (listed name (and_left (allowed name) (at_event name) (name_to name is))) (name_to name is)),
+      );
+    },
+  )

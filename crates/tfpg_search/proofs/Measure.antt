@@ -1,0 +1,93 @@
+-- A measure of an open tree, which each step lowers.
+--
+-- Let n names be allowed. The present leaf under q splits counts a ^ (n - q), and so does each alternative of the split number q + 1
+-- that is not entered yet.
+use Rattle.std.proofs.Common.{◌≡◌, ℕ, zero, suc, ◌+◌, ◌-◌, ◌*◌, ◌^◌, ◌<◌, ◌≤◌, List, [], ◌∷◌, ◌++◌, length, Bool, true, false, Option, Some, None, refl, sym, ap, subst, ◌∙◌, arith}
+use Rattle.std.specs.Prelude.{All, nat_lt, option_map}
+use Rattle.std.specs.Option.{option_or}
+use Rattle.std.specs.Bool.{then_some}
+use Rattle.std.proofs.lemmas.Bool.Decides.{nat_tests}
+use Rattle.std.proofs.lemmas.List.Elements.{All-head, All-tail}
+use Rattle.std.proofs.lemmas.Nat.{row_fits}
+use Rattle.std.proofs.Math.Nat.{pow-succ', add-mul, one-le-pow}
+use Rattle.tfpg_evidence.specs.declared.clause_name.ClauseName.{ClauseName}
+use Rattle.tfpg_clause.specs.Paths.{path_after, next_alternative, new_frame}
+use Rattle.tfpg_clause.specs.declared.path.Frame.{Frame}
+use Rattle.tfpg_search.specs.Picks.{IsInRange, AreInRange}
+
+module _ (a : ℕ) (some : 1 ≤ a) where
+  abbrev pub weight : List Frame → ℕ → ℕ
+  weight [] n = a ^ n
+  weight (frame ∷ deeper) zero = 0
+  weight (frame ∷ deeper) (suc n) = (frame.alternatives - frame.alternative) * a ^ n + weight deeper n
+
+  power_some : (n : ℕ) → 1 ≤ a ^ n
+  power_some n = one-le-pow n a some
+
+  pub weight_some : (frames : List Frame) (n : ℕ) → length frames ≤ n → 1 ≤ weight frames n
+  weight_some [] n within = power_some n
+  weight_some (frame ∷ deeper) zero within = absurd (omega arith)
+  weight_some (frame ∷ deeper) (suc n) within = omega (arith, weight_some deeper n (omega arith))
+
+  -- Each frame has fewer alternatives than that.
+  abbrev pub AreFew : List Frame → Type 0
+  AreFew frames = All (λ (frame : Frame). frame.alternatives < a) frames
+
+  pub weight_limit : (frames : List Frame) (n : ℕ) → AreInRange frames → AreFew frames → length frames ≤ n → weight frames n ≤ a ^ n
+  weight_limit [] n range few within = omega arith
+  weight_limit (frame ∷ deeper) zero range few within = absurd (omega arith)
+  weight_limit (frame ∷ deeper) (suc n) range few within =
+      let deep : weight deeper n ≤ a ^ n = weight_limit deeper n (All-tail IsInRange frame deeper range) (All-tail (λ (f : Frame). f.alternatives < a) frame deeper few) (omega arith) in
+      let own : frame.alternatives < a = All-head (λ (f : Frame). f.alternatives < a) frame deeper few in
+      let same : (p : ℕ) → p ≤ p = λ p. omega arith in
+      let row : (frame.alternatives - frame.alternative) * a ^ n + a ^ n ≤ a * a ^ n = row_fits (frame.alternatives - frame.alternative) (a ^ n) a (a ^ n) (omega (arith, own)) (same (a ^ n)) in
+      omega (arith, deep, row, pow-succ' a n)
+
+  -- ---- a split
+
+  -- (c + 1) * p and p more fit into a * p, where c + 1 is less than a
+  two_rows : (c p : ℕ) → c + 1 < a → c * p + p + p ≤ a * p
+  two_rows c p less =
+      let same : p ≤ p = omega arith in
+      let first : (c + 1) * p + p ≤ a * p = row_fits (c + 1) p a p less same in
+      let parts : (c + 1) * p ≡ c * p + 1 * p = add-mul c 1 p in
+      omega (arith, first, parts)
+
+  pub split_lowers : (frames : List Frame) (name : ClauseName) (count n : ℕ) → length frames < n → 1 ≤ count → count < a → weight (frames ++ new_frame name count ∷ []) n + 1 ≤ weight frames n
+  split_lowers [] name count zero less low high = absurd (omega arith)
+  split_lowers [] name count (suc n) less low high =
+      let rows : (count - 1) * a ^ n + a ^ n + a ^ n ≤ a * a ^ n = two_rows (count - 1) (a ^ n) (omega (arith, low, high)) in
+      omega (arith, rows, power_some n, pow-succ' a n)
+  split_lowers (frame ∷ deeper) name count zero less low high = absurd (omega arith)
+  split_lowers (frame ∷ deeper) name count (suc n) less low high = omega (arith, split_lowers deeper name count n (omega arith) low high)
+
+  -- ---- a cycle
+
+  one_less : (one other p : ℕ) → other < one → (one - other) * p ≡ (one - (other + 1)) * p + p
+  one_less one other p less =
+      let same : one - other ≡ (one - (other + 1)) + 1 = omega (arith, less) in
+      let parts : ((one - (other + 1)) + 1) * p ≡ (one - (other + 1)) * p + 1 * p = add-mul (one - (other + 1)) 1 p in
+      let whole : (one - other) * p ≡ (one - (other + 1)) * p + 1 * p = ap (λ k. k * p) same ∙ parts in
+      omega (arith, whole)
+
+  pub cycle_lowers : (frames after : List Frame) (n : ℕ) → length frames ≤ n → path_after frames ≡ Some after → weight after n + 1 ≤ weight frames n
+  cycle_lowers [] after n within is = cc
+  cycle_lowers (frame ∷ deeper) after zero within is = absurd (omega arith)
+  cycle_lowers (frame ∷ deeper) after (suc n) within is = by (λ d there. cycle_lowers deeper d n (omega arith) there) (path_after deeper) refl is
+    where
+      own : (more : Bool) → nat_lt frame.alternative frame.alternatives ≡ more → then_some more (next_alternative frame ∷ []) ≡ Some after → weight after (suc n) + 1 ≤ weight (frame ∷ deeper) (suc n)
+      own false none gives = cc
+      own true less gives =
+          let same : next_alternative frame ∷ [] ≡ after = cc in
+          let left : frame.alternative < frame.alternatives = grind (arith, nat_tests) in
+          let rest : weight (next_alternative frame ∷ []) (suc n) + 1 ≤ weight (frame ∷ deeper) (suc n) =
+          omega (arith, one_less frame.alternatives frame.alternative (a ^ n) left, weight_some deeper n (omega arith)) in
+          subst (λ (fs : List Frame). weight fs (suc n) + 1 ≤ weight (frame ∷ deeper) (suc n)) same rest
+
+      by : ((d : List Frame) → path_after deeper ≡ Some d → weight d n + 1 ≤ weight deeper n) → (found : Option (List Frame)) → path_after deeper ≡ found
+          → option_or (option_map (λ (fs : List Frame). frame ∷ fs) found) (then_some (nat_lt frame.alternative frame.alternatives) (next_alternative frame ∷ [])) ≡ Some after
+          → weight after (suc n) + 1 ≤ weight (frame ∷ deeper) (suc n)
+      by next None there gives = own (nat_lt frame.alternative frame.alternatives) refl gives
+      by next (Some d) there gives =
+          let same : frame ∷ d ≡ after = cc in
+          subst (λ (fs : List Frame). weight fs (suc n) + 1 ≤ weight (frame ∷ deeper) (suc n)) same (omega (arith, next d there))
