@@ -2,6 +2,8 @@
 
 ghost use Rattle.std.specs.Prelude.{◌<◌};
 
+mod explaining;
+
 use crate::end::{End, UsageCause};
 use crate::run::run;
 use std::alloc::{AllocError, Global};
@@ -9,10 +11,10 @@ use std::test::Fail;
 use tfpg_base::{MemoryShelf, MemorySink, MemorySource};
 use tfpg_graph::GraphCause;
 
-const GRAPH: &[u8] =
+pub(crate) const GRAPH: &[u8] =
     b"tfpg 1\nmode N\nfailure F 1\nor A watch 0\nor E watch 0\nedge F A 1 3 *\nedge F E 9 9 *\nend\n";
 
-const TWO_MODES: &[u8] =
+pub(crate) const TWO_MODES: &[u8] =
     b"tfpg 1\nmode N\nmode D\nfailure F1 3\nfailure F2 5\nor A watch 0\nor B hidden\nand C watch 0\nedge F1 A 10 20 N,D\nedge F2 A 5 5 N\nedge F1 B 0 inf *\nedge A C 0 10 *\nedge B C 0 10 *\nend\n";
 
 /// A name, the text of a graph, and its first fault.
@@ -52,8 +54,8 @@ const LOG: &[u8] = b"5 tick\n10 alarm E\n9 tick\n12 tick\n";
 const REPORT: &[u8] =
     b"report 1 k 0 budget 1000\nround 1 1 5\nranked 0 cost 0 robust 1/1 set -\ncounts ranked 1 covered 0 rejected 0 open 0\nround 2 2 10\nhyp 0\ncycle 2\nwhy unreached E 10\nwhy upto 2\nrejected 0 set -\ncounts ranked 0 covered 0 rejected 1 open 0\nrefused 3 TimeBack 10\nround 3 4 12\ncounts ranked 0 covered 0 rejected 1 open 0\n";
 
-/// Words that are not the one shape.
-const REFUSED_WORDS: [&[&str]; 7] = [
+/// Words that are of neither shape.
+const REFUSED_WORDS: [&[&str]; 13] = [
     &[],
     &["diagnose"],
     &["diagnose", "--k", "1", "g"],
@@ -61,6 +63,12 @@ const REFUSED_WORDS: [&[&str]; 7] = [
     &["diagnose", "--k", "0", "-g"],
     &["check", "--k", "0", "g"],
     &["diagnose", "--k", "0", "g", "h"],
+    &["explain"],
+    &["explain", "g"],
+    &["explain", "-g", "l"],
+    &["explain", "g", "-l"],
+    &["explain", "g", "l", "m"],
+    &["judge", "g", "l"],
 ];
 
 /// The words of a command line.
@@ -241,7 +249,11 @@ const LOGS: [(&str, &[usize], &[u8], &[u8]); 10] = [
 ];
 
 /// A log whose first lines have so many bytes `x`, with these lines after them.
-fn log_of(alloc: Global, lengths: &[usize], after: &[u8]) -> Result<Vec<u8>, AllocError> {
+pub(crate) fn log_of(
+    alloc: Global,
+    lengths: &[usize],
+    after: &[u8],
+) -> Result<Vec<u8>, AllocError> {
     let mut log = Vec::new(alloc);
     for length in lengths {
         for _ in 0..*length {
