@@ -266,7 +266,8 @@ fn refuses_what_is_too_much_for_a_script(rt: HostRuntime) -> Result<(), Fail> {
 
 /// What is drawn by the number 1 in the size 1: worked out apart from this repository, by the generator's published
 /// arithmetic.
-const DRAWN_GRAPH: &[u8] = b"tfpg 1\nmode M0\nmode M1\nfailure F0 1\nfailure F1 2\nfailure F2 3\nfailure F3 4\nfailure F4 5\nfailure F5 6\nfailure F6 7\nfailure F7 8\nfailure F8 9\nfailure F9 10\nfailure F10 11\nfailure F11 12\nfailure F12 13\nfailure F13 14\nfailure F14 15\nfailure F15 16\nor D0 watch 18\nand D1 hidden\nor D2 watch 2\nor D3 hidden\nedge F1 D0 47 53 *\nedge F4 D0 43 92 *\nedge F14 D1 48 62 *\nedge F9 D1 15 55 *\nedge F13 D2 27 58 *\nedge F1 D2 27 inf *\nedge F12 D3 21 65 *\nedge F13 D3 46 47 *\nend\n";
+const DRAWN_GRAPH: &[u8] =
+    b"tfpg 1\nmode M0\nmode M1\nfailure F0 1\nfailure F1 2\nfailure F2 3\nfailure F3 4\nfailure F4 5\nfailure F5 6\nfailure F6 7\nfailure F7 8\nfailure F8 9\nfailure F9 10\nfailure F10 11\nfailure F11 12\nfailure F12 13\nfailure F13 14\nfailure F14 15\nfailure F15 16\nor D0 watch 18\nand D1 hidden\nor D2 watch 2\nor D3 hidden\nedge F1 D0 47 53 *\nedge F4 D0 43 92 *\nedge F14 D1 48 62 *\nedge F9 D1 15 55 *\nedge F13 D2 27 58 *\nedge F1 D2 27 inf *\nedge F12 D3 21 65 *\nedge F13 D3 46 47 *\nend\n";
 
 /// And its script.
 const DRAWN_SCRIPT: &[u8] =
