@@ -13,13 +13,13 @@ ghost use Rattle.tfpg_evidence.specs.declared.reason.Reason.{Reason};
 ghost use Rattle.tfpg_evidence.specs.declared.reason.Reason.TheVariants.{Pick};
 ghost use Rattle.tfpg_clause.specs.Facts.{fact};
 ghost use Rattle.tfpg_clause.specs.Paths.{framed, stated_by, path_after};
-ghost use Rattle.tfpg_search.specs.Leaf.{Leaf, pick_reasons, IsStated, IsSimpleCycle};
-ghost use Rattle.tfpg_search.specs.Picks.{picks_from, places_at};
+ghost use Rattle.tfpg_search.specs.Leaf.{Leaf, pick_reasons, IsStated};
+ghost use Rattle.tfpg_search.specs.Picks.{picks_from};
 ghost use Rattle.tfpg_search.specs.Searching.{SearchRepresents, RepresentsSome, IsAtItsLeaf};
 ghost use Rattle.tfpg_search.specs.Enough.{IsEnough};
 ghost use Rattle.tfpg_search.specs.Searched.{IsSearched};
-ghost use Rattle.tfpg_search.specs.inside.Closing.{Closes};
-ghost use Rattle.tfpg_search.specs.inside.Leaving.{Leaves, Pushing, PushesOne};
+ghost use Rattle.tfpg_search.specs.inside.Closing.{IsSimpleCycle, Closes};
+ghost use Rattle.tfpg_search.specs.inside.Leaving.{places_at, Leaves, Pushing, PushesOne};
 ghost use Rattle.tfpg_search.specs.inside.Moves.{KeepsSet, HasEnteredAll, IsSettled, IsLiveFramed, Closing, Settling, Sees, Looking, Splitting, SearchesOn};
 
 use crate::add_fault::AddFault;
