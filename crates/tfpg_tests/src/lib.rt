@@ -13,4 +13,6 @@ mod hyp;
 #[cfg(test)]
 mod kernel;
 #[cfg(test)]
+mod search;
+#[cfg(test)]
 mod sim;

@@ -1,0 +1,390 @@
+//! The public calls of `tfpg_search`: what a search finds for worked logs, whether it is asked at every event or once at the
+//! end, and how it goes on after its budget was spent.
+
+ghost use Rattle.std.specs.Prelude.{◌≡◌, ◌⊎◌, ◌<◌, ◌≤◌, [], List, length, All, IsTrue, IfOk, IfSome, OnOk};
+ghost use Rattle.tfpg_graph.specs.Graph.{failures};
+ghost use Rattle.tfpg_log.specs.declared.event.Event.{Event};
+ghost use Rattle.tfpg_log.specs.Log.{IsOf, with_event};
+ghost use Rattle.tfpg_log.specs.LogOfLines.{new_log};
+ghost use Rattle.tfpg_clause.specs.Trees.{Judged};
+ghost use Rattle.tfpg_search.specs.Searching.{SearchRepresents};
+
+use std::alloc::Global;
+use std::marker::Brand;
+use std::sync::ledger::{Blank, Ledger};
+use std::test::Fail;
+use tfpg_base::{Activation, Set, Steps};
+use tfpg_evidence::{Step, StepList};
+use tfpg_graph::{Graph, read};
+use tfpg_log::{Log, Offered};
+use tfpg_search::{Found, Search};
+
+/// Two failure modes with an edge each to A, of which the second is active in mode N alone. The first also has an edge to B,
+/// and C needs A and B. The nodes are F1, F2, A, B, C with the numbers 0 to 4.
+const TWO: &[u8] =
+    b"tfpg 1\nmode N\nmode D\nfailure F1 3\nfailure F2 5\nor A watch 0\nor B hidden\nand C watch 0\nedge F1 A 10 20 N,D\nedge F2 A 5 5 N\nedge F1 B 0 inf *\nedge A C 0 10 *\nedge B C 0 10 *\nend\n";
+
+/// A failure mode F with an edge to A, which is due after 3 at most, and an edge to E, which takes 9. Their numbers are 0 to 2.
+const ONE: &[u8] =
+    b"tfpg 1\nmode N\nfailure F 1\nor A watch 0\nor E watch 0\nedge F A 1 3 *\nedge F E 9 9 *\nend\n";
+
+/// The same, where A is never due.
+const NEVER_DUE: &[u8] =
+    b"tfpg 1\nmode N\nfailure F 1\nor A watch 0\nor E watch 0\nedge F A 1 inf *\nedge F E 9 9 *\nend\n";
+
+/// What a search finds at the end of a log.
+enum Answer {
+    /// A trace.
+    Shown,
+    /// The only trace that there is.
+    Only(&'static [Activation]),
+    /// A refutation, of at most so many steps.
+    Closed(usize),
+    /// That the budget is spent, after so many splits in all.
+    Spent(usize),
+}
+
+/// What a search finds, where the set has the failure mode of this position alone, or none.
+struct Row {
+    name: &'static str,
+    graph: &'static [u8],
+    member: Option<u32>,
+    lines: &'static [&'static [u8]],
+    answer: Answer,
+}
+
+/// Worked logs, with a budget that is ample for each.
+const ROWS: [Row; 16] = [
+    Row {
+        name: "an alarm without a cause",
+        graph: TWO,
+        member: None,
+        lines: &[b"30 alarm A"],
+        answer: Answer::Closed(1),
+    },
+    Row {
+        name: "the first of two suspects for one alarm",
+        graph: TWO,
+        member: Some(0),
+        lines: &[b"30 alarm A"],
+        answer: Answer::Shown,
+    },
+    Row {
+        name: "the second, whose edge takes exactly 5",
+        graph: TWO,
+        member: Some(1),
+        lines: &[b"30 alarm A"],
+        answer: Answer::Only(&[
+            Activation { node: 1, time: 25 },
+            Activation { node: 2, time: 30 },
+        ]),
+    },
+    Row {
+        name: "an edge that stays active",
+        graph: TWO,
+        member: Some(0),
+        lines: &[b"20 mode D", b"30 alarm A"],
+        answer: Answer::Shown,
+    },
+    Row {
+        name: "an edge that is cut at 21",
+        graph: TWO,
+        member: Some(1),
+        lines: &[b"20 mode D", b"30 alarm A"],
+        answer: Answer::Closed(4),
+    },
+    Row {
+        name: "an age of 14 in a window from 0 on",
+        graph: TWO,
+        member: Some(0),
+        lines: &[b"3 mode D", b"9 mode N", b"14 alarm A"],
+        answer: Answer::Shown,
+    },
+    Row {
+        name: "an age of 4 in a window that begins anew at 10",
+        graph: TWO,
+        member: Some(1),
+        lines: &[b"3 mode D", b"9 mode N", b"14 alarm A"],
+        answer: Answer::Closed(4),
+    },
+    Row {
+        name: "an age of 5 in it",
+        graph: TWO,
+        member: Some(1),
+        lines: &[b"3 mode D", b"9 mode N", b"15 alarm A"],
+        answer: Answer::Shown,
+    },
+    Row {
+        name: "an alarm that the must rule contradicts",
+        graph: ONE,
+        member: Some(0),
+        lines: &[b"10 silent A", b"10 alarm E"],
+        answer: Answer::Closed(7),
+    },
+    Row {
+        name: "an edge that is never due",
+        graph: NEVER_DUE,
+        member: Some(0),
+        lines: &[b"10 silent A", b"10 alarm E"],
+        answer: Answer::Only(&[
+            Activation { node: 0, time: 1 },
+            Activation { node: 2, time: 10 },
+        ]),
+    },
+    Row {
+        name: "an effect that needs two others",
+        graph: TWO,
+        member: Some(0),
+        lines: &[b"30 alarm C"],
+        answer: Answer::Shown,
+    },
+    Row {
+        name: "an effect out of reach, since one of the others is",
+        graph: TWO,
+        member: Some(1),
+        lines: &[b"30 alarm C"],
+        answer: Answer::Closed(1),
+    },
+    Row {
+        name: "an effect without a cause",
+        graph: TWO,
+        member: None,
+        lines: &[b"30 alarm C"],
+        answer: Answer::Closed(1),
+    },
+    Row {
+        name: "a sweep and an alarm at one time, without a cause",
+        graph: TWO,
+        member: None,
+        lines: &[b"10 sweep", b"10 alarm A"],
+        answer: Answer::Closed(1),
+    },
+    Row {
+        name: "a sweep and an alarm at one time, of the first",
+        graph: TWO,
+        member: Some(0),
+        lines: &[b"10 sweep", b"10 alarm A"],
+        answer: Answer::Closed(1),
+    },
+    Row {
+        name: "a sweep and an alarm at one time, of the second",
+        graph: TWO,
+        member: Some(1),
+        lines: &[b"10 sweep", b"10 alarm A"],
+        answer: Answer::Closed(1),
+    },
+];
+
+/// A budget of one split, which the second event uses up, and which the third brings anew.
+const SPENT: [Row; 2] = [
+    Row {
+        name: "one split is not enough",
+        graph: ONE,
+        member: Some(0),
+        lines: &[b"10 silent A", b"10 alarm E"],
+        answer: Answer::Spent(1),
+    },
+    Row {
+        name: "the next round goes on",
+        graph: ONE,
+        member: Some(0),
+        lines: &[b"10 silent A", b"10 alarm E", b"11 tick"],
+        answer: Answer::Closed(7),
+    },
+];
+
+/// A new search for the set of one failure mode, or of none.
+fn search_of(alloc: Global, graph: &Graph, member: Option<u32>) -> Result<Search, Fail>
+    ensures { IfOk result (λ search. SearchRepresents graph.now new_log search []) }
+{
+    let set = set_of(graph, member).ok_or("no such failure mode")?;
+    Ok(Search::new(alloc, graph, set, graph.reach(set))?)
+}
+
+/// The set of one failure mode of the graph, or of none.
+fn set_of(graph: &Graph, member: Option<u32>) -> Option<Set>
+    ensures { IfSome result (All (λ place. place < length (failures graph.now))) }
+{
+    match member {
+        None => Some(Set::empty()),
+        Some(place) if place < 64 && place < graph.failure_count() => {
+            Some(Set::empty().with(place))
+        }
+        Some(_) => None,
+    }
+}
+
+/// Offers a line to the log, which has to accept it.
+fn accept(log: &mut Log, graph: &Graph, line: &[u8]) -> Result<(), Fail>
+    requires { IsOf graph.now log.old }
+    ensures of { IsOf graph.now log.new }
+    ensures longer { OnOk result ((event : Event) × (log.new ≡ with_event log.old event)) }
+{
+    match log.offer(graph, line)? {
+        Offered::Accepted(_) => Ok(()),
+        Offered::Refused(_) => Err(Fail::from("a line is refused")),
+    }
+}
+
+/// What the search finds for the log with one more line. It adds its steps to the list.
+fn ask_after<L: Ledger>(
+    log: &mut Log,
+    search: &mut Search,
+    graph: &Graph,
+    line: &[u8],
+    budget: u64,
+    steps: &mut StepList,
+    work: &mut Steps<L>,
+) -> Result<Found, Fail>
+    requires budget { 1 ≤ budget }
+    requires of { IsOf graph.now log.old }
+    requires represents { (earlier : List Judged) × SearchRepresents graph.now log.old search.old earlier }
+    ensures of { IsOf graph.now log.new }
+    ensures represents { IfOk result (λ found.
+        (found ≡ Found.Closed) ⊎ ((all : List Judged) × SearchRepresents graph.now log.new search.new all)) }
+{
+    accept(log, graph, line)?;
+    Ok(search.round(graph, log, budget, steps, work)?)
+}
+
+/// Whether the tree is closed.
+fn is_closed(found: &Found) -> bool
+    ensures { found.now ≡ Found.Closed → IsTrue result }
+{
+    matches!(found, Found::Closed)
+}
+
+/// What a search finds at the end of the log that is asked at each of its events, with the steps of all rounds. It is not
+/// asked again once the tree is closed.
+fn asked_at_each_event<L: Ledger>(
+    alloc: Global,
+    graph: &Graph,
+    row: &Row,
+    budget: u64,
+    work: &mut Steps<L>,
+) -> Result<(Found, StepList), Fail>
+    requires { 1 ≤ budget }
+{
+    let mut log = Log::new(alloc);
+    let mut search = search_of(alloc, graph, row.member)?;
+    let mut steps = StepList::new(alloc);
+    let mut last = Found::Spent;
+    for line in row.lines {
+        let found = ask_after(&mut log, &mut search, graph, line, budget, &mut steps, work)?;
+        if is_closed(&found) {
+            return Ok((found, steps));
+        }
+        last = found;
+    }
+    Ok((last, steps))
+}
+
+/// What a search finds at the end of the log that is asked nowhere else, with its steps.
+fn asked_at_the_end<L: Ledger>(
+    alloc: Global,
+    graph: &Graph,
+    row: &Row,
+    budget: u64,
+    work: &mut Steps<L>,
+) -> Result<(Found, StepList), Fail>
+    requires { 1 ≤ budget }
+{
+    let mut log = Log::new(alloc);
+    let mut search = search_of(alloc, graph, row.member)?;
+    let mut steps = StepList::new(alloc);
+    for line in row.lines {
+        accept(&mut log, graph, line)?;
+    }
+    if log.len() == 0 {
+        return Err(Fail::from("no line"));
+    }
+    let found = search.round(graph, &log, budget, &mut steps, work)?;
+    Ok((found, steps))
+}
+
+/// Whether this was found as expected, with these steps.
+fn is_as_expected(answer: &Answer, found: &Found, steps: &StepList) -> bool {
+    match (answer, found) {
+        (Answer::Shown, Found::Shown(_)) => true,
+        (Answer::Only(times), Found::Shown(trace)) => trace.as_slice() == *times,
+        (Answer::Closed(most), Found::Closed) => steps.as_slice().len() <= *most,
+        (Answer::Spent(splits), Found::Spent) => split_count(steps) == *splits,
+        _ => false,
+    }
+}
+
+/// How many of the steps are splits.
+fn split_count(steps: &StepList) -> usize {
+    steps
+        .as_slice()
+        .iter()
+        .filter(|step| matches!(step, Step::Split(_)))
+        .count()
+}
+
+/// The first row that a search asked at each event does not answer as expected.
+fn first_wrong_asked_at_each_event<L: Ledger>(
+    alloc: Global,
+    blank: Blank,
+    budget: u64,
+    rows: &[Row],
+) -> Result<Option<&'static str>, Fail>
+    requires budget { 1 ≤ budget }
+    requires name { blank.name ≡ L.name }
+    requires parts { blank.parts ≡ L.parts }
+    requires some { 0 < blank.parts }
+{
+    let mut work = Steps::<L>::new(blank);
+    for row in rows {
+        let graph = read(alloc, row.graph)?;
+        let (found, steps) = asked_at_each_event(alloc, &graph, row, budget, &mut work)?;
+        if !is_as_expected(&row.answer, &found, &steps) {
+            return Ok(Some(row.name));
+        }
+    }
+    Ok(None)
+}
+
+/// The first row that a search asked at the end alone does not answer as expected.
+fn first_wrong_asked_at_the_end<L: Ledger>(
+    alloc: Global,
+    blank: Blank,
+    budget: u64,
+    rows: &[Row],
+) -> Result<Option<&'static str>, Fail>
+    requires budget { 1 ≤ budget }
+    requires name { blank.name ≡ L.name }
+    requires parts { blank.parts ≡ L.parts }
+    requires some { 0 < blank.parts }
+{
+    let mut work = Steps::<L>::new(blank);
+    for row in rows {
+        let graph = read(alloc, row.graph)?;
+        let (found, steps) = asked_at_the_end(alloc, &graph, row, budget, &mut work)?;
+        if !is_as_expected(&row.answer, &found, &steps) {
+            return Ok(Some(row.name));
+        }
+    }
+    Ok(None)
+}
+
+#[test]
+fn a_search_that_is_asked_at_the_end_finds_what_the_log_says(rt: HostRuntime) -> Result<(), Fail> {
+    let wrong = first_wrong_asked_at_the_end::<Brand>(rt.alloc(), Blank::new(1), 1_000, &ROWS)?;
+    assert_eq!(rt; wrong, None);
+    Ok(())
+}
+
+#[test]
+fn a_search_that_is_asked_at_each_event_finds_the_same(rt: HostRuntime) -> Result<(), Fail> {
+    let wrong = first_wrong_asked_at_each_event::<Brand>(rt.alloc(), Blank::new(1), 1_000, &ROWS)?;
+    assert_eq!(rt; wrong, None);
+    Ok(())
+}
+
+#[test]
+fn a_budget_that_is_spent_comes_anew_with_the_next_event(rt: HostRuntime) -> Result<(), Fail> {
+    let wrong = first_wrong_asked_at_each_event::<Brand>(rt.alloc(), Blank::new(1), 1, &SPENT)?;
+    assert_eq!(rt; wrong, None);
+    Ok(())
+}
