@@ -12,4 +12,5 @@ pub mod Judged
 pub mod Whole
 pub mod MapWords
 pub mod MapTexts
+pub mod OneMap
 pub mod Stops

@@ -164,7 +164,7 @@ module _ (graph : Tfpg) (valid : IsValid graph) where
       ∙ place_of-failure graph place node within at
 
   -- and is a name
-  failure_name-is_name : (place : ℕ) → place < length (failures graph) → IsTrue (is_name (failure_name graph place))
+  pub failure_name-is_name : (place : ℕ) → place < length (failures graph) → IsTrue (is_name (failure_name graph place))
   failure_name-is_name place within =
       let node = get_or (failures graph) place 0 in
       let at : failure_at graph place ≡ Some node = slice_get-get_or (failures graph) place 0 within in
@@ -251,7 +251,7 @@ module _ (graph : Tfpg) (least : ℕ) where
 
 -- ---- the word of a set
 
-names_lack : (graph : Tfpg) → IsValid graph → (byte : ℕ) → is_name_byte byte ≡ false → (places : List ℕ) → All (λ place. place < length (failures graph)) places
+pub names_lack : (graph : Tfpg) → IsValid graph → (byte : ℕ) → is_name_byte byte ≡ false → (places : List ℕ) → All (λ place. place < length (failures graph)) places
     → AllByRecursion (Lacks byte) (map (failure_name graph) places)
 names_lack graph valid byte other_byte [] are = tt
 names_lack graph valid byte other_byte (place ∷ places) are = (

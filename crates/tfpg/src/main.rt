@@ -10,6 +10,7 @@ mod end;
 mod fault;
 mod fetching;
 mod judging;
+mod laws;
 mod map;
 mod map_lines;
 mod map_reading;

@@ -5,3 +5,4 @@ mod Listed
 mod Tables
 mod Parts
 mod Fractions
+mod FittingSets

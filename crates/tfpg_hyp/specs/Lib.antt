@@ -8,5 +8,6 @@ pub mod Table
 pub mod Hypotheses
 pub mod Ranking
 pub mod Rounds
+pub mod Fitting
 -- What the code and its proofs need besides. No public contract reaches it.
 pub mod inside

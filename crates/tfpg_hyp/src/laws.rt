@@ -8,6 +8,10 @@ ghost use Rattle.tfpg_hyp.specs.Ranking.{IsRankedBefore};
 ghost use Rattle.tfpg_hyp.specs.Table.{IsHypothesis, IsTable};
 ghost use Rattle.tfpg_hyp.specs.declared.place.Place.{Place};
 
+mod round_laws;
+
+pub use round_laws::{rounds_say_which_sets_fit, statuses_are_those_of_minimal_sets};
+
 /// A graph has one table for each greatest size of its hypotheses, and one number of them.
 pub fn the_table_is_one()
     ensures sets { (graph : Tfpg) (k : ℕ) (sets others : List (List ℕ)) →

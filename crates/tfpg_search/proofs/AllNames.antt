@@ -1,11 +1,11 @@
 -- The clause names of a log are finitely many: they can be listed.
-use Rattle.std.proofs.Common.{◌≡◌, ◌≢◌, ◌⊎◌, ◌↔◌, ℕ, zero, suc, ◌+◌, ◌<◌, ◌≤◌, List, [], ◌∷◌, ◌++◌, length, Bool, true, false, Option, Some, None, refl, sym, ap, subst, ◌∙◌, inl, inr, arith}
+use Rattle.std.proofs.Common.{◌≡◌, ◌≢◌, ◌⊎◌, ℕ, zero, suc, ◌+◌, ◌<◌, ◌≤◌, List, [], ◌∷◌, ◌++◌, length, Bool, true, false, Option, Some, None, refl, sym, ap, subst, ◌∙◌, inl, inr, arith}
 use Rattle.std.specs.Prelude.{All, AllPairs, Contains, cond, map, flat_map, nat_le, ◌==◌, ◌&&◌, ◌||◌, if◌then◌else◌, is_some, option_map, option_and_then, slice_get, filter_map}
 use Rattle.std.specs.Bool.{then_some}
 use Rattle.std.specs.Option.{option_or, option_map_or}
 use Rattle.std.specs.List.{list_any}
 use Rattle.std.proofs.lemmas.Bool.Decides.{nat_tests}
-use Rattle.std.proofs.lemmas.List.Elements.{All-nil, All-cons, Contains-append_left, Contains-append_right, Contains-append_cases}
+use Rattle.std.proofs.lemmas.List.Elements.{All-nil, All-cons, Contains-append_left, Contains-append_right}
 use Rattle.std.proofs.lemmas.Option.{slice_get_within}
 use Rattle.std.proofs.lemmas.List.Kept.{AllPairs-cons}
 use Rattle.tfpg_base.specs.declared.constraint.Constraint.{Constraint}
@@ -21,7 +21,7 @@ use Rattle.tfpg_evidence.specs.declared.clause_name.ClauseName.TheVariants.{OrMa
 use Rattle.tfpg_base.specs.Choice.{each_of}
 use Rattle.tfpg_clause.specs.Clauses.{alternatives, outside_span, arrival, due_over, may_by, must_by}
 use Rattle.tfpg_clause.specs.Order.{horizon_of}
-use Rattle.tfpg_search.specs.Enough.{IsEventTime, IsNameAt, AreNamesAt, IsMostIncoming}
+use Rattle.tfpg_search.specs.Enough.{IsNameAt, AreNamesAt}
 use Rattle.tfpg_search.proofs.Pigeons.{contains_head, contains_tail, contains_cases}
 
 -- ---- lists

@@ -1,23 +1,21 @@
 -- A budget that is enough is never spent.
-use Rattle.std.proofs.Common.{◌≡◌, ◌≢◌, ◌⊎◌, ℕ, zero, suc, ◌+◌, ◌*◌, ◌^◌, ◌<◌, ◌≤◌, List, [], ◌∷◌, ◌++◌, length, Option, Some, None, refl, sym, ap, subst, ◌∙◌, inl, inr, arith, length-append}
-use Rattle.std.specs.Prelude.{All, AllPairs, Contains, Bool, true, false, map, option_map}
+use Rattle.std.proofs.Common.{◌≡◌, ◌≢◌, ℕ, ◌+◌, ◌*◌, ◌<◌, ◌≤◌, List, [], ◌∷◌, ◌++◌, length, Option, Some, None, sym, ap, subst, arith, length-append}
+use Rattle.std.specs.Prelude.{All, AllPairs, Contains, map}
 use Rattle.std.proofs.lemmas.List.{map-append, length-map}
 use Rattle.std.proofs.lemmas.List.Sums.{count_by-le-length}
-use Rattle.std.proofs.lemmas.List.Elements.{All-nil, All-cons, All-head, All-tail, All-append, All-map, All-weaker}
-use Rattle.tfpg_base.specs.declared.constraint.Constraint.{Constraint}
+use Rattle.std.proofs.lemmas.List.Elements.{All-nil, All-cons, All-append, All-weaker}
 use Rattle.tfpg_graph.specs.Graph.{Tfpg}
 use Rattle.tfpg_log.specs.Log.{Logbook, IsOrdered, now_of}
 use Rattle.tfpg_evidence.specs.declared.clause_name.ClauseName.{ClauseName}
 use Rattle.tfpg_evidence.specs.declared.step.Step.{Step}
 use Rattle.tfpg_evidence.specs.declared.step.Step.TheVariants.{Split, Cycle}
-use Rattle.tfpg_clause.specs.Clauses.{alternatives, count_of}
 use Rattle.tfpg_clause.specs.Trees.{Judged, is_split}
 use Rattle.tfpg_clause.specs.Paths.{with_step, new_frame, path_after}
 use Rattle.tfpg_clause.specs.declared.path.Frame.{Frame}
 use Rattle.tfpg_clause.proofs.SomeAlternative.{some_alternative}
 use Rattle.tfpg_search.specs.Searched.{split_count}
-use Rattle.tfpg_search.specs.Enough.{IsEventTime, IsNameAt, AreNamesAt, IsMostIncoming, IsEnough}
-use Rattle.tfpg_search.specs.Picks.{AreInRange, IsAllowed}
+use Rattle.tfpg_search.specs.Enough.{IsEventTime, IsNameAt, IsEnough}
+use Rattle.tfpg_search.specs.Picks.{IsAllowed}
 use Rattle.tfpg_search.specs.inside.Moves.{Goes, Leads, LeadsTo}
 use Rattle.tfpg_search.proofs.Names.{frame_name, all_allowed, names_after, AreDistinct}
 use Rattle.tfpg_search.proofs.Lifted.{after_step, distinct_frames}

@@ -18,7 +18,7 @@ use Rattle.tfpg_clause.proofs.FramePaths.{states_same}
 use Rattle.tfpg_clause.proofs.LeafSteps.{frames_split, frames_go, frames_end}
 use Rattle.tfpg_clause.proofs.PresentLeaf.{one_leaf}
 use Rattle.tfpg_clause.proofs.TreeSteps.{no_partial}
-use Rattle.tfpg_search.specs.Leaf.{IsSimpleCycle}
+use Rattle.tfpg_search.specs.inside.Closing.{IsSimpleCycle}
 use Rattle.tfpg_search.specs.Solutions.{Solves}
 use Rattle.tfpg_search.specs.Live.{IsLive, IsSimpleAfter, HasDistinctNames, HasNoNameTwice}
 use Rattle.tfpg_search.specs.Searched.{with_steps, IsSearchStep, AreSearchSteps}

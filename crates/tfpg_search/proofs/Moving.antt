@@ -25,8 +25,10 @@ use Rattle.tfpg_clause.specs.declared.path.Frame.{Frame}
 use Rattle.tfpg_diff.specs.State.{popped_to}
 use Rattle.tfpg_diff.specs.Solution.{IsSolution}
 use Rattle.tfpg_base.specs.Constraint.{Meets}
-use Rattle.tfpg_search.specs.Leaf.{Leaf, pick_reasons, IsStated, IsSimpleCycle}
-use Rattle.tfpg_search.specs.Picks.{place_count, places_at, picks_from}
+use Rattle.tfpg_search.specs.Leaf.{Leaf, pick_reasons, IsStated}
+use Rattle.tfpg_search.specs.inside.Closing.{IsSimpleCycle}
+use Rattle.tfpg_search.specs.Picks.{place_count, picks_from}
+use Rattle.tfpg_search.specs.inside.Leaving.{places_at}
 use Rattle.tfpg_search.specs.Searching.{Searching, IsAtItsLeaf}
 use Rattle.tfpg_search.specs.inside.Leaving.{Leaves, Pushing, PushesOne}
 use Rattle.tfpg_search.specs.inside.Moves.{IsLiveFramed, Grows, KeepsSet, HasEnteredAll, IsSettled, untaken}

@@ -1,5 +1,5 @@
 -- What a call of a search comes to, for all steps that it represented before.
-use Rattle.std.proofs.Common.{◌≡◌, ℕ, ◌+◌, ◌<◌, ◌≤◌, List, [], ◌∷◌, ◌++◌, length, take, Option, Some, None, refl, sym, ap, subst, ◌∙◌, arith, append_assoc, length-append}
+use Rattle.std.proofs.Common.{◌≡◌, ℕ, ◌+◌, ◌≤◌, List, [], ◌∷◌, ◌++◌, length, take, Option, Some, None, refl, sym, ap, subst, ◌∙◌, arith, append_assoc, length-append}
 use Rattle.std.specs.Prelude.{All, Result, Ok, Err, map, option_map}
 use Rattle.std.proofs.lemmas.List.{take-take}
 use Rattle.std.proofs.lemmas.List.Elements.{All-take, All-nil, All-cons, All-head, All-tail}
@@ -7,12 +7,10 @@ use Rattle.tfpg_base.specs.declared.constraint.Constraint.{Constraint}
 use Rattle.tfpg_base.specs.declared.no_memory.NoMemory.{NoMemory}
 use Rattle.tfpg_graph.specs.Graph.{Tfpg}
 use Rattle.tfpg_log.specs.Log.{Logbook, IsOrdered, first_events}
-use Rattle.tfpg_evidence.specs.declared.clause_name.ClauseName.{ClauseName}
 use Rattle.tfpg_evidence.specs.declared.step.Step.{Step}
-use Rattle.tfpg_clause.specs.Trees.{Judged, PathSplit, StepPlace, places_of, IsRight, IsPartial, IsPresentLeaf}
+use Rattle.tfpg_clause.specs.Trees.{Judged, places_of, IsRight, IsPartial}
 use Rattle.tfpg_clause.specs.Clauses.{alternatives}
 use Rattle.tfpg_clause.specs.Order.{horizon_of}
-use Rattle.tfpg_clause.specs.Paths.{IsAtLeaf}
 use Rattle.tfpg_clause.specs.declared.path.Frame.{Frame}
 use Rattle.tfpg_clause.proofs.TreesKept.{first_to_whole, leaf_stays}
 use Rattle.tfpg_clause.proofs.LeafSteps.{frames_remain}

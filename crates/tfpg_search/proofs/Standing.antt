@@ -17,7 +17,8 @@ use Rattle.tfpg_clause.specs.Clauses.{count_of, item_at}
 use Rattle.tfpg_clause.specs.Paths.{framed, stated_by, new_frame}
 use Rattle.tfpg_clause.specs.declared.path.Frame.{Frame}
 use Rattle.tfpg_search.specs.Leaf.{Leaf, pick_reasons, IsStated}
-use Rattle.tfpg_search.specs.Picks.{IsAllowed, place_count, places_at, picks_from, picks_of}
+use Rattle.tfpg_search.specs.Picks.{IsAllowed, place_count, picks_from, picks_of}
+use Rattle.tfpg_search.specs.inside.Leaving.{places_at}
 use Rattle.tfpg_search.specs.Searching.{Searching, IsAtItsLeaf}
 use Rattle.tfpg_search.specs.inside.Leaving.{KeepsBounds, Leaves, Pushing}
 use Rattle.tfpg_search.specs.inside.Moves.{HasEnteredAll}

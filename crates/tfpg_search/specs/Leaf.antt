@@ -1,7 +1,5 @@
 -- The system of the present leaf: what it demands of the times of the nodes, and for which reasons.
-use Rattle.std.specs.Prelude.{◌≡◌, ℕ, ◌*◌, ◌<ℤ◌, pos, List, length, map, drop, Option, Some, slice_get, option_and_then}
-use Rattle.tfpg_base.specs.Choice.{each_of}
-use Rattle.tfpg_base.specs.ConstraintCycle.{IsCycle, HasDistinctLefts, sum_of}
+use Rattle.std.specs.Prelude.{◌≡◌, ℕ, ◌*◌, pos, List, length, drop, Option, Some, slice_get, option_and_then}
 use Rattle.tfpg_base.specs.declared.constraint.Constraint.{Constraint}
 use Rattle.tfpg_evidence.specs.declared.reason.Reason.{Reason}
 use Rattle.tfpg_evidence.specs.declared.reason.Reason.TheVariants.{Zero, Top}
@@ -45,11 +43,3 @@ pub record IsStated (fact stated : Reason → Option Constraint) (leaf : Leaf) :
   pub wider : (reason : Reason) (constraint : Constraint) → fact reason ≡ Some constraint → stated reason ≡ Some constraint
   pub bounds : AreBoundsStated fact leaf
   pub picks : ArePicksStated stated leaf
-
--- The reasons chain into a cycle whose sum is negative, and in which no left side stands twice.
-pub record IsSimpleCycle (stated : Reason → Option Constraint) (reasons : List Reason) : Type 0 where
-  pub constraints : List Constraint
-  pub hold : each_of (map stated reasons) ≡ Some constraints
-  pub cycle : IsCycle constraints
-  pub simple : HasDistinctLefts constraints
-  pub negative : sum_of constraints <ℤ pos 0

@@ -26,10 +26,6 @@ AreInRange frames = All IsInRange frames
 abbrev pub place_count : Tfpg → Logbook → Frame → ℕ
 place_count graph log frame = option_map_or length (option_and_then (λ clause. item_at clause frame.alternative) (alternatives graph log frame.name)) 0
 
--- how many constraints were picked at the split of this number
-abbrev pub places_at : Tfpg → Logbook → List Frame → ℕ → ℕ
-places_at graph log path split = option_map_or (place_count graph log) (item_at path split) 0
-
 -- so many picks at the split of this number, from this place on
 abbrev pub picks_from : ℕ → ℕ → ℕ → List Reason
 picks_from split place zero = []

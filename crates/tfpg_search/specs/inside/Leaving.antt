@@ -1,5 +1,6 @@
 -- What entering and leaving alternatives does to the system.
 use Rattle.std.specs.Prelude.{◌≡◌, ℕ, List, [], ◌∷◌, ◌++◌, length, take, Bool, true, false, IsTrue, Option, Some, None, is_some}
+use Rattle.std.specs.Option.{option_map_or}
 use Rattle.tfpg_base.specs.declared.constraint.Constraint.{Constraint}
 use Rattle.tfpg_evidence.specs.declared.reason.Reason.{Reason}
 use Rattle.tfpg_graph.specs.Graph.{Tfpg}
@@ -7,7 +8,13 @@ use Rattle.tfpg_log.specs.Log.{Logbook}
 use Rattle.tfpg_clause.specs.Facts.{fact}
 use Rattle.tfpg_clause.specs.Paths.{stated_by}
 use Rattle.tfpg_clause.specs.declared.path.Frame.{Frame}
+use Rattle.tfpg_clause.specs.Clauses.{item_at}
 use Rattle.tfpg_search.specs.Leaf.{Leaf, IsStated, pick_reasons}
+use Rattle.tfpg_search.specs.Picks.{place_count}
+
+-- how many constraints were picked at the split of this number
+abbrev pub places_at : Tfpg → Logbook → List Frame → ℕ → ℕ
+places_at graph log path split = option_map_or (place_count graph log) (item_at path split) 0
 
 -- The bounds are as they were, and so is all that is stated.
 pub record KeepsBounds (old new : Leaf) : Type 0 where

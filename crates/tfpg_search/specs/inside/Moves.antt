@@ -17,7 +17,7 @@ use Rattle.tfpg_clause.specs.declared.path.Frame.{Frame}
 use Rattle.tfpg_base.specs.declared.no_memory.NoMemory.{NoMemory}
 use Rattle.tfpg_log.specs.Explains.{Explains}
 use Rattle.tfpg_diff.specs.Solution.{IsSolution}
-use Rattle.tfpg_search.specs.Leaf.{IsSimpleCycle}
+use Rattle.tfpg_search.specs.inside.Closing.{IsSimpleCycle}
 use Rattle.tfpg_search.specs.Live.{HasNoNameTwice}
 use Rattle.tfpg_search.specs.Picks.{AreInRange}
 use Rattle.tfpg_search.specs.Searched.{split_count}

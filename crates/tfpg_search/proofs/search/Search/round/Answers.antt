@@ -1,5 +1,3 @@
-use Rattle.std.proofs.Common.{ap, ◌∙◌}
-use Rattle.tfpg_search.specs.Searching.{Searching}
 use Rattle.tfpg_search.proofs.Rounds.{seen_stands, searched, never_spent}
 use Rattle.tfpg_search.proofs.search.Search.round.Goals as goal
 

@@ -1,0 +1,146 @@
+-- Lines spell at most one map.
+use Rattle.std.proofs.Common.{◌≡◌, ◌⊎◌, ◌==◌, ℕ, ◌+◌, ◌<◌, Bool, true, false, cond, List, [], ◌∷◌, ◌++◌, length, map, All, AllPairs, Option, Some, None, codes, refl, sym, ap, subst, ◌∙◌, arith, inl, inr, ⊎_elim}
+use Rattle.std.specs.List.{slice_split}
+use Rattle.std.proofs.lemmas.Bool.{eqb-true, eqb-false, eq-eqb, ne_eqb, false≢true, cases_order}
+use Rattle.std.proofs.lemmas.List.Elements.{All-head, All-tail, All-cons, All-weaker}
+use Rattle.tfpg_base.specs.declared.activation.Activation.{Activation}
+use Rattle.tfpg_base.specs.declared.word.Number.TheVariants.{Value}
+use Rattle.tfpg_base.specs.Times.{max_time}
+use Rattle.tfpg_base.specs.Trace.{IsRisingByNode, time_of}
+use Rattle.tfpg_base.specs.Words.{words_of, is_name, number_of, number_up_to}
+use Rattle.tfpg_base.proofs.lists.Elements.{AllPairs-head, AllPairs-tail}
+use Rattle.tfpg_graph.specs.Graph.{Tfpg, failures}
+use Rattle.tfpg_graph.specs.Valid.{IsValid}
+use Rattle.tfpg_base.proofs.Separators.{slice_split-join}
+use Rattle.tfpg_report.specs.Blocks.{set_word}
+use Rattle.tfpg.specs.Map.{IsSetOf, IsActivationOf, SpellsMap, set_line, at_line}
+use Rattle.tfpg.specs.inside.MapLines.{word_after_set, words_after_at, failure_named, failure_name}
+use Rattle.tfpg.proofs.MapWords.{one_node, at_line-read, time_read, failure_named-name, failure_name-is_name, names_lack, set_line-read}
+
+same_value : (one other : ℕ) → Value one ≡ Value other → one ≡ other
+same_value one other e = cc
+
+same_some : {X : Type 0} (one other : X) → Some one ≡ Some other → one ≡ other
+same_some one other e = cc
+
+abbrev activation_of : ℕ → ℕ → Activation
+activation_of node time = record { node = node; time = time }
+
+activations : (n m t s : ℕ) → n ≡ m → t ≡ s → activation_of n t ≡ activation_of m s
+activations n m t s e f = λ i. activation_of (e i) (f i)
+
+-- ---- lines that are the same
+
+module _ (graph : Tfpg) (valid : IsValid graph) where
+  -- are of one activation
+  one_activation : (one other : Activation) → IsActivationOf graph one → IsActivationOf graph other → at_line graph one ≡ at_line graph other → one ≡ other
+  one_activation one other of too same =
+      let node : one.node ≡ other.node = one_node graph valid one other of too same in
+      let words = same_some _ _ (sym (at_line-read graph valid one of) ∙ ap (λ (line : List ℕ). words_after_at (words_of line)) same ∙ at_line-read graph valid other too) in
+      let time : one.time ≡ other.time = same_value one.time other.time
+      (sym (time_read one.time of.in_range) ∙ ap (λ (read : List ℕ × List ℕ). number_up_to max_time (number_of read.1)) words ∙ time_read other.time too.in_range) in
+      activations one.node other.node one.time other.time node time
+
+  -- and so are lists of them
+  same_listed : (one other : List Activation) → All (IsActivationOf graph) one → All (IsActivationOf graph) other → map (at_line graph) one ≡ map (at_line graph) other → one ≡ other
+  same_listed [] [] of too e = refl
+  same_listed [] (second ∷ other) of too e = absurd cc
+  same_listed (first ∷ one) [] of too e = absurd cc
+  same_listed (first ∷ one) (second ∷ other) of too e =
+      let head : at_line graph first ≡ at_line graph second = cc in
+      let tail : map (at_line graph) one ≡ map (at_line graph) other = cc in
+      let firsts : first ≡ second = one_activation first second (All-head (IsActivationOf graph) first one of) (All-head (IsActivationOf graph) second other too) head in
+      let others : one ≡ other = same_listed one other (All-tail (IsActivationOf graph) first one of) (All-tail (IsActivationOf graph) second other too) tail in
+      ap (λ (a : Activation). a ∷ one) firsts ∙ ap (λ (rest_of : List Activation). second ∷ rest_of) others
+
+  -- names that are the same are of the same positions
+  same_places : (one other : List ℕ) → All (λ place. place < length (failures graph)) one → All (λ place. place < length (failures graph)) other
+      → map (failure_name graph) one ≡ map (failure_name graph) other → one ≡ other
+  same_places [] [] of too e = refl
+  same_places [] (second ∷ other) of too e = absurd cc
+  same_places (first ∷ one) [] of too e = absurd cc
+  same_places (first ∷ one) (second ∷ other) of too e =
+      let head : failure_name graph first ≡ failure_name graph second = cc in
+      let tail : map (failure_name graph) one ≡ map (failure_name graph) other = cc in
+      let firsts : first ≡ second = same_some first second (
+      sym (failure_named-name graph valid first (All-head (λ place. place < length (failures graph)) first one of)) ∙ ap (failure_named graph) head
+      ∙ failure_named-name graph valid second (All-head (λ place. place < length (failures graph)) second other too)
+      ) in
+      let others : one ≡ other = same_places one other (All-tail (λ place. place < length (failures graph)) first one of) (All-tail (λ place. place < length (failures graph)) second other too) tail in
+      ap (λ (p : ℕ). p ∷ one) firsts ∙ ap (λ (ps : List ℕ). second ∷ ps) others
+
+  -- the parts of a word that is no hyphen
+  parts : (place : ℕ) (places : List ℕ) → IsSetOf graph (place ∷ places) → slice_split (λ byte. byte == 44) (set_word graph (place ∷ places)) ≡ map (failure_name graph) (place ∷ places)
+  parts place places of = slice_split-join 44 (map (failure_name graph) (place ∷ places)) (omega arith) (names_lack graph valid 44 refl (place ∷ places) of.members)
+
+  -- names are no hyphen
+  no_hyphen : (place : ℕ) (places : List ℕ) → IsSetOf graph (place ∷ places) → set_word graph (place ∷ places) ≡ codes "-" → ⊥
+  no_hyphen place places of e =
+      let same : map (failure_name graph) (place ∷ places) ≡ codes "-" ∷ [] = sym (parts place places of) ∙ ap (slice_split (λ byte. byte == 44)) e in
+      let first : failure_name graph place ≡ codes "-" = cc in
+      false≢true (sym (ap is_name first) ∙ failure_name-is_name graph valid place (All-head (λ p. p < length (failures graph)) place places of.members))
+
+  -- a word spells one set
+  same_set : (one other : List ℕ) → IsSetOf graph one → IsSetOf graph other → set_word graph one ≡ set_word graph other → one ≡ other
+  same_set [] [] of too e = refl
+  same_set [] (second ∷ other) of too e = absurd (no_hyphen second other too (sym e))
+  same_set (first ∷ one) [] of too e = absurd (no_hyphen first one of e)
+  same_set (first ∷ one) (second ∷ other) of too e =
+      same_places (first ∷ one) (second ∷ other) of.members too.members (sym (parts first one of) ∙ ap (slice_split (λ byte. byte == 44)) e ∙ parts second other too)
+
+-- ---- traces with the same times
+
+-- a node before all others has no time
+absent : (trace : List Activation) (node : ℕ) → All (λ activation. node < activation.node) trace → time_of trace node ≡ None
+absent [] node before = refl
+absent (first ∷ others) node before =
+    let apart : (first.node == node) ≡ false = ne_eqb first.node node (λ is. omega (arith, is, All-head (λ activation. node < activation.node) first others before)) in
+    ap (λ (b : Bool). cond b (Some first.time) (time_of others node)) apart ∙ absent others node (All-tail (λ activation. node < activation.node) first others before)
+
+-- the first node has its time
+present : (first : Activation) (others : List Activation) → time_of (first ∷ others) first.node ≡ Some first.time
+present first others = ap (λ (b : Bool). cond b (Some first.time) (time_of others first.node)) (eq-eqb first.node first.node refl)
+
+module _ (first : Activation) (one : List Activation) (rising : IsRisingByNode (first ∷ one)) where
+  later : All (λ activation. first.node < activation.node) one
+  later = AllPairs-head (λ earlier later. earlier.node < later.node) first one rising
+
+  -- what comes before it comes before all
+  before_all : (node : ℕ) → node < first.node → All (λ activation. node < activation.node) (first ∷ one)
+  before_all node lt = All-cons (λ activation. node < activation.node) first one lt (λ k d within. omega (arith, lt, later k d within))
+
+same_trace : (one other : List Activation) → IsRisingByNode one → IsRisingByNode other → ((node : ℕ) → time_of one node ≡ time_of other node) → one ≡ other
+same_trace [] [] rising too same = refl
+same_trace [] (second ∷ other) rising too same = let e : None ≡ Some second.time = same second.node ∙ present second other in absurd cc
+same_trace (first ∷ one) [] rising too same = let e : Some first.time ≡ None = sym (present first one) ∙ same first.node in absurd cc
+same_trace (first ∷ one) (second ∷ other) rising too same = by (cases_order first.node second.node) (same_trace one other (AllPairs-tail (λ earlier later. earlier.node < later.node) first one rising) (AllPairs-tail (λ earlier later. earlier.node < later.node) second other too))
+  where
+    tails : first.node ≡ second.node → (node : ℕ) (b : Bool) → (first.node == node) ≡ b → time_of one node ≡ time_of other node
+    tails e node true is =
+        let here : first.node ≡ node = eqb-true first.node node is in
+        absent one node (λ k d within. omega (arith, here, later first one rising k d within)) ∙ sym (absent other node (λ k d within. omega (arith, here, e, later second other too k d within)))
+    tails e node false is =
+        let there : (second.node == node) ≡ false = ne_eqb second.node node (λ s. eqb-false first.node node is (e ∙ s)) in
+        sym (ap (λ (b : Bool). cond b (Some first.time) (time_of one node)) is) ∙ same node ∙ ap (λ (b : Bool). cond b (Some second.time) (time_of other node)) there
+
+    by : (first.node ≡ second.node) ⊎ ((first.node < second.node) ⊎ (second.node < first.node)) → (((node : ℕ) → time_of one node ≡ time_of other node) → one ≡ other) → first ∷ one ≡ second ∷ other
+    by (inl e) rest =
+        let time : first.time ≡ second.time = same_some first.time second.time (sym (present first one) ∙ same first.node ∙ ap (time_of (second ∷ other)) e ∙ present second other) in
+        let firsts : first ≡ second = activations first.node second.node first.time second.time e time in
+        ap (λ (a : Activation). a ∷ one) firsts ∙ ap (λ (rest_of : List Activation). second ∷ rest_of) (rest (λ node. tails e node (first.node == node) refl))
+    by (inr (inl lt)) rest = let e : Some first.time ≡ None = sym (present first one) ∙ same first.node ∙ absent (second ∷ other) first.node (before_all second other too first.node lt) in absurd cc
+    by (inr (inr lt)) rest = let e : None ≡ Some second.time = sym (absent (first ∷ one) second.node (before_all first one rising second.node lt)) ∙ same second.node ∙ present second other in absurd cc
+
+-- ---- the map
+
+pub one_map : (graph : Tfpg) (lines : List (List ℕ)) (set other : List ℕ) (trace more : List Activation) → IsValid graph → SpellsMap graph lines set trace → SpellsMap graph lines other more
+    → (set ≡ other) × (trace ≡ more)
+one_map graph lines set other trace more valid spells too =
+    let all : set_line graph set ∷ map (at_line graph) spells.listed ≡ set_line graph other ∷ map (at_line graph) too.listed = sym spells.spelled ∙ too.spelled in
+    let head : set_line graph set ≡ set_line graph other = cc in
+    let tail : map (at_line graph) spells.listed ≡ map (at_line graph) too.listed = cc in
+    let word = same_some _ _ (sym (set_line-read graph valid set spells.of_graph) ∙ ap (λ (line : List ℕ). word_after_set (words_of line)) head ∙ set_line-read graph valid other too.of_graph) in
+    let listed : spells.listed ≡ too.listed = same_listed graph valid spells.listed too.listed spells.of_nodes too.of_nodes tail in (
+      same_set graph valid set other spells.of_graph too.of_graph word,
+      same_trace trace more spells.rising too.rising (λ node. spells.same_times node ∙ ap (λ (listed : List Activation). time_of listed node) listed ∙ sym (too.same_times node)),
+    )

@@ -1,0 +1,267 @@
+-- What the statuses of a round say of the sets.
+use Rattle.std.proofs.Common.{◌≡◌, ◌≢◌, ◌⊎◌, ◌↔◌, ℕ, zero, suc, ◌+◌, ◌<◌, ◌≤◌, List, [], ◌∷◌, ◌++◌, length, Bool, true, false, Option, Some, None, refl, sym, ap, subst, ◌∙◌, inl, inr, arith}
+use Rattle.std.specs.Prelude.{All, Contains, IsTrue, ◌||◌, slice_get}
+use Rattle.std.specs.List.{list_any}
+use Rattle.std.proofs.lemmas.Option.{slice_get-get_or, slice_get_within, slice_get_cases, get_or_from_slice_get}
+use Rattle.std.proofs.lemmas.List.{append-nil}
+use Rattle.std.proofs.lemmas.List.Elements.{All-weaker, All-contains}
+use Rattle.tfpg_base.specs.Set.{IsPart, IsProperPart}
+use Rattle.tfpg_base.specs.declared.activation.Activation.{Activation}
+use Rattle.tfpg_graph.specs.Graph.{Tfpg, is_kind_at, is_failure}
+use Rattle.tfpg_graph.specs.Valid.{IsValid}
+use Rattle.tfpg_log.specs.Log.{Logbook, IsOf, IsOrdered, GoesOn}
+use Rattle.tfpg_log.specs.Explains.{Explains, Fits, IsMember}
+use Rattle.tfpg_evidence.specs.declared.finding.Finding.{Finding}
+use Rattle.tfpg_evidence.specs.declared.finding.Status.{Status}
+use Rattle.tfpg_evidence.specs.declared.finding.Status.TheVariants.{Ranked, Covered, Rejected, Open}
+use Rattle.tfpg_evidence.specs.declared.round.Round.{Round}
+use Rattle.tfpg_evidence.specs.RoundOf.{is_ranked}
+use Rattle.tfpg_graph.specs.Reach.{IsReach}
+use Rattle.tfpg_clause.specs.Trees.{Judged, IsRefutation}
+use Rattle.tfpg_hyp.specs.Table.{IsHypothesis, IsTable}
+use Rattle.tfpg_hyp.specs.Rounds.{IsRound, IsFinding, HasEvidence, IsRankedPart, HasRankedPart, HasNoneOpen, is_covered, is_rejected, is_open, steps_so_far}
+use Rattle.tfpg_hyp.specs.Fitting.{HasFittingPart, AreNoneOpenBelow}
+use Rattle.tfpg_hyp.proofs.Parts.{part_first, once}
+
+or_left : (a b : Bool) → (a || b) ≡ false → a ≡ false
+or_left true b is = cc
+or_left false b is = refl
+
+or_right : (a b : Bool) → (a || b) ≡ false → b ≡ false
+or_right true b is = cc
+or_right false b is = is
+
+-- ---- sets and their supersets
+
+in_whole : (part whole : List ℕ) → IsPart part whole → (place : ℕ) → Contains part place → Contains whole place
+in_whole part whole is place has = All-contains (Contains whole) part place is has
+
+-- A trace that explains a log from a set explains it from each set that has its members.
+explains_more : (graph : Tfpg) (log : Logbook) (part whole : List ℕ) (trace : List Activation) → IsPart part whole → Explains graph log part trace → Explains graph log whole trace
+explains_more graph log part whole trace is explains = record {
+  trace_of = explains.trace_of;
+  by_now = explains.by_now;
+  from_set =
+      All-weaker (λ (a : Activation). IsTrue (is_kind_at is_failure graph a.node) → IsMember graph part a.node) (λ (a : Activation). IsTrue (is_kind_at is_failure graph a.node) → IsMember graph whole a.node)
+      (λ a member failure. (let own = member failure in (own.0, in_whole part whole is own.0 own.1, own.2))) trace explains.from_set;
+  rules = explains.rules;
+  shows = explains.shows;
+}
+
+-- the item of a place that there is
+at_place : {X Y : Type 0} (xs : List X) (ys : List Y) (place : ℕ) (y : Y) → length ys ≡ length xs → slice_get ys place ≡ Some y → (x : X) × (slice_get xs place ≡ Some x)
+at_place xs ys place y same at =
+    elim (slice_get_cases xs place).1 [
+      | inl there ↦ (there.0, there.2)
+      | inr past ↦ absurd (omega (arith, slice_get_within ys place y at, same, past.0))
+    ]
+
+item_of : {X : Type 0} (xs : List X) (x : X) → Contains xs x → (place : ℕ) × (slice_get xs place ≡ Some x)
+item_of xs x has = (has.0, slice_get-get_or xs has.0 x has.1 ∙ ap Some has.2)
+
+-- ---- the findings of a round
+
+-- That a refutation leaves no trace is a law of facts, clauses and trees.
+abbrev pub LeavesNoTrace : Type 0
+LeavesNoTrace =
+    (graph : Tfpg) (earlier log : Logbook) (set reach : List ℕ) (steps : List Judged) → IsValid graph → IsOf graph log → IsOrdered log → IsReach graph set reach
+    → GoesOn earlier log → IsRefutation graph earlier reach steps → Fits graph log set → ⊥
+
+module _ (leaves_none : LeavesNoTrace) (graph : Tfpg) (k budget line : ℕ) (rounds : List Round) (log : Logbook) (round : Round) (valid : IsValid graph) (of : IsOf graph log) (ordered : IsOrdered log)
+    (is_round : IsRound graph k budget rounds log line round) where
+  abbrev Found : ℕ → Finding → Type 0
+  Found number finding = slice_get round.findings number ≡ Some finding
+
+  -- each finding is on a hypothesis of the table
+  evidence : (number : ℕ) (finding : Finding) → Found number finding → (set : List ℕ) × (slice_get is_round.sets number ≡ Some set) × IsFinding graph log budget (rounds ++ round ∷ []) round.findings number set finding
+  evidence number finding at =
+      let own = at_place is_round.sets round.findings number finding is_round.complete at in
+      (own.0, own.1, is_round.findings number own.0 finding own.1 at)
+
+  -- ---- what each status says of the set
+
+  module _ (number : ℕ) (finding : Finding) (at : Found number finding) where
+    own_set : List ℕ
+    own_set = (evidence number finding at).0
+
+    is_finding : IsFinding graph log budget (rounds ++ round ∷ []) round.findings number (evidence number finding at).0 finding
+    is_finding = (evidence number finding at).2
+
+    -- its set stands in the table
+    set_at : slice_get is_round.sets number ≡ Some finding.set
+    set_at = (evidence number finding at).1 ∙ ap Some (sym (evidence number finding at).2.set_is)
+
+    reach_of : List ℕ
+    reach_of = (evidence number finding at).2.reach
+
+    evidence_of : HasEvidence graph log budget round.findings (evidence number finding at).2.reach (steps_so_far number (rounds ++ round ∷ [])) finding finding.status
+    evidence_of = (evidence number finding at).2.evidence
+
+    hypothesis_of : IsHypothesis graph k finding.set
+    hypothesis_of =
+        (is_round.table.exact finding.set).0
+        (number, slice_get_within is_round.sets number finding.set set_at, get_or_from_slice_get is_round.sets number finding.set finding.set set_at)
+
+    abbrev Evidence : Status → Type 0
+    Evidence status = HasEvidence graph log budget round.findings (evidence number finding at).2.reach (steps_so_far number (rounds ++ round ∷ [])) finding status
+
+    ranked_fits_by : (status : Status) → Evidence status → IsTrue (is_ranked status) → Fits graph log finding.set
+    ranked_fits_by (Ranked trace cost alarmed monitored) own holds = (trace, own.1)
+    ranked_fits_by (Covered by) own holds = cc
+    ranked_fits_by Rejected own holds = cc
+    ranked_fits_by Open own holds = cc
+
+    ranked_fits : IsTrue (is_ranked finding.status) → Fits graph log finding.set
+    ranked_fits holds = ranked_fits_by finding.status evidence_of holds
+
+    alone_by : (status : Status) → Evidence status → IsTrue (is_ranked status) → HasRankedPart round.findings finding.set → ⊥
+    alone_by (Ranked trace cost alarmed monitored) own holds part = own.2 part
+    alone_by (Covered by) own holds part = cc
+    alone_by Rejected own holds part = cc
+    alone_by Open own holds part = cc
+
+    alone : IsTrue (is_ranked finding.status) → HasRankedPart round.findings finding.set → ⊥
+    alone holds part = alone_by finding.status evidence_of holds part
+
+    -- a rejected set does not fit
+    rejected_not_by : (status : Status) → Evidence status → IsTrue (is_rejected status) → Fits graph log finding.set → ⊥
+    rejected_not_by Rejected own holds fits =
+        leaves_none graph log log finding.set (evidence number finding at).2.reach (steps_so_far number (rounds ++ round ∷ [])) valid of ordered
+        (subst (λ (set : List ℕ). IsReach graph set (evidence number finding at).2.reach) (sym (evidence number finding at).2.set_is) (evidence number finding at).2.reach_is)
+        ([], sym (append-nil log.events)) own fits
+    rejected_not_by (Ranked trace cost alarmed monitored) own holds fits = cc
+    rejected_not_by (Covered by) own holds fits = cc
+    rejected_not_by Open own holds fits = cc
+
+    pub rejected_not : IsTrue (is_rejected finding.status) → Fits graph log finding.set → ⊥
+    rejected_not holds fits = rejected_not_by finding.status evidence_of holds fits
+
+  -- ---- ranked parts
+
+  part_fits : (set : List ℕ) (number : ℕ) → IsRankedPart round.findings set number → HasFittingPart graph log k set
+  part_fits set number part = record {
+    part = part.finding.set;
+    hypothesis = hypothesis_of number part.finding part.numbered;
+    proper = part.part;
+    fits = ranked_fits number part.finding part.numbered part.ranked;
+  }
+
+  whole_fits : (set : List ℕ) → HasFittingPart graph log k set → Fits graph log set
+  whole_fits set part = (part.fits.0, explains_more graph log part.part set part.fits.0 part.proper.0 part.fits.1)
+
+  covered_part : (number : ℕ) (finding : Finding) (at : Found number finding) (status : Status) → Evidence number finding at status → IsTrue (is_covered status)
+      → (by : ℕ) × IsRankedPart round.findings finding.set by
+  covered_part number finding at (Covered by) own holds = (by, own.2)
+  covered_part number finding at (Ranked trace cost alarmed monitored) own holds = cc
+  covered_part number finding at Rejected own holds = cc
+  covered_part number finding at Open own holds = cc
+
+  covered_has : (number : ℕ) (finding : Finding) → Found number finding → IsTrue (is_covered finding.status) → HasFittingPart graph log k finding.set
+  covered_has number finding at holds =
+      let part = covered_part number finding at finding.status (evidence_of number finding at) holds in
+      part_fits finding.set part.0 part.1
+
+  -- ---- a set that is not open is rejected exactly where it does not fit
+
+  rejected_where : (number : ℕ) (finding : Finding) (at : Found number finding) (status : Status) → finding.status ≡ status → is_open status ≡ false → (Fits graph log finding.set → ⊥) → IsTrue (is_rejected status)
+  rejected_where number finding at (Ranked trace cost alarmed monitored) is not_open none = absurd (none (ranked_fits number finding at (subst (λ (s : Status). IsTrue (is_ranked s)) (sym is) refl)))
+  rejected_where number finding at (Covered by) is not_open none =
+      absurd (none (whole_fits finding.set (covered_has number finding at (subst (λ (s : Status). IsTrue (is_covered s)) (sym is) refl))))
+  rejected_where number finding at Rejected is not_open none = refl
+  rejected_where number finding at Open is not_open none = cc
+
+  pub rejected_exactly : (number : ℕ) (finding : Finding) → Found number finding → is_open finding.status ≡ false → IsTrue (is_rejected finding.status) ↔ (Fits graph log finding.set → ⊥)
+  rejected_exactly number finding at not_open = (
+    λ holds fits. rejected_not number finding at holds fits,
+    λ none. rejected_where number finding at finding.status refl not_open none,
+  )
+
+  -- ---- a ranked set is minimal
+
+  -- a part of a proper subset is a proper subset, since the sets stand in the table in order
+  deeper : (least middle most : ℕ) (a b c : List ℕ) → slice_get is_round.sets least ≡ Some a → slice_get is_round.sets middle ≡ Some b → slice_get is_round.sets most ≡ Some c
+      → IsProperPart a b → IsProperPart b c → IsProperPart a c
+  deeper least middle most a b c at_a at_b at_c first second = (
+    All-weaker (Contains b) (Contains c) (λ place has. in_whole b c second.0 place has) a first.0,
+    λ same. (
+        let lower : least < middle = part_first graph k is_round.sets is_round.table least middle a b at_a at_b first in
+        let upper : middle < most = part_first graph k is_round.sets is_round.table middle most b c at_b at_c second in
+        let one : least ≡ most = once graph k is_round.sets is_round.table least most c (at_a ∙ ap Some same) at_c in
+        omega (arith, lower, upper, one)
+        ),
+  )
+
+  module _ (number : ℕ) (finding : Finding) (at : Found number finding) (ranked : IsTrue (is_ranked finding.status)) (none_open : AreNoneOpenBelow round.findings finding.set) where
+    no_part_by : (other : ℕ) (f : Finding) (there : Found other f) → IsProperPart f.set finding.set → Fits graph log f.set → (status : Status) → f.status ≡ status → ⊥
+    no_part_by other f there proper fits (Ranked trace cost alarmed monitored) is =
+        alone number finding at ranked (other, record { finding = f; numbered = there; ranked = subst (λ (s : Status). IsTrue (is_ranked s)) (sym is) refl; part = proper })
+    no_part_by other f there proper fits (Covered by_number) is =
+        let part = covered_part other f there f.status (evidence_of other f there) (subst (λ (s : Status). IsTrue (is_covered s)) (sym is) refl) in
+        alone number finding at ranked (
+          part.0,
+          record {
+            finding = part.1.finding;
+            numbered = part.1.numbered;
+            ranked = part.1.ranked;
+            part =
+                deeper part.0 other number part.1.finding.set f.set finding.set (set_at part.0 part.1.finding part.1.numbered) (set_at other f there) (set_at number finding at) part.1.part proper;
+          },
+        )
+    no_part_by other f there proper fits Rejected is = rejected_not other f there (subst (λ (s : Status). IsTrue (is_rejected s)) (sym is) refl) fits
+    no_part_by other f there proper fits Open is =
+        let not_open : is_open f.status ≡ false = none_open other f there proper in
+        let is_not : is_open Open ≡ false = sym (ap is_open is) ∙ not_open in
+        cc
+
+    pub no_fitting_part : HasFittingPart graph log k finding.set → ⊥
+    no_fitting_part part =
+        let place = item_of is_round.sets part.part ((is_round.table.exact part.part).1 part.hypothesis) in
+        let there = at_place round.findings is_round.sets place.0 part.part (sym is_round.complete) place.1 in
+        let both : Some there.0.set ≡ Some part.part = sym (set_at place.0 there.0 there.1) ∙ place.1 in
+        let same : there.0.set ≡ part.part = cc in
+        no_part_by place.0 there.0 there.1 (subst (λ (set : List ℕ). IsProperPart set finding.set) (sym same) part.proper)
+        (subst (λ (set : List ℕ). Fits graph log set) (sym same) part.fits) there.0.status refl
+
+  -- ---- a round without an open set
+
+  none_of : (p : Finding → Bool) (xs : List Finding) → list_any p xs ≡ false → (place : ℕ) (x : Finding) → slice_get xs place ≡ Some x → p x ≡ false
+  none_of p [] none place x there = cc
+  none_of p (y ∷ ys) none zero x there = (let same : y ≡ x = cc in ap p (sym same) ∙ or_left (p y) (list_any p ys) none)
+  none_of p (y ∷ ys) none (suc place) x there = none_of p ys (or_right (p y) (list_any p ys) none) place x there
+
+  module _ (none_open : HasNoneOpen round) where
+    not_open : (number : ℕ) (finding : Finding) → Found number finding → is_open finding.status ≡ false
+    not_open number finding at = none_of (λ (f : Finding). is_open f.status) round.findings none_open number finding at
+
+    pub rejected_of : (number : ℕ) (finding : Finding) → Found number finding → IsTrue (is_rejected finding.status) ↔ (Fits graph log finding.set → ⊥)
+    rejected_of number finding at = rejected_exactly number finding at (not_open number finding at)
+
+    minimal : (number : ℕ) (finding : Finding) → Found number finding → IsTrue (is_ranked finding.status) → HasFittingPart graph log k finding.set → ⊥
+    minimal number finding at ranked part = no_fitting_part number finding at ranked (λ other f there proper. not_open other f there) part
+
+    ranked_where : (number : ℕ) (finding : Finding) (at : Found number finding) (status : Status) → finding.status ≡ status → Fits graph log finding.set → (HasFittingPart graph log k finding.set → ⊥)
+        → IsTrue (is_ranked status)
+    ranked_where number finding at (Ranked trace cost alarmed monitored) is fits none = refl
+    ranked_where number finding at (Covered by) is fits none = absurd (none (covered_has number finding at (subst (λ (s : Status). IsTrue (is_covered s)) (sym is) refl)))
+    ranked_where number finding at Rejected is fits none = absurd (rejected_not number finding at (subst (λ (s : Status). IsTrue (is_rejected s)) (sym is) refl) fits)
+    ranked_where number finding at Open is fits none = (let is_not : is_open Open ≡ false = sym (ap is_open is) ∙ not_open number finding at in cc)
+
+    pub ranked_of : (number : ℕ) (finding : Finding) → Found number finding
+        → IsTrue (is_ranked finding.status) ↔ (Fits graph log finding.set × (HasFittingPart graph log k finding.set → ⊥))
+    ranked_of number finding at = (
+      λ ranked. (ranked_fits number finding at ranked, λ part. minimal number finding at ranked part),
+      λ both. ranked_where number finding at finding.status refl both.0 both.1,
+    )
+
+    covered_where : (number : ℕ) (finding : Finding) (at : Found number finding) (status : Status) → finding.status ≡ status → Fits graph log finding.set → HasFittingPart graph log k finding.set
+        → IsTrue (is_covered status)
+    covered_where number finding at (Ranked trace cost alarmed monitored) is fits part = absurd (minimal number finding at (subst (λ (s : Status). IsTrue (is_ranked s)) (sym is) refl) part)
+    covered_where number finding at (Covered by) is fits part = refl
+    covered_where number finding at Rejected is fits part = absurd (rejected_not number finding at (subst (λ (s : Status). IsTrue (is_rejected s)) (sym is) refl) fits)
+    covered_where number finding at Open is fits part = (let is_not : is_open Open ≡ false = sym (ap is_open is) ∙ not_open number finding at in cc)
+
+    pub covered_of : (number : ℕ) (finding : Finding) → Found number finding → IsTrue (is_covered finding.status) ↔ (Fits graph log finding.set × HasFittingPart graph log k finding.set)
+    covered_of number finding at = (
+      λ covered. (whole_fits finding.set (covered_has number finding at covered), covered_has number finding at covered),
+      λ both. covered_where number finding at finding.status refl both.0 both.1,
+    )

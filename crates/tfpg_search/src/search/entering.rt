@@ -1,0 +1,157 @@
+//! How a search enters alternatives, and leaves them.
+
+ghost use Rattle.std.specs.Prelude.{◌≡◌, ◌≤◌, ◌++◌, ◌∷◌, ℕ, [], IfOk, OnOk, OnErr, IfErr, length, Some, take, slice_get};
+ghost use Rattle.tfpg_evidence.specs.declared.reason.Reason.{Reason};
+ghost use Rattle.tfpg_evidence.specs.declared.reason.Reason.TheVariants.{Pick};
+ghost use Rattle.tfpg_clause.specs.Facts.{fact};
+ghost use Rattle.tfpg_clause.specs.Paths.{framed, stated_by};
+ghost use Rattle.tfpg_search.specs.Leaf.{pick_reasons, IsStated};
+ghost use Rattle.tfpg_search.specs.Picks.{picks_from};
+ghost use Rattle.tfpg_search.specs.Searching.{IsAtItsLeaf};
+ghost use Rattle.tfpg_search.specs.inside.Closing.{Closes};
+ghost use Rattle.tfpg_search.specs.inside.Leaving.{places_at, Leaves, Pushing, PushesOne};
+ghost use Rattle.tfpg_search.specs.inside.Moves.{KeepsSet, HasEnteredAll};
+
+use crate::add_fault::AddFault;
+use crate::search::Search;
+use std::sync::ledger::Ledger;
+use tfpg_base::{NoMemory, Steps};
+use tfpg_clause::picked;
+use tfpg_evidence::Reason;
+use tfpg_graph::Graph;
+use tfpg_log::Log;
+
+/// How many constraints an alternative has at most.
+const MAX_CONSTRAINTS: u32 = 3;
+
+impl Search {
+    /// Enters the alternative of the last split, where that was not done: adds its constraints. At a conflict none of them
+    /// stays.
+    pub(super) fn enter<L: Ledger>(
+        &mut self,
+        graph: &Graph,
+        log: &Log,
+        work: &mut Steps<L>,
+    ) -> Result<(), AddFault>
+        requires stands { IsAtItsLeaf graph.now log.now self.old }
+        ensures stands { IsAtItsLeaf graph.now log.now self.new }
+        ensures keeps { KeepsSet self.old self.new }
+        ensures path { self.new.path ≡ self.old.path }
+        ensures entered { OnOk result (HasEnteredAll self.new) }
+        ensures closes { IfErr result (Closes (stated_by graph.now log.now self.old.reach self.old.path)) }
+    {
+        let split = self.entered_count();
+        if split == self.depth() {
+            return Ok(());
+        }
+        self.mark()?;
+        match self.push_all(graph, log, split as u64 + 1, work) {
+            Ok(()) => Ok(()),
+            Err(fault) => {
+                self.leave(split);
+                Err(fault)
+            }
+        }
+    }
+
+    /// Notes how many picks stand before those of the next split.
+    fn mark(&mut self) -> Result<(), NoMemory>
+        ensures ok { OnOk result (self.new ≡ record self.old {
+          entered = self.old.entered ++ length (pick_reasons self.old.leaf) ∷ [];
+        }) }
+        ensures err { OnErr result (self.new ≡ self.old) }
+    {
+        let before = self.leaf.pick_count();
+        self.entered.push(before)?;
+        Ok(())
+    }
+
+    /// Adds the constraints of the alternative that was picked at the split of this number, counted from 1.
+    fn push_all<L: Ledger>(
+        &mut self,
+        graph: &Graph,
+        log: &Log,
+        split: u64,
+        work: &mut Steps<L>,
+    ) -> Result<(), AddFault>
+        requires variables { length self.old.leaf.demands.bounds ≡ length graph.now.nodes }
+        requires stated { IsStated (fact graph.now log.now self.old.reach)
+            (stated_by graph.now log.now self.old.reach self.old.path) self.old.leaf }
+        ensures same { self.new ≡ record self.old { leaf = self.new.leaf } }
+        ensures pushing { Pushing graph.now log.now self.old.reach self.old.path self.old.leaf self.new.leaf }
+        ensures ok { OnOk result (pick_reasons self.new.leaf
+            ≡ pick_reasons self.old.leaf ++ picks_from split 1 (places_at graph.now log.now self.old.path split)) }
+        ensures closes { IfErr result (Closes (stated_by graph.now log.now self.old.reach self.old.path)) }
+    {
+        let _valid = graph.node_count();
+        for before in 0..MAX_CONSTRAINTS {
+            match self.push_one(graph, log, split, before + 1, work) {
+                Ok(true) => {}
+                Ok(false) => return Ok(()),
+                Err(fault) => return Err(fault),
+            }
+        }
+        Ok(())
+    }
+
+    /// Adds the constraint in this place of the alternative that was picked at the split of this number. Returns whether there
+    /// is one.
+    fn push_one<L: Ledger>(
+        &mut self,
+        graph: &Graph,
+        log: &Log,
+        split: u64,
+        place: u32,
+        work: &mut Steps<L>,
+    ) -> Result<bool, AddFault>
+        requires variables { length self.old.leaf.demands.bounds ≡ length graph.now.nodes }
+        requires stated { IsStated (fact graph.now log.now self.old.reach)
+            (stated_by graph.now log.now self.old.reach self.old.path) self.old.leaf }
+        ensures same { self.new ≡ record self.old { leaf = self.new.leaf } }
+        ensures pushing { Pushing graph.now log.now self.old.reach self.old.path self.old.leaf self.new.leaf }
+        ensures ok { IfOk result
+            (PushesOne (framed graph.now log.now self.old.path split place) (Pick split place) self.old.leaf self.new.leaf) }
+        ensures closes { IfErr result (Closes (stated_by graph.now log.now self.old.reach self.old.path)) }
+    {
+        let _valid = graph.node_count();
+        let Some(constraint) = picked(graph, log, &self.path, split, place) else {
+            return Ok(false);
+        };
+        match self
+            .leaf
+            .push(constraint, Reason::Pick { split, place }, work)
+        {
+            Ok(()) => Ok(true),
+            Err(fault) => Err(fault),
+        }
+    }
+
+    /// Leaves all alternatives but the first so many.
+    pub(super) fn leave(&mut self, kept: usize)
+        requires counted { (before : ℕ) → slice_get self.old.entered kept ≡ Some before →
+            before ≤ length (pick_reasons self.old.leaf) }
+        ensures same { self.new ≡ record self.old { entered = take kept self.old.entered; leaf = self.new.leaf } }
+        ensures leaf { Leaves (slice_get self.old.entered kept) self.old.leaf self.new.leaf }
+    {
+        let _count = self.leaf.pick_count();
+        if kept < self.entered_count() {
+            let before = self.entered[kept];
+            self.leaf.pop_to(before);
+            self.entered.truncate(kept);
+        }
+    }
+
+    /// How many splits are on the path.
+    pub(super) fn depth(&self) -> usize
+        ensures { result ≡ length self.now.path }
+    {
+        self.path.len()
+    }
+
+    /// The alternatives of how many splits were entered.
+    fn entered_count(&self) -> usize
+        ensures { result ≡ length self.now.entered }
+    {
+        self.entered.len()
+    }
+}
