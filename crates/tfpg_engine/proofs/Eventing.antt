@@ -1,0 +1,149 @@
+-- What an event brings, for an engine as contracts see it.
+use Rattle.std.proofs.Common.{◌≡◌, ℕ, zero, suc, ◌<◌, ◌≤◌, false, List, [], ◌∷◌, ◌++◌, length, take, drop, replicate, Some, refl, sym, ap, subst, ◌∙◌, arith, length-append}
+use Rattle.std.specs.Prelude.{All, slice_get, ◌↔◌, Result, Ok, Err}
+use Rattle.tfpg_hyp.specs.declared.table.TableFault.{TableFault}
+use Rattle.tfpg_hyp.specs.declared.table.TableFault.TheVariants.{TooMany, NoMemory}
+use Rattle.std.proofs.lemmas.List.{append-nil, take_all, drop_all, length-replicate}
+use Rattle.tfpg_base.proofs.lists.Elements.{All-from_members}
+use Rattle.tfpg_graph.specs.Graph.{Tfpg, failures}
+use Rattle.tfpg_log.specs.declared.event.Event.{Event}
+use Rattle.tfpg_log.specs.declared.event.Offered.TheVariants.{Accepted}
+use Rattle.tfpg_log.specs.Log.{Logbook, IsOf, IsOrdered, GoesOn, with_event}
+use Rattle.tfpg_log.specs.Accepted.{reply_to}
+use Rattle.tfpg_log.specs.LogOfLines.{new_log}
+use Rattle.tfpg_evidence.specs.declared.round.Round.{Round}
+use Rattle.tfpg_hyp.specs.Hypotheses.{Hypotheses, IsTableOf}
+use Rattle.tfpg_hyp.specs.Rounds.{steps_so_far}
+use Rattle.tfpg_engine.specs.declared.slot.Slot.{Slot}
+use Rattle.tfpg_engine.specs.declared.slot.Slot.TheVariants.{Untouched}
+use Rattle.tfpg_engine.specs.Engining.{Engining, EngineRepresents, GivesRound, SlotRepresents}
+use Rattle.tfpg_engine.specs.inside.Slots.{AllCanGoOn, IsEngine}
+use Rattle.tfpg_engine.specs.inside.Turns.{IsOfGraph, MakesRound}
+use Rattle.tfpg_engine.proofs.Rounding.{StandBefore, can_go_on, still_go_on, round_is, earned, represents}
+
+-- a slice that was lent is written back
+pub written_back : {X : Type 0} (items new : List X) (len : ℕ) → length new ≡ length items → len ≡ length items → take len (new ++ drop (length new) items) ≡ new
+written_back items new len same is =
+    let none : drop (length new) items ≡ [] = drop_all (length new) items (omega (arith, same)) in
+    ap (λ rest. take len (new ++ rest)) none ∙ ap (take len) (append-nil new) ∙ take_all len new (omega (arith, same, is))
+
+-- the sets of a table are of failure modes
+pub of_graph : (graph : Tfpg) (k : ℕ) (table : Hypotheses) → IsTableOf graph k table → IsOfGraph graph table
+of_graph graph k table is = record {
+  members = All-from_members (λ set. All (λ place. place < length (failures graph)) set) table.sets (λ set has. ((is.hypotheses.exact set).0 has).members);
+  reached = is.reached;
+}
+
+-- ---- an engine without events
+
+same_slot : (count number : ℕ) (slot : Slot) → slice_get (replicate count Untouched) number ≡ Some slot → slot ≡ Untouched
+same_slot zero number slot at = cc
+same_slot (suc count) zero slot at = cc
+same_slot (suc count) (suc number) slot at = same_slot count number slot at
+
+module _ (graph : Tfpg) (k : ℕ) (table : Hypotheses) (budget : ℕ) (log : Logbook) (slots : List Slot) (count : ℕ) (is_slots : slots ≡ replicate count Untouched) where
+  untouched_at : (number : ℕ) (slot : Slot) → slice_get slots number ≡ Some slot → slot ≡ Untouched
+  untouched_at number slot at = same_slot count number slot (sym (ap (λ (ss : List Slot). slice_get ss number) is_slots) ∙ at)
+
+  untouched_represents : (set reach : List ℕ) (slot : Slot) → slot ≡ Untouched → SlotRepresents graph log set reach slot []
+  untouched_represents set reach slot is = subst (λ (s : Slot). SlotRepresents graph log set reach s []) (sym is) refl
+
+  pub new_engine : IsTableOf graph k table → IsOf graph log → 1 ≤ budget → count ≡ length table.sets
+      → IsEngine (record { graph = graph; log = log; k = k; table = table; budget = budget; slots = slots; ended = false })
+  new_engine is_table of some counted = record {
+    table = is_table;
+    of = of;
+    budget = some;
+    one_each = ap length is_slots ∙ length-replicate count Untouched ∙ counted;
+    slots = λ running number set reach slot at_set at_reach at. ([], untouched_represents set reach slot (untouched_at number slot at));
+  }
+
+  pub new_represents : log ≡ new_log → EngineRepresents (record { graph = graph; log = log; k = k; table = table; budget = budget; slots = slots; ended = false }) []
+  new_represents empty = record {
+    one_each = sym (ap (λ (l : Logbook). length l.events) empty);
+    running = refl;
+    slots = λ number set reach slot at_set at_reach at. untouched_represents set reach slot (untouched_at number slot at);
+  }
+
+-- ---- an event that is accepted
+
+module _ (view : Engining) (engine : IsEngine view) (running : view.ended ≡ false) (event : Event) (log : Logbook) (log_is : log ≡ with_event view.log event) (ordered : IsOrdered log)
+    (lent : List Slot) (lent_is : lent ≡ view.slots) where
+  goes_on : GoesOn view.log log
+  goes_on = (event ∷ [], ap (λ (l : Logbook). l.events) log_is)
+
+  -- each slot can go on at the log with the event
+  pub lent_go_on : AllCanGoOn view.graph log view.table lent
+  lent_go_on = subst (AllCanGoOn view.graph log view.table) (sym lent_is) (can_go_on view.graph view.log log ordered goes_on view.table view.slots (engine.slots running))
+
+  lent_each : length lent ≡ length view.table.sets
+  lent_each = ap length lent_is ∙ engine.one_each
+
+  module _ (line : ℕ) (round : Round) (new back : List Slot) (made : MakesRound view.graph log view.budget view.table lent new line round) (same_length : length new ≡ length lent) (back_is : back ≡ new) where
+    abbrev now : Engining
+    now = record view { log = log; slots = back }
+
+    pub engine_now : IsOf view.graph log → IsEngine now
+    engine_now of = record {
+      table = engine.table;
+      of = of;
+      budget = engine.budget;
+      one_each = ap length back_is ∙ same_length ∙ lent_each;
+      slots = λ still. subst (AllCanGoOn view.graph log view.table) (sym back_is)
+          (still_go_on view.graph log view.budget view.table lent new round.findings made.turns made.complete engine.table.reached.complete lent_each same_length lent_go_on);
+    }
+
+    module _ (stand_before : StandBefore) (text : List ℕ) (accepted : reply_to view.graph view.log text ≡ Accepted event) (rounds : List Round) (represented : EngineRepresents view rounds) where
+      lent_represents : (number : ℕ) (set reach : List ℕ) (slot : Slot) → slice_get view.table.sets number ≡ Some set → slice_get view.table.reaches number ≡ Some reach → slice_get lent number ≡ Some slot
+          → SlotRepresents view.graph view.log set reach slot (steps_so_far number rounds)
+      lent_represents number set reach slot at_set at_reach at =
+          represented.slots number set reach slot at_set at_reach (sym (ap (λ (ss : List Slot). slice_get ss number) lent_is) ∙ at)
+
+      pub gives_round : GivesRound line text rounds round view now
+      gives_round = record {
+        event = event;
+        accepted = accepted;
+        log = log_is;
+        round_is = round_is stand_before view.graph view.k view.budget line rounds view.log log view.table lent new round engine.table ordered goes_on made lent_each same_length lent_represents;
+        earned = earned stand_before view.graph view.k view.budget line rounds view.log log view.table lent new round engine.table ordered goes_on made lent_each same_length lent_represents;
+        represents = record {
+          one_each = omega (
+            arith,
+            length-append rounds (round ∷ []),
+            represented.one_each,
+            ap (λ (l : Logbook). length l.events) log_is,
+            length-append view.log.events (event ∷ []),
+          );
+          running = running;
+          slots = λ number set reach slot at_set at_reach at.
+              represents stand_before view.graph view.k view.budget line rounds view.log log view.table lent new round engine.table ordered goes_on made lent_each same_length lent_represents number set reach slot at_set at_reach
+              (sym (ap (λ (ss : List Slot). slice_get ss number) back_is) ∙ at);
+        };
+      }
+
+      -- the same, where this is what contracts saw of the engine
+      pub gives_from : (old : Engining) → view ≡ old → GivesRound line text rounds round old now
+      gives_from old is = subst (λ (e : Engining). GivesRound line text rounds round e now) is gives_round
+
+-- ---- which fault there is
+
+pub not_ok : {X E : Type 0} (x : X) (e : E) → ◌≡◌ {A = Result X E} (Ok x) (Err e) → ⊥
+not_ok x e is = cc
+
+err_is : {X : Type 0} (fault other : TableFault) → ◌≡◌ {A = Result X TableFault} (Err fault) (Err other) → fault ≡ other
+err_is fault other is = cc
+
+-- the fault is that of the table
+pub too_many_by : {X Y P : Type 0} (result : Result X TableFault) (fault same : TableFault) (count : ℕ) → result ≡ Err fault → fault ≡ same → ◌≡◌ {A = Result Y TableFault} (Err same) (Err (TooMany count)) ↔ P
+    → (result ≡ Err (TooMany count)) ↔ P
+too_many_by result fault same count failed from is = (
+  λ own. is.0 (ap Err (sym from ∙ err_is fault (TooMany count) (sym failed ∙ own))),
+  λ holds. failed ∙ ap Err (from ∙ err_is same (TooMany count) (is.1 holds)),
+)
+
+no_fault : (count : ℕ) → NoMemory ≡ TooMany count → ⊥
+no_fault count is = cc
+
+-- the fault is that memory ran out
+pub not_too_many : {X P : Type 0} (result : Result X TableFault) (fault : TableFault) (count : ℕ) → result ≡ Err fault → fault ≡ NoMemory → (P → ⊥) → (result ≡ Err (TooMany count)) ↔ P
+not_too_many result fault count failed from never = (λ own. absurd (no_fault count (sym from ∙ err_is fault (TooMany count) (sym failed ∙ own))), λ holds. absurd (never holds))

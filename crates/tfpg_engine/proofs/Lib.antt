@@ -1,0 +1,6 @@
+mod Counting
+mod Placing
+mod Going
+mod Turning
+mod Rounding
+mod Eventing

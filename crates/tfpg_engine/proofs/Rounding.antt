@@ -1,0 +1,216 @@
+-- The findings of a round, whatever the earlier rounds were, are a round for all rounds that the engine represents.
+use Rattle.std.proofs.Common.{◌≡◌, ℕ, ◌<◌, List, [], ◌∷◌, ◌++◌, length, map, take, Option, Some, None, refl, sym, ap, subst, ◌∙◌, inl, inr, arith}
+use Rattle.std.specs.Prelude.{slice_get, option_map, option_and_then, unwrap_or}
+use Rattle.std.proofs.lemmas.List.{append-nil}
+use Rattle.std.proofs.lemmas.List.Concat.{flat_map-append}
+use Rattle.std.proofs.lemmas.Option.{slice_get_cases, slice_get_within, same_Some}
+use Rattle.tfpg_base.specs.Set.{IsProperPart}
+use Rattle.tfpg_graph.specs.Graph.{Tfpg}
+use Rattle.tfpg_graph.specs.Reach.{IsReach}
+use Rattle.tfpg_log.specs.Log.{Logbook, IsOrdered, GoesOn, now_of}
+use Rattle.tfpg_evidence.specs.declared.finding.Finding.{Finding}
+use Rattle.tfpg_evidence.specs.declared.finding.Status.{Status}
+use Rattle.tfpg_evidence.specs.declared.finding.Status.TheVariants as status
+use Rattle.tfpg_evidence.specs.declared.round.Round.{Round}
+use Rattle.tfpg_evidence.specs.declared.round.Counts.{Counts}
+use Rattle.tfpg_clause.specs.Trees.{Judged}
+use Rattle.tfpg_hyp.specs.Table.{IsTable}
+use Rattle.tfpg_hyp.specs.Hypotheses.{Hypotheses, IsTableOf}
+use Rattle.tfpg_hyp.specs.declared.place.Place.{Place}
+use Rattle.tfpg_hyp.specs.Rounds.{IsRound, IsFinding, IsOrder, counts_of, HasEvidence, IsRankedPart, steps_in, steps_so_far, place_at, place_of_status}
+use Rattle.tfpg_search.specs.Searched.{with_steps}
+use Rattle.tfpg_engine.specs.declared.slot.Slot.{Slot}
+use Rattle.tfpg_engine.specs.Earned.{AreEarned}
+use Rattle.tfpg_engine.specs.Engining.{SlotRepresents}
+use Rattle.tfpg_engine.specs.inside.Slots.{AllCanGoOn}
+use Rattle.tfpg_engine.specs.inside.Placed.{HasFraction}
+use Rattle.tfpg_engine.specs.inside.Turns.{GoesOnFrom, IsTurn, AreTurns, MakesRound}
+use Rattle.tfpg_engine.proofs.Going.{slot_stays}
+use Rattle.tfpg_engine.proofs.Placing.{get_take, get_take_some}
+
+-- the item of a place that there is
+at_place : {X Y : Type 0} (xs : List X) (ys : List Y) (place : ℕ) (y : Y) → length xs ≡ length ys → slice_get ys place ≡ Some y → (x : X) × (slice_get xs place ≡ Some x)
+at_place xs ys place y same at =
+    elim (slice_get_cases xs place).1 [
+      | inl there ↦ (there.0, there.2)
+      | inr past ↦ absurd (omega (arith, slice_get_within ys place y at, same, past.0))
+    ]
+
+-- ---- one turn
+
+module _ (graph : Tfpg) (log : Logbook) (budget : ℕ) (table : Hypotheses) (old new : List Slot) (findings : List Finding) (turns : AreTurns graph log budget table old new findings)
+    (complete : length findings ≡ length table.sets) (reached : length table.reaches ≡ length table.sets) (old_each : length old ≡ length table.sets) (new_each : length new ≡ length old) where
+  -- the turn of a number, with what the table and the slots have there
+  pub record TurnAt (number : ℕ) (finding : Finding) : Type 0 where
+    pub set : List ℕ
+    pub reach : List ℕ
+    pub before : Slot
+    pub now : Slot
+    pub at_set : slice_get table.sets number ≡ Some set
+    pub at_reach : slice_get table.reaches number ≡ Some reach
+    pub at_before : slice_get old number ≡ Some before
+    pub at_now : slice_get new number ≡ Some now
+    pub turn : IsTurn graph log budget set reach number (take number findings) before now finding
+
+  turn_at : (number : ℕ) (finding : Finding) → slice_get findings number ≡ Some finding → TurnAt number finding
+  turn_at number finding at =
+      let set = at_place table.sets findings number finding (sym complete) at in
+      let reach = at_place table.reaches findings number finding (reached ∙ sym complete) at in
+      let before = at_place old findings number finding (old_each ∙ sym complete) at in
+      let now = at_place new findings number finding (new_each ∙ old_each ∙ sym complete) at in
+      record {
+        set = set.0;
+        reach = reach.0;
+        before = before.0;
+        now = now.0;
+        at_set = set.1;
+        at_reach = reach.1;
+        at_before = before.1;
+        at_now = now.1;
+        turn = turns number set.0 reach.0 before.0 now.0 finding set.1 reach.1 before.1 now.1 at;
+      }
+
+  fraction_by : (number : ℕ) (place : Place) (at : Option Finding) → slice_get findings number ≡ at → option_and_then (λ (f : Finding). place_of_status number f.status) at ≡ Some place → HasFraction place
+  fraction_by number place None is placed = cc
+  fraction_by number place (Some finding) is placed = (turn_at number finding is).turn.whole place placed
+
+  -- the robustness of each place is a fraction
+  pub fractions_of : (number : ℕ) (place : Place) → place_at findings number ≡ Some place → HasFraction place
+  fractions_of number place placed = fraction_by number place (slice_get findings number) refl placed
+
+  -- what is kept now can go on
+  pub still_go_on : AllCanGoOn graph log table old → AllCanGoOn graph log table new
+  still_go_on can number set reach slot at_set at_reach at_slot =
+      let finding = at_place findings new number slot (complete ∙ sym old_each ∙ sym new_each) at_slot in
+      let before = at_place old new number slot (sym new_each) at_slot in
+      let earlier = can number set reach before.0 at_set at_reach before.1 in
+      let goes = (turns number set reach before.0 slot finding.0 at_set at_reach before.1 at_slot finding.1).goes_on earlier.0 earlier.1 in
+      (with_steps earlier.0 log finding.0.steps, goes.represents)
+
+-- what is kept can go on at a log that goes on
+pub can_go_on : (graph : Tfpg) (earlier later : Logbook) → IsOrdered later → GoesOn earlier later → (table : Hypotheses) (slots : List Slot) → AllCanGoOn graph earlier table slots
+    → AllCanGoOn graph later table slots
+can_go_on graph earlier later ordered goes_on table slots can number set reach slot at_set at_reach at_slot =
+    let some = can number set reach slot at_set at_reach at_slot in
+    (some.0, slot_stays graph earlier later ordered goes_on reach set slot some.0 some.1)
+
+-- ---- the steps of all rounds
+
+pub steps_more : (number : ℕ) (rounds : List Round) (round : Round) (log : Logbook) (finding : Finding) → round.number ≡ length log.events → slice_get round.findings number ≡ Some finding
+    → steps_so_far number (rounds ++ round ∷ []) ≡ with_steps (steps_so_far number rounds) log finding.steps
+steps_more number rounds round log finding numbered at =
+    flat_map-append (steps_in number) rounds (round ∷ [])
+    ∙ ap (λ (steps : List Judged). steps_so_far number rounds ++ steps)
+    (append-nil (steps_in number round)
+    ∙ (λ i. map (λ step. record { seen = numbered i; step = step }) (unwrap_or (option_map (λ (f : Finding). f.steps) (at i)) [])))
+
+-- ---- the round
+
+-- That proper subsets have lesser numbers is a law of the table.
+abbrev pub StandBefore : Type 0
+StandBefore =
+    (graph : Tfpg) (k : ℕ) (sets : List (List ℕ)) → IsTable graph k sets → (number other : ℕ) (part whole : List ℕ) → slice_get sets number ≡ Some part → slice_get sets other ≡ Some whole
+    → IsProperPart part whole → number < other
+
+module _ (stand_before : StandBefore) (graph : Tfpg) (k : ℕ) (budget line : ℕ) (rounds : List Round) (old_log log : Logbook) (table : Hypotheses) (old new : List Slot) (round : Round)
+    (is_table : IsTableOf graph k table) (ordered : IsOrdered log) (goes_on : GoesOn old_log log) (made : MakesRound graph log budget table old new line round)
+    (old_each : length old ≡ length table.sets) (new_each : length new ≡ length old)
+    (represented : (number : ℕ) (set reach : List ℕ) (slot : Slot) → slice_get table.sets number ≡ Some set → slice_get table.reaches number ≡ Some reach → slice_get old number ≡ Some slot
+    → SlotRepresents graph old_log set reach slot (steps_so_far number rounds)) where
+  abbrev findings : List Finding
+  findings = round.findings
+
+  Turn : (number : ℕ) (finding : Finding) → slice_get findings number ≡ Some finding → TurnAt graph log budget table old new findings made.turns made.complete is_table.reached.complete old_each new_each number finding
+  Turn number finding at = turn_at graph log budget table old new findings made.turns made.complete is_table.reached.complete old_each new_each number finding at
+
+  -- a ranked proper subset stands before
+  below : (number : ℕ) (finding : Finding) → slice_get findings number ≡ Some finding → (other : ℕ) → IsRankedPart findings finding.set other → other < number
+  below number finding at other part =
+      let own = Turn number finding at in
+      let there = Turn other part.finding part.numbered in
+      stand_before graph k table.sets is_table.hypotheses other number part.finding.set finding.set (there.at_set ∙ ap Some (sym there.turn.set_is)) (own.at_set ∙ ap Some (sym own.turn.set_is)) part.part
+
+  -- a ranked proper subset among all is one among those before
+  among_first : (number : ℕ) (finding : Finding) → slice_get findings number ≡ Some finding → (other : ℕ) → IsRankedPart findings finding.set other → IsRankedPart (take number findings) finding.set other
+  among_first number finding at other part =
+      record { finding = part.finding; numbered = get_take number findings other (below number finding at other part) ∙ part.numbered; ranked = part.ranked; part = part.part }
+
+  among_all : (number : ℕ) (set : List ℕ) (other : ℕ) → IsRankedPart (take number findings) set other → IsRankedPart findings set other
+  among_all number set other part =
+      record { finding = part.finding; numbered = (get_take_some number findings other part.finding part.numbered).1; ranked = part.ranked; part = part.part }
+
+  evidence_by : (number : ℕ) (finding : Finding) → slice_get findings number ≡ Some finding → (reach : List ℕ) (steps : List Judged) (s : Status)
+      → HasEvidence graph log budget (take number findings) reach steps finding s → HasEvidence graph log budget findings reach steps finding s
+  evidence_by number finding at reach steps status.Rejected is = is
+  evidence_by number finding at reach steps (status.Covered by) is =
+      (is.0, is.1, among_all number finding.set by is.2, λ other part. is.3 other (among_first number finding at other part))
+  evidence_by number finding at reach steps (status.Ranked trace c alarmed monitored) is =
+      (is.0, is.1, (λ has. is.2 (has.0, among_first number finding at has.0 has.1)), is.3, is.4)
+  evidence_by number finding at reach steps status.Open is = (is.0, (λ has. is.1 (has.0, among_first number finding at has.0 has.1)), is.2)
+
+  -- what a turn comes to, for the rounds that were represented
+  goes_at : (number : ℕ) (set reach : List ℕ) (before now : Slot) (finding : Finding) → slice_get table.sets number ≡ Some set → slice_get table.reaches number ≡ Some reach
+      → slice_get old number ≡ Some before → slice_get new number ≡ Some now → slice_get findings number ≡ Some finding
+      → GoesOnFrom graph log budget set reach (take number findings) (steps_so_far number rounds) now finding
+  goes_at number set reach before now finding at_set at_reach at_before at_now at =
+      (made.turns number set reach before now finding at_set at_reach at_before at_now at).goes_on (steps_so_far number rounds)
+      (slot_stays graph old_log log ordered goes_on reach set before (steps_so_far number rounds) (represented number set reach before at_set at_reach at_before))
+
+  finding_is : (number : ℕ) (set : List ℕ) (finding : Finding) → slice_get table.sets number ≡ Some set → slice_get findings number ≡ Some finding
+      → IsFinding graph log budget (rounds ++ round ∷ []) findings number set finding
+  finding_is number set finding at_set at =
+      let own = Turn number finding at in
+      let goes = goes_at number own.set own.reach own.before own.now finding own.at_set own.at_reach own.at_before own.at_now at in
+      let same : own.set ≡ set = same_Some own.set set (sym own.at_set ∙ at_set) in
+      record {
+        number_is = own.turn.number_is;
+        set_is = own.turn.set_is ∙ same;
+        reach = own.reach;
+        reach_is = subst (λ (s : List ℕ). IsReach graph s own.reach) same (is_table.reached.exact number own.set own.reach own.at_set own.at_reach);
+        evidence = evidence_by number finding at own.reach (steps_so_far number (rounds ++ round ∷ [])) finding.status
+            (subst (λ (steps : List Judged). HasEvidence graph log budget (take number findings) own.reach steps finding finding.status) (sym (steps_more number rounds round log finding made.number at)) goes.evidence);
+      }
+
+  pub round_is : IsRound graph k budget rounds log line round
+  round_is = record {
+    number = made.number;
+    line_is = made.line_is;
+    now_is = made.now_is;
+    sets = table.sets;
+    table = is_table.hypotheses;
+    complete = made.complete;
+    findings = finding_is;
+    order = made.order;
+    counts = made.counts;
+  }
+
+  pub earned : AreEarned graph log budget rounds round
+  earned number finding at =
+      let own = Turn number finding at in
+      let goes = goes_at number own.set own.reach own.before own.now finding own.at_set own.at_reach own.at_before own.at_now at in
+      (own.reach, subst (λ (s : List ℕ). IsReach graph s own.reach) (sym own.turn.set_is) (is_table.reached.exact number own.set own.reach own.at_set own.at_reach), goes.earned)
+
+  pub represents : (number : ℕ) (set reach : List ℕ) (slot : Slot) → slice_get table.sets number ≡ Some set → slice_get table.reaches number ≡ Some reach → slice_get new number ≡ Some slot
+      → SlotRepresents graph log set reach slot (steps_so_far number (rounds ++ round ∷ []))
+  represents number set reach slot at_set at_reach at_slot =
+      let finding = at_place findings new number slot (made.complete ∙ sym old_each ∙ sym new_each) at_slot in
+      let before = at_place old new number slot (sym new_each) at_slot in
+      subst (SlotRepresents graph log set reach slot) (sym (steps_more number rounds round log finding.0 made.number finding.1))
+      (goes_at number set reach before.0 slot finding.0 at_set at_reach before.1 at_slot finding.1).represents
+
+-- The findings as the code has them make a round.
+pub makes : (graph : Tfpg) (log : Logbook) (budget : ℕ) (table : Hypotheses) (old new : List Slot) (line number now : ℕ) (found read listed : List Finding) (order : List ℕ) (counts : Counts)
+    → number ≡ length log.events → now ≡ now_of log → (length found ≡ length table.sets) × AreTurns graph log budget table old new found → listed ≡ found → read ≡ found → IsOrder read order
+    → counts ≡ counts_of found
+    → MakesRound graph log budget table old new line (record { number = number; line = line; now = now; findings = listed; order = order; counts = counts })
+makes graph log budget table old new line number now found read listed order counts is_number is_now turns is_listed is_read in_order counted =
+    subst (λ (fs : List Finding). MakesRound graph log budget table old new line (record { number = number; line = line; now = now; findings = fs; order = order; counts = counts })) (sym is_listed)
+    (record {
+      number = is_number;
+      line_is = refl;
+      now_is = is_now;
+      complete = turns.0;
+      turns = turns.1;
+      order = subst (λ (fs : List Finding). IsOrder fs order) is_read in_order;
+      counts = counted;
+    })

@@ -1,0 +1,25 @@
+use Rattle.std.proofs.Common.{length, ap, sym, ◌∙◌, arith}
+use Rattle.tfpg_hyp.specs.Rounds.{place_at, counts_of}
+use Rattle.tfpg_engine.proofs.Rounding.{fractions_of, makes}
+use Rattle.tfpg_engine.proofs.round.make.Goals as goal
+
+pub order-requires-clause-few : goal.order-requires-clause-few
+order-requires-clause-few g c =
+    omega (arith, ap length c.deref.ensures.value, c.in_ok-findings.ensures.turns.0, c.len-few.ensures.count, c.len-few.ensures.few)
+
+pub order-requires-clause-fractions : goal.order-requires-clause-fractions
+order-requires-clause-fractions g c =
+    let turns = c.in_ok-findings.ensures.turns in
+    λ number place placed.
+    fractions_of c.args.graph.now c.args.log.now c.args.budget c.args.table.now c.args.slots.now c.find_all.new.slots c.in_ok-findings.findings.items turns.1 turns.0
+    c.requires.table.reached.complete c.requires.one_each c.find_all.ensures.one_each number place (sym (ap (λ fs. place_at fs number) c.deref.ensures.value) ∙ placed)
+
+pub count-counts-requires : goal.count-counts-requires
+count-counts-requires g c =
+    omega (arith, ap length c.deref-2.ensures.value, c.in_ok-findings.ensures.turns.0, c.len-few.ensures.count, c.len-few.ensures.few)
+
+pub returns-clause-round : goal.returns-clause-round
+returns-clause-round g c =
+    makes c.args.graph.now c.args.log.now c.args.budget c.args.table.now c.args.slots.now c.find_all.new.slots c.args.line c.len.result c.now.result c.in_ok-findings.findings.items c.deref.result.now
+    c.from_vec.result c.in_ok-order.order c.count-counts.result c.len.ensures.len c.now.ensures c.in_ok-findings.ensures.turns c.from_vec.ensures c.deref.ensures.value c.in_ok-order.ensures
+    (c.count-counts.ensures ∙ ap counts_of c.deref-2.ensures.value)

@@ -1,0 +1,14 @@
+use Rattle.std.proofs.Common.{sym, subst}
+use Rattle.tfpg_engine.specs.inside.Turns.{IsTurn}
+use Rattle.tfpg_engine.proofs.Turning.{turn_rejected, turn_covered, is_by}
+use Rattle.tfpg_engine.proofs.turn.find.Goals as goal
+
+pub returns-then-is_rejected : goal.returns-then-is_rejected
+returns-then-is_rejected g c =
+    subst (IsTurn c.args.graph.now c.args.log.now c.args.budget c.args.set c.args.reach.now c.args.number c.args.findings.now c.args.slot.now c.args.slot.now) (sym c.passed_over.ensures)
+    (turn_rejected c.args.graph.now c.args.log.now c.args.budget c.args.set c.args.reach.now c.args.number c.args.findings.now c.len-ordered.ensures.ordered c.args.slot.now (is_by c.is_rejected.ensures c.if-is_rejected.true))
+
+pub returns-in-Some : goal.returns-in-Some
+returns-in-Some g c =
+    subst (IsTurn c.args.graph.now c.args.log.now c.args.budget c.args.set c.args.reach.now c.args.number c.args.findings.now c.args.slot.now c.args.slot.now) (sym c.passed_over-in-Some.ensures)
+    (turn_covered c.args.graph.now c.args.log.now c.args.budget c.args.set c.args.reach.now c.args.number c.args.findings.now c.len-ordered.ensures.ordered c.args.slot.now c.in-Some.by (is_by c.is_rejected.ensures c.if-is_rejected.false) c.in-Some.ensures)

@@ -1,0 +1,7 @@
+pub use Rattle.tfpg_hyp.specs.Rounds
+pub use Rattle.tfpg_search.specs.Searched
+-- What the contracts say.
+pub mod Earned
+pub mod Engining
+-- What the code and its proofs need besides. No public clause reaches it.
+pub mod inside

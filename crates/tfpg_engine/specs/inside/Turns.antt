@@ -1,0 +1,91 @@
+-- What a round finds of one hypothesis after the other, whatever the earlier rounds were.
+use Rattle.std.specs.Prelude.{◌≡◌, ℕ, ◌<◌, ◌≤◌, List, length, take, All, Bool, true, false, Some, slice_get}
+use Rattle.tfpg_graph.specs.Graph.{Tfpg, failures}
+use Rattle.tfpg_log.specs.Log.{Logbook, now_of}
+use Rattle.tfpg_evidence.specs.declared.finding.Finding.{Finding}
+use Rattle.tfpg_evidence.specs.declared.finding.Status.{Status}
+use Rattle.tfpg_evidence.specs.declared.round.Round.{Round}
+use Rattle.tfpg_evidence.specs.declared.finding.Status.TheVariants as status
+use Rattle.tfpg_clause.specs.Trees.{Judged}
+use Rattle.tfpg_hyp.specs.Hypotheses.{Hypotheses, AreReaches}
+use Rattle.tfpg_hyp.specs.declared.place.Fraction.{Fraction}
+use Rattle.tfpg_hyp.specs.declared.place.Place.{Place}
+use Rattle.tfpg_hyp.specs.Rounds.{HasEvidence, IsRankedPart, IsOrder, counts_of, place_of_status}
+use Rattle.tfpg_search.specs.Searching.{Searching}
+use Rattle.tfpg_search.specs.Searched.{with_steps}
+use Rattle.tfpg_search.specs.declared.found.Found.{Found}
+use Rattle.tfpg_search.specs.declared.found.Found.TheVariants as found
+use Rattle.tfpg_engine.specs.declared.slot.Slot.{Slot}
+use Rattle.tfpg_engine.specs.declared.slot.Slot.TheVariants.{Untouched, Searched, Rejected}
+use Rattle.tfpg_engine.specs.Engining.{SlotRepresents}
+use Rattle.tfpg_engine.specs.Earned.{IsEarned}
+
+-- the test of a slot that is rejected
+abbrev pub is_rejected_slot : Slot → Bool
+is_rejected_slot Untouched = false
+is_rejected_slot (Searched search) = false
+is_rejected_slot Rejected = true
+
+-- the least number of a ranked part of the set
+pub record IsLeastPart (findings : List Finding) (set : List ℕ) (by : ℕ) : Type 0 where
+  pub part : IsRankedPart findings set by
+  pub least : (other : ℕ) → IsRankedPart findings set other → by ≤ other
+
+-- what is kept of a search that found this
+abbrev pub kept : Searching → Found → Slot
+kept search (found.Shown trace) = Searched search
+kept search found.Closed = Rejected
+kept search found.Spent = Searched search
+
+-- the status by the cost and the robustness of a set, and by what was found
+abbrev pub status_by : ℕ → Fraction → Found → Status
+status_by cost robust (found.Shown trace) = status.Ranked trace cost robust.alarmed robust.monitored
+status_by cost robust found.Closed = status.Rejected
+status_by cost robust found.Spent = status.Open
+
+-- Where the status ranks, its robustness is a fraction.
+abbrev pub IsWhole : ℕ → Status → Type 0
+IsWhole number status = (place : Place) → place_of_status number status ≡ Some place → 1 ≤ place.robust.monitored
+
+-- The finding goes on from these steps: what is kept represents the steps with those of the finding, which are its evidence
+-- and are earned.
+pub record GoesOnFrom (graph : Tfpg) (log : Logbook) (budget : ℕ) (set reach : List ℕ) (findings : List Finding) (earlier : List Judged) (slot : Slot) (finding : Finding) : Type 0 where
+  pub represents : SlotRepresents graph log set reach slot (with_steps earlier log finding.steps)
+  pub evidence : HasEvidence graph log budget findings reach (with_steps earlier log finding.steps) finding finding.status
+  pub earned : IsEarned graph log budget reach earlier finding
+
+-- The finding on the hypothesis of this number, after these findings, and what was kept of it before and is kept now.
+pub record IsTurn (graph : Tfpg) (log : Logbook) (budget : ℕ) (set reach : List ℕ) (number : ℕ) (findings : List Finding) (old new : Slot) (finding : Finding) : Type 0 where
+  pub number_is : finding.number ≡ number
+  pub set_is : finding.set ≡ set
+  pub whole : IsWhole number finding.status
+  pub goes_on : (earlier : List Judged) → SlotRepresents graph log set reach old earlier → GoesOnFrom graph log budget set reach findings earlier new finding
+
+-- These are the findings on the first hypotheses of the table, each after those before it.
+abbrev pub AreTurns : Tfpg → Logbook → ℕ → Hypotheses → List Slot → List Slot → List Finding → Type 0
+AreTurns graph log budget table old new findings =
+    (number : ℕ) (set reach : List ℕ) (before now : Slot) (finding : Finding) → slice_get table.sets number ≡ Some set → slice_get table.reaches number ≡ Some reach →
+    slice_get old number ≡ Some before → slice_get new number ≡ Some now → slice_get findings number ≡ Some finding →
+    IsTurn graph log budget set reach number (take number findings) before now finding
+
+-- The same, where the slots of the hypotheses after those are as they were.
+pub record AreFirstTurns (graph : Tfpg) (log : Logbook) (budget : ℕ) (table : Hypotheses) (old new : List Slot) (findings : List Finding) (count : ℕ) : Type 0 where
+  pub counted : length findings ≡ count
+  pub one_each : length new ≡ length old
+  pub turns : AreTurns graph log budget table old new findings
+  pub same : (number : ℕ) → count ≤ number → slice_get new number ≡ slice_get old number
+
+-- a table of sets of failure modes of the graph, with what each reaches
+pub record IsOfGraph (graph : Tfpg) (table : Hypotheses) : Type 0 where
+  pub members : All (λ set. All (λ place. place < length (failures graph)) set) table.sets
+  pub reached : AreReaches graph table.sets table.reaches
+
+-- A finding on each hypothesis was made, they were put in order and counted.
+pub record MakesRound (graph : Tfpg) (log : Logbook) (budget : ℕ) (table : Hypotheses) (old new : List Slot) (line : ℕ) (round : Round) : Type 0 where
+  pub number : round.number ≡ length log.events
+  pub line_is : round.line ≡ line
+  pub now_is : round.now ≡ now_of log
+  pub complete : length round.findings ≡ length table.sets
+  pub turns : AreTurns graph log budget table old new round.findings
+  pub order : IsOrder round.findings round.order
+  pub counts : round.counts ≡ counts_of round.findings

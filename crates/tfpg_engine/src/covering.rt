@@ -1,0 +1,42 @@
+//! Which ranked hypothesis covers a set.
+
+ghost use Rattle.std.specs.Prelude.{◌≡◌, ℕ, MatchOption, IsTrue, length, ◌<◌, ◌^◌, ◌↔◌};
+ghost use Rattle.tfpg_base.specs.Set.{IsProperPart};
+ghost use Rattle.tfpg_evidence.specs.RoundOf.{is_ranked};
+ghost use Rattle.tfpg_hyp.specs.Rounds.{HasRankedPart};
+ghost use Rattle.tfpg_engine.specs.inside.Turns.{IsLeastPart};
+
+use tfpg_base::Set;
+use tfpg_evidence::{Finding, Status};
+
+/// The least number of a ranked finding on a proper subset of the set.
+pub(crate) fn covering(findings: &[Finding], set: Set) -> Option<u32>
+    requires { length findings.now < 2 ^ 32 }
+    ensures { MatchOption result (HasRankedPart findings.now set → ⊥) (IsLeastPart findings.now set) }
+{
+    for number in 0..findings.len() {
+        if covers(&findings[number], set) {
+            return Some(number as u32);
+        }
+    }
+    None
+}
+
+/// Whether the finding ranks a proper subset of the set.
+fn covers(finding: &Finding, set: Set) -> bool
+    ensures { IsTrue result ↔ (IsTrue (is_ranked finding.now.status) × IsProperPart finding.now.set set) }
+{
+    is_ranked(&finding.status) && finding.set.is_proper_part(set)
+}
+
+/// Whether the status ranks.
+fn is_ranked(status: &Status) -> bool
+    ensures { result ≡ is_ranked status.now }
+{
+    match status {
+        Status::Ranked { .. } => true,
+        Status::Covered { .. } => false,
+        Status::Rejected => false,
+        Status::Open => false,
+    }
+}

@@ -1,0 +1,172 @@
+//! One event, all hypotheses.
+
+ghost use Rattle.std.specs.Prelude.{◌≡◌, ◌≤◌, ◌<◌, ◌↔◌, ℕ, List, [], true, false, IfOk, OnOk, OnErr, Err, replicate};
+ghost use Rattle.tfpg_evidence.specs.declared.round.Round.{Round};
+ghost use Rattle.tfpg_hyp.specs.Hypotheses.{max_hypotheses, HasHypotheses};
+ghost use Rattle.tfpg_log.specs.LogOfLines.{new_log};
+ghost use Rattle.tfpg_engine.specs.Engining.{EngineRepresents, Brings};
+
+use crate::round;
+use crate::slot::Slot;
+use crate::told::{EventFault, Told};
+use std::alloc::Global;
+use std::marker::Model;
+use std::sync::ledger::Ledger;
+use tfpg_base::{NoMemory, Steps};
+use tfpg_graph::Graph;
+use tfpg_hyp::laws::subsets_stand_before_their_supersets;
+use tfpg_hyp::{Table, TableFault};
+use tfpg_log::{Log, Offered};
+
+/// Diagnoses a graph by a growing log: for each accepted line a finding for each set of at most `k` failure modes.
+#[derive(Drop)]
+pub struct Engine {
+    alloc: Global,
+    graph: Graph,
+    log: Log,
+    k: u32,
+    table: Table,
+    budget: u64,
+    slots: Vec<Slot>,
+    ended: bool,
+}
+
+impl Model for Engine {
+    ghost use Rattle.tfpg_engine.specs.Engining.{Engining};
+    ghost use Rattle.tfpg_engine.specs.inside.Slots.{IsEngine};
+
+    ghost Value = { Engining };
+
+    ghost view = { λ e. record {
+      graph = e.graph;
+      log = e.log;
+      k = e.k;
+      table = e.table;
+      budget = e.budget;
+      slots = e.slots.items;
+      ended = e.ended;
+    } };
+
+    ghost invariant = { λ e. IsEngine (record {
+      graph = e.graph;
+      log = e.log;
+      k = e.k;
+      table = e.table;
+      budget = e.budget;
+      slots = e.slots.items;
+      ended = e.ended;
+    }) };
+}
+
+impl Engine {
+    /// The engine of a graph, for all sets of at most `k` failure modes, with at most so many splits of each in a round.
+    /// Where there are more than 4,096 such sets, the fault says how many.
+    pub fn new(alloc: Global, graph: Graph, k: u32, budget: u64) -> Result<Engine, TableFault>
+        requires { 1 ≤ budget }
+        ensures graph { IfOk result (λ engine. engine.graph ≡ graph) }
+        ensures k { IfOk result (λ engine. engine.k ≡ k) }
+        ensures budget { IfOk result (λ engine. engine.budget ≡ budget) }
+        ensures log { IfOk result (λ engine. engine.log ≡ new_log) }
+        ensures represents { IfOk result (λ engine. EngineRepresents engine []) }
+        ensures too_many { (count : ℕ) → (result ≡ Err (TableFault.TooMany count)) ↔
+            ((max_hypotheses < count) × HasHypotheses graph k count) }
+    {
+        let table = Table::new(alloc, &graph, k)?;
+        let slots = untouched(alloc, table.len())?;
+        Ok(Engine {
+            alloc,
+            graph,
+            log: Log::new(alloc),
+            k,
+            table,
+            budget,
+            slots,
+            ended: false,
+        })
+    }
+
+    /// Takes a line of the log. A refused one changes nothing. An accepted one gives the round of all events so far, whose
+    /// steps go on from those of the rounds before. Where memory runs out the engine has ended, and each later call says so.
+    ///
+    /// The hypotheses go in the order of their numbers. A rejected one is passed over; one with a ranked proper subset is
+    /// covered by the least such number; every other one is searched, with at most the budget of splits.
+    pub fn event<L: Ledger>(
+        &mut self,
+        line: u64,
+        text: &[u8],
+        work: &mut Steps<L>,
+    ) -> Result<Told, EventFault>
+        ensures brings { (rounds : List Round) → EngineRepresents self.old rounds →
+            Brings line text.now rounds self.old self.new result }
+        ensures ended { (result ≡ Err EventFault.Ended) ↔ (self.old.ended ≡ true) }
+        ensures ends { OnErr result (self.new.ended ≡ true) }
+        ensures runs { OnOk result (self.new.ended ≡ false) }
+        ensures graph { self.new.graph ≡ self.old.graph }
+        ensures k { self.new.k ≡ self.old.k }
+        ensures budget { self.new.budget ≡ self.old.budget }
+        ensures table { self.new.table ≡ self.old.table }
+    {
+        if self.ended {
+            return Err(EventFault::Ended);
+        }
+        match self.log.offer(&self.graph, text) {
+            Ok(Offered::Refused(refusal)) => Ok(Told::Refused(refusal)),
+            Ok(Offered::Accepted(_)) => {
+                let _ordered = self.log.len();
+                subsets_stand_before_their_supersets();
+                match round::make(
+                    self.alloc,
+                    &self.graph,
+                    &self.log,
+                    &self.table,
+                    self.budget,
+                    line,
+                    &mut self.slots,
+                    work,
+                ) {
+                    Ok(round) => Ok(Told::Round(round)),
+                    Err(NoMemory) => {
+                        self.ended = true;
+                        Err(EventFault::NoMemory)
+                    }
+                }
+            }
+            Err(NoMemory) => {
+                self.ended = true;
+                Err(EventFault::NoMemory)
+            }
+        }
+    }
+
+    /// The graph.
+    pub fn graph(&self) -> &Graph
+        ensures { result.now ≡ self.now.graph }
+    {
+        &self.graph
+    }
+
+    /// The log of the accepted lines.
+    pub fn log(&self) -> &Log
+        ensures { result.now ≡ self.now.log }
+    {
+        &self.log
+    }
+
+    /// The table of hypotheses.
+    pub fn table(&self) -> &Table
+        ensures { result.now ≡ self.now.table }
+    {
+        &self.table
+    }
+}
+
+/// So many slots of hypotheses that were never searched.
+fn untouched(alloc: Global, count: u32) -> Result<Vec<Slot>, NoMemory>
+    ensures { IfOk result (λ slots. slots.items ≡ replicate count Slot.Untouched) }
+{
+    let mut slots = Vec::with_capacity(alloc, count as usize)?;
+    for _ in 0..count {
+        slots.push(Slot::Untouched)?;
+    }
+    Ok(slots)
+}

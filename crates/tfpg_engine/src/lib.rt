@@ -1,0 +1,20 @@
+//! One event, all hypotheses: the engine of a diagnosis.
+//!
+//! - [`Engine`] has a graph, a log that grows, and all sets of at most `k` failure modes. [`Engine::event`] takes a line.
+//! - [`Told`] is what a line brings: a refusal, or a round. [`EventFault`] says why there is neither.
+//! - [`Slot`] is what contracts see of what the engine keeps of a hypothesis.
+#![tactic(auto)]
+
+mod counts;
+mod covering;
+mod engine;
+mod order;
+mod round;
+mod slot;
+mod told;
+mod turn;
+mod turns;
+
+pub use engine::Engine;
+pub use slot::Slot;
+pub use told::{EventFault, Told};

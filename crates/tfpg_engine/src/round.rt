@@ -1,0 +1,52 @@
+//! The round of an accepted line.
+
+ghost use Rattle.std.specs.Prelude.{◌≡◌, ◌≤◌, length, IfOk};
+ghost use Rattle.tfpg_log.specs.Log.{IsOf};
+ghost use Rattle.tfpg_engine.specs.inside.Slots.{AllCanGoOn};
+ghost use Rattle.tfpg_engine.specs.inside.Turns.{IsOfGraph, MakesRound};
+
+use crate::counts::count;
+use crate::order::order;
+use crate::slot::Slot;
+use crate::turns::find_all;
+use std::alloc::Global;
+use std::sync::ledger::Ledger;
+use tfpg_base::{NoMemory, Steps};
+use tfpg_evidence::{Findings, Round};
+use tfpg_graph::Graph;
+use tfpg_hyp::Table;
+use tfpg_log::Log;
+
+/// The round of a log whose last event is that of this line.
+pub(crate) fn make<L: Ledger>(
+    alloc: Global,
+    graph: &Graph,
+    log: &Log,
+    table: &Table,
+    budget: u64,
+    line: u64,
+    slots: &mut [Slot],
+    work: &mut Steps<L>,
+) -> Result<Round, NoMemory>
+    requires of { IsOf graph.now log.now }
+    requires event { 1 ≤ length log.now.events }
+    requires budget { 1 ≤ budget }
+    requires table { IsOfGraph graph.now table.now }
+    requires one_each { length slots.old ≡ length table.now.sets }
+    requires go_on { AllCanGoOn graph.now log.now table.now slots.old }
+    ensures round { IfOk result (MakesRound graph.now log.now budget table.now slots.old slots.new line) }
+    ensures one_each { length slots.new ≡ length slots.old }
+{
+    let _few = table.len();
+    let findings = find_all(alloc, graph, log, table, budget, slots, work)?;
+    let order = order(alloc, &findings)?;
+    let counts = count(&findings);
+    Ok(Round {
+        number: log.len(),
+        line,
+        now: log.now(),
+        findings: Findings::from_vec(findings),
+        order,
+        counts,
+    })
+}

@@ -1,0 +1,70 @@
+//! What the engine keeps of a hypothesis.
+
+ghost use Rattle.std.specs.Prelude.{◌≡◌, ℕ, List, false, IfOk, All, ◌<◌, length};
+ghost use Rattle.tfpg_graph.specs.Graph.{failures};
+ghost use Rattle.tfpg_graph.specs.Reach.{IsReach};
+ghost use Rattle.tfpg_log.specs.Log.{Logbook, first_events};
+ghost use Rattle.tfpg_clause.specs.Trees.{Judged};
+ghost use Rattle.tfpg_search.specs.Searching.{SearchRepresents};
+ghost use Rattle.tfpg_engine.specs.Engining.{SlotRepresents};
+ghost use Rattle.tfpg_engine.specs.inside.Turns.{is_rejected_slot, kept};
+
+use std::alloc::Global;
+use tfpg_base::{NoMemory, Set};
+use tfpg_graph::{Graph, NodeSet};
+use tfpg_search::{Found, Search};
+
+/// What the engine keeps of a hypothesis.
+#[derive(Drop)]
+pub enum Slot {
+    /// It was never searched.
+    Untouched,
+    /// It was searched, and is not rejected.
+    Searched(Search),
+    /// It is rejected, and has given its memory back.
+    Rejected,
+}
+
+impl Slot {
+    /// Whether the hypothesis is rejected.
+    pub(crate) fn is_rejected(&self) -> bool
+        ensures { result ≡ is_rejected_slot self.now }
+    {
+        match self {
+            Slot::Untouched => false,
+            Slot::Searched(_) => false,
+            Slot::Rejected => true,
+        }
+    }
+
+    /// What is kept of a search that found this in its last round.
+    pub(crate) fn of(search: Search, found: &Found) -> Slot
+        ensures { result ≡ kept search found.now }
+    {
+        match found {
+            Found::Shown(_) => Slot::Searched(search),
+            Found::Closed => Slot::Rejected,
+            Found::Spent => Slot::Searched(search),
+        }
+    }
+
+    /// The search of a hypothesis that is not rejected: its own, or a new one where it was never searched.
+    pub(crate) fn into_search(
+        self,
+        alloc: Global,
+        graph: &Graph,
+        set: Set,
+        reach: &NodeSet,
+    ) -> Result<Search, NoMemory>
+        requires members { All (λ place. place < length (failures graph.now)) set }
+        requires reach { IsReach graph.now set reach.now }
+        ensures represents { IfOk result (λ search. (log : Logbook) (steps : List Judged) → is_rejected_slot self ≡ false →
+            SlotRepresents graph.now log set reach.now self steps → SlotRepresents graph.now log set reach.now (Slot.Searched search) steps) }
+    {
+        match self {
+            Slot::Searched(search) => Ok(search),
+            Slot::Untouched => Search::new(alloc, graph, set, *reach),
+            Slot::Rejected => Search::new(alloc, graph, set, *reach),
+        }
+    }
+}
