@@ -9,6 +9,8 @@ mod clause;
 #[cfg(test)]
 mod clause_path;
 #[cfg(test)]
+mod engine;
+#[cfg(test)]
 mod hyp;
 #[cfg(test)]
 mod kernel;

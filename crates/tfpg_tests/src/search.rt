@@ -21,11 +21,11 @@ use tfpg_search::{Found, Search};
 
 /// Two failure modes with an edge each to A, of which the second is active in mode N alone. The first also has an edge to B,
 /// and C needs A and B. The nodes are F1, F2, A, B, C with the numbers 0 to 4.
-const TWO: &[u8] =
+pub(crate) const TWO: &[u8] =
     b"tfpg 1\nmode N\nmode D\nfailure F1 3\nfailure F2 5\nor A watch 0\nor B hidden\nand C watch 0\nedge F1 A 10 20 N,D\nedge F2 A 5 5 N\nedge F1 B 0 inf *\nedge A C 0 10 *\nedge B C 0 10 *\nend\n";
 
 /// A failure mode F with an edge to A, which is due after 3 at most, and an edge to E, which takes 9. Their numbers are 0 to 2.
-const ONE: &[u8] =
+pub(crate) const ONE: &[u8] =
     b"tfpg 1\nmode N\nfailure F 1\nor A watch 0\nor E watch 0\nedge F A 1 3 *\nedge F E 9 9 *\nend\n";
 
 /// The same, where A is never due.
