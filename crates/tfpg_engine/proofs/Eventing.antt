@@ -19,7 +19,7 @@ use Rattle.tfpg_engine.specs.declared.slot.Slot.TheVariants.{Untouched}
 use Rattle.tfpg_engine.specs.Engining.{Engining, EngineRepresents, GivesRound, SlotRepresents}
 use Rattle.tfpg_engine.specs.inside.Slots.{AllCanGoOn, IsEngine}
 use Rattle.tfpg_engine.specs.inside.Turns.{IsOfGraph, MakesRound}
-use Rattle.tfpg_engine.proofs.Rounding.{StandBefore, can_go_on, still_go_on, round_is, earned, represents}
+use Rattle.tfpg_engine.proofs.Rounding.{StandBefore, can_go_on, still_go_on, round_is, earned, settled, represents}
 
 -- a slice that was lent is written back
 pub written_back : {X : Type 0} (items new : List X) (len : ℕ) → length new ≡ length items → len ≡ length items → take len (new ++ drop (length new) items) ≡ new
@@ -106,6 +106,7 @@ module _ (view : Engining) (engine : IsEngine view) (running : view.ended ≡ fa
         log = log_is;
         round_is = round_is stand_before view.graph view.k view.budget line rounds view.log log view.table lent new round engine.table ordered goes_on made lent_each same_length lent_represents;
         earned = earned stand_before view.graph view.k view.budget line rounds view.log log view.table lent new round engine.table ordered goes_on made lent_each same_length lent_represents;
+        settled = settled stand_before view.graph view.k view.budget line rounds view.log log view.table lent new round engine.table ordered goes_on made lent_each same_length lent_represents;
         represents = record {
           one_each = omega (
             arith,

@@ -1,6 +1,7 @@
 -- The findings of a round, whatever the earlier rounds were, are a round for all rounds that the engine represents.
-use Rattle.std.proofs.Common.{◌≡◌, ℕ, ◌<◌, List, [], ◌∷◌, ◌++◌, length, map, take, Option, Some, None, refl, sym, ap, subst, ◌∙◌, inl, inr, arith}
+use Rattle.std.proofs.Common.{◌≡◌, ℕ, ◌<◌, List, [], ◌∷◌, ◌++◌, length, map, take, Option, Some, None, refl, sym, ap, subst, ◌∙◌, inl, inr, arith, suc, ◌||◌, false, Bool}
 use Rattle.std.specs.Prelude.{slice_get, option_map, option_and_then, unwrap_or}
+use Rattle.std.specs.List.{list_any}
 use Rattle.std.proofs.lemmas.List.{append-nil}
 use Rattle.std.proofs.lemmas.List.Concat.{flat_map-append}
 use Rattle.std.proofs.lemmas.Option.{slice_get_cases, slice_get_within, same_Some}
@@ -17,7 +18,8 @@ use Rattle.tfpg_clause.specs.Trees.{Judged}
 use Rattle.tfpg_hyp.specs.Table.{IsTable}
 use Rattle.tfpg_hyp.specs.Hypotheses.{Hypotheses, IsTableOf}
 use Rattle.tfpg_hyp.specs.declared.place.Place.{Place}
-use Rattle.tfpg_hyp.specs.Rounds.{IsRound, IsFinding, IsOrder, counts_of, HasEvidence, IsRankedPart, steps_in, steps_so_far, place_at, place_of_status}
+use Rattle.tfpg_hyp.specs.Rounds.{IsRound, IsFinding, IsOrder, HasNoneOpen, is_open, counts_of, HasEvidence, IsRankedPart, steps_in, steps_so_far, place_at, place_of_status}
+use Rattle.tfpg_search.specs.Enough.{IsEnough}
 use Rattle.tfpg_search.specs.Searched.{with_steps}
 use Rattle.tfpg_engine.specs.declared.slot.Slot.{Slot}
 use Rattle.tfpg_engine.specs.Earned.{AreEarned}
@@ -35,6 +37,11 @@ at_place xs ys place y same at =
       | inl there ↦ (there.0, there.2)
       | inr past ↦ absurd (omega (arith, slice_get_within ys place y at, same, past.0))
     ]
+
+-- a test that holds of no item
+none_by : {X : Type 0} (p : X → Bool) (xs : List X) → ((number : ℕ) (x : X) → slice_get xs number ≡ Some x → p x ≡ false) → list_any p xs ≡ false
+none_by p [] each = refl
+none_by p (y ∷ ys) each = ap (λ (b : Bool). b || list_any p ys) (each 0 y refl) ∙ none_by p ys (λ number x at. each (suc number) x at)
 
 -- ---- one turn
 
@@ -183,6 +190,10 @@ module _ (stand_before : StandBefore) (graph : Tfpg) (k : ℕ) (budget line : �
     order = made.order;
     counts = made.counts;
   }
+
+  -- with a budget that is enough no set is open
+  pub settled : IsEnough graph log budget → HasNoneOpen round
+  settled enough = none_by (λ (f : Finding). is_open f.status) findings (λ number finding at. (Turn number finding at).turn.settled enough)
 
   pub earned : AreEarned graph log budget rounds round
   earned number finding at =

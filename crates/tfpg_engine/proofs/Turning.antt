@@ -1,13 +1,12 @@
 -- What a round finds of one hypothesis.
 use Rattle.std.proofs.Common.{◌≡◌, ℕ, ◌+◌, ◌<◌, ◌≤◌, ◌⊎◌, inl, inr, ◌↔◌, Bool, true, false, cond, List, [], ◌∷◌, ◌++◌, length, get_or, take, set as set_at, refl, sym, ap, subst, ◌∙◌, arith}
-use Rattle.std.specs.Prelude.{IsTrue, ◌==◌, Result, Ok, Some, slice_get}
+use Rattle.std.specs.Prelude.{IsTrue, ◌==◌, Ok, Some, slice_get}
 use Rattle.std.proofs.lemmas.List.{append-nil, length-append, length-set, take-append-le, take_at}
 use Rattle.std.proofs.lemmas.Option.{slice_get-get_or, slice_get_within, get_or_from_slice_get, same_Some}
 use Rattle.tfpg_base.proofs.lists.Written.{slice_get-set_same, slice_get-set_other, slice_get-push_before, slice_get-push_at}
 use Rattle.tfpg_base.specs.Set.{IsProperPart}
 use Rattle.std.proofs.lemmas.Bool.Decides.{nat_tests}
 use Rattle.tfpg_base.proofs.lists.Cuts.{append_cons-not_nil}
-use Rattle.tfpg_base.specs.declared.no_memory.NoMemory.{NoMemory}
 use Rattle.tfpg_graph.specs.Graph.{Tfpg}
 use Rattle.tfpg_log.specs.Log.{Logbook, IsOrdered, first_events}
 use Rattle.tfpg_evidence.specs.declared.finding.Finding.{Finding}
@@ -21,6 +20,7 @@ use Rattle.tfpg_hyp.specs.declared.place.Fraction.{Fraction}
 use Rattle.tfpg_hyp.specs.Ranking.{cost_of, robustness_of, monitored_in, alarmed_in}
 use Rattle.tfpg_hyp.specs.Rounds.{IsRankedPart, HasRankedPart, is_open}
 use Rattle.tfpg_log.specs.Explains.{Explains}
+use Rattle.tfpg_search.specs.Enough.{IsEnough}
 use Rattle.tfpg_search.specs.Live.{HasNoNameTwice, IsUnsettled}
 use Rattle.tfpg_search.specs.Searching.{Searching, SearchRepresents}
 use Rattle.tfpg_search.specs.Searched.{with_steps, split_count, AreSearchSteps, Finds, IsSearched}
@@ -73,7 +73,7 @@ module _ (graph : Tfpg) (log : Logbook) (budget : ℕ) (set reach : List ℕ) (n
 
   -- A rejected hypothesis is passed over.
   pub turn_rejected : (slot : Slot) → is_rejected_slot slot ≡ true → IsTurn graph log budget set reach number findings slot slot (passed status.Rejected)
-  turn_rejected slot is = record { number_is = refl; set_is = refl; whole = λ place placed. cc; goes_on = rejected_goes slot is }
+  turn_rejected slot is = record { number_is = refl; set_is = refl; whole = λ place placed. cc; settled = λ enough. refl; goes_on = rejected_goes slot is }
 
   -- So is one with a ranked proper subset.
   pub turn_covered : (slot : Slot) (by : ℕ) → is_rejected_slot slot ≡ false → IsLeastPart findings set by → IsTurn graph log budget set reach number findings slot slot (passed (status.Covered by))
@@ -81,6 +81,7 @@ module _ (graph : Tfpg) (log : Logbook) (budget : ℕ) (set reach : List ℕ) (n
     number_is = refl;
     set_is = refl;
     whole = λ place placed. cc;
+    settled = λ enough. refl;
     goes_on = λ earlier represents.
         let good = slot_partial graph log ordered set reach slot earlier open_yet represents in
         record {
@@ -92,7 +93,7 @@ module _ (graph : Tfpg) (log : Logbook) (budget : ℕ) (set reach : List ℕ) (n
 
   -- ---- a hypothesis that is searched
 
-  module _ (old : Slot) (before new : Searching) (steps : List Step) (result : Result Found NoMemory) (none : HasRankedPart findings set → ⊥)
+  module _ (old : Slot) (before new : Searching) (steps : List Step) (none : HasRankedPart findings set → ⊥)
       (begins : (earlier : List Judged) → SlotRepresents graph log set reach old earlier → SlotRepresents graph log set reach (Searched before) earlier)
       (same_set : new.set ≡ before.set) (same_reach : new.reach ≡ before.reach) (seen : new.seen ≡ length log.events) where
     abbrev searched_finding : Status → Finding
@@ -139,13 +140,20 @@ module _ (graph : Tfpg) (log : Logbook) (budget : ℕ) (set reach : List ℕ) (n
         earned = record { steps = right; within = within; unsettled = λ holds. subst (λ (r : List ℕ). IsUnsettled graph log r all) is_reach finds.1 };
       }
 
+    -- with a budget that is enough it is not open
+    settled_of : (found : Found) → (IsEnough graph log budget → found ≡ Spent → ⊥) → IsEnough graph log budget → is_open (status_of found) ≡ false
+    settled_of (Shown trace) never enough = refl
+    settled_of Closed never enough = refl
+    settled_of Spent never enough = absurd (never enough refl)
+
     -- The finding on a hypothesis that is searched on.
-    pub turn_searched : (found : Found) → IsSearched graph log budget before new [] steps (Ok found)
+    pub turn_searched : (found : Found) → (IsEnough graph log budget → found ≡ Spent → ⊥) → IsSearched graph log budget before new [] steps (Ok found)
         → IsTurn graph log budget set reach number findings old (kept new found) (searched_finding (status_of found))
-    turn_searched found searched = record {
+    turn_searched found never searched = record {
       number_is = refl;
       set_is = refl;
       whole = whole_of found;
+      settled = settled_of found never;
       goes_on = λ earlier represents.
           let start = begins earlier represents in
           let added : searched.added ≡ steps = sym searched.appended in

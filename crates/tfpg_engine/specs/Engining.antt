@@ -8,7 +8,8 @@ use Rattle.tfpg_log.specs.Accepted.{reply_to}
 use Rattle.tfpg_evidence.specs.declared.round.Round.{Round}
 use Rattle.tfpg_clause.specs.Trees.{Judged, IsRefutation}
 use Rattle.tfpg_hyp.specs.Hypotheses.{Hypotheses}
-use Rattle.tfpg_hyp.specs.Rounds.{IsRound, steps_so_far}
+use Rattle.tfpg_hyp.specs.Rounds.{IsRound, HasNoneOpen, steps_so_far}
+use Rattle.tfpg_search.specs.Enough.{IsEnough}
 use Rattle.tfpg_search.specs.Live.{HasNoNameTwice}
 use Rattle.tfpg_search.specs.Searching.{SearchRepresents}
 use Rattle.tfpg_engine.specs.declared.slot.Slot.{Slot}
@@ -45,13 +46,15 @@ pub record EngineRepresents (engine : Engining) (rounds : List Round) : Type 0 w
   pub slots : (number : ℕ) (set reach : List ℕ) (slot : Slot) → slice_get engine.table.sets number ≡ Some set → slice_get engine.table.reaches number ≡ Some reach →
       slice_get engine.slots number ≡ Some slot → SlotRepresents engine.graph engine.log set reach slot (steps_so_far number rounds)
 
--- An event was accepted, and gave a round for all events and all rounds so far, whose steps are earned.
+-- An event was accepted, and gave a round for all events and all rounds so far, whose steps are earned. With a budget that is
+-- enough no set of it is open.
 pub record GivesRound (line : ℕ) (text : List ℕ) (rounds : List Round) (round : Round) (old new : Engining) : Type 0 where
   pub event : Event
   pub accepted : reply_to old.graph old.log text ≡ Accepted event
   pub log : new.log ≡ with_event old.log event
   pub round_is : IsRound old.graph old.k old.budget rounds new.log line round
   pub earned : AreEarned old.graph new.log old.budget rounds round
+  pub settled : IsEnough old.graph new.log old.budget → HasNoneOpen round
   pub represents : EngineRepresents new (rounds ++ round ∷ [])
 
 -- What an event brings, where the engine represented these rounds: a refusal, and then nothing changed; or a round. Where memory ran

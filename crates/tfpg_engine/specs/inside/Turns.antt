@@ -10,7 +10,8 @@ use Rattle.tfpg_clause.specs.Trees.{Judged}
 use Rattle.tfpg_hyp.specs.Hypotheses.{Hypotheses, AreReaches}
 use Rattle.tfpg_hyp.specs.declared.place.Fraction.{Fraction}
 use Rattle.tfpg_hyp.specs.declared.place.Place.{Place}
-use Rattle.tfpg_hyp.specs.Rounds.{HasEvidence, IsRankedPart, IsOrder, counts_of, place_of_status}
+use Rattle.tfpg_hyp.specs.Rounds.{HasEvidence, IsRankedPart, IsOrder, counts_of, is_open, place_of_status}
+use Rattle.tfpg_search.specs.Enough.{IsEnough}
 use Rattle.tfpg_search.specs.Searching.{Searching}
 use Rattle.tfpg_search.specs.Searched.{with_steps}
 use Rattle.tfpg_search.specs.declared.found.Found.{Found}
@@ -59,6 +60,7 @@ pub record IsTurn (graph : Tfpg) (log : Logbook) (budget : ℕ) (set reach : Lis
   pub number_is : finding.number ≡ number
   pub set_is : finding.set ≡ set
   pub whole : IsWhole number finding.status
+  pub settled : IsEnough graph log budget → is_open finding.status ≡ false
   pub goes_on : (earlier : List Judged) → SlotRepresents graph log set reach old earlier → GoesOnFrom graph log budget set reach findings earlier new finding
 
 -- These are the findings on the first hypotheses of the table, each after those before it.

@@ -1,4 +1,4 @@
-use Rattle.std.proofs.Common.{◌≡◌, false, sym, subst}
+use Rattle.std.proofs.Common.{ap, ◌≡◌, false, sym, subst}
 use Rattle.std.specs.Prelude.{Ok}
 use Rattle.tfpg_engine.specs.Engining.{SlotRepresents}
 use Rattle.tfpg_engine.specs.inside.Turns.{is_rejected_slot, kept, IsTurn}
@@ -15,11 +15,11 @@ returns g c =
     let searched = subst (λ xs. IsSearched graph log c.args.budget c.in_ok-search.search c.round.new.self xs c.round.new.steps (Ok found)) c.new-steps.ensures c.in_ok-found.ensures.searched in
     let turn =
     turn_searched graph log c.args.budget c.args.set reach c.args.number c.args.findings.now c.len-ordered.ensures.ordered c.args.slot.now c.in_ok-search.search c.round.new.self c.round.new.steps
-    c.round.result c.requires.not_covered
+    c.requires.not_covered
     (λ earlier represents.
     c.in_ok-search.ensures.represents log earlier (subst (λ s. is_rejected_slot s ≡ false) (sym c.replace.ensures.value) c.requires.not_rejected)
     (subst (λ s. SlotRepresents graph log c.args.set reach s earlier) (sym c.replace.ensures.value) represents))
-    c.round.ensures.set c.round.ensures.reach c.round.ensures.seen found searched in
+    c.round.ensures.set c.round.ensures.reach c.round.ensures.seen found (λ enough is. c.in_ok-found.ensures.enough enough (ap Ok is)) searched in
     subst (λ slot. IsTurn graph log c.args.budget c.args.set reach c.args.number c.args.findings.now c.args.slot.now slot
     (record { number = c.args.number; set = c.args.set; steps = c.round.new.steps; status = c.status.result })) (sym c.of.ensures)
     (subst (λ s. IsTurn graph log c.args.budget c.args.set reach c.args.number c.args.findings.now c.args.slot.now (kept c.round.new.self found)
