@@ -7,7 +7,9 @@ use Rattle.std.proofs.lemmas.List.{append-nil, take_all, drop_all, length-replic
 use Rattle.tfpg_base.proofs.lists.Elements.{All-from_members}
 use Rattle.tfpg_graph.specs.Graph.{Tfpg, failures}
 use Rattle.tfpg_log.specs.declared.event.Event.{Event}
-use Rattle.tfpg_log.specs.declared.event.Offered.TheVariants.{Accepted}
+use Rattle.tfpg_log.specs.declared.event.Offered.{Offered}
+use Rattle.tfpg_log.specs.declared.event.Offered.TheVariants.{Accepted, Refused}
+use Rattle.tfpg_log.specs.declared.refusal.Refusal.{Refusal}
 use Rattle.tfpg_log.specs.Log.{Logbook, IsOf, IsOrdered, GoesOn, with_event}
 use Rattle.tfpg_log.specs.Accepted.{reply_to}
 use Rattle.tfpg_log.specs.LogOfLines.{new_log}
@@ -148,3 +150,9 @@ no_fault count is = cc
 -- the fault is that memory ran out
 pub not_too_many : {X P : Type 0} (result : Result X TableFault) (fault : TableFault) (count : ℕ) → result ≡ Err fault → fault ≡ NoMemory → (P → ⊥) → (result ≡ Err (TooMany count)) ↔ P
 not_too_many result fault count failed from never = (λ own. absurd (no_fault count (sym from ∙ err_is fault (TooMany count) (sym failed ∙ own))), λ holds. absurd (never holds))
+
+-- a refusal is the log's own
+pub same_refusal : (text : List ℕ) (view old : Engining) (reply : Offered) (mine refusal : Refusal) → view ≡ old → reply ≡ reply_to view.graph view.log text → reply ≡ Refused mine
+    → reply_to old.graph old.log text ≡ Refused refusal → mine ≡ refusal
+same_refusal text view old reply mine refusal same is refused h =
+    let both : Refused mine ≡ Refused refusal = sym refused ∙ is ∙ ap (λ (e : Engining). reply_to e.graph e.log text) same ∙ h in cc

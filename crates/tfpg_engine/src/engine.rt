@@ -1,9 +1,11 @@
 //! One event, all hypotheses.
 
-ghost use Rattle.std.specs.Prelude.{◌≡◌, ◌≤◌, ◌<◌, ◌↔◌, ℕ, List, [], true, false, IfOk, OnOk, OnErr, Err, replicate};
+ghost use Rattle.std.specs.Prelude.{◌≡◌, ◌≤◌, ◌<◌, ◌↔◌, ℕ, List, [], true, false, IfOk, OnOk, OnErr, Ok, Err, replicate};
 ghost use Rattle.tfpg_evidence.specs.declared.round.Round.{Round};
 ghost use Rattle.tfpg_hyp.specs.Hypotheses.{max_hypotheses, HasHypotheses};
+ghost use Rattle.tfpg_log.specs.Accepted.{reply_to};
 ghost use Rattle.tfpg_log.specs.LogOfLines.{new_log};
+ghost use Rattle.tfpg_log.specs.declared.refusal.Refusal.{Refusal};
 ghost use Rattle.tfpg_engine.specs.Engining.{EngineRepresents, Brings};
 
 use crate::round;
@@ -98,6 +100,9 @@ impl Engine {
     ) -> Result<Told, EventFault>
         ensures brings { (rounds : List Round) → EngineRepresents self.old rounds →
             Brings line text.now rounds self.old self.new result }
+        ensures refused { (refusal : Refusal) → self.old.ended ≡ false →
+            reply_to self.old.graph self.old.log text.now ≡ Offered.Refused refusal →
+            result ≡ Ok (Told.Refused refusal) }
         ensures ended { (result ≡ Err EventFault.Ended) ↔ (self.old.ended ≡ true) }
         ensures ends { OnErr result (self.new.ended ≡ true) }
         ensures runs { OnOk result (self.new.ended ≡ false) }

@@ -1,7 +1,9 @@
 use Rattle.std.proofs.Common.{length, sym, ap, subst, ◌∙◌}
 use Rattle.tfpg_log.specs.LogOfLines.{log_after_reply}
+use Rattle.std.specs.Prelude.{Ok}
+use Rattle.tfpg_engine.specs.declared.told.Told.TheVariants as told
 use Rattle.tfpg_engine.specs.Engining.{EngineRepresents}
-use Rattle.tfpg_engine.proofs.Eventing.{of_graph, lent_go_on, engine_now, gives_from, written_back}
+use Rattle.tfpg_engine.proofs.Eventing.{of_graph, same_refusal, lent_go_on, engine_now, gives_from, written_back}
 use Rattle.tfpg_engine.proofs.engine.Engine.event.Goals as goal
 
 pub make-requires-clause-table : goal.make-requires-clause-table
@@ -27,3 +29,8 @@ returns-in-Ok-clause-brings g c rounds represented =
     (sym c.deref_mut.ensures.len ∙ ap length c.deref_mut.ensures.value))
     c.subsets_stand_before_their_supersets.ensures.before c.args.text.now (sym c.in-Ok-Accepted.ensures.reply ∙ c.in-Ok-Accepted.field-0-is) rounds
     (subst (λ e. EngineRepresents e rounds) (sym c.self.view_is) represented) c.args.self.now c.self.view_is
+
+pub returns-in-Ok-Refused-clause-refused : goal.returns-in-Ok-Refused-clause-refused
+returns-in-Ok-Refused-clause-refused g c refusal running reply =
+    ap (λ r. Ok (told.Refused r))
+    (same_refusal c.args.text.now _ c.args.self.now c.in-Ok-Refused.field-0 c.in-Ok-Refused.refusal refusal c.self.view_is c.in-Ok-Refused.ensures.reply c.in-Ok-Refused.field-0-is reply)
