@@ -1,6 +1,6 @@
 -- What the statuses of a round say of the sets.
-use Rattle.std.proofs.Common.{◌≡◌, ◌≢◌, ◌⊎◌, ◌↔◌, ℕ, zero, suc, ◌+◌, ◌<◌, ◌≤◌, List, [], ◌∷◌, ◌++◌, length, Bool, true, false, Option, Some, None, refl, sym, ap, subst, ◌∙◌, inl, inr, arith}
-use Rattle.std.specs.Prelude.{All, Contains, IsTrue, ◌||◌, slice_get}
+use Rattle.std.proofs.Common.{◌≡◌, ◌↔◌, ℕ, zero, suc, ◌<◌, List, [], ◌∷◌, ◌++◌, length, Bool, true, false, Some, refl, sym, ap, subst, ◌∙◌, inl, inr, arith}
+use Rattle.std.specs.Prelude.{Contains, IsTrue, ◌||◌, slice_get}
 use Rattle.std.specs.List.{list_any}
 use Rattle.std.proofs.lemmas.Option.{slice_get-get_or, slice_get_within, slice_get_cases, get_or_from_slice_get}
 use Rattle.std.proofs.lemmas.List.{append-nil}
@@ -18,7 +18,7 @@ use Rattle.tfpg_evidence.specs.declared.round.Round.{Round}
 use Rattle.tfpg_evidence.specs.RoundOf.{is_ranked}
 use Rattle.tfpg_graph.specs.Reach.{IsReach}
 use Rattle.tfpg_clause.specs.Trees.{Judged, IsRefutation}
-use Rattle.tfpg_hyp.specs.Table.{IsHypothesis, IsTable}
+use Rattle.tfpg_hyp.specs.Table.{IsHypothesis}
 use Rattle.tfpg_hyp.specs.Rounds.{IsRound, IsFinding, HasEvidence, IsRankedPart, HasRankedPart, HasNoneOpen, is_covered, is_rejected, is_open, steps_so_far}
 use Rattle.tfpg_hyp.specs.Fitting.{HasFittingPart, AreNoneOpenBelow}
 use Rattle.tfpg_hyp.proofs.Parts.{part_first, once}
@@ -49,7 +49,7 @@ explains_more graph log part whole trace is explains = record {
 }
 
 -- the item of a place that there is
-at_place : {X Y : Type 0} (xs : List X) (ys : List Y) (place : ℕ) (y : Y) → length ys ≡ length xs → slice_get ys place ≡ Some y → (x : X) × (slice_get xs place ≡ Some x)
+pub at_place : {X Y : Type 0} (xs : List X) (ys : List Y) (place : ℕ) (y : Y) → length ys ≡ length xs → slice_get ys place ≡ Some y → (x : X) × (slice_get xs place ≡ Some x)
 at_place xs ys place y same at =
     elim (slice_get_cases xs place).1 [
       | inl there ↦ (there.0, there.2)

@@ -2,11 +2,12 @@ use Rattle.tfpg_hyp.proofs.FittingSets.{rejected_exactly, rejected_not, no_fitti
 use Rattle.tfpg_hyp.proofs.laws.round_laws.rounds_say_which_sets_fit.Goals as goal
 
 pub returns : goal.returns
-returns c = record {
-  rejected = λ graph k budget line rounds log round valid of ordered is_round number finding at not_open.
-      rejected_exactly c.a_refutation_leaves_no_trace.ensures graph k budget line rounds log round valid of ordered is_round number finding at not_open;
-  not_rejected = λ graph k budget line rounds log round valid of ordered is_round number finding at fits holds.
-      rejected_not c.a_refutation_leaves_no_trace.ensures graph k budget line rounds log round valid of ordered is_round number finding at holds fits;
-  minimal = λ graph k budget line rounds log round valid of ordered is_round number finding at ranked none_open part.
-      no_fitting_part c.a_refutation_leaves_no_trace.ensures graph k budget line rounds log round valid of ordered is_round number finding at ranked none_open part;
-}
+returns c =
+    λ graph k budget line rounds log round valid of ordered is_round. record {
+      rejected = λ number finding at not_open.
+          rejected_exactly c.a_refutation_leaves_no_trace.ensures graph k budget line rounds log round valid of ordered is_round number finding at not_open;
+      not_rejected = λ number finding at fits holds.
+          rejected_not c.a_refutation_leaves_no_trace.ensures graph k budget line rounds log round valid of ordered is_round number finding at holds fits;
+      minimal = λ number finding at ranked none_open part.
+          no_fitting_part c.a_refutation_leaves_no_trace.ensures graph k budget line rounds log round valid of ordered is_round number finding at ranked none_open part;
+    }
