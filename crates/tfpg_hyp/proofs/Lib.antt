@@ -6,3 +6,6 @@ mod Tables
 mod Parts
 mod Fractions
 mod FittingSets
+mod Named
+mod NamedSteps
+mod RoundOfGraph

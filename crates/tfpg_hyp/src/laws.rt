@@ -8,8 +8,10 @@ ghost use Rattle.tfpg_hyp.specs.Ranking.{IsRankedBefore};
 ghost use Rattle.tfpg_hyp.specs.Table.{IsHypothesis, IsTable};
 ghost use Rattle.tfpg_hyp.specs.declared.place.Place.{Place};
 
+mod names;
 mod round_laws;
 
+pub use names::a_round_is_of_its_graph;
 pub use round_laws::{rounds_say_which_sets_fit, statuses_are_those_of_minimal_sets};
 
 /// A graph has one table for each greatest size of its hypotheses, and one number of them.

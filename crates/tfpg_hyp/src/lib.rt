@@ -5,7 +5,7 @@
 //! - [`Table`] lists all hypotheses of a graph in order, with what each reaches. Where there are more than
 //!   [`MAX_HYPOTHESES`], [`TableFault`] says how many.
 //! - [`cost`] and [`robust`] find what ranks a hypothesis, its [`Place`], and [`before`] compares two places.
-//! - [`laws`] says what follows from the definitions of the table and of the ranking order.
+//! - [`laws`] says what follows from the definitions of the table, of the ranking order and of a round.
 //!
 //! What a round is, is a definition alone so far (`specs/Rounds.antt`): no call of this crate makes one.
 //!

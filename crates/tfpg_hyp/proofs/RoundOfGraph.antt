@@ -1,0 +1,128 @@
+-- A round is of its graph.
+use Rattle.std.proofs.Common.{◌≡◌, ℕ, zero, suc, ◌<◌, Bool, true, false, cond, eqb, List, [], ◌∷◌, ◌++◌, length, get_or, map, Option, Some, refl, ap, subst, ◌∙◌, arith}
+use Rattle.std.specs.Prelude.{All, IsTrue, find, slice_get, option_map, unwrap_or}
+use Rattle.std.proofs.lemmas.Bool.{eq-eqb, ne_eqb}
+use Rattle.std.proofs.lemmas.Option.{slice_get-get_or, slice_get_within, get_or_from_slice_get, option_and_then_some}
+use Rattle.std.proofs.lemmas.List.{append-nil}
+use Rattle.std.proofs.lemmas.Grind.{flat_map-append}
+use Rattle.std.proofs.lemmas.List.Elements.{All-nil, All-cons, All-same}
+use Rattle.tfpg_graph.specs.Graph.{Tfpg, failures}
+use Rattle.tfpg_log.specs.Log.{Logbook, IsOf}
+use Rattle.tfpg_evidence.specs.declared.step.Step.{Step}
+use Rattle.tfpg_evidence.specs.declared.finding.Finding.{Finding}
+use Rattle.tfpg_evidence.specs.declared.finding.Status.{Status}
+use Rattle.tfpg_evidence.specs.declared.finding.Status.TheVariants.{Ranked, Covered, Rejected, Open}
+use Rattle.tfpg_evidence.specs.declared.round.Round.{Round}
+use Rattle.tfpg_evidence.specs.RoundOf.{IsStepOf, IsStatusOf, IsFindingOf, IsRankedIn, IsRoundOf, is_ranked, finding_numbered}
+use Rattle.tfpg_clause.specs.Trees.{Judged}
+use Rattle.tfpg_clause.proofs.ListCuts.{All-back}
+use Rattle.tfpg_hyp.specs.Rounds.{IsRound, IsFinding, HasEvidence, place_at, place_of_status, steps_in, steps_so_far}
+use Rattle.tfpg_hyp.specs.declared.place.Place.{Place}
+use Rattle.tfpg_hyp.proofs.FittingSets.{at_place}
+use Rattle.tfpg_hyp.proofs.Named.{sizes}
+use Rattle.tfpg_hyp.proofs.NamedSteps.{AreNamed, All-unmap, evidence_named}
+
+-- ---- lists
+
+-- the first item that passes the test
+find_first : {X : Type 0} (test : X → Bool) (xs : List X) (k : ℕ) (x : X) → slice_get xs k ≡ Some x → test x ≡ true
+    → ((j : ℕ) (y : X) → j < k → slice_get xs j ≡ Some y → test y ≡ false) → find test xs ≡ Some x
+find_first test [] k x at passes before = absurd cc
+find_first test (y ∷ ys) zero x at passes before =
+    let same : y ≡ x = cc in
+    ap (λ (b : Bool). cond b (Some y) (find test ys)) (ap test same ∙ passes) ∙ ap Some same
+find_first test (y ∷ ys) (suc k) x at passes before =
+    ap (λ (b : Bool). cond b (Some y) (find test ys)) (before 0 y (omega arith) refl)
+    ∙ find_first test ys k x at passes (λ j z lt there. before (suc j) z (omega (arith, lt)) there)
+
+-- each item has what its place in the list of values says
+all_there : {X Y : Type 0} (f : X → Option Y) (P : X → Type 0) → ((x : X) (y : Y) → f x ≡ Some y → P x) → (xs : List X) (ys : List Y) → map f xs ≡ map Some ys → All P xs
+all_there f P each [] ys same = All-nil P
+all_there f P each (x ∷ xs) [] same = absurd cc
+all_there f P each (x ∷ xs) (y ∷ ys) same =
+    let here : f x ≡ Some y = cc in
+    let others : map f xs ≡ map Some ys = cc in
+    All-cons P x xs (each x y here) (all_there f P each xs ys others)
+
+-- ---- the steps of this round
+
+-- the steps of all rounds end with those of this one
+steps_end : (number : ℕ) (rounds : List Round) (round : Round) (finding : Finding) → slice_get round.findings number ≡ Some finding
+    → steps_so_far number (rounds ++ round ∷ []) ≡ steps_so_far number rounds ++ map (λ (step : Step). record { seen = round.number; step = step }) finding.steps
+steps_end number rounds round finding at =
+    flat_map-append (steps_in number) rounds (round ∷ [])
+    ∙ ap (λ (last : List Judged). steps_so_far number rounds ++ last)
+    (append-nil (steps_in number round)
+    ∙ ap (λ (found : Option Finding). map (λ (step : Step). record { seen = round.number; step = step }) (unwrap_or (option_map (λ (f : Finding). f.steps) found) [])) at)
+
+last_named : (graph : Tfpg) (number : ℕ) (rounds : List Round) (round : Round) (finding : Finding) → slice_get round.findings number ≡ Some finding
+    → AreNamed graph (steps_so_far number (rounds ++ round ∷ [])) → All (IsStepOf (sizes graph)) finding.steps
+last_named graph number rounds round finding at named =
+    All-unmap (λ (judged : Judged). IsStepOf (sizes graph) judged.step) (λ (step : Step). record { seen = round.number; step = step }) finding.steps
+    (All-back (λ (judged : Judged). IsStepOf (sizes graph) judged.step) (steps_so_far number rounds) (map (λ (step : Step). record { seen = round.number; step = step }) finding.steps)
+    (subst (AreNamed graph) (steps_end number rounds round finding at) named))
+
+-- ---- statuses
+
+status_named : (graph : Tfpg) (log : Logbook) (budget : ℕ) (findings : List Finding) (reach : List ℕ) (steps : List Judged) (finding : Finding) (status : Status)
+    → HasEvidence graph log budget findings reach steps finding status → IsStatusOf (sizes graph) status
+status_named graph log budget findings reach steps finding (Ranked trace cost alarmed monitored) own = own.1.trace_of.1
+status_named graph log budget findings reach steps finding (Covered by) own = tt
+status_named graph log budget findings reach steps finding Rejected own = tt
+status_named graph log budget findings reach steps finding Open own = tt
+
+place_ranked : (number : ℕ) (status : Status) (place : Place) → place_of_status number status ≡ Some place → IsTrue (is_ranked status)
+place_ranked number (Ranked trace cost alarmed monitored) place at = refl
+place_ranked number (Covered by) place at = absurd cc
+place_ranked number Rejected place at = absurd cc
+place_ranked number Open place at = absurd cc
+
+-- ---- the round
+
+module _ (graph : Tfpg) (k budget line : ℕ) (rounds : List Round) (log : Logbook) (round : Round) (of : IsOf graph log) (is_round : IsRound graph k budget rounds log line round) where
+  abbrev Found : ℕ → Finding → Type 0
+  Found number finding = slice_get round.findings number ≡ Some finding
+
+  evidence : (number : ℕ) (finding : Finding) → Found number finding → (set : List ℕ) × (slice_get is_round.sets number ≡ Some set) × IsFinding graph log budget (rounds ++ round ∷ []) round.findings number set finding
+  evidence number finding at =
+      let own = at_place is_round.sets round.findings number finding is_round.complete at in
+      (own.0, own.1, is_round.findings number own.0 finding own.1 at)
+
+  -- the number of a finding is its place
+  number_at : (number : ℕ) (finding : Finding) → Found number finding → finding.number ≡ number
+  number_at number finding at = (evidence number finding at).2.number_is
+
+  members_at : (number : ℕ) (set : List ℕ) → slice_get is_round.sets number ≡ Some set → All (λ place. place < length (failures graph)) set
+  members_at number set at = ((is_round.table.exact set).0 (number, slice_get_within is_round.sets number set at, get_or_from_slice_get is_round.sets number set set at)).members
+
+  finding_named : (number : ℕ) (finding : Finding) → Found number finding → IsFindingOf (sizes graph) finding
+  finding_named number finding at =
+      let own = evidence number finding at in
+      record {
+        set = All-same (λ (place : ℕ). place < length (failures graph)) finding.set own.0 own.2.set_is (members_at number own.0 own.1);
+        steps = last_named graph number rounds round finding at
+            (evidence_named graph log own.2.reach of budget round.findings (steps_so_far number (rounds ++ round ∷ [])) finding finding.status own.2.evidence);
+        status = status_named graph log budget round.findings own.2.reach (steps_so_far number (rounds ++ round ∷ [])) finding finding.status own.2.evidence;
+      }
+
+  -- the finding of a number is found by it
+  found_by_number : (number : ℕ) (finding : Finding) → Found number finding → finding_numbered round.findings number ≡ Some finding
+  found_by_number number finding at =
+      find_first (λ (f : Finding). eqb f.number number) round.findings number finding at (eq-eqb finding.number number (number_at number finding at))
+      (λ other f lt there. (let own : f.number ≡ other = number_at other f there in ne_eqb f.number number (λ same. absurd (omega (arith, own, same, lt)))))
+
+  ranked_in : (number : ℕ) (place : Place) → place_at round.findings number ≡ Some place → IsRankedIn round.findings number
+  ranked_in number place at =
+      option_and_then_some (λ (finding : Finding). place_of_status number finding.status) (slice_get round.findings number) place at
+      (λ finding there rest. (finding, found_by_number number finding there, place_ranked number finding.status place rest))
+
+  pub round_of : IsRoundOf (sizes graph) round
+  round_of = record {
+    findings = λ number d in_range. finding_named number (get_or round.findings number d) (slice_get-get_or round.findings number d in_range);
+    numbers_rise = λ earlier later d before in_range. (
+        let one = number_at earlier (get_or round.findings earlier d) (slice_get-get_or round.findings earlier d (omega (arith, before, in_range))) in
+        let other = number_at later (get_or round.findings later d) (slice_get-get_or round.findings later d in_range) in
+        omega (arith, one, other, before)
+        );
+    order = all_there (place_at round.findings) (IsRankedIn round.findings) ranked_in round.order is_round.order.places is_round.order.all_ranked;
+  }

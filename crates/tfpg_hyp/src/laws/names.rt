@@ -1,0 +1,20 @@
+//! That a round names only what its graph has.
+
+ghost use Rattle.std.specs.Prelude.{ℕ, List, length};
+ghost use Rattle.tfpg_graph.specs.Graph.{Tfpg, failures};
+ghost use Rattle.tfpg_log.specs.Log.{Logbook, IsOf};
+ghost use Rattle.tfpg_evidence.specs.declared.round.Round.{Round};
+ghost use Rattle.tfpg_evidence.specs.RoundOf.{IsRoundOf};
+ghost use Rattle.tfpg_hyp.specs.Rounds.{IsRound};
+
+/// A round names only nodes, edges and failure modes of its graph, the numbers of its findings rise, and each number of its
+/// order is that of a ranked finding.
+pub fn a_round_is_of_its_graph()
+    ensures { (graph : Tfpg) (k budget line : ℕ) (rounds : List Round) (log : Logbook) (round : Round) →
+        IsOf graph log → IsRound graph k budget rounds log line round →
+        IsRoundOf (record {
+          nodes = length graph.nodes;
+          edges = length graph.edges;
+          failures = length (failures graph);
+        }) round }
+{}
