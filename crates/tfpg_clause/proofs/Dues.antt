@@ -4,26 +4,23 @@ use Rattle.std.specs.Prelude.{nat_eq, nat_le, map, slice_get, option_map, option
 use Rattle.std.specs.Bool.{then_some}
 use Rattle.std.specs.List.{list_all}
 use Rattle.std.proofs.lemmas.Bool.{le-leb, lt-leb, eq-eqb}
-use Rattle.std.proofs.lemmas.List.{take_more}
+use Rattle.std.proofs.lemmas.List.{take_more, map_push, length-map}
 use Rattle.std.proofs.lemmas.List.Folds.{list_all-append}
 use Rattle.std.proofs.lemmas.List.Sums.{fold_push}
-use Rattle.std.proofs.lemmas.Option.{slice_get-map, slice_get-get_or}
+use Rattle.std.proofs.lemmas.Option.{slice_get-map, slice_get-get_or, slice_get_past}
 use Rattle.tfpg_base.specs.Choice.{each_of}
 use Rattle.tfpg_base.specs.declared.constraint.Constraint.{Constraint}
+use Rattle.tfpg_base.proofs.lists.Choices.{each_of-at, length-each_of, each_of-push, each_of-none}
 use Rattle.tfpg_log.specs.declared.span.Window.{Window}
 use Rattle.tfpg_clause.specs.declared.due.Due.{Due}
 use Rattle.tfpg_clause.specs.Bounds.{at_most}
 use Rattle.tfpg_clause.specs.Clauses.{item_at, starts_late, follows_in_time, latest_of, must_alternatives, must_in}
 use Rattle.tfpg_clause.specs.inside.Alternatives.{latest_within}
-use Rattle.tfpg_clause.proofs.EachOf.{each_at, each_length, each_push, each_missing}
+use Rattle.tfpg_clause.proofs.JoinedLists.{slice_get-append_left, slice_get-append_right}
 
 -- there is room for the due
 abbrev pub fits : ℕ → Due → Bool
 fits hi due = nat_le due.by hi
-
-map_push : {X Y : Type 0} (f : X → Y) (xs : List X) (x : X) → map f (xs ++ x ∷ []) ≡ map f xs ++ f x ∷ []
-map_push f [] x = refl
-map_push f (y ∷ ys) x = ap (λ zs. f y ∷ zs) (map_push f ys x)
 
 -- a due for which there is no room
 over : (hi : ℕ) (ds : List Due) (k : ℕ) (due : Due) → slice_get ds k ≡ Some due → hi < due.by → list_all (fits hi) ds ≡ false
@@ -59,7 +56,7 @@ module _ (f : ℕ → Option Due) (edges : List ℕ) (i hi : ℕ) (within : i < 
       let parts = within_opened hi latest (each_of (map f (take i edges))) before.0 in
       let all : each_of (map f (take (i + 1) edges)) ≡ Some (parts.0 ++ due ∷ []) =
       ap (λ (es : List ℕ). each_of (map f es)) (take_more edges i 0 within) ∙ ap each_of (map_push f (take i edges) (get_or edges i 0))
-      ∙ ap (λ (o : Option Due). each_of (map f (take i edges) ++ o ∷ [])) (sym at) ∙ each_push (map f (take i edges)) parts.0 due parts.1 in
+      ∙ ap (λ (o : Option Due). each_of (map f (take i edges) ++ o ∷ [])) (sym at) ∙ each_of-push (map f (take i edges)) parts.0 due parts.1 in
       let room : list_all (fits hi) (parts.0 ++ due ∷ []) ≡ true =
       list_all-append (fits hi) parts.0 (due ∷ []) ∙ both (list_all (fits hi) parts.0) (fits hi due) parts.2 (le-leb due.by hi fit) in
       let last : latest_of (parts.0 ++ due ∷ []) ≡ max latest due.by =
@@ -73,14 +70,14 @@ module _ (f : ℕ → Option Due) (edges : List ℕ) (i hi : ℕ) (within : i < 
 
   -- where nothing is due over one of them
   pub latest_missing : None ≡ f (get_or edges i 0) → latest_within hi (each_of (map f edges)) ≡ None
-  latest_missing at = ap (latest_within hi) (each_missing (map f edges) i (here ∙ ap Some (sym at)))
+  latest_missing at = ap (latest_within hi) (each_of-none (map f edges) i (here ∙ ap Some (sym at)))
 
   -- where one is due too late
   pub latest_over : (due : Due) → Some due ≡ f (get_or edges i 0) → hi < due.by → latest_within hi (each_of (map f edges)) ≡ None
   latest_over due at late = by (each_of (map f edges)) refl
     where
       there : (ds : List Due) → each_of (map f edges) ≡ Some ds → slice_get ds i ≡ Some due
-      there ds are = by (slice_get ds i) (sym (each_at (map f edges) ds i are) ∙ here ∙ ap Some (sym at))
+      there ds are = by (slice_get ds i) (sym (each_of-at (map f edges) ds i are) ∙ here ∙ ap Some (sym at))
         where
           by : (o : Option Due) → option_map Some o ≡ Some (Some due) → o ≡ Some due
           by None at = absurd cc
@@ -92,7 +89,7 @@ module _ (f : ℕ → Option Due) (edges : List ℕ) (i hi : ℕ) (within : i < 
 
   -- where all are due, it is due as said
   pub due_at : (ds : List Due) → each_of (map f edges) ≡ Some ds → f (get_or edges i 0) ≡ slice_get ds i
-  due_at ds are = by (slice_get ds i) (sym here ∙ each_at (map f edges) ds i are)
+  due_at ds are = by (slice_get ds i) (sym here ∙ each_of-at (map f edges) ds i are)
     where
       by : (o : Option Due) → Some (f (get_or edges i 0)) ≡ option_map Some o → f (get_or edges i 0) ≡ o
       by None at = absurd cc
@@ -100,35 +97,13 @@ module _ (f : ℕ → Option Due) (edges : List ℕ) (i hi : ℕ) (within : i < 
 
   -- so nothing is missing
   pub none_missing : (ds : List Due) → each_of (map f edges) ≡ Some ds → None ≡ f (get_or edges i 0) → ⊥
-  none_missing ds are at = let gone = each_missing (map f edges) i (here ∙ ap Some (sym at)) in cc
+  none_missing ds are at = let gone = each_of-none (map f edges) i (here ∙ ap Some (sym at)) in cc
 
 -- as many are due as there are edges
 pub due_length : (f : ℕ → Option Due) (edges : List ℕ) (ds : List Due) → each_of (map f edges) ≡ Some ds → length ds ≡ length edges
-due_length f edges ds are = each_length (map f edges) ds are ∙ mapped edges
-  where
-    mapped : (es : List ℕ) → length (map f es) ≡ length es
-    mapped [] = refl
-    mapped (e ∷ es) = ap suc (mapped es)
+due_length f edges ds are = length-each_of (map f edges) ds are ∙ length-map edges f
 
 -- ---- the alternatives of a must, in their places
-
-get_left : {X : Type 0} (xs ys : List X) (i : ℕ) → i < length xs → slice_get (xs ++ ys) i ≡ slice_get xs i
-get_left [] ys i within = absurd (omega arith)
-get_left (x ∷ xs) ys zero within = refl
-get_left (x ∷ xs) ys (suc i) within = get_left xs ys i (omega arith)
-
-get_right : {X : Type 0} (xs ys : List X) (i : ℕ) → slice_get (xs ++ ys) (length xs + i) ≡ slice_get ys i
-get_right [] ys i = let same : 0 + i ≡ i = omega arith in ap (slice_get ys) same
-get_right (x ∷ xs) ys i = let same : suc (length xs) + i ≡ suc (length xs + i) = omega arith in ap (slice_get (x ∷ (xs ++ ys))) same ∙ get_right xs ys i
-
-get_past : {X : Type 0} (xs : List X) (i : ℕ) → length xs ≤ i → slice_get xs i ≡ None
-get_past [] i past = refl
-get_past (x ∷ xs) zero past = absurd (omega arith)
-get_past (x ∷ xs) (suc i) past = get_past xs i (omega arith)
-
-length_map : {X Y : Type 0} (f : X → Y) (xs : List X) → length (map f xs) ≡ length xs
-length_map f [] = refl
-length_map f (x ∷ xs) = ap suc (length_map f xs)
 
 module _ (node hi : ℕ) (ds : List Due) (alternative index : ℕ) where
   late : List (List Constraint)
@@ -141,37 +116,37 @@ module _ (node hi : ℕ) (ds : List Due) (alternative index : ℕ) where
   pub late_at : (due : Due) → alternative ≡ index + 1 → slice_get ds index ≡ Some due → index < length ds → item_at (must_alternatives node hi ds) alternative ≡ Some (starts_late hi due)
   late_at due is at within =
       by_index is
-      ∙ get_left (map (starts_late hi) ds ++ map follows_in_time ds) _ index (omega (arith, length-append (map (starts_late hi) ds) (map follows_in_time ds), length_map (starts_late hi) ds, within))
-      ∙ get_left (map (starts_late hi) ds) (map follows_in_time ds) index (omega (arith, length_map (starts_late hi) ds, within))
+      ∙ slice_get-append_left (map (starts_late hi) ds ++ map follows_in_time ds) _ index (omega (arith, length-append (map (starts_late hi) ds) (map follows_in_time ds), length-map ds (starts_late hi), within))
+      ∙ slice_get-append_left (map (starts_late hi) ds) (map follows_in_time ds) index (omega (arith, length-map ds (starts_late hi), within))
       ∙ slice_get-map (starts_late hi) ds index ∙ ap (option_map (starts_late hi)) at
 
   -- one of the next is that the target follows in time
   pub follows_at : (due : Due) (place : ℕ) → alternative ≡ index + 1 → index ≡ length ds + place → slice_get ds place ≡ Some due → place < length ds
       → item_at (must_alternatives node hi ds) alternative ≡ Some (follows_in_time due)
   follows_at due place is from at within =
-      let same : index ≡ length (map (starts_late hi) ds) + place = omega (arith, from, length_map (starts_late hi) ds) in
+      let same : index ≡ length (map (starts_late hi) ds) + place = omega (arith, from, length-map ds (starts_late hi)) in
       by_index is
-      ∙ get_left (map (starts_late hi) ds ++ map follows_in_time ds) _ index
-      (omega (arith, length-append (map (starts_late hi) ds) (map follows_in_time ds), length_map (starts_late hi) ds, length_map follows_in_time ds, within, from))
+      ∙ slice_get-append_left (map (starts_late hi) ds ++ map follows_in_time ds) _ index
+      (omega (arith, length-append (map (starts_late hi) ds) (map follows_in_time ds), length-map ds (starts_late hi), length-map ds follows_in_time, within, from))
       ∙ ap (slice_get (map (starts_late hi) ds ++ map follows_in_time ds)) same
-      ∙ get_right (map (starts_late hi) ds) (map follows_in_time ds) place
+      ∙ slice_get-append_right (map (starts_late hi) ds) (map follows_in_time ds) place
       ∙ slice_get-map follows_in_time ds place ∙ ap (option_map follows_in_time) at
 
   both_lengths : length (map (starts_late hi) ds ++ map follows_in_time ds) ≡ 2 * length ds
-  both_lengths = omega (arith, length-append (map (starts_late hi) ds) (map follows_in_time ds), length_map (starts_late hi) ds, length_map follows_in_time ds)
+  both_lengths = omega (arith, length-append (map (starts_late hi) ds) (map follows_in_time ds), length-map ds (starts_late hi), length-map ds follows_in_time)
 
   -- the last is that the target is active by the latest
   pub last_at : alternative ≡ index + 1 → index ≡ 2 * length ds → item_at (must_alternatives node hi ds) alternative ≡ Some (at_most node (pos (latest_of ds)) ∷ [])
   last_at is last =
       let same : index ≡ length (map (starts_late hi) ds ++ map follows_in_time ds) + 0 = omega (arith, last, both_lengths) in
       by_index is ∙ ap (slice_get (must_alternatives node hi ds)) same
-      ∙ get_right (map (starts_late hi) ds ++ map follows_in_time ds) ((at_most node (pos (latest_of ds)) ∷ []) ∷ []) 0
+      ∙ slice_get-append_right (map (starts_late hi) ds ++ map follows_in_time ds) ((at_most node (pos (latest_of ds)) ∷ []) ∷ []) 0
 
   -- there are no more
   pub none_past : alternative ≡ index + 1 → 2 * length ds < index → item_at (must_alternatives node hi ds) alternative ≡ None
   none_past is past =
       by_index is
-      ∙ get_past (must_alternatives node hi ds) index
+      ∙ slice_get_past (must_alternatives node hi ds) index
       (omega (arith, length-append (map (starts_late hi) ds ++ map follows_in_time ds) ((at_most node (pos (latest_of ds)) ∷ []) ∷ []), both_lengths, past))
 
 -- how many alternatives there are
@@ -181,8 +156,8 @@ must_length node hi ds =
       arith,
       length-append (map (starts_late hi) ds ++ map follows_in_time ds) ((at_most node (pos (latest_of ds)) ∷ []) ∷ []),
       length-append (map (starts_late hi) ds) (map follows_in_time ds),
-      length_map (starts_late hi) ds,
-      length_map follows_in_time ds,
+      length-map ds (starts_late hi),
+      length-map ds follows_in_time,
     )
 
 -- how many alternatives a must has in a window that begins with its span and has room for all

@@ -27,7 +27,8 @@ mapped f (Some x) = refl
 
 module _ (graph : Tfpg) (log : Logbook) (times : List ℕ) (horizon : ℕ) where
   module _ (node : ℕ) where
-    or_may_over : is_kind_at is_or graph node ≡ true → (number : ℕ) → or_may graph log node number horizon ≡ may_over graph log node (incoming graph node) horizon number
+    -- where there are some, by the numbers of its edges
+    pub or_may_over : is_kind_at is_or graph node ≡ true → (number : ℕ) → or_may graph log node number horizon ≡ may_over graph log node (incoming graph node) horizon number
     or_may_over or number =
         (λ i.
         option_and_then
@@ -48,7 +49,8 @@ module _ (graph : Tfpg) (log : Logbook) (times : List ℕ) (horizon : ℕ) where
     no_or_may other number all at = absurd (both_ways (is_kind_at is_or graph node) other (may_holds log (is_kind_at is_or graph node) node (edges_into graph node) number horizon all at))
 
   module _ (edge target : ℕ) where
-    and_may_over : (number : ℕ) (o : Option Edge) → Some target ≡ option_map (λ (e : Edge). e.target) o → is_kind_at is_and graph target ≡ true
+    -- where there are some, by the number of the edge
+    pub and_may_over : (number : ℕ) (o : Option Edge) → Some target ≡ option_map (λ (e : Edge). e.target) o → is_kind_at is_and graph target ≡ true
         → option_and_then (λ e. and_may graph log e number horizon) o
         ≡ option_map (λ (span : Span). outside_span target span ++ cons_option (option_and_then (arrival log number horizon span) o) []) (span_at log number horizon)
     and_may_over number None own and = absurd cc

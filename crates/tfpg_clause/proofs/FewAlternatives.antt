@@ -1,8 +1,8 @@
 -- How many alternatives a clause has at most.
 use Rattle.std.proofs.Common.{◌≡◌, ℕ, zero, suc, ◌+◌, ◌*◌, ◌<◌, ◌≤◌, List, [], ◌∷◌, ◌++◌, length, Bool, true, false, Option, Some, None, refl, sym, ap, ◌∙◌, arith, length-append}
-use Rattle.std.specs.Prelude.{All, cond, IfSome, Contains, filter, map, filter_map, option_map, option_and_then, slice_get, ◌&&◌, ◌==◌, nat_le, pos}
+use Rattle.std.specs.Prelude.{cond, IfSome, filter, map, filter_map, option_map, option_and_then, slice_get, ◌&&◌, ◌==◌, nat_le}
 use Rattle.std.specs.Bool.{then_some}
-use Rattle.std.specs.List.{list_all, cons_option}
+use Rattle.std.specs.List.{list_all}
 use Rattle.std.proofs.lemmas.Bool.Decides.{nat_tests}
 use Rattle.std.proofs.lemmas.List.{length-map}
 use Rattle.tfpg_base.specs.Choice.{each_of}
@@ -15,22 +15,15 @@ use Rattle.tfpg_log.specs.declared.span.Window.{Window}
 use Rattle.tfpg_log.specs.Spans.{span_at, window_of, joint_of}
 use Rattle.tfpg_evidence.specs.declared.clause_name.ClauseName.{ClauseName}
 use Rattle.tfpg_evidence.specs.declared.clause_name.ClauseName.TheVariants.{OrMay, AndMay, OrMust, AndMust}
-use Rattle.tfpg_clause.specs.Bounds.{at_most}
 use Rattle.tfpg_clause.specs.declared.due.Due.{Due}
-use Rattle.tfpg_clause.specs.Clauses.{alternatives, outside_span, count_of, arrival, due_over, may_by, must_by, must_in, must_alternatives, starts_late, follows_in_time, latest_of}
+use Rattle.tfpg_clause.specs.Clauses.{alternatives, outside_span, count_of, arrival, due_over, may_by, must_by, must_in, must_alternatives}
 use Rattle.tfpg_base.proofs.lists.Choices.{length-each_of}
+use Rattle.tfpg_base.proofs.lists.Passing.{length-filter_map}
+use Rattle.tfpg_clause.proofs.Dues.{must_length}
 
 -- a clause with fewer alternatives than this
 abbrev HasFewer : ℕ → Option (List (List Constraint)) → Type 0
 HasFewer limit clause = IfSome clause (λ all. length all < limit)
-
-passed : {Y : Type 0} (y : Option Y) (ys : List Y) → length (cons_option y ys) ≤ 1 + length ys
-passed None ys = omega arith
-passed (Some y) ys = omega arith
-
-filtered : {X Y : Type 0} (f : X → Option Y) (xs : List X) → length (filter_map f xs) ≤ length xs
-filtered f [] = omega arith
-filtered f (x ∷ xs) = omega (arith, passed (f x) (filter_map f xs), filtered f xs)
 
 fewer_if : (limit : ℕ) (holds : Bool) (clause : List (List Constraint)) → length clause < limit → HasFewer limit (then_some holds clause)
 fewer_if limit true clause few = few
@@ -43,15 +36,7 @@ may_few log limit holds target edges number horizon few = by (span_at log number
     by None = tt
     by (Some s) =
         fewer_if limit holds (outside_span target s ++ filter_map (arrival log number horizon s) edges)
-        (omega (arith, length-append (outside_span target s) (filter_map (arrival log number horizon s) edges), filtered (arrival log number horizon s) edges, few))
-
-must_length : (target hi : ℕ) (dues : List Due) → length (must_alternatives target hi dues) ≡ length dues + length dues + 1
-must_length target hi dues =
-    length-append (map (starts_late hi) dues ++ map follows_in_time dues) ((at_most target (pos (latest_of dues)) ∷ []) ∷ [])
-    ∙ ap (λ (n : ℕ). n + 1)
-    (length-append (map (starts_late hi) dues) (map follows_in_time dues)
-    ∙ ap (λ (n : ℕ). n + length (map follows_in_time dues)) (length-map dues (starts_late hi))
-    ∙ ap (λ (n : ℕ). length dues + n) (length-map dues follows_in_time))
+        (omega (arith, length-append (outside_span target s) (filter_map (arrival log number horizon s) edges), length-filter_map (arrival log number horizon s) edges, few))
 
 must_few : (log : Logbook) (limit : ℕ) (holds : Bool) (target : ℕ) (edges : List Edge) (window : Option Window) (number horizon : ℕ) → length edges + length edges + 1 < limit
     → HasFewer limit (must_by log holds target edges window number horizon)

@@ -1,5 +1,5 @@
 -- The clauses of a name, by what was found of it.
-use Rattle.std.proofs.Common.{◌≡◌, ℕ, Bool, true, cond, nat_eq, List, [], ◌∷◌, ◌++◌, Option, Some, None, sym, ap, ◌∙◌}
+use Rattle.std.proofs.Common.{◌≡◌, ℕ, Bool, true, false, cond, nat_eq, List, [], ◌∷◌, ◌++◌, Option, Some, None, refl, sym, ap, ◌∙◌}
 use Rattle.std.specs.Prelude.{map, filter_map, option_map, option_and_then}
 use Rattle.std.specs.Bool.{then_some}
 use Rattle.tfpg_base.specs.Choice.{each_of}
@@ -11,9 +11,9 @@ use Rattle.tfpg_log.specs.declared.span.Window.{Window}
 use Rattle.tfpg_log.specs.Log.{Logbook}
 use Rattle.tfpg_log.specs.Spans.{span_at, window_of, joint_of}
 use Rattle.tfpg_clause.specs.declared.due.Due.{Due}
-use Rattle.tfpg_clause.specs.Clauses.{outside_span, arrival, due_over, must_in, may_by, must_by, or_may, or_must, and_must}
-use Rattle.tfpg_clause.specs.inside.Alternatives.{arrivals_over, dues_over}
-use Rattle.tfpg_clause.proofs.ByNumber.{filtered_by_number, mapped_by_number}
+use Rattle.tfpg_clause.specs.Clauses.{outside_span, arrival, due_over, must_in, may_by, must_by, and_may, or_must, and_must}
+use Rattle.tfpg_clause.specs.inside.Alternatives.{dues_over}
+use Rattle.tfpg_clause.proofs.ByNumber.{mapped_by_number}
 
 module _ (log : Logbook) (holds : Bool) (target : ℕ) (edges : List Edge) (number horizon : ℕ) (passes : holds ≡ true) where
   -- a may clause, where there is the span
@@ -30,13 +30,6 @@ module _ (log : Logbook) (holds : Bool) (target : ℕ) (edges : List Edge) (numb
       cond (passes i) (option_and_then (λ (dues : List Due). option_and_then (λ (x : Window). must_in target number x dues) (at i)) (each_of (map (due_over log number horizon) edges))) None
 
 module _ (graph : Tfpg) (log : Logbook) (node number horizon : ℕ) where
-  -- the alternatives of an OR node by the numbers of its edges
-  pub or_may_found : (span : Span) → is_kind_at is_or graph node ≡ true → span_at log number horizon ≡ Some span
-      → or_may graph log node number horizon ≡ Some (outside_span node span ++ arrivals_over graph log number horizon span (incoming graph node))
-  or_may_found span or at =
-      may_found log (is_kind_at is_or graph node) node (edges_into graph node) number horizon or span _ at
-      (filtered_by_number (λ edge. nat_eq edge.target node) (arrival log number horizon span) graph.edges)
-
   -- what is due at an AND node by the numbers of its edges
   pub and_must_found : (window : Window) → is_kind_at is_and graph node ≡ true → joint_of graph log node number horizon ≡ Some window
       → and_must graph log node number horizon ≡ option_and_then (λ dues. must_in node number window dues) (dues_over graph log number horizon (incoming graph node))
@@ -44,6 +37,22 @@ module _ (graph : Tfpg) (log : Logbook) (node number horizon : ℕ) where
       must_found log (is_kind_at is_and graph node) node (edges_into graph node) number horizon and (joint_of graph log node number horizon) window at
       ∙ ap (λ (dues : List (Option Due)). option_and_then (λ ds. must_in node number window ds) (each_of dues))
       (mapped_by_number (λ edge. nat_eq edge.target node) (due_over log number horizon) graph.edges)
+
+-- A node of another kind has no may clause,
+pub no_may : (log : Logbook) (holds : Bool) (target : ℕ) (edges : List Edge) (number horizon : ℕ) → holds ≡ false → may_by log holds target edges number horizon ≡ None
+no_may log holds target edges number horizon fails = by (span_at log number horizon)
+  where
+    by : (o : Option Span) → option_and_then (λ (span : Span). then_some holds (outside_span target span ++ filter_map (arrival log number horizon span) edges)) o ≡ None
+    by None = refl
+    by (Some span) = ap (λ (b : Bool). then_some b (outside_span target span ++ filter_map (arrival log number horizon span) edges)) fails
+
+-- nor has an edge into one.
+pub no_may_of_edge : (graph : Tfpg) (log : Logbook) (number horizon target : ℕ) (edge : Option Edge) → Some target ≡ option_map (λ (e : Edge). e.target) edge → is_kind_at is_and graph target ≡ false
+    → option_and_then (λ e. and_may graph log e number horizon) edge ≡ None
+no_may_of_edge graph log number horizon target None own other = refl
+no_may_of_edge graph log number horizon target (Some e) own other =
+    let same : target ≡ e.target = cc in
+    no_may log (is_kind_at is_and graph e.target) e.target (e ∷ []) number horizon (sym (ap (is_kind_at is_and graph) same) ∙ other)
 
 -- The must of one edge, by what was found of it.
 pub or_must_found : (graph : Tfpg) (log : Logbook) (number horizon target : ℕ) (window : Window) (edge : Option Edge) → Some target ≡ option_map (λ (e : Edge). e.target) edge

@@ -1,9 +1,10 @@
 -- A tree with another subtree in one of its places.
 use Rattle.std.proofs.Common.{◌≡◌, ℕ, suc, ◌+◌, List, [], ◌∷◌, ◌++◌, refl, sym, ap, ◌∙◌, inl, inr, append_assoc}
+use Rattle.std.proofs.lemmas.List.{append-nil}
+use Rattle.tfpg_base.proofs.lists.Cuts.{cut_twice, append_cons-not_nil}
 use Rattle.tfpg_evidence.specs.declared.clause_name.ClauseName.{ClauseName}
 use Rattle.tfpg_evidence.specs.declared.step.Step.TheVariants.{Split, Cycle}
 use Rattle.tfpg_clause.specs.Trees.{Tree, Leaf, Branch, Subtrees, NoMore, Next, PathSplit, StepPlace, how_many, places, places_from}
-use Rattle.tfpg_clause.proofs.ListCuts.{cut_twice, not_empty, no_end}
 
 -- a tree that begins with the same places and goes on with these
 pub record Grafted (path : List PathSplit) (front middle : List StepPlace) : Type 0 where
@@ -20,7 +21,7 @@ pub record GraftedIn (path : List PathSplit) (name : ClauseName) (seen number co
 
 -- the whole tree in place of another
 whole : (path : List PathSplit) (here : StepPlace) (new : Tree) → here.path ≡ path → Grafted path [] (places here.path new)
-whole path here new same = record { tree = new; rest = []; is = ap (λ (p : List PathSplit). places p new) (sym same) ∙ sym (no_end (places here.path new)) }
+whole path here new same = record { tree = new; rest = []; is = ap (λ (p : List PathSplit). places p new) (sym same) ∙ sym (append-nil (places here.path new)) }
 
 mutual
   pub graft : (path : List PathSplit) (tree : Tree) (front : List StepPlace) (here : StepPlace) (back : List StepPlace) (new : Tree)
@@ -28,7 +29,7 @@ mutual
   graft path (Leaf seen reasons) [] here back new same =
       let head : here ≡ record { path = path; step = record { seen = seen; step = Cycle reasons }; subtrees = 0 } = cc in
       whole path here new (ap (λ (p : StepPlace). p.path) head)
-  graft path (Leaf seen reasons) (f ∷ front) here back new same = let tail : [] ≡ front ++ here ∷ back = cc in absurd (not_empty front here back tail)
+  graft path (Leaf seen reasons) (f ∷ front) here back new same = let tail : [] ≡ front ++ here ∷ back = cc in absurd (append_cons-not_nil front here back tail)
   graft path (Branch seen name subtrees) [] here back new same =
       let head : here ≡ record { path = path; step = record { seen = seen; step = Split name }; subtrees = how_many subtrees } = cc in
       whole path here new (ap (λ (p : StepPlace). p.path) head)
@@ -48,7 +49,7 @@ mutual
 
   graft_in : (path : List PathSplit) (name : ClauseName) (seen number : ℕ) (subtrees : Subtrees) (front : List StepPlace) (here : StepPlace) (back : List StepPlace) (new : Tree)
       → places_from path name seen number subtrees ≡ front ++ here ∷ back → GraftedIn path name seen number (how_many subtrees) front (places here.path new)
-  graft_in path name seen number NoMore front here back new same = absurd (not_empty front here back same)
+  graft_in path name seen number NoMore front here back new same = absurd (append_cons-not_nil front here back same)
   graft_in path name seen number (Next tree others) front here back new same =
       let own : List PathSplit = path ++ record { name = name; seen = seen; alternative = number } ∷ [] in
       elim (cut_twice (places own tree) (places_from path name seen (number + 1) others) front (here ∷ back) same) [

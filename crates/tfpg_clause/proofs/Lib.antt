@@ -1,13 +1,13 @@
 pub mod Kept
 pub mod Cycles
 pub mod InRange
+pub mod KnownWindows
 pub mod Arrivals
 pub mod ByNumber
-pub mod EachOf
+pub mod JoinedLists
 pub mod Dues
 pub mod Found
 pub mod Bounded
-pub mod Members
 pub mod LastDue
 pub mod Agreed
 pub mod MayClauses
@@ -26,7 +26,6 @@ pub mod LowHigh
 pub mod FactsMet
 pub mod GivesTrace
 pub mod OwnModes
-pub mod ListCuts
 pub mod LeafPaths
 pub mod SomeAlternative
 pub mod TreeWalk

@@ -21,9 +21,9 @@ use Rattle.tfpg_log.proofs.SpanRuns.{is_span, has_span}
 use Rattle.tfpg_log.proofs.WindowAges.{exactly}
 use Rattle.tfpg_clause.specs.Bounds.{at_most, at_least, at_least_after}
 use Rattle.tfpg_base.specs.Constraint.{Meets}
+use Rattle.tfpg_base.proofs.lists.Passing.{Contains-filter_map, Contains-filter_map_only}
 use Rattle.tfpg_clause.specs.Clauses.{outside_span, arrival, may_by, MeetsClause}
 use Rattle.tfpg_clause.proofs.Bounded.{met_at_most, met_before, met_at_least, met_at_least_after, says_at_least, says_at_least_after, says_before}
-use Rattle.tfpg_clause.proofs.Members.{had_there, had_from}
 use Rattle.tfpg_clause.proofs.Agreed.{Agree}
 use Rattle.tfpg_clause.proofs.Found.{may_found}
 use Rattle.tfpg_clause.proofs.Dues.{passed}
@@ -95,7 +95,7 @@ module _ (log : Logbook) (trace : List Activation) (numbers : List ℕ) (count :
         let alternative : arrival log number horizon span edge ≡ Some (bounds span by.window edge) =
         ap (option_and_then (λ (w : Window). then_some (leb (w.lo + edge.tmin) span.hi) (bounds span w edge))) there ∙ ap (λ (b : Bool). then_some b (bounds span by.window edge)) room in (
           bounds span by.window edge,
-          had_there (arrival log number horizon span) edges edge (bounds span by.window edge) member alternative,
+          Contains-filter_map (arrival log number horizon span) edges edge (bounds span by.window edge) member alternative,
           met_bounds span by.window edge (All-contains (λ (e : Edge). e.target ≡ target) edges edge own member)
               (omega (arith, agree.number_is edge.source by.start by.source, by.since_source)) from by.since_window till,
         )
@@ -125,7 +125,7 @@ module _ (log : Logbook) (trace : List Activation) (numbers : List ℕ) (count :
         → Contains (filter_map (arrival log number horizon span) edges) alternative → All (Meets numbers) alternative
         → (edge : Edge) × Contains edges edge × HasAge log trace edge instant edge.tmin
     arrived_from horizon span at upto sources alternative instant numbered within is member met =
-        let found = had_from (arrival log number horizon span) edges alternative member in
+        let found = Contains-filter_map_only (arrival log number horizon span) edges alternative member in
         let edge : Edge = found.0 in
         option_and_then_some
         (λ (w : Window). then_some (leb (w.lo + edge.tmin) span.hi) (bounds span w edge)) (window_of log edge number horizon) alternative found.2

@@ -7,6 +7,7 @@ use Rattle.tfpg_base.specs.declared.constraint.Constraint.{Constraint}
 use Rattle.tfpg_base.specs.Constraint.{Meets}
 use Rattle.tfpg_base.proofs.lists.Elements.{Contains-cons_cases}
 use Rattle.std.proofs.lemmas.List.Elements.{Contains-append_right, Contains-get_or}
+use Rattle.tfpg_base.proofs.lists.Passing.{Contains-filter_map, Contains-filter_map_only}
 use Rattle.tfpg_graph.specs.Graph.{Tfpg}
 use Rattle.tfpg_log.specs.declared.span.Span.{Span}
 use Rattle.tfpg_log.specs.Log.{Logbook, now_of}
@@ -17,7 +18,6 @@ use Rattle.tfpg_clause.specs.Clauses.{outside_span, MeetsClause}
 use Rattle.tfpg_clause.specs.inside.Alternatives.{arrival_over, arrivals_over}
 use Rattle.tfpg_clause.specs.inside.FirstSpan.{MeetsIfAny, IsFirstSpan, MeetsEach, may_over}
 use Rattle.tfpg_clause.proofs.Bounded.{says_at_least, says_before}
-use Rattle.tfpg_clause.proofs.Members.{had_there, had_from}
 use Rattle.tfpg_clause.proofs.MayClauses.{before_span, after_span, met_outside}
 use Rattle.tfpg_clause.proofs.SpanNumbers.{lies_inside}
 
@@ -39,13 +39,13 @@ module _ (graph : Tfpg) (log : Logbook) (times : List ℕ) (number horizon : ℕ
       → MeetsClause times (arrivals_over graph log number horizon span edges)
   arrived_by k within met =
       let one = of_met (All (Meets times)) (arrival_over graph log number horizon span (get_or edges k 0)) met in
-      (one.0, had_there (arrival_over graph log number horizon span) edges (get_or edges k 0) one.0 (Contains-get_or edges k 0 within) one.1, one.2)
+      (one.0, Contains-filter_map (arrival_over graph log number horizon span) edges (get_or edges k 0) one.0 (Contains-get_or edges k 0 within) one.1, one.2)
 
   -- none is, where none is of an edge
   pub none_arrived : ((k : ℕ) → k < length edges → IsSomeAnd (arrival_over graph log number horizon span (get_or edges k 0)) (All (Meets times)) → ⊥)
       → MeetsClause times (arrivals_over graph log number horizon span edges) → ⊥
   none_arrived none met =
-      let one = had_from (arrival_over graph log number horizon span) edges met.0 met.1 in
+      let one = Contains-filter_map_only (arrival_over graph log number horizon span) edges met.0 met.1 in
       let place = one.1 in
       let same : get_or edges place.0 0 ≡ one.0 = get_or_default edges place.0 0 one.0 place.1 ∙ place.2 in
       none place.0 place.1

@@ -3,24 +3,24 @@ use Rattle.std.proofs.Common.{◌≡◌, ℕ, List, [], ◌∷◌, ◌++◌, ◌
 use Rattle.std.specs.Prelude.{Contains, map}
 use Rattle.std.proofs.lemmas.List.Elements.{Contains-append_left, Contains-append_right, Contains-append_cases}
 use Rattle.tfpg_base.specs.declared.constraint.Constraint.{Constraint}
-use Rattle.tfpg_base.proofs.lists.Elements.{Contains-head}
+use Rattle.tfpg_base.proofs.lists.Elements.{Contains-head, Contains-one}
+use Rattle.tfpg_base.proofs.lists.Images.{Contains-map, Contains-map_only}
 use Rattle.tfpg_clause.specs.declared.due.Due.{Due}
 use Rattle.tfpg_clause.specs.Bounds.{at_most}
 use Rattle.tfpg_clause.specs.Clauses.{must_alternatives, starts_late, follows_in_time, latest_of}
-use Rattle.tfpg_clause.proofs.Members.{mapped_to, mapped_from, only_one}
 
 module _ (target hi : ℕ) (ds : List Due) where
   -- one of the first alternatives,
   pub late_there : (due : Due) → Contains ds due → Contains (must_alternatives target hi ds) (starts_late hi due)
   late_there due member =
       Contains-append_left (map (starts_late hi) ds ++ map follows_in_time ds) ((at_most target (pos (latest_of ds)) ∷ []) ∷ []) (starts_late hi due)
-      (Contains-append_left (map (starts_late hi) ds) (map follows_in_time ds) (starts_late hi due) (mapped_to (starts_late hi) ds due member))
+      (Contains-append_left (map (starts_late hi) ds) (map follows_in_time ds) (starts_late hi due) (Contains-map (starts_late hi) ds due member))
 
   -- one of the next,
   pub follows_there : (due : Due) → Contains ds due → Contains (must_alternatives target hi ds) (follows_in_time due)
   follows_there due member =
       Contains-append_left (map (starts_late hi) ds ++ map follows_in_time ds) ((at_most target (pos (latest_of ds)) ∷ []) ∷ []) (follows_in_time due)
-      (Contains-append_right (map (starts_late hi) ds) (map follows_in_time ds) (follows_in_time due) (mapped_to follows_in_time ds due member))
+      (Contains-append_right (map (starts_late hi) ds) (map follows_in_time ds) (follows_in_time due) (Contains-map follows_in_time ds due member))
 
   -- and the last
   pub last_there : Contains (must_alternatives target hi ds) (at_most target (pos (latest_of ds)) ∷ [])
@@ -35,8 +35,8 @@ module _ (target hi : ℕ) (ds : List Due) where
   alternative_cases alternative member =
       elim (Contains-append_cases (map (starts_late hi) ds ++ map follows_in_time ds) ((at_most target (pos (latest_of ds)) ∷ []) ∷ []) alternative member) [
         | inl groups ↦ elim (Contains-append_cases (map (starts_late hi) ds) (map follows_in_time ds) alternative groups) [
-          | inl first ↦ inl (mapped_from (starts_late hi) ds alternative first)
-          | inr next ↦ inr (inl (mapped_from follows_in_time ds alternative next))
+          | inl first ↦ inl (Contains-map_only (starts_late hi) ds alternative first)
+          | inr next ↦ inr (inl (Contains-map_only follows_in_time ds alternative next))
         ]
-        | inr last ↦ inr (inr (only_one (at_most target (pos (latest_of ds)) ∷ []) alternative last))
+        | inr last ↦ inr (inr (Contains-one (at_most target (pos (latest_of ds)) ∷ []) alternative last))
       ]

@@ -23,9 +23,9 @@ use Rattle.tfpg_log.proofs.WindowAges.{by_window}
 use Rattle.tfpg_clause.specs.declared.due.Due.{Due}
 use Rattle.tfpg_clause.specs.Bounds.{at_most, at_least, at_most_after}
 use Rattle.tfpg_base.specs.Constraint.{Meets}
+use Rattle.tfpg_base.proofs.lists.Choices.{Contains-each_of_only, Contains-each_of, each_of-from_each}
 use Rattle.tfpg_clause.specs.Clauses.{due_over, must_in, must_by, must_alternatives, starts_late, follows_in_time, latest_of, MeetsClause}
 use Rattle.tfpg_clause.proofs.Bounded.{met_at_most, met_at_least, met_at_most_after, says_at_most, says_at_least, says_at_most_after}
-use Rattle.tfpg_clause.proofs.Members.{each_from, each_to, each_there}
 use Rattle.tfpg_clause.proofs.Agreed.{Agree, active_from, active_only}
 use Rattle.tfpg_clause.proofs.Found.{must_found}
 use Rattle.tfpg_clause.proofs.Dues.{passed, fits}
@@ -121,10 +121,10 @@ module _ (log : Logbook) (trace : List Activation) (numbers : List ℕ) (count :
     module _ (ds : List Due) (are : each_of (map (due_over log number horizon) edges) ≡ Some ds) (own : All (λ (edge : Edge). edge.target ≡ target) edges) where
       -- the source of each is an edge
       edge_of : (due : Due) → Contains ds due → (edge : Edge) × Contains edges edge × (due_over log number horizon edge ≡ Some due)
-      edge_of due member = each_from (due_over log number horizon) edges ds due are member
+      edge_of due member = Contains-each_of_only (due_over log number horizon) edges ds due are member
 
       due_at_edge : (edge : Edge) → Contains edges edge → (due : Due) × Contains ds due × (due_over log number horizon edge ≡ Some due)
-      due_at_edge edge member = each_to (due_over log number horizon) edges ds edge are member
+      due_at_edge edge member = Contains-each_of (due_over log number horizon) edges ds edge are member
 
       target_is : (due : Due) → Contains ds due → get_or numbers due.target 0 ≡ get_or numbers target 0
       target_is due member =
@@ -228,11 +228,11 @@ module _ (log : Logbook) (trace : List Activation) (numbers : List ℕ) (count :
         → window.lo ≤ instant → instant ≤ window.hi
         → ((clause : List (List Constraint)) → must_by log holds target edges (Some window) number horizon ≡ Some clause → MeetsClause numbers clause) → ActiveOnce target edges instant
     must_is_kept holds instant passes first within own upto from till met dues =
-        let there = each_there (due_over log number horizon) edges (λ edge member. is_there edge member) in
+        let there = each_of-from_each (due_over log number horizon) edges (λ edge member. is_there edge member) in
         let ds : List Due = there.0 in
         let past : (due : Due) → Contains ds due → (due.by ≤ instant) × (since_source numbers due ≤ instant) =
         λ due member.
-        let edge = each_from (due_over log number horizon) edges ds due there.1 member in
+        let edge = Contains-each_of_only (due_over log number horizon) edges ds due there.1 member in
         due_only edge.0 due instant edge.1 edge.2 from till (All-contains (λ e. IsDue log trace e instant) edges edge.0 dues edge.1) in
         let room : list_all (fits window.hi) ds ≡ true =
         list_all-from_AllPass (fits window.hi) ds (All-from_members (λ (due : Due). fits window.hi due ≡ true) ds (λ due member. le-leb due.by window.hi (omega (arith, (past due member).0, till)))) in

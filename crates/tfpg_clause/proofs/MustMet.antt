@@ -8,6 +8,7 @@ use Rattle.std.proofs.lemmas.List.Elements.{All-cons, All-nil}
 use Rattle.tfpg_base.specs.Choice.{each_of}
 use Rattle.tfpg_base.specs.declared.constraint.Constraint.{Constraint}
 use Rattle.tfpg_base.specs.Constraint.{Meets}
+use Rattle.tfpg_base.proofs.lists.Choices.{Contains-each_of_only, Contains-each_of}
 use Rattle.tfpg_log.specs.declared.span.Window.{Window}
 use Rattle.tfpg_clause.specs.declared.due.Due.{Due}
 use Rattle.tfpg_clause.specs.Bounds.{at_most}
@@ -16,7 +17,6 @@ use Rattle.tfpg_clause.specs.inside.Alternatives.{latest_within}
 use Rattle.tfpg_clause.specs.inside.FirstSpan.{MeetsIfAny, IsExcused}
 use Rattle.tfpg_clause.proofs.Bounded.{met_at_most, says_at_most}
 use Rattle.tfpg_clause.proofs.Dues.{passed, fits, within_opened}
-use Rattle.tfpg_clause.proofs.Members.{each_from, each_to}
 use Rattle.tfpg_clause.proofs.MaySpans.{met_of, of_met}
 use Rattle.tfpg_clause.proofs.MustAlternatives.{late_there, follows_there, last_there, alternative_cases}
 
@@ -71,7 +71,7 @@ module _ (f : ℕ → Option Due) (edges : List ℕ) (times : List ℕ) (node nu
     met_by_excuse excuse all at =
         let parts = must_there all at in
         let one = of_met (IsExcused times window.hi) (f excuse.0) excuse.2 in
-        let due = each_to f edges parts.0 excuse.0 parts.1 excuse.1 in
+        let due = Contains-each_of f edges parts.0 excuse.0 parts.1 excuse.1 in
         let same : one.0 ≡ due.0 = cc (one.1, due.2) in
         subst (MeetsClause times) parts.4
         (elim (subst (IsExcused times window.hi) same one.2) [
@@ -100,5 +100,5 @@ module _ (f : ℕ → Option Due) (edges : List ℕ) (times : List ℕ) (node nu
       where
         excused : (ds : List Due) → each_of (map f edges) ≡ Some ds → (due : Due) → Contains ds due → IsExcused times window.hi due → ⊥
         excused ds are due member by_due =
-            let edge = each_from f edges ds due are member in
+            let edge = Contains-each_of_only f edges ds due are member in
             none (edge.0, edge.1, met_of (IsExcused times window.hi) (f edge.0) due edge.2 by_due)

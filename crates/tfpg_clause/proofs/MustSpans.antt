@@ -7,11 +7,10 @@ use Rattle.tfpg_log.specs.declared.span.Window.{Window}
 use Rattle.tfpg_log.specs.Log.{Logbook, now_of}
 use Rattle.tfpg_log.specs.Spans.{span_number}
 use Rattle.tfpg_log.specs.Runs.{IsWindowRound}
-use Rattle.tfpg_log.proofs.SpanRuns.{is_span}
+use Rattle.tfpg_log.proofs.SpanRuns.{is_span, number_rises}
 use Rattle.tfpg_log.proofs.WindowInstants.{round_each}
 use Rattle.tfpg_clause.specs.Clauses.{MeetsClause}
 use Rattle.tfpg_clause.specs.inside.FirstSpan.{MeetsIfAny, IsViolated, MeetsEach, MeetsUpTo}
-use Rattle.tfpg_clause.proofs.SpanNumbers.{number_rises}
 
 -- Times violate a clause that they do not meet, if there is one.
 pub violated_from : (times : List ℕ) (clause : Option (List (List Constraint))) → (MeetsIfAny times clause → ⊥) → IsViolated times clause

@@ -19,6 +19,7 @@ use Rattle.tfpg_evidence.specs.declared.reason.Reason.{Reason}
 use Rattle.tfpg_evidence.specs.declared.reason.Reason.TheVariants.{Zero, Top, Unreached, From, Upto, Quiet, Pick}
 use Rattle.tfpg_evidence.specs.declared.step.Step.TheVariants.{Split, Cycle}
 use Rattle.tfpg_base.specs.Constraint.{Meets}
+use Rattle.tfpg_base.proofs.lists.Elements.{All-front, All-back}
 use Rattle.tfpg_clause.specs.Facts.{fact}
 use Rattle.tfpg_clause.specs.Clauses.{alternatives, count_of, item_at, constraint_at, MeetsClause}
 use Rattle.tfpg_clause.specs.Trees.{Judged, Tree, Leaf, Branch, Subtrees, NoMore, Next, PathSplit, StepPlace, how_many, places, places_from, picked, stated, IsClosedLeaf, IsRight, IsRefutation}
@@ -27,7 +28,6 @@ use Rattle.tfpg_clause.proofs.Cycles.{not_negative}
 use Rattle.tfpg_clause.proofs.FactsMet.{fact_is_met}
 use Rattle.tfpg_clause.proofs.RulesMet.{clause_is_met}
 use Rattle.tfpg_clause.proofs.Kept.{clause_stays, fact_stays}
-use Rattle.tfpg_clause.proofs.ListCuts.{All-front, All-back}
 use Rattle.tfpg_clause.proofs.TreesKept.{first_to_whole, refutation_stays}
 use Rattle.tfpg_clause.proofs.TraceNumbers.{numbers_of_trace}
 

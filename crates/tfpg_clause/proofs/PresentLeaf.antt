@@ -14,6 +14,7 @@ use Rattle.tfpg_evidence.specs.declared.step.Step.{Step}
 use Rattle.tfpg_evidence.specs.declared.step.Step.TheVariants.{Split, Cycle}
 use Rattle.tfpg_clause.specs.Trees.{Judged, Tree, Leaf, Branch, Subtrees, NoMore, Next, PathSplit, StepPlace, how_many, places, places_from, places_of, IsRight, IsRightStep, IsPartial, IsPresentLeaf}
 use Rattle.tfpg_clause.specs.Clauses.{count_of}
+use Rattle.tfpg_clause.proofs.JoinedLists.{slice_get-append_left, slice_get-append_right}
 
 -- the paths of so many subtrees of a split, from the one of this number on
 abbrev paths_from : List PathSplit → ClauseName → ℕ → ℕ → ℕ → List (List PathSplit)
@@ -79,15 +80,6 @@ take_right n (x ∷ xs) ys =
     let same : suc (length xs) + n ≡ suc (length xs + n) = omega arith in
     ap (λ k. take k (x ∷ (xs ++ ys))) same ∙ ap (λ zs. x ∷ zs) (take_right n xs ys)
 
-get_left : {X : Type 0} (xs ys : List X) (n : ℕ) → n < length xs → slice_get (xs ++ ys) n ≡ slice_get xs n
-get_left [] ys n within = absurd (omega arith)
-get_left (x ∷ xs) ys zero within = refl
-get_left (x ∷ xs) ys (suc n) within = get_left xs ys n (omega arith)
-
-get_right : {X : Type 0} (xs ys : List X) (n : ℕ) → slice_get (xs ++ ys) (length xs + n) ≡ slice_get ys n
-get_right [] ys n = let same : 0 + n ≡ n = omega arith in ap (slice_get ys) same
-get_right (x ∷ xs) ys n = let same : suc (length xs) + n ≡ suc (length xs + n) = omega arith in ap (slice_get (x ∷ (xs ++ ys))) same ∙ get_right xs ys n
-
 -- the path of the next place is the first to come
 abbrev IsNextPath : List StepPlace → List (List PathSplit) → ℕ → Type 0
 IsNextPath all paths n = option_map (λ (place : StepPlace). place.path) (slice_get all n) ≡ slice_get (after_all (map shape_of (take n all)) paths) 0
@@ -98,13 +90,13 @@ in_first_or_later firsts laters paths rest n within gone first later = by (cases
   where
     by : (n < length firsts) ⊎ (length firsts ≤ n) → IsNextPath (firsts ++ laters) paths n
     by (inl inside) =
-        ap (option_map (λ (place : StepPlace). place.path)) (get_left firsts laters n inside) ∙ first n inside
+        ap (option_map (λ (place : StepPlace). place.path)) (slice_get-append_left firsts laters n inside) ∙ first n inside
         ∙ ap (λ (ps : List StepPlace). slice_get (after_all (map shape_of ps) paths) 0) (sym (take_left n firsts laters (omega arith)))
     by (inr past) =
         let k : ℕ = n - length firsts in
         let same : n ≡ length firsts + k = omega arith in
         ap (λ m. option_map (λ (place : StepPlace). place.path) (slice_get (firsts ++ laters) m)) same
-        ∙ ap (option_map (λ (place : StepPlace). place.path)) (get_right firsts laters k)
+        ∙ ap (option_map (λ (place : StepPlace). place.path)) (slice_get-append_right firsts laters k)
         ∙ later k (omega (arith, length-append firsts laters, within))
         ∙ ap (λ (ps : List (List PathSplit)). slice_get (after_all (map shape_of (take k laters)) ps) 0) (sym gone)
         ∙ ap (λ (ps : List (List PathSplit)). slice_get ps 0) (sym (after_both (map shape_of firsts) (map shape_of (take k laters)) paths))

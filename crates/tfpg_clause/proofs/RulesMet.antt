@@ -12,7 +12,8 @@ use Rattle.std.proofs.lemmas.Option.{option_and_then_some, slice_get_within, get
 use Rattle.tfpg_base.specs.declared.activation.Activation.{Activation}
 use Rattle.tfpg_base.specs.declared.constraint.Constraint.{Constraint}
 use Rattle.tfpg_base.specs.Trace.{time_of}
-use Rattle.tfpg_base.proofs.lists.Elements.{All-from_members, Contains-head}
+use Rattle.tfpg_base.proofs.lists.Elements.{All-from_members, Contains-head, Contains-one}
+use Rattle.tfpg_base.proofs.lists.Passing.{Contains-filter, Contains-filter_only}
 use Rattle.tfpg_graph.specs.declared.edge.Edge.{Edge}
 use Rattle.tfpg_graph.specs.declared.kind.Kind.{Kind}
 use Rattle.tfpg_graph.specs.Graph.{Tfpg, Node, is_kind_at, is_or, is_and, edges_into}
@@ -30,7 +31,6 @@ use Rattle.tfpg_evidence.specs.declared.clause_name.ClauseName.TheVariants.{OrMa
 use Rattle.tfpg_clause.specs.Clauses.{outside_span, arrival, may_by, must_by, and_may, or_must, alternatives, MeetsClause}
 use Rattle.tfpg_clause.specs.Order.{horizon_of}
 use Rattle.tfpg_clause.proofs.Kept.{allowed_by_now, must_has_window}
-use Rattle.tfpg_clause.proofs.Members.{kept, was_there, only_one}
 use Rattle.tfpg_clause.proofs.Dues.{passed}
 use Rattle.tfpg_clause.proofs.Agreed.{Agree}
 use Rattle.tfpg_clause.proofs.MayClauses.{ArrivesBy, may_is_met, may_is_kept}
@@ -46,7 +46,7 @@ edge_common log edge number horizon window at =
       in_order = run.in_order;
       in_range = run.in_range;
       of_each = λ other member.
-          let same : edge ≡ other = only_one edge other member in
+          let same : edge ≡ other = Contains-one edge other member in
           (window, ap (λ e. window_of log e number horizon) (sym same) ∙ at, omega arith, omega arith);
       begins = λ behind. (edge, Contains-head edge [], window, at, refl);
     }
@@ -99,7 +99,7 @@ own_target edge = All-cons (λ (e : Edge). e.target ≡ edge.target) edge [] ref
 
 -- an edge is one of those into its target
 pub edge_into : (graph : Tfpg) (k : ℕ) (edge : Edge) → slice_get graph.edges k ≡ Some edge → Contains (edges_into graph edge.target) edge
-edge_into graph k edge at = kept (λ (e : Edge). eqb e.target edge.target) graph.edges k edge at (eq-eqb edge.target edge.target refl)
+edge_into graph k edge at = Contains-filter (λ (e : Edge). eqb e.target edge.target) graph.edges k edge at (eq-eqb edge.target edge.target refl)
 
 -- there is a clause only where its test holds
 pub may_holds : (log : Logbook) (holds : Bool) (target : ℕ) (edges : List Edge) (number horizon : ℕ) (clause : List (List Constraint))
@@ -192,19 +192,19 @@ module _ (graph : Tfpg) (log : Logbook) (trace : List Activation) (numbers : Lis
     and_may_kept : (node instant : ℕ) → instant ≤ now_of log → is_kind_at is_and graph node ≡ true → time_of trace node ≡ Some instant → (edge : Edge)
         → Contains (edges_into graph node) edge → HasAge log trace edge instant edge.tmin
     and_may_kept node instant upto and at edge member =
-        let found = was_there (λ (e : Edge). eqb e.target node) graph.edges edge member in
+        let found = Contains-filter_only (λ (e : Edge). eqb e.target node) graph.edges edge member in
         let target : edge.target ≡ node = eqb-true edge.target node found.2 in
         let rule = may_is_kept log trace numbers (length graph.nodes) agree (is_kind_at is_and graph edge.target) edge.target (edge ∷ []) (ap (is_kind_at is_and graph) target ∙ and) (own_target edge)
         (source_within graph valid found.0 edge found.1)
         (λ number clause allowed.
         met (AndMay found.0 number (now_of log)) clause refl (ap (option_and_then (λ e. and_may graph log e number (now_of log))) found.1 ∙ allowed)) in
         let arrives = rule instant upto (ap (time_of trace) target ∙ at) in
-        subst (λ (e : Edge). HasAge log trace e instant e.tmin) (sym (only_one edge arrives.0 arrives.1)) arrives.2
+        subst (λ (e : Edge). HasAge log trace e instant e.tmin) (sym (Contains-one edge arrives.0 arrives.1)) arrives.2
 
     or_must_kept : (node instant : ℕ) → instant ≤ now_of log → is_kind_at is_or graph node ≡ true → (edge : Edge) → Contains (edges_into graph node) edge
         → IsDue log trace edge instant → IsActive trace node instant
     or_must_kept node instant upto or edge member due =
-        let found = was_there (λ (e : Edge). eqb e.target node) graph.edges edge member in
+        let found = Contains-filter_only (λ (e : Edge). eqb e.target node) graph.edges edge member in
         let target : edge.target ≡ node = eqb-true edge.target node found.2 in
         let own : is_kind_at is_or graph edge.target ≡ true = ap (is_kind_at is_or graph) target ∙ or in
         let window = window_there log edge instant (now_of log) upto (omega arith) (only_there log trace edge instant due.0 due.2).0 in

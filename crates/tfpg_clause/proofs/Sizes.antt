@@ -1,6 +1,6 @@
 -- Alternatives are small: each has at most three constraints, and they are on the nodes of the graph.
-use Rattle.std.proofs.Common.{◌≡◌, ℕ, ◌+◌, ◌-◌, ◌<◌, ◌≤◌, List, [], ◌∷◌, ◌++◌, length, Bool, true, false, if◌then◌else◌, Option, Some, None, refl, sym, ap, subst, ◌∙◌, arith}
-use Rattle.std.specs.Prelude.{All, Contains, map, filter, filter_map, max, pos, ℤ, ◌-ℤ◌, nat_le, ◌==◌, ◌&&◌, option_map, option_and_then, slice_get}
+use Rattle.std.proofs.Common.{◌≡◌, ℕ, ◌+◌, ◌-◌, ◌<◌, List, [], ◌∷◌, ◌++◌, length, Bool, true, false, Option, Some, None, refl, subst, arith}
+use Rattle.std.specs.Prelude.{All, Contains, map, filter_map, max, pos, ℤ, ◌-ℤ◌, nat_le, ◌==◌, ◌&&◌, option_map, option_and_then, slice_get}
 use Rattle.std.specs.Option.{option_map_or}
 use Rattle.std.specs.Bool.{then_some}
 use Rattle.std.specs.List.{list_all}
@@ -8,9 +8,11 @@ use Rattle.std.proofs.lemmas.Option.{slice_get_within, get_or_from_slice_get}
 use Rattle.std.proofs.lemmas.List.Elements.{All-nil, All-cons, All-append, All-map, All-weaker, All-contains, All-contains_itself, All-filter, Contains-get_or}
 use Rattle.tfpg_base.specs.Choice.{each_of}
 use Rattle.tfpg_base.specs.declared.constraint.Constraint.{Constraint}
+use Rattle.tfpg_base.proofs.lists.Passing.{Contains-filter_map_only}
+use Rattle.tfpg_base.proofs.lists.Choices.{Contains-each_of_only}
 use Rattle.tfpg_graph.specs.declared.kind.Kind.{Kind}
 use Rattle.tfpg_graph.specs.declared.edge.Edge.{Edge}
-use Rattle.tfpg_graph.specs.Graph.{Tfpg, kind_at, is_kind_at, is_or, is_and, edges_into}
+use Rattle.tfpg_graph.specs.Graph.{Tfpg, is_kind_at, is_or, is_and, edges_into}
 use Rattle.tfpg_graph.specs.Valid.{IsValid, IsValidEdge}
 use Rattle.tfpg_log.specs.Log.{Logbook}
 use Rattle.tfpg_log.specs.declared.span.Span.{Span}
@@ -20,8 +22,7 @@ use Rattle.tfpg_evidence.specs.declared.clause_name.ClauseName.{ClauseName}
 use Rattle.tfpg_evidence.specs.declared.clause_name.ClauseName.TheVariants.{OrMay, AndMay, OrMust, AndMust}
 use Rattle.tfpg_clause.specs.declared.due.Due.{Due}
 use Rattle.tfpg_clause.specs.Bounds.{at_most, at_least, at_most_after, at_least_after}
-use Rattle.tfpg_clause.specs.Clauses.{outside_span, arrival, due_over, starts_late, follows_in_time, latest_of, must_alternatives, may_by, must_in, must_by, and_may, or_must, alternatives}
-use Rattle.tfpg_clause.proofs.Members.{had_from, each_from}
+use Rattle.tfpg_clause.specs.Clauses.{IsOver, IsSmall, outside_span, arrival, due_over, starts_late, follows_in_time, latest_of, must_alternatives, may_by, must_in, must_by, and_may, or_must, alternatives}
 
 -- what holds of each item that a list contains holds of all
 all_of : {X : Type 0} (P : X → Type 0) (xs : List X) → ((x : X) → Contains xs x → P x) → All P xs
@@ -32,16 +33,6 @@ contains_at : {X : Type 0} (xs : List X) (i : ℕ) (x : X) → slice_get xs i �
 contains_at {X} xs i x at =
     let within = slice_get_within xs i x at in
     subst (Contains xs) (get_or_from_slice_get xs i x x at) (Contains-get_or xs i x within)
-
--- The constraint is on so many nodes.
-pub record IsOver (nodes : ℕ) (constraint : Constraint) : Type 0 where
-  pub left : constraint.left ≤ nodes
-  pub right : constraint.right ≤ nodes
-
--- The alternative has at most three constraints, all on so many nodes.
-pub record IsSmall (nodes : ℕ) (alternative : List Constraint) : Type 0 where
-  pub few : length alternative ≤ 3
-  pub over : All (IsOver nodes) alternative
 
 -- The edge is between two of so many nodes.
 record Joins (nodes : ℕ) (edge : Edge) : Type 0 where
@@ -103,7 +94,7 @@ module _ (nodes : ℕ) where
   small_arrivals log number horizon span edges joins =
       all_of (IsSmall nodes) (filter_map (arrival log number horizon span) edges)
       (λ alternative there.
-      let from = had_from (arrival log number horizon span) edges alternative there in
+      let from = Contains-filter_map_only (arrival log number horizon span) edges alternative there in
       small_arrival log number horizon span from.0 alternative (All-contains (Joins nodes) edges from.0 joins from.1) from.2)
 
   abbrev AreSmall : List (List Constraint) → Type 0
@@ -178,7 +169,7 @@ module _ (nodes : ℕ) where
           inner dues
           (all_of (JoinsDue nodes) dues
           (λ due there.
-          let from = each_from (due_over log number horizon) edges dues due are there in
+          let from = Contains-each_of_only (due_over log number horizon) edges dues due are there in
           joins_due log number horizon from.0 due (All-contains (Joins nodes) edges from.0 joins from.1) from.2))
           ((window.first == number) && list_all (λ (due : Due). nat_le due.by window.hi) dues) some
 

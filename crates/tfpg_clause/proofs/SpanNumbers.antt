@@ -1,8 +1,8 @@
 -- Spans follow one another, and each has all instants of its number.
-use Rattle.std.proofs.Common.{◌≡◌, ℕ, zero, suc, ◌+◌, ◌<◌, ◌≤◌, Bool, true, false, cond, eqb, leb, Some, None, refl, inl, inr, ap, subst, arith}
-use Rattle.std.proofs.lemmas.Bool.{cases_lt, leb-true, leb-false}
+use Rattle.std.proofs.Common.{◌≡◌, ℕ, ◌<◌, ◌≤◌, Bool, true, false, cond, leb, Some, None, refl, subst, arith}
+use Rattle.std.proofs.lemmas.Bool.{leb-true, leb-false}
 use Rattle.tfpg_log.specs.declared.span.Span.{Span}
-use Rattle.tfpg_log.specs.Log.{Logbook, now_of, mode_at}
+use Rattle.tfpg_log.specs.Log.{Logbook, now_of}
 use Rattle.tfpg_log.specs.Spans.{span_number, span_at}
 use Rattle.tfpg_log.proofs.SpanRuns.{has_span}
 
@@ -14,9 +14,6 @@ none_of : {X : Type 0} (b : Bool) (x : X) → None ≡ cond b (Some x) None → 
 none_of true x at = absurd cc
 none_of false x at = refl
 
-count_rises : (before here count : ℕ) → count ≤ count + cond (eqb before here) 0 1
-count_rises before here count = omega arith
-
 module _ (log : Logbook) where
   -- an instant with a span is up to now, and the span has its number;
   pub numbered_so : (instant number : ℕ) → Some number ≡ cond (leb instant (now_of log)) (Some (span_number log instant)) None → (instant ≤ now_of log) × (span_number log instant ≡ number)
@@ -27,14 +24,6 @@ module _ (log : Logbook) where
   -- one without is after now
   pub after_now : (instant : ℕ) → None ≡ cond (leb instant (now_of log)) (Some (span_number log instant)) None → now_of log < instant
   after_now instant at = leb-false instant (now_of log) (none_of (leb instant (now_of log)) (span_number log instant) at)
-
-  -- A later instant has no lesser number.
-  pub number_rises : (lo hi : ℕ) → lo ≤ hi → span_number log lo ≤ span_number log hi
-  number_rises lo zero upto = let same : lo ≡ 0 = omega arith in omega (arith, ap (span_number log) same)
-  number_rises lo (suc hi) upto = elim (cases_lt hi lo) [
-    | inl above ↦ (let same : lo ≡ suc hi = omega arith in omega (arith, ap (span_number log) same))
-    | inr below ↦ omega (arith, number_rises lo hi below, count_rises (mode_at log hi) (mode_at log (suc hi)) (span_number log hi))
-  ]
 
   -- an instant up to now lies in the span of its number
   pub lies_inside : (number : ℕ) (span : Span) → span_at log number (now_of log) ≡ Some span → (instant : ℕ) → instant ≤ now_of log → span_number log instant ≡ number

@@ -2,8 +2,9 @@
 use Rattle.std.proofs.Common.{◌≡◌, ℕ, zero, suc, ◌+◌, ◌-◌, ◌<◌, List, [], ◌∷◌, ◌++◌, length, take, Option, Some, None, refl, sym, ap, subst, ◌∙◌, arith, append_assoc, length-append}
 use Rattle.std.specs.Prelude.{All, slice_get, option_map}
 use Rattle.std.proofs.Math.Seq.{take-append_seam}
-use Rattle.std.proofs.lemmas.List.{length-map, take-map}
+use Rattle.std.proofs.lemmas.List.{length-map, take-map, map-append, append-nil}
 use Rattle.std.proofs.lemmas.List.Elements.{All-nil, All-cons, All-append, All-head}
+use Rattle.tfpg_base.proofs.lists.Elements.{All-front, All-back}
 use Rattle.tfpg_graph.specs.Graph.{Tfpg}
 use Rattle.tfpg_log.specs.Log.{Logbook, first_events}
 use Rattle.tfpg_evidence.specs.declared.clause_name.ClauseName.{ClauseName}
@@ -11,7 +12,6 @@ use Rattle.tfpg_evidence.specs.declared.reason.Reason.{Reason}
 use Rattle.tfpg_evidence.specs.declared.step.Step.TheVariants.{Split, Cycle}
 use Rattle.tfpg_clause.specs.Clauses.{count_of}
 use Rattle.tfpg_clause.specs.Trees.{Judged, Tree, Leaf, Branch, Subtrees, NoMore, Next, PathSplit, StepPlace, how_many, places_from, places_of, IsRight, IsRightStep, IsClosedLeaf, IsRefutation, IsPartial, IsPresentLeaf}
-use Rattle.tfpg_clause.proofs.ListCuts.{map_both, no_end, All-front, All-back}
 use Rattle.tfpg_clause.specs.Paths.{next_leaf, IsRightNext}
 use Rattle.tfpg_clause.proofs.LeafPaths.{leaf_after, after_both}
 use Rattle.tfpg_clause.proofs.SomeAlternative.{some_alternative}
@@ -106,7 +106,7 @@ module _ (graph : Tfpg) (log : Logbook) (reach : List ℕ) where
           tree = tree;
           more = steps_in (here ∷ back);
           unfinished = omega arith;
-          steps_are = sym (map_both step_in front (here ∷ back)) ∙ ap steps_in (sym are);
+          steps_are = sym (map-append step_in front (here ∷ back)) ∙ ap steps_in (sym are);
           right =
               let first : take (length (steps_in front)) (places_of tree) ≡ front =
               ap (λ (n : ℕ). take n (places_of tree)) many ∙ ap (take (length front)) are ∙ take-append_seam front (here ∷ back) in
@@ -134,7 +134,7 @@ module _ (graph : Tfpg) (log : Logbook) (reach : List ℕ) where
   pub none_of_refutation : (steps : List Judged) → IsRefutation graph log reach steps → leaf_after graph log (Some []) steps ≡ None
   none_of_refutation steps refutation =
       ap (leaf_after graph log (Some [])) refutation.steps_are
-      ∙ walk_tree graph log reach [] refutation.tree (places_of refutation.tree) [] (sym (no_end (places_of refutation.tree))) refutation.right
+      ∙ walk_tree graph log reach [] refutation.tree (places_of refutation.tree) [] (sym (append-nil (places_of refutation.tree))) refutation.right
 
   -- a refutation has no leaf left
   pub no_partial : (steps : List Judged) → IsRefutation graph log reach steps → IsPartial graph log reach steps → ⊥
@@ -187,7 +187,7 @@ module _ (graph : Tfpg) (log : Logbook) (reach : List ℕ) where
         here = leaf;
         back = later;
         places_are = grafted.is ∙ sym (append_assoc cut.front (first ∷ []) (leaf ∷ later));
-        steps_are = map_both step_in cut.front (first ∷ []) ∙ ap (λ (s : List Judged). s ++ record { seen = seen; step = Split name } ∷ []) cut.steps_are;
+        steps_are = map-append step_in cut.front (first ∷ []) ∙ ap (λ (s : List Judged). s ++ record { seen = seen; step = Split name } ∷ []) cut.steps_are;
         right = All-append (IsRight graph log reach) cut.front (first ∷ []) cut.right (All-cons (IsRight graph log reach) first [] first_right (All-nil (IsRight graph log reach)));
         path_is = ap (λ (p : List PathSplit). p ++ record { name = name; seen = seen; alternative = 1 } ∷ []) cut.path_is;
       }
@@ -213,7 +213,7 @@ module _ (graph : Tfpg) (log : Logbook) (reach : List ℕ) where
       let right : All (IsRight graph log reach) front = All-append (IsRight graph log reach) cut.front (one ∷ []) cut.right (All-cons (IsRight graph log reach) one [] one_right (All-nil (IsRight graph log reach))) in
       let are : places_of grafted.tree ≡ front ++ grafted.rest = grafted.is ∙ sym (append_assoc cut.front (one ∷ []) grafted.rest) in
       let steps_are : steps_in front ≡ steps ++ record { seen = seen; step = Cycle reasons } ∷ [] =
-      map_both step_in cut.front (one ∷ []) ∙ ap (λ (s : List Judged). s ++ record { seen = seen; step = Cycle reasons } ∷ []) cut.steps_are in (
+      map-append step_in cut.front (one ∷ []) ∙ ap (λ (s : List Judged). s ++ record { seen = seen; step = Cycle reasons } ∷ []) cut.steps_are in (
         grafted.rest,
         record {
           tree = grafted.tree;
@@ -231,7 +231,7 @@ module _ (graph : Tfpg) (log : Logbook) (reach : List ℕ) where
 
   finished : (steps : List Judged) (path : List PathSplit) (rest : List StepPlace) → ClosedTree steps path rest → next_leaf graph log path ≡ None → IsRefutation graph log reach steps
   finished steps path [] closed none =
-      let all : places_of closed.tree ≡ closed.front = closed.places_are ∙ no_end closed.front in
+      let all : places_of closed.tree ≡ closed.front = closed.places_are ∙ append-nil closed.front in
       record {
         tree = closed.tree;
         steps_are = sym closed.steps_are ∙ ap steps_in (sym all);
@@ -304,7 +304,7 @@ module _ (graph : Tfpg) (log : Logbook) (reach : List ℕ) where
 
   pub last_of_refutation : (steps : List Judged) (last : Judged) → IsRefutation graph log reach (steps ++ last ∷ []) → IsRightNext graph log reach steps last
   last_of_refutation steps last refutation =
-      last_of refutation.tree (places_of refutation.tree) [] steps last (sym (no_end (places_of refutation.tree))) refutation.right (sym refutation.steps_are)
+      last_of refutation.tree (places_of refutation.tree) [] steps last (sym (append-nil (places_of refutation.tree))) refutation.right (sym refutation.steps_are)
 
   pub last_of_partial : (steps : List Judged) (last : Judged) → IsPartial graph log reach (steps ++ last ∷ []) → IsRightNext graph log reach steps last
   last_of_partial steps last partial =

@@ -2,13 +2,15 @@
 use Rattle.std.proofs.Common.{◌≡◌, ℕ, suc, ◌+◌, ◌<◌, List, [], ◌∷◌, ◌++◌, Option, Some, sym, ap, subst, ◌∙◌, inl, inr, arith}
 use Rattle.std.specs.Prelude.{All, map}
 use Rattle.std.proofs.lemmas.List.Elements.{All-head, All-tail}
+use Rattle.std.proofs.lemmas.List.{map-append, append-nil}
+use Rattle.tfpg_base.proofs.lists.Cuts.{cut_twice}
+use Rattle.tfpg_base.proofs.lists.Elements.{All-front, All-back}
 use Rattle.tfpg_graph.specs.Graph.{Tfpg}
 use Rattle.tfpg_log.specs.Log.{Logbook, first_events}
 use Rattle.tfpg_evidence.specs.declared.clause_name.ClauseName.{ClauseName}
 use Rattle.tfpg_evidence.specs.declared.step.Step.TheVariants.{Split, Cycle}
 use Rattle.tfpg_clause.specs.Clauses.{count_of}
 use Rattle.tfpg_clause.specs.Trees.{Judged, Tree, Leaf, Branch, Subtrees, NoMore, Next, PathSplit, StepPlace, how_many, places, places_from, IsRight}
-use Rattle.tfpg_clause.proofs.ListCuts.{cut_twice, map_both, no_end, All-front, All-back}
 use Rattle.tfpg_clause.specs.Paths.{next_leaf}
 use Rattle.tfpg_clause.proofs.LeafPaths.{leaf_next, leaf_after, after_both, closed_more, closed_last}
 use Rattle.tfpg_clause.proofs.SomeAlternative.{some_alternative}
@@ -71,9 +73,9 @@ module _ (graph : Tfpg) (log : Logbook) (reach : List ℕ) where
               let split_right : All (IsRight graph log reach) (places own tree ++ past.mid) = subst (All (IsRight graph log reach)) past.front_is right in
               let own_right : All (IsRight graph log reach) (places own tree) = All-front (IsRight graph log reach) (places own tree) past.mid split_right in
               ap (λ (f : List StepPlace). after (Some own) (steps_in f)) past.front_is
-              ∙ ap (after (Some own)) (map_both (λ (place : StepPlace). place.step) (places own tree) past.mid)
+              ∙ ap (after (Some own)) (map-append (λ (place : StepPlace). place.step) (places own tree) past.mid)
               ∙ after_both graph log (Some own) (steps_in (places own tree)) (steps_in past.mid)
-              ∙ ap (λ (leaf : Option (List PathSplit)). after leaf (steps_in past.mid)) (walk_tree own tree (places own tree) [] (sym (no_end (places own tree))) own_right)
+              ∙ ap (λ (leaf : Option (List PathSplit)). after leaf (steps_in past.mid)) (walk_tree own tree (places own tree) [] (sym (append-nil (places own tree))) own_right)
               ∙ past_first path name seen number count others past.mid back is (omega arith) past.rest_is
               (λ more. walk_from path name seen (number + 1) count others past.mid back past.rest_is
               (All-back (IsRight graph log reach) (places own tree) past.mid split_right) is (omega arith) more)

@@ -1,5 +1,5 @@
 -- Clauses: of each, every trace that explains the log meets an alternative.
-use Rattle.std.specs.Prelude.{◌≡◌, ℕ, zero, suc, length, ◌+◌, ◌-◌, max, pos, ◌-ℤ◌, List, [], ◌∷◌, ◌++◌, map, filter_map, fold, Bool, ◌&&◌, nat_le, ◌==◌, if◌then◌else◌, All, Contains, Option, Some, None, option_map, option_and_then, slice_get}
+use Rattle.std.specs.Prelude.{◌≡◌, ℕ, zero, suc, length, ◌+◌, ◌-◌, ◌≤◌, max, pos, ◌-ℤ◌, List, [], ◌∷◌, ◌++◌, map, filter_map, fold, Bool, ◌&&◌, nat_le, ◌==◌, if◌then◌else◌, All, Contains, Option, Some, None, option_map, option_and_then, slice_get}
 use Rattle.std.specs.Bool.{then_some}
 use Rattle.std.specs.List.{list_all}
 use Rattle.tfpg_base.specs.Choice.{each_of}
@@ -108,6 +108,16 @@ constraint_at clause number place = option_and_then (λ alternative. item_at alt
 -- The times meet a clause: they meet each constraint of some alternative.
 abbrev pub MeetsClause : List ℕ → List (List Constraint) → Type 0
 MeetsClause times clause = (alternative : List Constraint) × Contains clause alternative × All (Meets times) alternative
+
+-- The constraint is between the numbers of so many nodes and 0.
+pub record IsOver (nodes : ℕ) (constraint : Constraint) : Type 0 where
+  pub left : constraint.left ≤ nodes
+  pub right : constraint.right ≤ nodes
+
+-- The alternative has at most three constraints, each on so many nodes.
+pub record IsSmall (nodes : ℕ) (alternative : List Constraint) : Type 0 where
+  pub few : length alternative ≤ 3
+  pub over : All (IsOver nodes) alternative
 
 -- The name is allowed at the log, and the times violate its clause: they do not meet it.
 pub record Violates (graph : Tfpg) (log : Logbook) (times : List ℕ) (name : ClauseName) : Type 0 where

@@ -5,10 +5,11 @@ ghost use Rattle.std.specs.Result.{result_ok};
 ghost use Rattle.tfpg_graph.specs.Graph.{is_kind_at, is_or, is_and, incoming};
 ghost use Rattle.tfpg_clause.specs.Clauses.{alternatives, or_may, and_may, or_must, and_must, must_in, count_of, item_at, constraint_at};
 ghost use Rattle.tfpg_clause.specs.inside.Alternatives.{constraints_in, dues_over};
+ghost use Rattle.tfpg_clause.specs.inside.FirstSpan.{may_over};
 ghost use Rattle.tfpg_clause.specs.inside.Ranges.{IsSmallWindow};
 
 use crate::alternative::{Alternative, constraint_in};
-use crate::may::{arrival_count, edge_of, find_span, may_alternative};
+use crate::may::{edge_of, find_span, may_alternative, may_count};
 use crate::must::{find_joint, find_window, latest_due, must_alternative, must_count};
 use tfpg_base::Constraint;
 use tfpg_evidence::ClauseName;
@@ -107,11 +108,10 @@ pub(crate) fn alternative_of(
 fn count_or_may(graph: &Graph, log: &Log, node: u32, number: u32, horizon: u64) -> Option<u32>
     ensures { result ≡ option_map length (or_may graph.now log.now node number horizon) }
 {
-    let span = find_span(log, number, horizon)?;
     if !is_or(graph, node) {
         return None;
     }
-    Some(2 + arrival_count(graph, log, edges_into(graph, node), number, horizon, span))
+    may_count(graph, log, edges_into(graph, node), number, horizon)
 }
 
 fn count_and_may(graph: &Graph, log: &Log, edge: u32, number: u32, horizon: u64) -> Option<u32>
@@ -119,11 +119,10 @@ fn count_and_may(graph: &Graph, log: &Log, edge: u32, number: u32, horizon: u64)
         (option_and_then (λ e. and_may graph.now log.now e number horizon) (slice_get graph.now.edges edge)) }
 {
     let target = target_of(graph, edge)?;
-    let span = find_span(log, number, horizon)?;
     if !is_and(graph, target) {
         return None;
     }
-    Some(2 + arrival_count(graph, log, &[edge], number, horizon, span))
+    may_count(graph, log, &[edge], number, horizon)
 }
 
 fn count_or_must(graph: &Graph, log: &Log, edge: u32, number: u32, horizon: u64) -> Option<u32>
@@ -159,12 +158,11 @@ fn or_may_alternative(
     ensures { option_map (option_map constraints_in) (result_ok result)
         ≡ option_map (λ clause. item_at clause alternative) (or_may graph.now log.now node number horizon) }
 {
-    let span = find_span(log, number, horizon).ok_or(NotAClause)?;
     if !is_or(graph, node) {
         return Err(NotAClause);
     }
     let edges = edges_into(graph, node);
-    Ok(may_alternative(graph, log, node, edges, number, horizon, span, alternative))
+    may_alternative_in(graph, log, node, edges, number, horizon, alternative)
 }
 
 fn and_may_alternative(
@@ -180,20 +178,10 @@ fn and_may_alternative(
         (option_and_then (λ e. and_may graph.now log.now e number horizon) (slice_get graph.now.edges edge)) }
 {
     let target = target_of(graph, edge).ok_or(NotAClause)?;
-    let span = find_span(log, number, horizon).ok_or(NotAClause)?;
     if !is_and(graph, target) {
         return Err(NotAClause);
     }
-    Ok(may_alternative(
-        graph,
-        log,
-        target,
-        &[edge],
-        number,
-        horizon,
-        span,
-        alternative,
-    ))
+    may_alternative_in(graph, log, target, &[edge], number, horizon, alternative)
 }
 
 fn or_must_alternative(
@@ -253,6 +241,26 @@ fn and_must_alternative(
     )
 }
 
+/// The alternative of a may in the span of this number.
+fn may_alternative_in(
+    graph: &Graph,
+    log: &Log,
+    node: u32,
+    edges: &[u32],
+    number: u32,
+    horizon: u64,
+    alternative: u32,
+) -> Result<Option<Alternative>, NotAClause>
+    requires node { node < 512 }
+    requires edges { All (λ edge. edge < length graph.now.edges) edges.now }
+    ensures { option_map (option_map constraints_in) (result_ok result)
+        ≡ option_map (λ clause. item_at clause alternative)
+        (may_over graph.now log.now node edges.now horizon number) }
+{
+    let span = find_span(log, number, horizon).ok_or(NotAClause)?;
+    Ok(may_alternative(graph, log, node, edges, number, horizon, span, alternative))
+}
+
 /// The alternative of a must in this window.
 fn must_alternative_in(
     graph: &Graph,
@@ -276,7 +284,7 @@ fn must_alternative_in(
     if window.first != number {
         return Err(NotAClause);
     }
-    let latest = latest_due(graph, log, edges, window.hi, number, horizon).ok_or(NotAClause)?;
+    let latest = latest_due(graph, log, edges, window.hi, number, horizon, &[]).ok_or(NotAClause)?;
     Ok(must_alternative(
         graph,
         log,

@@ -12,13 +12,10 @@ ghost use Rattle.tfpg_clause.specs.Bounds.{at_least, at_most};
 ghost use Rattle.tfpg_clause.specs.Facts.{fact, from_alarm, upto_alarm};
 
 use crate::bounds::{at_least, at_most};
-use tfpg_base::Constraint;
+use tfpg_base::{Constraint, NEVER};
 use tfpg_evidence::Reason;
 use tfpg_graph::{Graph, Kind, NodeSet};
 use tfpg_log::{Event, Log};
-
-/// The number for never, after every time.
-const NEVER: u64 = 1_000_000_000_001;
 
 /// The reason states no fact.
 #[derive(Clone, Copy, Debug, PartialEq, Eq)]

@@ -19,10 +19,11 @@ use tfpg_log::Log;
 /// times up to now, as a trace, keep the propagation rules. There is one time for each node, in milliseconds, and 10^12 + 1
 /// for a node that is never active. Clauses are in order by their kind, then by their node or edge, and then by their span.
 ///
-/// Takes no memory. For may clauses it looks, for each node, at the span of its time alone. For must clauses it goes through
-/// the spans once for each edge into an OR node and for each AND node, and looks at each window once: for an edge that takes
-/// constant time for each span of the window, and for an AND node constant time for each edge into it and each span of that
-/// edge's own window round the joint one.
+/// Takes no memory. For may clauses it looks, for each node, at the span of its time alone. For must clauses it goes once
+/// through the spans for each edge into an OR node, and once for each AND node, where it takes constant time for each edge
+/// into the node and each span: the window that an edge has round one span is known at the later spans of it. So it takes
+/// at most as many constant steps as there are edges times spans, and one search in the logarithm of the mode changes for
+/// each window.
 pub fn violated(graph: &Graph, log: &Log, times: &[u64]) -> Option<ClauseName>
     requires { AreNumbers graph.now times.now }
     ensures first { MatchOption result (MeetAllNow graph.now log.now times.now)

@@ -1,19 +1,20 @@
 //! What facts, clauses and refutations come to, as functions that do nothing: each says its law in its clauses.
 
-ghost use Rattle.std.specs.Prelude.{◌≡◌, ℕ, pos, ◌≤ℤ◌, ◌↔◌, ◌⊎◌, ◌<◌, length, List, All, IsTrue, Some};
+ghost use Rattle.std.specs.Prelude.{◌≡◌, ℕ, pos, ◌≤ℤ◌, ◌↔◌, ◌⊎◌, ◌<◌, ◌≤◌, ◌+◌, ◌*◌, length, List, All, IsTrue, Some, slice_index};
 ghost use Rattle.tfpg_base.specs.declared.activation.Activation.{Activation};
 ghost use Rattle.tfpg_base.specs.declared.constraint.Constraint.{Constraint};
-ghost use Rattle.tfpg_graph.specs.Graph.{Tfpg, is_kind_at, is_failure};
+ghost use Rattle.tfpg_graph.specs.Graph.{Tfpg, is_kind_at, is_failure, edges_into};
 ghost use Rattle.tfpg_graph.specs.Reach.{IsReach};
 ghost use Rattle.tfpg_graph.specs.Valid.{IsValid};
-ghost use Rattle.tfpg_log.specs.Log.{Logbook, GoesOn, IsOf, IsOrdered, now_of};
+ghost use Rattle.tfpg_log.specs.Log.{Logbook, GoesOn, IsOf, IsOrdered, now_of, first_events};
 ghost use Rattle.tfpg_log.specs.Rules.{KeepsRules};
 ghost use Rattle.tfpg_log.specs.Explains.{Explains, Fits, ShowsAll, IsMember};
 ghost use Rattle.tfpg_evidence.specs.declared.clause_name.ClauseName.{ClauseName};
 ghost use Rattle.tfpg_evidence.specs.declared.reason.Reason.{Reason};
 ghost use Rattle.tfpg_base.specs.Constraint.{Meets};
+ghost use Rattle.tfpg_clause.specs.Bounds.{at_least, at_most, at_least_after, at_most_after};
 ghost use Rattle.tfpg_clause.specs.Facts.{fact, IsLow, IsHigh};
-ghost use Rattle.tfpg_clause.specs.Clauses.{alternatives, MeetsClause};
+ghost use Rattle.tfpg_clause.specs.Clauses.{alternatives, count_of, MeetsClause, IsSmall};
 ghost use Rattle.tfpg_clause.specs.Order.{horizon_of, ComesBefore};
 ghost use Rattle.tfpg_clause.specs.Cut.{cut, AreNumbers, AreNumbersOf};
 ghost use Rattle.tfpg_clause.specs.Trees.{Judged, PathSplit, picked, IsClosedLeaf, IsRefutation, IsPartial, IsPresentLeaf};
@@ -35,6 +36,26 @@ pub fn what_is_allowed_stays_allowed()
     ensures fact { (graph : Tfpg) (earlier later : Logbook) (reach : List ℕ)
         (reason : Reason) (stated : Constraint) → IsOrdered later → GoesOn earlier later →
         fact graph earlier reach reason ≡ Some stated → fact graph later reach reason ≡ Some stated }
+{}
+
+/// A clause that is allowed has an alternative, and not many, and each is small.
+///
+/// - `some`: it has an alternative.
+/// - `few`: it has fewer alternatives than twice the greatest number of edges into a node, and three.
+/// - `small`: each has at most three constraints, and these are on nodes of the graph.
+pub fn a_clause_has_few_small_alternatives()
+    ensures some { (graph : Tfpg) (log : Logbook) (name : ClauseName) (count : ℕ) →
+        count_of graph log name ≡ Some count → 0 < count }
+    ensures few { (graph : Tfpg) (log : Logbook) (most : ℕ) →
+        ((node : ℕ) → length (edges_into graph node) ≤ most) → (name : ClauseName) (count : ℕ) →
+        count_of graph log name ≡ Some count → count < 2 * most + 3 }
+    ensures small { (graph : Tfpg) (log : Logbook) (name : ClauseName) (clause : List (List Constraint)) →
+        IsValid graph → alternatives graph log name ≡ Some clause → All (IsSmall (length graph.nodes)) clause }
+{}
+
+/// A log goes on from its first events. So what was allowed at them is allowed at the log.
+pub fn a_log_goes_on_from_its_first_events()
+    ensures { (log : Logbook) (seen : ℕ) → GoesOn (first_events log seen) log }
 {}
 
 /// The clauses of one horizon are in a strict and total order: `not_itself` says that none comes before itself, `through` that
@@ -59,6 +80,25 @@ pub fn facts_give_a_node_one_low_and_one_high()
         IsLow graph log reach node one → IsLow graph log reach node other → one ≡ other }
     ensures one_high { (graph : Tfpg) (log : Logbook) (reach : List ℕ) (node one other : ℕ) →
         IsHigh graph log reach node one → IsHigh graph log reach node other → one ≡ other }
+{}
+
+/// The constraints of facts and clauses bound the times of nodes as their names say.
+///
+/// - `least`: the node's time is at least this.
+/// - `most`: it is at most this.
+/// - `least_after`: it is at least so much after the other's.
+/// - `most_after`: it is at most so much after the other's.
+pub fn bounds_hold_of_the_times_of_nodes()
+    ensures least { (times : List ℕ) (node bound : ℕ) →
+        Meets times (at_least node bound) ↔ (bound ≤ slice_index times node) }
+    ensures most { (times : List ℕ) (node bound : ℕ) →
+        Meets times (at_most node (pos bound)) ↔ (slice_index times node ≤ bound) }
+    ensures least_after { (times : List ℕ) (node source bound : ℕ) →
+        Meets times (at_least_after node source bound)
+        ↔ (slice_index times source + bound ≤ slice_index times node) }
+    ensures most_after { (times : List ℕ) (node source bound : ℕ) →
+        Meets times (at_most_after node source bound)
+        ↔ (slice_index times node ≤ slice_index times source + bound) }
 {}
 
 /// Where times meet constraints that chain into a cycle, the sum of their bounds is at least 0.

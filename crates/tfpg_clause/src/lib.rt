@@ -19,6 +19,7 @@ mod clauses;
 mod due;
 mod facts;
 mod first_clause;
+mod known_windows;
 pub mod laws;
 mod may;
 mod may_violated;

@@ -1,10 +1,11 @@
 //! May clauses: a node becomes active in a span only where the failure arrives by one of some edges.
 
-ghost use Rattle.std.specs.Prelude.{◌≡◌, ◌<◌, ◌≤◌, ◌++◌, length, All, Some, IfSome, option_map, slice_get};
+ghost use Rattle.std.specs.Prelude.{◌≡◌, ◌<◌, ◌≤◌, ◌++◌, ℕ, length, All, Some, IfSome, option_map, slice_get};
 ghost use Rattle.tfpg_log.specs.Spans.{span_at};
 ghost use Rattle.tfpg_clause.specs.Clauses.{outside_span, item_at};
 ghost use Rattle.tfpg_clause.specs.inside.Ranges.{IsSmallEdge, IsSmallSpan};
 ghost use Rattle.tfpg_clause.specs.inside.Alternatives.{constraints_in, arrival_over, arrivals_over};
+ghost use Rattle.tfpg_clause.specs.inside.FirstSpan.{may_over};
 
 use crate::alternative::Alternative;
 use crate::bounds::{at_least, at_least_after, at_most, before};
@@ -38,8 +39,26 @@ pub(crate) fn may_alternative(
     }
 }
 
+/// How many alternatives the clause has that a node becomes active in the span of this number only where the failure
+/// arrives by one of these edges, where there is such a span.
+pub(crate) fn may_count(
+    graph: &Graph,
+    log: &Log,
+    edges: &[u32],
+    number: u32,
+    horizon: u64,
+) -> Option<u32>
+    requires edges { All (λ edge. edge < length graph.now.edges) edges.now }
+    requires few { length edges.now ≤ 32 }
+    ensures { (node : ℕ) → result
+        ≡ option_map length (may_over graph.now log.now node edges.now horizon number) }
+{
+    let span = find_span(log, number, horizon)?;
+    Some(2 + arrival_count(graph, log, edges, number, horizon, span))
+}
+
 /// How many of these edges the failure may arrive by within the span.
-pub(crate) fn arrival_count(
+fn arrival_count(
     graph: &Graph,
     log: &Log,
     edges: &[u32],

@@ -7,10 +7,12 @@ ghost use Rattle.tfpg_clause.specs.declared.due.Due.{Due};
 ghost use Rattle.tfpg_clause.specs.Clauses.{must_in, must_alternatives, starts_late, follows_in_time, item_at};
 ghost use Rattle.tfpg_clause.specs.inside.Ranges.{IsSmallDue, IsSmallWindow};
 ghost use Rattle.tfpg_clause.specs.inside.Alternatives.{constraints_in, due_by_number, dues_over, latest_within};
+ghost use Rattle.tfpg_clause.specs.inside.KnownWindows.{IsWindowOver, AreKnown};
 
 use crate::alternative::Alternative;
 use crate::bounds::{at_least, at_most, at_most_after};
 use crate::due::Due;
+use crate::known_windows::{known_at, window_round};
 use crate::may::edge_of;
 use tfpg_graph::Graph;
 use tfpg_log::{Log, Window};
@@ -34,7 +36,7 @@ pub(crate) fn must_count(
     if window.first != number {
         return None;
     }
-    latest_due(graph, log, edges, window.hi, number, horizon)?;
+    latest_due(graph, log, edges, window.hi, number, horizon, &[])?;
     Some(2 * edges.len() as u32 + 1)
 }
 
@@ -63,11 +65,18 @@ pub(crate) fn must_alternative(
     let count = edges.len() as u32;
     let index = alternative.checked_sub(1)?;
     if index < count {
-        let due = due_over(graph, log, edges[index as usize], number, horizon)?;
+        let due = due_over(graph, log, edges[index as usize], number, horizon, None)?;
         return Some(starts_late(hi, due));
     }
     if index < 2 * count {
-        let due = due_over(graph, log, edges[(index - count) as usize], number, horizon)?;
+        let due = due_over(
+            graph,
+            log,
+            edges[(index - count) as usize],
+            number,
+            horizon,
+            None,
+        )?;
         return Some(follows_in_time(due));
     }
     if index == 2 * count {
@@ -77,7 +86,7 @@ pub(crate) fn must_alternative(
 }
 
 /// The latest time at which a failure is due over these edges, where it is due over each of them, in a window that ends here
-/// and has room for all.
+/// and has room for all. At the place of an edge its window may be known.
 pub(crate) fn latest_due(
     graph: &Graph,
     log: &Log,
@@ -85,14 +94,23 @@ pub(crate) fn latest_due(
     hi: u64,
     number: u32,
     horizon: u64,
+    known: &[Option<Window>],
 ) -> Option<u64>
     requires edges { All (λ edge. edge < length graph.now.edges) edges.now }
+    requires known { AreKnown graph.now log.now horizon edges.now known.now }
     ensures value { result ≡ latest_within hi (dues_over graph.now log.now number horizon edges.now) }
     ensures within { IfSome result (λ latest. latest ≤ hi) }
 {
     let mut latest: u64 = 0;
-    for edge in edges {
-        let due = due_over(graph, log, *edge, number, horizon)?;
+    for place in 0..edges.len() {
+        let due = due_over(
+            graph,
+            log,
+            edges[place],
+            number,
+            horizon,
+            known_at(known, place),
+        )?;
         if due.by > hi {
             return None;
         }
@@ -118,21 +136,24 @@ pub(crate) fn follows_in_time(due: Due) -> Alternative
     Alternative::One(at_most_after(due.target, due.source, due.tmax))
 }
 
-/// What is due over the edge, where its greatest delay is finite and it is active in the span.
+/// What is due over the edge, where its greatest delay is finite and it is active in the span. A window of the edge may be
+/// known.
 pub(crate) fn due_over(
     graph: &Graph,
     log: &Log,
     edge: u32,
     number: u32,
     horizon: u64,
+    known: Option<Window>,
 ) -> Option<Due>
-    requires { edge < length graph.now.edges }
+    requires edge { edge < length graph.now.edges }
+    requires known { IfSome known (IsWindowOver graph.now log.now horizon edge) }
     ensures value { result ≡ due_by_number graph.now log.now number horizon edge }
     ensures small { IfSome result IsSmallDue }
 {
     let propagation = edge_of(graph, edge);
     let tmax = propagation.tmax?;
-    let window = find_window(graph, log, edge, number, horizon)?;
+    let window = window_round(graph, log, edge, number, horizon, known)?;
     Some(Due {
         source: propagation.source,
         target: propagation.target,

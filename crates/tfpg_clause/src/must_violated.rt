@@ -2,20 +2,23 @@
 //!
 //! Only the first span of a window has a must clause. So once a window was looked at, the spans after it come next.
 
-ghost use Rattle.std.specs.Prelude.{◌≡◌, ◌<◌, ◌≤◌, ◌↔◌, ℕ, length, All, Contains, IsTrue, IsSomeAnd, slice_get};
+ghost use Rattle.std.specs.Prelude.{◌≡◌, ◌<◌, ◌≤◌, ◌↔◌, ℕ, length, All, Contains, IsTrue, IsSomeAnd, IfSome, slice_get};
 ghost use Rattle.tfpg_base.specs.Times.{max_time, never};
-ghost use Rattle.tfpg_graph.specs.Graph.{is_kind_at, is_or, is_and};
+ghost use Rattle.tfpg_graph.specs.Graph.{is_kind_at, is_or, is_and, incoming};
+ghost use Rattle.tfpg_log.specs.Log.{now_of};
 ghost use Rattle.tfpg_clause.specs.declared.clause_kind.ClauseKind.TheVariants.{OrMust, AndMust};
 ghost use Rattle.tfpg_clause.specs.Cut.{AreNumbers};
 ghost use Rattle.tfpg_clause.specs.inside.Alternatives.{due_by_number};
 ghost use Rattle.tfpg_clause.specs.inside.FirstSpan.{FindsFirst, clauses_of, MeetsUpTo, MeetsIfAny, must_over, IsExcused};
+ghost use Rattle.tfpg_clause.specs.inside.KnownWindows.{IsWindowOver, AreKnown};
 ghost use Rattle.tfpg_clause.specs.inside.Ranges.{IsSmallWindow};
 
 use crate::clauses::{edges_into, is_and, is_or, target_of};
 use crate::facts::now;
+use crate::known_windows::{known_at, take_windows};
 use crate::meets::meets;
 use crate::must::{due_over, find_joint, find_window, follows_in_time, latest_due, starts_late};
-use tfpg_graph::Graph;
+use tfpg_graph::{Graph, MAX_INCOMING};
 use tfpg_log::{Log, Window};
 
 /// The first span in which the times violate the clause that an OR node is active once the failure is due by the edge.
@@ -46,9 +49,12 @@ pub(crate) fn and_must_violated(graph: &Graph, log: &Log, times: &[u64], node: u
     if !is_and(graph, node) {
         return None;
     }
+    // With the count comes that the graph is valid: there is room for the edges into any node.
+    let _few = graph.node_count();
     let last = log.span_of(now(log))?;
+    let mut known: [Option<Window>; MAX_INCOMING] = [None; MAX_INCOMING];
     let mut number = 0;
-    while let Some(until) = and_must_met_up_to(graph, log, times, node, number) {
+    while let Some(until) = and_must_met_up_to(graph, log, times, node, number, &mut known) {
         if until >= last {
             return None;
         }
@@ -77,7 +83,17 @@ fn or_must_met_up_to(
     match find_window(graph, log, edge, number, horizon) {
         None => Some(number),
         Some(window) => {
-            if is_must_met(graph, log, times, target, &[edge], window, horizon, number) {
+            if is_must_met(
+                graph,
+                log,
+                times,
+                target,
+                &[edge],
+                window,
+                horizon,
+                number,
+                &[Some(window)],
+            ) {
                 log.span_of(window.hi)
             } else {
                 None
@@ -87,32 +103,32 @@ fn or_must_met_up_to(
 }
 
 /// A span up to which the times meet the must clauses of an AND node, from the span of this number on, or none where they
-/// violate that of the span itself.
+/// violate that of the span itself. Where all edges into it are active in the span, it takes their windows round it, and
+/// does not look for those that are known from an earlier span.
 fn and_must_met_up_to(
     graph: &Graph,
     log: &Log,
     times: &[u64],
     node: u32,
     number: u32,
+    known: &mut [Option<Window>],
 ) -> Option<u32>
     requires node { node < length graph.now.nodes }
     requires and_node { IsTrue (is_kind_at is_and graph.now node) }
     requires numbers { AreNumbers graph.now times.now }
-    ensures { MeetsUpTo times.now (clauses_of graph.now log.now AndMust node) number result }
+    requires room { length (incoming graph.now node) ≤ length known.old }
+    requires known { AreKnown graph.now log.now (now_of log.now) (incoming graph.now node) known.old }
+    ensures met { MeetsUpTo times.now (clauses_of graph.now log.now AndMust node) number result }
+    ensures known { AreKnown graph.now log.now (now_of log.now) (incoming graph.now node) known.new }
 {
     let horizon = now(log);
     match find_joint(graph, log, node, number, horizon) {
         None => Some(number),
         Some(window) => {
+            let edges = edges_into(graph, node);
+            take_windows(graph, log, edges, number, horizon, known);
             if is_must_met(
-                graph,
-                log,
-                times,
-                node,
-                edges_into(graph, node),
-                window,
-                horizon,
-                number,
+                graph, log, times, node, edges, window, horizon, number, known,
             ) {
                 log.span_of(window.hi)
             } else {
@@ -123,7 +139,7 @@ fn and_must_met_up_to(
 }
 
 /// Whether the times meet the clause that the node is active once the failure is due by all these edges, in this window,
-/// where the span of this number has that clause.
+/// where the span of this number has that clause. At the place of an edge its window may be known.
 fn is_must_met(
     graph: &Graph,
     log: &Log,
@@ -133,9 +149,11 @@ fn is_must_met(
     window: Window,
     horizon: u64,
     number: u32,
+    known: &[Option<Window>],
 ) -> bool
     requires node { node < length times.now }
     requires edges { All (λ edge. edge < length graph.now.edges) edges.now }
+    requires known { AreKnown graph.now log.now horizon edges.now known.now }
     requires in_range { All (λ time. time ≤ never) times.now }
     requires small { IsSmallWindow window }
     ensures { IsTrue result
@@ -144,17 +162,17 @@ fn is_must_met(
     if window.first != number {
         return true;
     }
-    match latest_due(graph, log, edges, window.hi, number, horizon) {
+    match latest_due(graph, log, edges, window.hi, number, horizon, known) {
         Some(latest) => {
             times[node as usize] <= latest
-                || is_excused(graph, log, times, edges, window.hi, number, horizon)
+                || is_excused(graph, log, times, edges, window.hi, number, horizon, known)
         }
         None => true,
     }
 }
 
 /// Whether by one of these edges the failure starts too late to be due in a window that ends here, or the target follows
-/// the source in time.
+/// the source in time. At the place of an edge its window may be known.
 fn is_excused(
     graph: &Graph,
     log: &Log,
@@ -163,16 +181,19 @@ fn is_excused(
     hi: u64,
     number: u32,
     horizon: u64,
+    known: &[Option<Window>],
 ) -> bool
     requires edges { All (λ edge. edge < length graph.now.edges) edges.now }
+    requires known { AreKnown graph.now log.now horizon edges.now known.now }
     requires in_range { All (λ time. time ≤ never) times.now }
     requires hi { hi ≤ max_time }
     ensures { IsTrue result
         ↔ ((edge : ℕ) × Contains edges.now edge
         × IsSomeAnd (due_by_number graph.now log.now number horizon edge) (IsExcused times.now hi)) }
 {
-    for edge in edges {
-        if is_excused_by(graph, log, times, *edge, hi, number, horizon) {
+    for place in 0..edges.len() {
+        let own = known_at(known, place);
+        if is_excused_by(graph, log, times, edges[place], hi, number, horizon, own) {
             return true;
         }
     }
@@ -180,7 +201,7 @@ fn is_excused(
 }
 
 /// Whether by the edge the failure starts too late to be due in a window that ends here, or the target follows the source
-/// in time.
+/// in time. A window of the edge may be known.
 fn is_excused_by(
     graph: &Graph,
     log: &Log,
@@ -189,14 +210,16 @@ fn is_excused_by(
     hi: u64,
     number: u32,
     horizon: u64,
+    known: Option<Window>,
 ) -> bool
     requires edge { edge < length graph.now.edges }
+    requires known { IfSome known (IsWindowOver graph.now log.now horizon edge) }
     requires in_range { All (λ time. time ≤ never) times.now }
     requires hi { hi ≤ max_time }
     ensures { IsTrue result
         ↔ IsSomeAnd (due_by_number graph.now log.now number horizon edge) (IsExcused times.now hi) }
 {
-    match due_over(graph, log, edge, number, horizon) {
+    match due_over(graph, log, edge, number, horizon, known) {
         Some(due) => meets(times, starts_late(hi, due)) || meets(times, follows_in_time(due)),
         None => false,
     }

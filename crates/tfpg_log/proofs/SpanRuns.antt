@@ -22,7 +22,8 @@ count_kept : (before here count : ℕ) → before ≡ here → count + cond (eqb
 count_kept before here count e = grind (arith, nat_tests)
 
 module _ (log : Logbook) where
-  number_rises : (lo hi : ℕ) → lo ≤ hi → span_number log lo ≤ span_number log hi
+  -- A later instant has no lesser number.
+  pub number_rises : (lo hi : ℕ) → lo ≤ hi → span_number log lo ≤ span_number log hi
   number_rises lo zero upto = let same : lo ≡ 0 = omega arith in omega (arith, ap (span_number log) same)
   number_rises lo (suc hi) upto = elim (cases_lt hi lo) [
     | inl above ↦ (let same : lo ≡ suc hi = omega arith in omega (arith, ap (span_number log) same))

@@ -14,14 +14,13 @@ use Rattle.tfpg_clause.specs.Bounds.{at_most, at_least}
 use Rattle.tfpg_clause.specs.Facts.{fact}
 use Rattle.tfpg_clause.specs.Paths.{stated_by}
 use Rattle.tfpg_clause.specs.declared.path.Frame.{Frame}
-use Rattle.tfpg_clause.proofs.LeafSteps.{leaf_begins, frames_begin}
-use Rattle.tfpg_clause.proofs.PresentLeaf.{one_leaf}
 use Rattle.tfpg_clause.specs.Order.{horizon_of}
 use Rattle.tfpg_search.specs.Enough.{IsEventTime}
 use Rattle.tfpg_search.specs.Leaf.{pick_reasons, IsStated}
 use Rattle.tfpg_search.specs.Live.{HasDistinctNames, HasNoNameTwice}
 use Rattle.tfpg_search.specs.Picks.{IsAllowed, IsInRange}
 use Rattle.tfpg_search.specs.Searching.{Searching, SearchRepresents}
+use Rattle.tfpg_search.specs.inside.ClauseLaws.{ClauseLaws}
 use Rattle.tfpg_search.proofs.Standing.{restated, fact_stated}
 
 within_is : (a b : ℕ) → a < b → nat_lt a b ≡ true
@@ -37,20 +36,20 @@ module _ (graph : Tfpg) (reach : List ℕ) where
   pub top_is : (log : Logbook) (node : ℕ) → node < length graph.nodes → fact graph log reach (Top node) ≡ Some (at_most node (pos never))
   top_is log node less = ap (λ (b : Bool). then_some b (at_most node (pos never))) (within_is node (length graph.nodes) less)
 
-  none_twice : (log : Logbook) → HasNoNameTwice graph log reach []
-  none_twice log [] back path is leaf = subst HasDistinctNames (one_leaf graph log reach [] [] path (leaf_begins graph log reach) leaf) no_names
-  none_twice log (first ∷ front) back path is leaf = cc
+  none_twice : ClauseLaws → (log : Logbook) → HasNoNameTwice graph log reach []
+  none_twice laws log [] back path is leaf = subst HasDistinctNames (laws.one_leaf graph log reach [] [] path (laws.leaf_begins graph log reach) leaf) no_names
+  none_twice laws log (first ∷ front) back path is leaf = cc
 
-  pub new_represents : (search : Searching) → search.reach ≡ reach → IsReach graph search.set reach → search.seen ≡ 0 → search.path ≡ [] → search.entered ≡ []
+  pub new_represents : ClauseLaws → (search : Searching) → search.reach ≡ reach → IsReach graph search.set reach → search.seen ≡ 0 → search.path ≡ [] → search.entered ≡ []
       → length search.leaf.demands.bounds ≡ length graph.nodes → pick_reasons search.leaf ≡ [] → IsStated (fact graph new_log reach) (fact graph new_log reach) search.leaf
       → SearchRepresents graph new_log search []
-  new_represents search reach_is is_reach seen path entered variables picks stated =
+  new_represents laws search reach_is is_reach seen path entered variables picks stated =
       let same : search ≡ record search { reach = reach; seen = 0; path = []; entered = [] } = λ i. record search { reach = reach_is i; seen = seen i; path = path i; entered = entered i } in
       subst (λ (s : Searching). SearchRepresents graph new_log s []) (sym same)
       (record {
         seen = refl;
-        leaf = frames_begin graph new_log reach;
-        names = none_twice new_log;
+        leaf = laws.frames_begin graph new_log reach;
+        names = none_twice laws new_log;
         horizons = All-nil (λ (frame : Frame). IsEventTime new_log (horizon_of frame.name));
         system = record {
           reach_is = is_reach;

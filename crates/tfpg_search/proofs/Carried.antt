@@ -13,21 +13,21 @@ use Rattle.tfpg_clause.specs.Facts.{fact}
 use Rattle.tfpg_clause.specs.Clauses.{alternatives, item_at, constraint_at}
 use Rattle.tfpg_clause.specs.Paths.{framed, stated_by}
 use Rattle.tfpg_clause.specs.declared.path.Frame.{Frame}
-use Rattle.tfpg_clause.proofs.Kept.{clause_stays, fact_stays}
 use Rattle.tfpg_diff.specs.declared.why.Why.{Why}
 use Rattle.tfpg_diff.specs.declared.why.Why.TheVariants.{Floor, Ceiling, Given}
 use Rattle.tfpg_search.specs.Leaf.{Leaf, named_by, pick_reasons, IsStated}
 use Rattle.tfpg_search.specs.Picks.{IsAllowed, place_count, picks_from, picks_of_from}
 use Rattle.tfpg_search.specs.Searching.{Searching, IsAtItsLeaf}
+use Rattle.tfpg_search.specs.inside.ClauseLaws.{ClauseLaws}
 use Rattle.tfpg_search.proofs.Picking.{of_frame}
 use Rattle.tfpg_search.proofs.Standing.{fact_stated}
 
-module _ (graph : Tfpg) (earlier later : Logbook) (ordered : IsOrdered later) (goes_on : GoesOn earlier later) where
+module _ (laws : ClauseLaws) (graph : Tfpg) (earlier later : Logbook) (ordered : IsOrdered later) (goes_on : GoesOn earlier later) where
   -- an allowed frame names the same alternatives
   same_clause : (name : ClauseName) (count : ℕ) (o : Option (List (List Constraint))) → alternatives graph earlier name ≡ o → option_map length o ≡ Some count
       → alternatives graph later name ≡ alternatives graph earlier name
   same_clause name count None is counted = cc
-  same_clause name count (Some clause) is counted = clause_stays graph earlier later ordered goes_on name clause is ∙ sym is
+  same_clause name count (Some clause) is counted = laws.clause_stays graph earlier later name clause ordered goes_on is ∙ sym is
 
   same_frame : (frame : Frame) → IsAllowed graph earlier frame → alternatives graph later frame.name ≡ alternatives graph earlier frame.name
   same_frame frame allowed = same_clause frame.name frame.alternatives (alternatives graph earlier frame.name) refl allowed
@@ -59,7 +59,7 @@ module _ (graph : Tfpg) (earlier later : Logbook) (ordered : IsOrdered later) (g
 
   module _ (reach : List ℕ) where
     abbrev still : (r : Reason) (c : Constraint) → fact graph earlier reach r ≡ Some c → fact graph later reach r ≡ Some c
-    still r c is = fact_stays graph earlier later ordered goes_on reach r c is
+    still r c is = laws.fact_stays graph earlier later reach r c ordered goes_on is
 
     stated_stays : (frames : List Frame) → All (IsAllowed graph earlier) frames → (r : Reason) (c : Constraint) → stated_by graph earlier reach frames r ≡ Some c
         → stated_by graph later reach frames r ≡ Some c

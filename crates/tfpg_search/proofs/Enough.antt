@@ -12,18 +12,17 @@ use Rattle.tfpg_evidence.specs.declared.step.Step.TheVariants.{Split, Cycle}
 use Rattle.tfpg_clause.specs.Trees.{Judged, is_split}
 use Rattle.tfpg_clause.specs.Paths.{with_step, new_frame, path_after}
 use Rattle.tfpg_clause.specs.declared.path.Frame.{Frame}
-use Rattle.tfpg_clause.proofs.SomeAlternative.{some_alternative}
 use Rattle.tfpg_search.specs.Searched.{split_count}
 use Rattle.tfpg_search.specs.Enough.{IsEventTime, IsNameAt, IsEnough}
 use Rattle.tfpg_search.specs.Picks.{IsAllowed}
+use Rattle.tfpg_search.specs.inside.ClauseLaws.{ClauseLaws}
 use Rattle.tfpg_search.specs.inside.Moves.{Goes, Leads, LeadsTo}
 use Rattle.tfpg_search.proofs.Names.{frame_name, all_allowed, names_after, AreDistinct}
 use Rattle.tfpg_search.proofs.Lifted.{after_step, distinct_frames}
-use Rattle.tfpg_clause.proofs.FewAlternatives.{few_alternatives}
 use Rattle.tfpg_search.proofs.Pigeons.{at_most_as_long}
 use Rattle.tfpg_search.proofs.Measure.{weight, weight_some, weight_limit, AreFew, split_lowers, cycle_lowers}
 
-module _ (graph : Tfpg) (log : Logbook) (reach : List ℕ) (ordered : IsOrdered log) (now_is : IsEventTime log (now_of log)) (budget : ℕ) (enough : IsEnough graph log budget) where
+module _ (laws : ClauseLaws) (graph : Tfpg) (log : Logbook) (reach : List ℕ) (ordered : IsOrdered log) (now_is : IsEventTime log (now_of log)) (budget : ℕ) (enough : IsEnough graph log budget) where
   abbrev a : ℕ
   a = 2 * enough.most + 3
 
@@ -43,10 +42,10 @@ module _ (graph : Tfpg) (log : Logbook) (reach : List ℕ) (ordered : IsOrdered 
     names : AreNames frames
 
   few_frames : (frames : List Frame) → All (IsAllowed graph log) frames → AreFew a a_some frames
-  few_frames frames allowed = All-weaker (IsAllowed graph log) (λ (f : Frame). f.alternatives < a) (λ f is. few_alternatives graph log enough.most enough.incoming.within f.name f.alternatives is) frames allowed
+  few_frames frames allowed = All-weaker (IsAllowed graph log) (λ (f : Frame). f.alternatives < a) (λ f is. laws.few graph log enough.most enough.incoming.within f.name f.alternatives is) frames allowed
 
   few : (frames : List Frame) (earlier : List Judged) → Stands frames earlier → AreFew a a_some frames
-  few frames earlier stands = few_frames frames (all_allowed graph log ordered stands.leads.0.path frames stands.leads.0.frames_are)
+  few frames earlier stands = few_frames frames (all_allowed graph log laws ordered stands.leads.0.path frames stands.leads.0.frames_are)
 
   short_names : (names : List ClauseName) → AllPairs ◌≢◌ names → All (IsNameAt graph log) names → length names ≤ n
   short_names names distinct are =
@@ -54,7 +53,7 @@ module _ (graph : Tfpg) (log : Logbook) (reach : List ℕ) (ordered : IsOrdered 
 
   short : (frames : List Frame) (earlier : List Judged) → Stands frames earlier → length frames ≤ n
   short frames earlier stands =
-      let distinct : AreDistinct frames = distinct_frames graph log reach ordered frames earlier stands.leads.0 stands.leads.1 in
+      let distinct : AreDistinct frames = distinct_frames laws graph log reach ordered frames earlier stands.leads.0 stands.leads.1 in
       omega (arith, length-map frames frame_name, short_names (map frame_name frames) distinct stands.names)
 
   -- ---- one step
@@ -76,21 +75,21 @@ module _ (graph : Tfpg) (log : Logbook) (reach : List ℕ) (ordered : IsOrdered 
       subst (All (IsNameAt graph log)) (sym (map-append frame_name frames (frame ∷ [])))
       (All-append (IsNameAt graph log) (map frame_name frames) (name ∷ []) stands.names (All-cons (IsNameAt graph log) name [] own (All-nil (IsNameAt graph log)))) in
       let stands_after : Stands after (with_step earlier log (Split name)) =
-      record { leads = after_step graph log reach ordered frames earlier stands.leads (Split name) (Some after) goes; names = subst AreNames same names } in
+      record { leads = after_step laws graph log reach ordered frames earlier stands.leads (Split name) (Some after) goes; names = subst AreNames same names } in
       record {
         stands = stands_after;
         lower =
             subst (λ (fs : List Frame). weight a a_some fs n + 1 ≤ weight a a_some frames n) same
             (split_lowers a a_some frames name count n
             (omega (arith, short after (with_step earlier log (Split name)) stands_after, ap length same, length-append frames (frame ∷ [])))
-            (omega (arith, some_alternative graph log name count goes.1))
-            (few_alternatives graph log enough.most enough.incoming.within name count goes.1));
+            (omega (arith, laws.some graph log name count goes.1))
+            (laws.few graph log enough.most enough.incoming.within name count goes.1));
       }
   step_lowers frames earlier stands (Cycle reasons) after goes =
       let is : path_after frames ≡ Some after = sym goes.1 in
       record {
         stands = record {
-          leads = after_step graph log reach ordered frames earlier stands.leads (Cycle reasons) (Some after) goes;
+          leads = after_step laws graph log reach ordered frames earlier stands.leads (Cycle reasons) (Some after) goes;
           names = names_after (IsNameAt graph log) frames after stands.leads.2 is stands.names;
         };
         lower = cycle_lowers a a_some frames after n (short frames earlier stands) is;

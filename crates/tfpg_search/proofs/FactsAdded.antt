@@ -16,13 +16,13 @@ use Rattle.tfpg_evidence.specs.declared.reason.Reason.TheVariants.{Zero, Top, Un
 use Rattle.tfpg_clause.specs.Bounds.{at_most, at_least}
 use Rattle.tfpg_clause.specs.Facts.{fact, from_alarm, upto_alarm}
 use Rattle.tfpg_clause.proofs.Dues.{passed}
-use Rattle.tfpg_clause.proofs.Bounded.{met_at_most, met_at_least}
 use Rattle.tfpg_clause.proofs.FactsMet.{monitored_within}
 use Rattle.tfpg_diff.specs.declared.bounds.Bounds.{Bounds}
 use Rattle.tfpg_diff.specs.declared.why.Why.TheVariants.{Given}
 use Rattle.tfpg_diff.specs.Demands.{Demands, Bounded}
 use Rattle.tfpg_diff.specs.Solution.{IsSolution}
 use Rattle.tfpg_diff.specs.State.{widest, raised, lowered, changed_at, with_floor, with_ceiling}
+use Rattle.tfpg_search.specs.inside.ClauseLaws.{ClauseLaws}
 use Rattle.tfpg_search.specs.inside.Facts.{AreFactsIn}
 
 -- ---- what facts say
@@ -121,16 +121,16 @@ module _ (graph : Tfpg) (log : Logbook) (of : IsOf graph log) where
     fact_bounds (Pick split place) is = absurd cc
 
   -- where bounds say all facts, each solution meets them
-  pub facts_met : (reach : List ℕ) (demands : Demands) → length demands.bounds ≡ length graph.nodes →
+  pub facts_met : ClauseLaws → (reach : List ℕ) (demands : Demands) → length demands.bounds ≡ length graph.nodes →
       ((node : ℕ) → node < length graph.nodes → AreFactsIn (fact graph log reach) demands node) →
       (reason : Reason) (constraint : Constraint) → fact graph log reach reason ≡ Some constraint →
       (times : List ℕ) → IsSolution demands times → Meets times constraint
-  facts_met reach demands as_many all reason constraint is times solution = ⊎_elim
+  facts_met laws reach demands as_many all reason constraint is times solution = ⊎_elim
       (λ (low : BoundsBelow graph constraint).
       let bounds = get_or demands.bounds low.node (widest 0) in
       let inside = low.within in
       let at : Bounded demands low.node bounds = slice_get-get_or demands.bounds low.node (widest 0) (omega arith) in
-      subst (Meets times) (sym low.is) (met_at_least times low.node low.bound (omega (
+      subst (Meets times) (sym low.is) ((laws.least times low.node low.bound).1 (omega (
         arith,
         (all low.node inside).floors bounds at reason low.bound (is ∙ ap Some low.is),
         (solution.between low.node bounds at).above,
@@ -139,7 +139,7 @@ module _ (graph : Tfpg) (log : Logbook) (of : IsOf graph log) where
       let bounds = get_or demands.bounds high.node (widest 0) in
       let inside = high.within in
       let at : Bounded demands high.node bounds = slice_get-get_or demands.bounds high.node (widest 0) (omega arith) in
-      subst (Meets times) (sym high.is) (met_at_most times high.node high.bound (omega (
+      subst (Meets times) (sym high.is) ((laws.most times high.node high.bound).1 (omega (
         arith,
         (all high.node inside).ceilings bounds at reason high.bound (is ∙ ap Some high.is),
         (solution.between high.node bounds at).below,

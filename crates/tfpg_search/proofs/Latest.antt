@@ -14,11 +14,11 @@ use Rattle.tfpg_clause.specs.Bounds.{at_most, at_least}
 use Rattle.tfpg_clause.specs.Facts.{fact}
 use Rattle.tfpg_clause.specs.Paths.{framed, stated_by}
 use Rattle.tfpg_clause.specs.declared.path.Frame.{Frame}
-use Rattle.tfpg_clause.proofs.Bounded.{says_at_least, says_at_most}
 use Rattle.tfpg_diff.specs.declared.why.Why.{Why}
 use Rattle.tfpg_diff.specs.declared.why.Why.TheVariants.{Floor, Ceiling, Given}
 use Rattle.tfpg_diff.specs.declared.pick.Pick.{Pick as PickOf}
 use Rattle.tfpg_diff.specs.Solution.{IsSolution, IsLatest}
+use Rattle.tfpg_search.specs.inside.ClauseLaws.{ClauseLaws}
 use Rattle.tfpg_search.specs.Leaf.{named_by, pick_reasons}
 use Rattle.tfpg_search.specs.Picks.{picks_of}
 use Rattle.tfpg_search.specs.Searching.{Searching, IsAtItsLeaf}
@@ -40,7 +40,7 @@ some_reason : (stated : Reason → Option Constraint) (o : Option Reason) (c : C
 some_reason stated None c is = cc
 some_reason stated (Some r) c is = (r, is)
 
-module _ (graph : Tfpg) (log : Logbook) (search : Searching) (at : IsAtItsLeaf graph log search) (settled : IsSettled graph log search)
+module _ (laws : ClauseLaws) (graph : Tfpg) (log : Logbook) (search : Searching) (at : IsAtItsLeaf graph log search) (settled : IsSettled graph log search)
     (as_many : length search.leaf.demands.picks ≡ length (pick_reasons search.leaf)) where
   abbrev states : Reason → Option Constraint
   states = stated_by graph log search.reach search.path
@@ -91,8 +91,8 @@ module _ (graph : Tfpg) (log : Logbook) (search : Searching) (at : IsAtItsLeaf g
           let low = named_fact (fact graph log search.reach) search.leaf.reasons bounds.floor_why (at_least node bounds.floor) (at.stated.bounds.floors node bounds there) in
           let high = named_fact (fact graph log search.reach) search.leaf.reasons bounds.ceiling_why (at_most node (pos bounds.ceiling)) (at.stated.bounds.ceilings node bounds there) in
           record {
-            above = says_at_least times node bounds.floor (solves.facts low.0 (at_least node bounds.floor) low.1);
-            below = says_at_most times node bounds.ceiling (solves.facts high.0 (at_most node (pos bounds.ceiling)) high.1);
+            above = (laws.least times node bounds.floor).0 (solves.facts low.0 (at_least node bounds.floor) low.1);
+            below = (laws.most times node bounds.ceiling).0 (solves.facts high.0 (at_most node (pos bounds.ceiling)) high.1);
           };
       met = all_from (λ (p : PickOf). Meets times p.constraint) search.leaf.demands.picks
           (λ place pick there.

@@ -14,20 +14,17 @@ use Rattle.tfpg_evidence.specs.declared.step.Step.TheVariants.{Split, Cycle}
 use Rattle.tfpg_clause.specs.Trees.{Judged, PathSplit, IsRefutation, IsPresentLeaf}
 use Rattle.tfpg_clause.specs.Paths.{judged_by, with_step, IsAtLeaf, stated_by, new_frame, path_after, IsClosedBy}
 use Rattle.tfpg_clause.specs.declared.path.Frame.{Frame}
-use Rattle.tfpg_clause.proofs.FramePaths.{states_same}
-use Rattle.tfpg_clause.proofs.LeafSteps.{frames_split, frames_go, frames_end}
-use Rattle.tfpg_clause.proofs.PresentLeaf.{one_leaf}
-use Rattle.tfpg_clause.proofs.TreeSteps.{no_partial}
 use Rattle.tfpg_search.specs.inside.Closing.{IsSimpleCycle}
 use Rattle.tfpg_search.specs.Solutions.{Solves}
 use Rattle.tfpg_search.specs.Live.{IsLive, IsSimpleAfter, HasDistinctNames, HasNoNameTwice}
 use Rattle.tfpg_search.specs.Searched.{with_steps, IsSearchStep, AreSearchSteps}
 use Rattle.tfpg_search.specs.inside.Moves.{SolvesFramed, IsLiveFramed, Goes, Leads, LeadsTo}
 use Rattle.tfpg_search.specs.Picks.{AreInRange}
+use Rattle.tfpg_search.specs.inside.ClauseLaws.{ClauseLaws}
 use Rattle.tfpg_search.proofs.Cuts.{cut_last}
 use Rattle.tfpg_search.proofs.Names.{same_names, all_allowed, new_name, AreDistinct, distinct_push, distinct_after, range_after, range_push}
 
-module _ (graph : Tfpg) (log : Logbook) (reach : List ℕ) (ordered : IsOrdered log) where
+module _ (laws : ClauseLaws) (graph : Tfpg) (log : Logbook) (reach : List ℕ) (ordered : IsOrdered log) where
   -- ---- solutions by frames are those of the path
 
   module _ (frames : List Frame) (earlier : List Judged) (at : IsAtLeaf graph log reach frames earlier) where
@@ -35,14 +32,14 @@ module _ (graph : Tfpg) (log : Logbook) (reach : List ℕ) (ordered : IsOrdered 
     by_path times solves = record {
       one_each = solves.one_each;
       facts = solves.facts;
-      picks = λ split place constraint is. solves.picks split place constraint (states_same graph log ordered reach at.path frames at.frames_are (Pick split place) ∙ is);
+      picks = λ split place constraint is. solves.picks split place constraint (laws.states_same graph log reach at.path frames (Pick split place) ordered at.frames_are ∙ is);
     }
 
     by_frames : (times : List ℕ) → Solves graph log reach at.path times → SolvesFramed graph log reach frames times
     by_frames times solves = record {
       one_each = solves.one_each;
       facts = solves.facts;
-      picks = λ split place constraint is. solves.picks split place constraint (sym (states_same graph log ordered reach at.path frames at.frames_are (Pick split place)) ∙ is);
+      picks = λ split place constraint is. solves.picks split place constraint (sym (laws.states_same graph log reach at.path frames (Pick split place) ordered at.frames_are) ∙ is);
     }
 
     pub live_here : (name : ClauseName) → IsLiveFramed graph log reach frames name → IsLive graph log reach earlier name
@@ -63,7 +60,7 @@ module _ (graph : Tfpg) (log : Logbook) (reach : List ℕ) (ordered : IsOrdered 
       leaf = at.leaf;
       constraints = closes.constraints;
       hold =
-          ap (λ (f : Reason → Option Constraint). each_of (map f reasons)) (λ i reason. sym (states_same graph log ordered reach at.path frames at.frames_are reason) i)
+          ap (λ (f : Reason → Option Constraint). each_of (map f reasons)) (λ i reason. sym (laws.states_same graph log reach at.path frames reason ordered at.frames_are) i)
           ∙ closes.hold;
       simple = closes.simple;
     }
@@ -75,7 +72,7 @@ module _ (graph : Tfpg) (log : Logbook) (reach : List ℕ) (ordered : IsOrdered 
     -- the names on the path are those of the frames
     distinct_names : (path : List PathSplit) → IsPresentLeaf graph log reach earlier path → AreDistinct frames → HasDistinctNames path
     distinct_names path leaf distinct =
-        let same : at.path ≡ path = one_leaf graph log reach earlier at.path path at.leaf leaf in
+        let same : at.path ≡ path = laws.one_leaf graph log reach earlier at.path path at.leaf leaf in
         subst HasDistinctNames same (subst (AllPairs ◌≢◌) (sym (same_names graph log at.path frames at.frames_are)) distinct)
 
     pub distinct_frames : HasNoNameTwice graph log reach earlier → AreDistinct frames
@@ -100,13 +97,13 @@ module _ (graph : Tfpg) (log : Logbook) (reach : List ℕ) (ordered : IsOrdered 
   after_split frames earlier here name next goes =
       let frame : Frame = new_frame name goes.0 in
       let live = goes.2 in
-      let at : IsAtLeaf graph log reach (frames ++ frame ∷ []) (with_step earlier log (Split name)) = frames_split graph log reach frames earlier name goes.0 here.0 goes.1 in
-      let fresh = new_name graph log live.times frames name here.2 (all_allowed graph log ordered here.0.path frames here.0.frames_are) live.latest.solves.picks live.first.violated in
+      let at : IsAtLeaf graph log reach (frames ++ frame ∷ []) (with_step earlier log (Split name)) = laws.frames_split graph log reach frames earlier name goes.0 here.0 goes.1 in
+      let fresh = new_name graph log live.times frames name here.2 (all_allowed graph log laws ordered here.0.path frames here.0.frames_are) live.latest.solves.picks live.first.violated in
       let distinct : AreDistinct (frames ++ frame ∷ []) = distinct_push frames frame (distinct_frames frames earlier here.0 here.1) fresh in
       subst (LeadsTo graph log reach (with_step earlier log (Split name))) (sym goes.3) (
         at,
         names_push earlier (judged_by log (Split name)) here.1 (λ path leaf. distinct_names (frames ++ frame ∷ []) (with_step earlier log (Split name)) at path leaf distinct),
-        range_push graph log frames name goes.0 here.2 goes.1,
+        range_push graph log frames name goes.0 here.2 (laws.some graph log name goes.0 goes.1),
       )
 
   closed_by : (frames : List Frame) (reasons : List Reason) → IsSimpleCycle (stated_by graph log reach frames) reasons → IsClosedBy (stated_by graph log reach frames) reasons
@@ -115,12 +112,12 @@ module _ (graph : Tfpg) (log : Logbook) (reach : List ℕ) (ordered : IsOrdered 
   after_cycle : (frames : List Frame) (earlier : List Judged) → Here frames earlier → (reasons : List Reason) (next : Option (List Frame)) → IsSimpleCycle (stated_by graph log reach frames) reasons
       → path_after frames ≡ next → LeadsTo graph log reach (with_step earlier log (Cycle reasons)) next
   after_cycle frames earlier here reasons None closes none =
-      let refutation : IsRefutation graph log reach (with_step earlier log (Cycle reasons)) = frames_end graph log reach ordered frames earlier reasons here.0 (closed_by frames reasons closes) none in (
+      let refutation : IsRefutation graph log reach (with_step earlier log (Cycle reasons)) = laws.frames_closed graph log reach frames earlier reasons ordered here.0 (closed_by frames reasons closes) none in (
         refutation,
-        names_push earlier (judged_by log (Cycle reasons)) here.1 (λ path leaf. absurd (no_partial graph log reach (with_step earlier log (Cycle reasons)) refutation leaf.partial)),
+        names_push earlier (judged_by log (Cycle reasons)) here.1 (λ path leaf. absurd (laws.finished graph log reach (with_step earlier log (Cycle reasons)) refutation leaf.partial)),
       )
   after_cycle frames earlier here reasons (Some after) closes is =
-      let at : IsAtLeaf graph log reach after (with_step earlier log (Cycle reasons)) = frames_go graph log reach ordered frames earlier reasons here.0 (closed_by frames reasons closes) after is in
+      let at : IsAtLeaf graph log reach after (with_step earlier log (Cycle reasons)) = laws.frames_next graph log reach frames after earlier reasons ordered here.0 (closed_by frames reasons closes) is in
       let distinct : AreDistinct after = distinct_after frames after here.2 is (distinct_frames frames earlier here.0 here.1) in (
         at,
         names_push earlier (judged_by log (Cycle reasons)) here.1 (λ path leaf. distinct_names after (with_step earlier log (Cycle reasons)) at path leaf distinct),

@@ -14,10 +14,10 @@ use Rattle.tfpg_evidence.specs.declared.reason.Reason.TheVariants.{Pick}
 use Rattle.tfpg_evidence.specs.declared.step.Step.{Step}
 use Rattle.tfpg_evidence.specs.declared.step.Step.TheVariants.{Split, Cycle}
 use Rattle.tfpg_clause.specs.Facts.{fact}
-use Rattle.tfpg_clause.specs.Clauses.{alternatives, count_of, item_at, constraint_at}
-use Rattle.tfpg_clause.proofs.Sizes.{IsOver, IsSmall, small_clause}
+use Rattle.tfpg_clause.specs.Clauses.{alternatives, count_of, item_at, constraint_at, IsOver, IsSmall}
 use Rattle.tfpg_graph.specs.Valid.{IsValid}
 use Rattle.tfpg_search.proofs.Picking.{of_frame, chosen, in_place, in_place_is, place_in, place_out, picks_push}
+use Rattle.tfpg_search.specs.inside.ClauseLaws.{ClauseLaws}
 use Rattle.tfpg_search.specs.declared.add_fault.AddFault.{AddFault}
 use Rattle.tfpg_search.specs.inside.Closing.{Closes}
 use Rattle.tfpg_clause.specs.Paths.{framed, stated_by, path_after, new_frame}
@@ -60,9 +60,9 @@ some_left (suc n) m is not_none = omega arith
 -- ---- pushing
 
 -- each constraint on a path is small
-pub framed_small : (graph : Tfpg) (log : Logbook) → IsValid graph → (frames : List Frame) (split place : ℕ) (c : Constraint) → framed graph log frames split place ≡ Some c → IsOver (length graph.nodes) c
-framed_small graph log valid frames zero place c is = cc
-framed_small graph log valid frames (suc k) place c is = by (slice_get frames k) is
+pub framed_small : ClauseLaws → (graph : Tfpg) (log : Logbook) → IsValid graph → (frames : List Frame) (split place : ℕ) (c : Constraint) → framed graph log frames split place ≡ Some c → IsOver (length graph.nodes) c
+framed_small laws graph log valid frames zero place c is = cc
+framed_small laws graph log valid frames (suc k) place c is = by (slice_get frames k) is
   where
     in_alternative : (alternative : List Constraint) (p : ℕ) → IsSmall (length graph.nodes) alternative → item_at alternative p ≡ Some c → IsOver (length graph.nodes) c
     in_alternative alternative zero small at = cc
@@ -85,7 +85,7 @@ framed_small graph log valid frames (suc k) place c is = by (slice_get frames k)
     named : (frame : Frame) (clause : Option (List (List Constraint))) → alternatives graph log frame.name ≡ clause
         → option_and_then (λ (c : List (List Constraint)). constraint_at c frame.alternative place) clause ≡ Some c → IsOver (length graph.nodes) c
     named frame None there none = cc
-    named frame (Some clause) there some = in_clause clause frame.alternative (small_clause graph valid log frame.name clause there) some
+    named frame (Some clause) there some = in_clause clause frame.alternative (laws.small graph log frame.name clause valid there) some
 
     by : (o : Option Frame) → option_and_then (λ (frame : Frame). option_and_then (λ clause. constraint_at clause frame.alternative place) (alternatives graph log frame.name)) o ≡ Some c
         → IsOver (length graph.nodes) c
@@ -93,9 +93,9 @@ framed_small graph log valid frames (suc k) place c is = by (slice_get frames k)
     by (Some frame) some = named frame (alternatives graph log frame.name) refl some
 
 -- an alternative on a path has at most three constraints
-pub few_places : (graph : Tfpg) (log : Logbook) → IsValid graph → (frames : List Frame) (split : ℕ) → places_at graph log frames split ≤ 3
-few_places graph log valid frames zero = omega arith
-few_places graph log valid frames (suc k) = by (slice_get frames k)
+pub few_places : ClauseLaws → (graph : Tfpg) (log : Logbook) → IsValid graph → (frames : List Frame) (split : ℕ) → places_at graph log frames split ≤ 3
+few_places laws graph log valid frames zero = omega arith
+few_places laws graph log valid frames (suc k) = by (slice_get frames k)
   where
     chosen_few : (o : Option (List Constraint)) → ((alternative : List Constraint) → o ≡ Some alternative → length alternative ≤ 3) → option_map_or length o 0 ≤ 3
     chosen_few None few = omega arith
@@ -110,7 +110,7 @@ few_places graph log valid frames (suc k) = by (slice_get frames k)
     named : (frame : Frame) (clause : Option (List (List Constraint))) → alternatives graph log frame.name ≡ clause
         → option_map_or length (option_and_then (λ (c : List (List Constraint)). item_at c frame.alternative) clause) 0 ≤ 3
     named frame None there = omega arith
-    named frame (Some clause) there = chosen_few (item_at clause frame.alternative) (in_clause clause frame.alternative (small_clause graph valid log frame.name clause there))
+    named frame (Some clause) there = chosen_few (item_at clause frame.alternative) (in_clause clause frame.alternative (laws.small graph log frame.name clause valid there))
 
     by : (o : Option Frame) → option_map_or (place_count graph log) o 0 ≤ 3
     by None = omega arith
@@ -235,10 +235,10 @@ module _ (graph : Tfpg) (log : Logbook) (now loop : Searching) (same : loop ≡ 
           at_most_there graph log now.path split (before + 1) (subst (λ (fs : List Frame). IsTrue (is_some (framed graph log fs split (before + 1)))) loop_path one.1)
 
 -- all places were pushed
-pub all_pushed : (graph : Tfpg) (log : Logbook) → IsValid graph → (now : Searching) (leaf : Leaf) (split before : ℕ) → 3 ≤ before → before ≤ places_at graph log now.path split
+pub all_pushed : ClauseLaws → (graph : Tfpg) (log : Logbook) → IsValid graph → (now : Searching) (leaf : Leaf) (split before : ℕ) → 3 ≤ before → before ≤ places_at graph log now.path split
     → pick_reasons leaf ≡ pick_reasons now.leaf ++ picks_from split 1 before → pick_reasons leaf ≡ pick_reasons now.leaf ++ picks_from split 1 (places_at graph log now.path split)
-all_pushed graph log valid now leaf split before past within picks =
-    let few = few_places graph log valid now.path split in
+all_pushed laws graph log valid now leaf split before past within picks =
+    let few = few_places laws graph log valid now.path split in
     let all : before ≡ places_at graph log now.path split = grind arith in
     picks ∙ ap (λ (n : ℕ). pick_reasons now.leaf ++ picks_from split 1 n) all
 
@@ -252,10 +252,10 @@ module _ (graph : Tfpg) (log : Logbook) (old : Searching) (at : IsAtItsLeaf grap
   -- ---- a split
 
   pub split_ok : (new : Searching) (after : List Step) (name : ClauseName) (count : ℕ) → HasEnteredAll old → IsLiveFramed graph log old.reach old.path name
-      → count_of graph log name ≡ Some count → new ≡ record old { path = old.path ++ new_frame name count ∷ [] } → after ≡ before ++ Split name ∷ []
+      → count_of graph log name ≡ Some count → 0 < count → new ≡ record old { path = old.path ++ new_frame name count ∷ [] } → after ≡ before ++ Split name ∷ []
       → IsAtItsLeaf graph log new × Grows graph log old.reach old.path before after 1 (Some new.path)
-  split_ok new after name count all live counted same appended = (
-    subst (IsAtItsLeaf graph log) (sym same) (split_stands graph log old at name count all counted),
+  split_ok new after name count all live counted some same appended = (
+    subst (IsAtItsLeaf graph log) (sym same) (split_stands graph log old at name count all counted some),
     grows_one graph log old.reach old.path before after (Split name) (Some new.path) appended (count, counted, live, ap (λ (s : Searching). Some s.path) same),
   )
 

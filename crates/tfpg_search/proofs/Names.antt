@@ -17,10 +17,8 @@ use Rattle.tfpg_clause.specs.Clauses.{alternatives, count_of, item_at, constrain
 use Rattle.tfpg_clause.specs.Trees.{PathSplit}
 use Rattle.tfpg_clause.specs.Paths.{AreFramesOf, framed, path_after, next_alternative, new_frame}
 use Rattle.tfpg_clause.specs.declared.path.Frame.{Frame}
-use Rattle.tfpg_clause.proofs.Kept.{clause_stays}
-use Rattle.tfpg_clause.proofs.TreesKept.{first_to_whole}
-use Rattle.tfpg_clause.proofs.SomeAlternative.{some_alternative}
 use Rattle.tfpg_search.specs.Picks.{IsInRange, AreInRange}
+use Rattle.tfpg_search.specs.inside.ClauseLaws.{ClauseLaws}
 
 abbrev pub frame_name : Frame → ClauseName
 frame_name frame = frame.name
@@ -61,19 +59,19 @@ module _ (graph : Tfpg) (log : Logbook) where
   abbrev pub IsAllowed : Frame → Type 0
   IsAllowed frame = count_of graph log frame.name ≡ Some frame.alternatives
 
-  count_later : (earlier : Logbook) → IsOrdered log → GoesOn earlier log → (name : ClauseName) (count : ℕ) (clause : Option (List (List Constraint))) → alternatives graph earlier name ≡ clause
+  count_later : ClauseLaws → (earlier : Logbook) → IsOrdered log → GoesOn earlier log → (name : ClauseName) (count : ℕ) (clause : Option (List (List Constraint))) → alternatives graph earlier name ≡ clause
       → option_map length clause ≡ Some count → count_of graph log name ≡ Some count
-  count_later earlier ordered goes_on name count None is counted = cc
-  count_later earlier ordered goes_on name count (Some clause) is counted = ap (option_map length) (clause_stays graph earlier log ordered goes_on name clause is) ∙ counted
+  count_later laws earlier ordered goes_on name count None is counted = cc
+  count_later laws earlier ordered goes_on name count (Some clause) is counted = ap (option_map length) (laws.clause_stays graph earlier log name clause ordered goes_on is) ∙ counted
 
-  pub all_allowed : IsOrdered log → (path : List PathSplit) (frames : List Frame) → AreFramesOf graph log path frames → All IsAllowed frames
-  all_allowed ordered [] [] are = All-nil IsAllowed
-  all_allowed ordered [] (frame ∷ frames) are = absurd are
-  all_allowed ordered (split ∷ path) [] are = absurd are
-  all_allowed ordered (split ∷ path) (frame ∷ frames) are =
+  pub all_allowed : ClauseLaws → IsOrdered log → (path : List PathSplit) (frames : List Frame) → AreFramesOf graph log path frames → All IsAllowed frames
+  all_allowed laws ordered [] [] are = All-nil IsAllowed
+  all_allowed laws ordered [] (frame ∷ frames) are = absurd are
+  all_allowed laws ordered (split ∷ path) [] are = absurd are
+  all_allowed laws ordered (split ∷ path) (frame ∷ frames) are =
       let of_split : count_of graph log split.name ≡ Some frame.alternatives =
-      count_later (first_events log split.seen) ordered (first_to_whole log split.seen) split.name frame.alternatives (alternatives graph (first_events log split.seen) split.name) refl are.0.alternatives in
-      All-cons IsAllowed frame frames (ap (count_of graph log) are.0.name ∙ of_split) (all_allowed ordered path frames are.1)
+      count_later laws (first_events log split.seen) ordered (laws.first log split.seen) split.name frame.alternatives (alternatives graph (first_events log split.seen) split.name) refl are.0.alternatives in
+      All-cons IsAllowed frame frames (ap (count_of graph log) are.0.name ∙ of_split) (all_allowed laws ordered path frames are.1)
 
   module _ (times : List ℕ) where
     -- The times meet a clause, where they meet each constraint of one of its alternatives.
@@ -185,9 +183,8 @@ distinct_after frames after range is distinct =
     pairs_front ◌≢◌ (map frame_name after) front.rest (subst (AllPairs ◌≢◌) front.names distinct)
 
 -- a new frame is in its first alternative, which there is
-pub range_push : (graph : Tfpg) (log : Logbook) (frames : List Frame) (name : ClauseName) (count : ℕ) → AreInRange frames → count_of graph log name ≡ Some count
+pub range_push : (graph : Tfpg) (log : Logbook) (frames : List Frame) (name : ClauseName) (count : ℕ) → AreInRange frames → 0 < count
     → All IsInRange (frames ++ new_frame name count ∷ [])
-range_push graph log frames name count range counted =
-    let some : 0 < count = some_alternative graph log name count counted in
+range_push graph log frames name count range some =
     All-append IsInRange frames (new_frame name count ∷ []) range
     (All-cons IsInRange (new_frame name count) [] (record { first = omega arith; last = omega (arith, some) }) (All-nil IsInRange))

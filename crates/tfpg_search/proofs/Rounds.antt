@@ -12,14 +12,12 @@ use Rattle.tfpg_clause.specs.Trees.{Judged, places_of, IsRight, IsPartial}
 use Rattle.tfpg_clause.specs.Clauses.{alternatives}
 use Rattle.tfpg_clause.specs.Order.{horizon_of}
 use Rattle.tfpg_clause.specs.declared.path.Frame.{Frame}
-use Rattle.tfpg_clause.proofs.TreesKept.{first_to_whole, leaf_stays}
-use Rattle.tfpg_clause.proofs.LeafSteps.{frames_remain}
-use Rattle.tfpg_clause.proofs.PresentLeaf.{leaf_there, one_leaf}
 use Rattle.tfpg_search.specs.declared.found.Found.{Found}
 use Rattle.tfpg_search.specs.declared.found.Found.TheVariants.{Shown, Closed, Spent}
 use Rattle.tfpg_search.specs.Live.{HasDistinctNames, HasNoNameTwice}
 use Rattle.tfpg_search.specs.Searching.{Searching, IsAtItsLeaf, SearchRepresents, RepresentsSome}
 use Rattle.tfpg_search.specs.Searched.{with_steps, split_count, AreSearchSteps, FindsOrNot, IsSearched}
+use Rattle.tfpg_search.specs.inside.ClauseLaws.{ClauseLaws}
 use Rattle.tfpg_search.specs.inside.Moves.{Leads, LeadsTo, HasEnteredAll, Ends, SearchesOn}
 use Rattle.tfpg_search.proofs.Lifted.{live_here, lift}
 use Rattle.tfpg_search.proofs.Carried.{carried}
@@ -46,21 +44,21 @@ partial_front graph log reach front back partial =
           (All-take (IsRight graph log reach) (length front) (take (length (front ++ back)) (places_of partial.tree)) partial.right);
     }
 
-module _ (graph : Tfpg) (log : Logbook) (seen : ℕ) (ordered : IsOrdered log) (reach : List ℕ) where
+module _ (laws : ClauseLaws) (graph : Tfpg) (log : Logbook) (seen : ℕ) (ordered : IsOrdered log) (reach : List ℕ) where
   names_stay : (steps : List Judged) → IsPartial graph (first_events log seen) reach steps → HasNoNameTwice graph (first_events log seen) reach steps → HasNoNameTwice graph log reach steps
   names_stay steps partial names front back path is leaf =
-      let there = leaf_there graph (first_events log seen) reach front (partial_front graph (first_events log seen) reach front back (subst (IsPartial graph (first_events log seen) reach) is partial)) in
-      let same : there.0 ≡ path = one_leaf graph log reach front there.0 path (leaf_stays graph (first_events log seen) log ordered (first_to_whole log seen) reach front there.0 there.1) leaf in
+      let there = laws.leaf_there graph (first_events log seen) reach front (partial_front graph (first_events log seen) reach front back (subst (IsPartial graph (first_events log seen) reach) is partial)) in
+      let same : there.0 ≡ path = laws.one_leaf graph log reach front there.0 path (laws.leaf_stays graph (first_events log seen) log reach front there.0 ordered (laws.first log seen) there.1) leaf in
       subst HasDistinctNames same (names front back there.0 is there.1)
 
 -- ---- a call
 
 -- The search stands at the whole log.
-pub seen_stands : (graph : Tfpg) (log : Logbook) (old new : Searching) → IsOrdered log → RepresentsSome graph log old → new ≡ record old { seen = length log.events } → IsAtItsLeaf graph log new
-seen_stands graph log old new ordered some same =
-    subst (IsAtItsLeaf graph log) (sym same) (carried graph (first_events log old.seen) log ordered (first_to_whole log old.seen) old (length log.events) some.1.system)
+pub seen_stands : ClauseLaws → (graph : Tfpg) (log : Logbook) (old new : Searching) → IsOrdered log → RepresentsSome graph log old → new ≡ record old { seen = length log.events } → IsAtItsLeaf graph log new
+seen_stands laws graph log old new ordered some same =
+    subst (IsAtItsLeaf graph log) (sym same) (carried laws graph (first_events log old.seen) log ordered (laws.first log old.seen) old (length log.events) some.1.system)
 
-module _ (graph : Tfpg) (log : Logbook) (ordered : IsOrdered log) (budget : ℕ) (new : Searching) (seen : new.seen ≡ length log.events) where
+module _ (laws : ClauseLaws) (graph : Tfpg) (log : Logbook) (ordered : IsOrdered log) (budget : ℕ) (new : Searching) (seen : new.seen ≡ length log.events) where
   represents : (steps : List Judged) → LeadsTo graph log new.reach steps (Some new.path) → AtTimes log new.path → IsAtItsLeaf graph log new → HasEnteredAll new → SearchRepresents graph log new steps
   represents steps leads times stands all = record { seen = seen; leaf = leads.0; names = leads.1; horizons = times; system = stands; all_entered = all }
 
@@ -71,12 +69,12 @@ module _ (graph : Tfpg) (log : Logbook) (ordered : IsOrdered log) (budget : ℕ)
   finds added steps splits end (Ok Spent) count leads times ends =
       let here : LeadsTo graph log new.reach steps (Some new.path) = subst (LeadsTo graph log new.reach steps) ends.4 leads in (
         count ∙ ends.0,
-        (ends.1.0, live_here graph log new.reach ordered new.path steps here.0 ends.1.0 ends.1.1),
+        (ends.1.0, live_here laws graph log new.reach ordered new.path steps here.0 ends.1.0 ends.1.1),
         represents steps here (times ends.4) ends.2 ends.3,
       )
   finds added steps splits end (Err no_memory) count leads times ends = tt
 
-module _ (graph : Tfpg) (log : Logbook) (budget : ℕ) (old middle new : Searching) (before after : List Step) (result : Result Found NoMemory) (ordered : IsOrdered log) (some : 1 ≤ length log.events)
+module _ (laws : ClauseLaws) (graph : Tfpg) (log : Logbook) (budget : ℕ) (old middle new : Searching) (before after : List Step) (result : Result Found NoMemory) (ordered : IsOrdered log) (some : 1 ≤ length log.events)
     (middle_is : middle ≡ record old { seen = length log.events }) (reach : new.reach ≡ middle.reach) (seen : new.seen ≡ middle.seen)
     (on : SearchesOn graph log budget middle new before after result) where
   reach_is : new.reach ≡ old.reach
@@ -91,8 +89,8 @@ module _ (graph : Tfpg) (log : Logbook) (budget : ℕ) (old middle new : Searchi
   module _ (earlier : List Judged) (represented : SearchRepresents graph (first_events log old.seen) old earlier) where
     at_start : LeadsTo graph log old.reach earlier (Some old.path)
     at_start = (
-      frames_remain graph (first_events log old.seen) log old.reach old.path earlier ordered (first_to_whole log old.seen) represented.leaf,
-      names_stay graph log old.seen ordered old.reach earlier represented.leaf.leaf.partial represented.names,
+      laws.frames_stay graph (first_events log old.seen) log old.reach old.path earlier ordered (laws.first log old.seen) represented.leaf,
+      names_stay laws graph log old.seen ordered old.reach earlier represented.leaf.leaf.partial represented.names,
       represented.system.range,
     )
 
@@ -100,7 +98,7 @@ module _ (graph : Tfpg) (log : Logbook) (budget : ℕ) (old middle new : Searchi
     times_at_start = times_stay log old.seen old.path represented.horizons
 
     lifted : AreSearchSteps graph log old.reach earlier on.grows.added × LeadsTo graph log old.reach (with_steps earlier log on.grows.added) on.end
-    lifted = lift graph log old.reach ordered old.path earlier on.grows.added on.end at_start.0 at_start.1 at_start.2 leads
+    lifted = lift laws graph log old.reach ordered old.path earlier on.grows.added on.end at_start.0 at_start.1 at_start.2 leads
 
     times_at_end : on.end ≡ Some new.path → AtTimes log new.path
     times_at_end is = times_after log graph old.reach (now_is_a_time log some) old.path new.path on.grows.added on.end times_at_start leads is
@@ -112,7 +110,7 @@ module _ (graph : Tfpg) (log : Logbook) (budget : ℕ) (old middle new : Searchi
     within = subst (λ (n : ℕ). n ≤ budget) (sym on.grows.count) on.within;
     right = λ earlier represents. (lifted earlier represents).0;
     found = λ earlier represents.
-        finds graph log ordered budget new seen_is on.grows.added (with_steps earlier log on.grows.added) on.splits on.end result on.grows.count
+        finds laws graph log ordered budget new seen_is on.grows.added (with_steps earlier log on.grows.added) on.splits on.end result on.grows.count
         (subst (λ (r : List ℕ). LeadsTo graph log r (with_steps earlier log on.grows.added) on.end) (sym reach_is) (lifted earlier represents).1)
         (times_at_end earlier represents) on.ends;
   }
@@ -136,6 +134,6 @@ module _ (graph : Tfpg) (log : Logbook) (budget : ℕ) (old middle new : Searchi
       let here = at_start represented.0 represented.1 in
       let ends : Ends graph log budget new on.splits on.end (Ok Spent) = subst (Ends graph log budget new on.splits on.end) spent on.ends in
       let led : Leads graph log old.reach (Some old.path) on.grows.added (Some new.path) = subst (Leads graph log old.reach (Some old.path) on.grows.added) ends.4 leads in
-      not_spent graph log old.reach ordered (now_is_a_time log some) budget enough old.path represented.0 here
-      (all_named old.path (all_allowed graph log ordered here.0.path old.path here.0.frames_are) (times_at_start represented.0 represented.1))
+      not_spent laws graph log old.reach ordered (now_is_a_time log some) budget enough old.path represented.0 here
+      (all_named old.path (all_allowed graph log laws ordered here.0.path old.path here.0.frames_are) (times_at_start represented.0 represented.1))
       on.grows.added new.path led (on.grows.count ∙ ends.0)

@@ -108,16 +108,16 @@ module _ (graph : Tfpg) (log : Logbook) where
 
     -- ---- a split is put at the end of the path
 
-    pub split_stands : (name : ClauseName) (count : ℕ) → HasEnteredAll old → count_of graph log name ≡ Some count
+    pub split_stands : (name : ClauseName) (count : ℕ) → HasEnteredAll old → count_of graph log name ≡ Some count → 0 < count
         → IsAtItsLeaf graph log (record old { path = old.path ++ new_frame name count ∷ [] })
-    split_stands name count all counted =
+    split_stands name count all counted some =
         let frame : Frame = new_frame name count in
         let long : length (old.path ++ frame ∷ []) ≡ length old.path + 1 = length-append old.path (frame ∷ []) in
         record {
           reach_is = at.reach_is;
           variables = at.variables;
           allowed = All-push (IsAllowed graph log) old.path frame at.allowed counted;
-          range = range_push graph log old.path name count at.range counted;
+          range = range_push graph log old.path name count at.range some;
           stated =
               restated (fact graph log old.reach) (stated_by graph log old.reach old.path) (stated_by graph log old.reach (old.path ++ frame ∷ [])) old.leaf at.stated
               (λ r c is. fact_stated old.reach (old.path ++ frame ∷ []) r c is)

@@ -3,3 +3,4 @@ pub mod Closing
 pub mod Facts
 pub mod Leaving
 pub mod Moves
+pub mod ClauseLaws

@@ -13,6 +13,7 @@ ghost use Rattle.tfpg_search.specs.Leaf.{pick_reasons, IsStated};
 ghost use Rattle.tfpg_search.specs.inside.Closing.{Closes};
 
 use crate::add_fault::AddFault;
+use crate::clause_laws::clause_laws;
 use crate::fact_bounds::{Bound, high, low};
 use crate::leaf_system::LeafSystem;
 use std::sync::ledger::Ledger;
@@ -45,6 +46,7 @@ impl LeafSystem {
             IsStated (fact graph.now log.now reach.now) stated self.old → IfErr result (Closes stated) }
         ensures steps { work.new ≤ work.old + 2 * length graph.now.nodes }
     {
+        clause_laws();
         for node in 0..graph.node_count() {
             self.raise_to(node, low(graph, log, reach, node), work)?;
             self.lower_to(node, high(graph, log, node), work)?;

@@ -10,6 +10,7 @@
 
 mod add_facts;
 mod add_fault;
+mod clause_laws;
 mod closing;
 mod cut;
 mod fact_bounds;

@@ -13,6 +13,7 @@ ghost use Rattle.tfpg_search.specs.inside.Moves.{KeepsSet, SearchesOn};
 mod entering;
 mod settling;
 
+use crate::clause_laws::clause_laws;
 use crate::found::Found;
 use crate::leaf_system::LeafSystem;
 use std::alloc::Global;
@@ -72,6 +73,7 @@ impl Search {
         ensures seen { IfOk result (λ search. search.seen ≡ 0) }
         ensures represents { IfOk result (λ search. SearchRepresents graph.now new_log search []) }
     {
+        clause_laws();
         let leaf = LeafSystem::new(alloc, graph.node_count())?;
         Ok(Search {
             alloc,
@@ -111,6 +113,7 @@ impl Search {
         ensures reach { self.new.reach ≡ self.old.reach }
         ensures seen { self.new.seen ≡ length log.now.events }
     {
+        clause_laws();
         self.see(log);
         self.search_on(graph, log, budget, steps, work)
     }

@@ -6,10 +6,10 @@ use Rattle.tfpg_graph.specs.Graph.{Tfpg}
 use Rattle.tfpg_log.specs.Log.{Logbook, now_of}
 use Rattle.tfpg_log.specs.Rules.{IsActive, KeepsMust}
 use Rattle.tfpg_log.specs.Spans.{span_number}
+use Rattle.tfpg_log.proofs.SpanRuns.{number_rises}
 use Rattle.tfpg_trace.specs.Broken.{FirstBreaksMust}
 use Rattle.tfpg_trace.specs.inside.FirstFaultIn.{IsFirstMustFault}
 use Rattle.tfpg_trace.specs.inside.FirstFaultIn.{FirstBreaksIn, IsFirstFaultIn}
-use Rattle.tfpg_trace.proofs.SpanOrder.{number_rises}
 use Rattle.tfpg_trace.proofs.MustFaults.{keeps_active}
 
 module _ (log : Logbook) where

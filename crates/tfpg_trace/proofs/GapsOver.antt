@@ -9,8 +9,9 @@ use Rattle.tfpg_graph.specs.Graph.{Tfpg, incoming, is_allowed}
 use Rattle.tfpg_log.specs.declared.span.Span.{Span}
 use Rattle.tfpg_log.specs.Log.{Logbook, now_of}
 use Rattle.tfpg_log.specs.Spans.{span_number, span_at, is_allowed_at}
+use Rattle.tfpg_log.proofs.SpanRuns.{number_rises}
 use Rattle.tfpg_trace.specs.inside.Gaps.{IsGap, IsGapOf, AreGaps, gap_after}
-use Rattle.tfpg_trace.proofs.SpanOrder.{number_rises, none_inside, inside, numbered, in_mode, in_order}
+use Rattle.tfpg_trace.proofs.SpanOrder.{none_inside, inside, numbered, in_mode, in_order}
 
 -- the gap at a place is that of the edge there
 pub gap_at : (graph : Tfpg) (log : Logbook) (node number place : ℕ) (numbers : List ℕ) (gaps : List (Option ℕ)) (default : Option ℕ)

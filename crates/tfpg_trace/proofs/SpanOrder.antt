@@ -1,23 +1,11 @@
 -- Spans follow one another, and each has all instants of its number.
-use Rattle.std.proofs.Common.{◌≡◌, ℕ, zero, suc, ◌+◌, ◌≤◌, cond, eqb, Some, None, inl, inr, ap, subst, arith}
-use Rattle.std.proofs.lemmas.Bool.{cases_lt}
+use Rattle.std.proofs.Common.{◌≡◌, ℕ, ◌≤◌, Some, None, subst, arith}
 use Rattle.tfpg_log.specs.declared.span.Span.{Span}
 use Rattle.tfpg_log.specs.Log.{Logbook, now_of, mode_at}
 use Rattle.tfpg_log.specs.Spans.{span_number, span_at}
 use Rattle.tfpg_log.proofs.SpanRuns.{is_span, has_span}
 
-count_rises : (before here count : ℕ) → count ≤ count + cond (eqb before here) 0 1
-count_rises before here count = omega arith
-
 module _ (log : Logbook) where
-  -- A later instant has no lesser number.
-  pub number_rises : (lo hi : ℕ) → lo ≤ hi → span_number log lo ≤ span_number log hi
-  number_rises lo zero upto = let same : lo ≡ 0 = omega arith in omega (arith, ap (span_number log) same)
-  number_rises lo (suc hi) upto = elim (cases_lt hi lo) [
-    | inl above ↦ (let same : lo ≡ suc hi = omega arith in omega (arith, ap (span_number log) same))
-    | inr below ↦ omega (arith, number_rises lo hi below, count_rises (mode_at log hi) (mode_at log (suc hi)) (span_number log hi))
-  ]
-
   module _ (number : ℕ) where
     -- Where there is no span of a number, no instant up to now has it.
     pub none_inside : span_at log number (now_of log) ≡ None → (instant : ℕ) → instant ≤ now_of log → span_number log instant ≡ number → ⊥

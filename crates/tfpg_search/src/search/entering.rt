@@ -13,6 +13,7 @@ ghost use Rattle.tfpg_search.specs.inside.Leaving.{places_at, Leaves, Pushing, P
 ghost use Rattle.tfpg_search.specs.inside.Moves.{KeepsSet, HasEnteredAll};
 
 use crate::add_fault::AddFault;
+use crate::clause_laws::clause_laws;
 use crate::search::Search;
 use std::sync::ledger::Ledger;
 use tfpg_base::{NoMemory, Steps};
@@ -83,6 +84,7 @@ impl Search {
             ≡ pick_reasons self.old.leaf ++ picks_from split 1 (places_at graph.now log.now self.old.path split)) }
         ensures closes { IfErr result (Closes (stated_by graph.now log.now self.old.reach self.old.path)) }
     {
+        clause_laws();
         let _valid = graph.node_count();
         for before in 0..MAX_CONSTRAINTS {
             match self.push_one(graph, log, split, before + 1, work) {
@@ -113,6 +115,7 @@ impl Search {
             (PushesOne (framed graph.now log.now self.old.path split place) (Pick split place) self.old.leaf self.new.leaf) }
         ensures closes { IfErr result (Closes (stated_by graph.now log.now self.old.reach self.old.path)) }
     {
+        clause_laws();
         let _valid = graph.node_count();
         let Some(constraint) = picked(graph, log, &self.path, split, place) else {
             return Ok(false);

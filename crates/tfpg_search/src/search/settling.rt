@@ -15,6 +15,7 @@ ghost use Rattle.tfpg_search.specs.inside.Closing.{IsSimpleCycle, Closes};
 ghost use Rattle.tfpg_search.specs.inside.Moves.{KeepsSet, HasEnteredAll, IsSettled, IsLiveFramed, Closing, Settling, Sees, Looking, Splitting};
 
 use crate::add_fault::AddFault;
+use crate::clause_laws::clause_laws;
 use crate::cut::cut;
 use crate::search::{Look, Search};
 use std::sync::ledger::Ledger;
@@ -56,6 +57,7 @@ impl Search {
     {
         let _valid = graph.node_count();
         let _ordered = log.len();
+        clause_laws();
         numbers_that_meet_all_give_a_trace();
         let _count = self.leaf.pick_count();
         let times = self.leaf.solution();
@@ -179,6 +181,7 @@ impl Search {
         ensures keeps { KeepsSet self.old self.new }
         ensures splitting { Splitting graph.now log.now self.old self.new steps.old steps.new result }
     {
+        clause_laws();
         let Ok(alternatives) = count(graph, log, name) else {
             unreachable!()
         };

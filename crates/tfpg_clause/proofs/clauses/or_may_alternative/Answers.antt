@@ -1,19 +1,25 @@
-use Rattle.std.proofs.Common.{List, ◌++◌, Some, sym, ap, ◌∙◌}
+use Rattle.std.proofs.Common.{List, ℕ, [], sym, ap, ◌∙◌}
 use Rattle.std.specs.Prelude.{option_map}
 use Rattle.tfpg_base.specs.declared.constraint.Constraint.{Constraint}
-use Rattle.tfpg_clause.specs.Clauses.{outside_span, item_at}
-use Rattle.tfpg_clause.specs.inside.Alternatives.{arrivals_over}
-use Rattle.tfpg_clause.proofs.Found.{or_may_found}
+use Rattle.tfpg_graph.specs.Graph.{is_kind_at, is_or, edges_into}
+use Rattle.tfpg_clause.specs.Clauses.{item_at}
+use Rattle.tfpg_clause.specs.inside.FirstSpan.{may_over}
+use Rattle.tfpg_clause.proofs.Families.{or_may_over}
+use Rattle.tfpg_clause.proofs.Found.{no_may}
 use Rattle.tfpg_clause.proofs.clauses.or_may_alternative.Goals as goal
+
+pub returns-then-not-is_or : goal.returns-then-not-is_or
+returns-then-not-is_or c =
+    let graph = c.args.graph.now in
+    sym (ap (option_map (λ (clause : List (List Constraint)). item_at clause c.args.alternative))
+    (no_may c.args.log.now (is_kind_at is_or graph c.args.node) c.args.node (edges_into graph c.args.node) c.args.number c.args.horizon (sym c.is_or.ensures.value ∙ c.if-not-is_or.true)))
 
 pub returns : goal.returns
 returns c =
     let graph = c.args.graph.now in
     let log = c.args.log.now in
-    let span = c.in_ok-span.span in
-    ap Some
-    (c.may_alternative.ensures
-    ∙ ap (λ edges. item_at (outside_span c.args.node span ++ arrivals_over graph log c.args.number c.args.horizon span edges) c.args.alternative) c.edges_into-edges.ensures.value)
+    c.may_alternative_in.ensures
+    ∙ ap (λ (edges : List ℕ). option_map (λ (clause : List (List Constraint)). item_at clause c.args.alternative) (may_over graph log c.args.node edges c.args.horizon c.args.number))
+    c.edges_into-edges.ensures.value
     ∙ sym (ap (option_map (λ (clause : List (List Constraint)). item_at clause c.args.alternative))
-    (or_may_found graph log c.args.node c.args.number c.args.horizon span (sym c.is_or.ensures.value ∙ c.if-not-is_or.false)
-    (sym c.find_span.ensures.value ∙ c.in_ok-span.ensures.ok_part)))
+    (or_may_over graph log [] c.args.horizon c.args.node (sym c.is_or.ensures.value ∙ c.if-not-is_or.false) c.args.number))

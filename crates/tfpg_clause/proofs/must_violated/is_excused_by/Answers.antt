@@ -15,3 +15,11 @@ returns-else-meets c =
         | inr soon ↦ c.meets-else-meets.ensures.1 (subst (All (Meets times)) (sym c.follows_in_time.ensures) soon)
       ],
     )
+
+pub returns-then-meets : goal.returns-then-meets
+returns-then-meets c =
+    let times = c.args.times.now in
+    subst (λ due. IsTrue c.meets.result ↔ IsSomeAnd due (IsExcused times c.args.hi)) c.in-Some.ensures.value (
+      λ yes. inl (subst (All (Meets times)) c.starts_late.ensures (c.meets.ensures.0 yes)),
+      λ excuse. c.if-meets.true,
+    )

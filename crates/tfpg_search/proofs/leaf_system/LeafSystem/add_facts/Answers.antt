@@ -60,6 +60,6 @@ pub returns-clause-facts : goal.returns-clause-facts
 returns-clause-facts g c =
     let count = c.node_count-node-end.ensures.count in
     let ended = c.loop-node-test.false in
-    facts_met c.args.graph.now c.args.log.now c.requires.of c.args.reach.now c.loop-node.self.demands
+    facts_met c.args.graph.now c.args.log.now c.requires.of c.clause_laws.ensures c.args.reach.now c.loop-node.self.demands
     (c.loop-node.invariant.nodes ∙ c.requires.nodes)
     (λ node within. c.loop-node.invariant.facts node (omega arith))

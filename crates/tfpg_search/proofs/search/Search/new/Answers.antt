@@ -6,7 +6,7 @@ use Rattle.tfpg_search.proofs.search.Search.new.Goals as goal
 
 pub returns-clause-represents : goal.returns-clause-represents
 returns-clause-represents c =
-    new_represents c.args.graph.now c.args.reach
+    new_represents c.args.graph.now c.args.reach c.clause_laws.ensures
     (record { set = c.args.set; reach = c.args.reach; seen = 0; path = c.new-2.result.items; entered = c.new-3.result.items; leaf = c.in_ok-leaf.leaf }) refl c.requires.reach refl
     c.new-2.ensures.items c.new-3.ensures.items (c.in_ok-leaf.ensures.nodes ∙ c.node_count.ensures.count) c.in_ok-leaf.ensures.no_reasons
     (c.in_ok-leaf.ensures.stated (fact c.args.graph.now new_log c.args.reach)

@@ -54,5 +54,5 @@ loop-before-preserved g c =
 
 pub returns-clause-ok : goal.returns-clause-ok
 returns-clause-ok g c =
-    all_pushed c.args.graph.now c.args.log.now c.node_count-valid.ensures.valid c.args.self.now c.loop-before.self.leaf c.args.split c.loop-before.before c.loop-before-test.false
+    all_pushed c.clause_laws.ensures c.args.graph.now c.args.log.now c.node_count-valid.ensures.valid c.args.self.now c.loop-before.self.leaf c.args.split c.loop-before.before c.loop-before-test.false
     c.loop-before.invariant.within c.loop-before.invariant.picks

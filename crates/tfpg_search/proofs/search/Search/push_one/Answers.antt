@@ -15,7 +15,7 @@ push-requires-clause-left g c =
     let path = c.deref.ensures.value ∙ ap (λ (s : Searching). s.path) c.self.view_is in
     let states : framed c.args.graph.now c.args.log.now c.args.self.now.path c.args.split c.args.place ≡ Some c.in-Some.constraint =
     sym (c.in-Some.ensures ∙ ap (λ (fs : List Frame). framed c.args.graph.now c.args.log.now fs c.args.split c.args.place) path) in
-    let small = framed_small c.args.graph.now c.args.log.now c.node_count-valid.ensures.valid c.args.self.now.path c.args.split c.args.place c.in-Some.constraint states in
+    let small = framed_small c.clause_laws.ensures c.args.graph.now c.args.log.now c.node_count-valid.ensures.valid c.args.self.now.path c.args.split c.args.place c.in-Some.constraint states in
     subst (λ (n : ℕ). c.in-Some.constraint.left ≤ n) (sym (ap (λ (s : Searching). length s.leaf.demands.bounds) c.self.view_is ∙ c.requires.variables)) small.left
 
 pub push-requires-clause-right : goal.push-requires-clause-right
@@ -23,7 +23,7 @@ push-requires-clause-right g c =
     let path = c.deref.ensures.value ∙ ap (λ (s : Searching). s.path) c.self.view_is in
     let states : framed c.args.graph.now c.args.log.now c.args.self.now.path c.args.split c.args.place ≡ Some c.in-Some.constraint =
     sym (c.in-Some.ensures ∙ ap (λ (fs : List Frame). framed c.args.graph.now c.args.log.now fs c.args.split c.args.place) path) in
-    let small = framed_small c.args.graph.now c.args.log.now c.node_count-valid.ensures.valid c.args.self.now.path c.args.split c.args.place c.in-Some.constraint states in
+    let small = framed_small c.clause_laws.ensures c.args.graph.now c.args.log.now c.node_count-valid.ensures.valid c.args.self.now.path c.args.split c.args.place c.in-Some.constraint states in
     subst (λ (n : ℕ). c.in-Some.constraint.right ≤ n) (sym (ap (λ (s : Searching). length s.leaf.demands.bounds) c.self.view_is ∙ c.requires.variables)) small.right
 
 pub returns-clause-pushing : goal.returns-clause-pushing

@@ -21,4 +21,4 @@ returns-in_err-push-clause-splitting c =
 pub returns-clause-splitting : goal.returns-clause-splitting
 returns-clause-splitting c =
     split_ok c.args.graph.now c.args.log.now c.args.self.now c.requires.stands c.args.steps.now c.descend.new.self c.push.new.self c.args.name c.in-Ok.alternatives c.requires.entered
-    c.requires.live (sym c.in-Ok.ensures) c.in_ok-descend.ensures.ok c.in_ok-push.ensures.ok
+    c.requires.live (sym c.in-Ok.ensures) (c.clause_laws.ensures.some c.args.graph.now c.args.log.now c.args.name c.in-Ok.alternatives (sym c.in-Ok.ensures)) c.in_ok-descend.ensures.ok c.in_ok-push.ensures.ok

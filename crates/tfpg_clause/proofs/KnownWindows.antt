@@ -1,0 +1,82 @@
+-- Windows that are known: they are those round later spans too.
+use Rattle.std.proofs.Common.{◌≡◌, ℕ, ◌+◌, ◌<◌, ◌≤◌, List, [], ◌∷◌, length, replicate, set, get_or, Option, Some, None, IfSome, inl, inr, refl, sym, subst, ◌∙◌, arith}
+use Rattle.std.specs.Prelude.{option_and_then, slice_get, slice_index_or}
+use Rattle.std.proofs.lemmas.Bool.{cases_eq}
+use Rattle.std.proofs.lemmas.List.{get_or-replicate, get_or-set_same, get_or-set_other}
+use Rattle.tfpg_graph.specs.declared.edge.Edge.{Edge}
+use Rattle.tfpg_graph.specs.Graph.{Tfpg}
+use Rattle.tfpg_log.specs.declared.span.Span.{Span}
+use Rattle.tfpg_log.specs.declared.span.Window.{Window}
+use Rattle.tfpg_log.specs.Log.{Logbook}
+use Rattle.tfpg_log.specs.Spans.{span_number, span_at, window_of}
+use Rattle.tfpg_log.proofs.SpanRuns.{is_span}
+use Rattle.tfpg_log.proofs.WindowInstants.{throughout}
+use Rattle.tfpg_clause.specs.inside.KnownWindows.{window_over, IsWindowOver, AreKnown, AreWindows}
+
+module _ (graph : Tfpg) (log : Logbook) (edge number horizon : ℕ) where
+  -- A window of the edge is the one round each span that begins in it.
+  pub window_again : (span : Span) (window : Window) → span_at log number horizon ≡ Some span → IsWindowOver graph log horizon edge window → window.lo ≤ span.lo → span.lo ≤ window.hi
+      → Some window ≡ option_and_then (λ e. window_of log e number horizon) (slice_get graph.edges edge)
+  window_again span window here over from upto = by (slice_get graph.edges edge) over.1
+    where
+      numbered : span_number log span.lo ≡ number
+      numbered = let is = is_span log number horizon span here in is.numbered span.lo (omega arith) is.run.in_order
+
+      by : (o : Option Edge) → option_and_then (λ e. window_of log e over.0 horizon) o ≡ Some window → Some window ≡ option_and_then (λ e. window_of log e number horizon) o
+      by None at = absurd cc
+      by (Some e) at = sym (subst (λ n. window_of log e n horizon ≡ Some window) numbered (throughout log e over.0 horizon span.lo window at from upto))
+
+  -- Where there is no such span, there is no window.
+  pub none_round : None ≡ span_at log number horizon → None ≡ option_and_then (λ e. window_of log e number horizon) (slice_get graph.edges edge)
+  none_round none = by (slice_get graph.edges edge)
+    where
+      by : (o : Option Edge) → None ≡ option_and_then (λ e. window_of log e number horizon) o
+      by None = refl
+      by (Some e) = let gone : span_at log number horizon ≡ None = sym none in cc
+
+  -- What is found round a span is a window of the edge.
+  pub is_over : (found : Option Window) → found ≡ option_and_then (λ e. window_of log e number horizon) (slice_get graph.edges edge) → IfSome found (IsWindowOver graph log horizon edge)
+  is_over None at = tt
+  is_over (Some window) at = (number, sym at)
+
+module _ (graph : Tfpg) (log : Logbook) (horizon : ℕ) where
+  -- where nothing is known,
+  pub none_known : (edges : List ℕ) (count : ℕ) → length edges ≤ count → AreKnown graph log horizon edges (replicate count None)
+  none_known edges count room place below =
+      subst (λ o. IfSome o (IsWindowOver graph log horizon (get_or edges place 0))) (sym (get_or-replicate {A = Option Window} count place None None (omega arith))) tt
+
+  -- one window,
+  pub one_known : (edge : ℕ) (window : Window) → IsWindowOver graph log horizon edge window → AreKnown graph log horizon (edge ∷ []) (Some window ∷ [])
+  one_known edge window over place below =
+      let same : place ≡ 0 = omega arith in
+      subst (λ k. IfSome (slice_index_or (Some window ∷ []) k None) (IsWindowOver graph log horizon (slice_index_or (edge ∷ []) k 0))) (sym same) over
+
+  -- and one more
+  pub more_known : (edges : List ℕ) (known : List (Option Window)) (at : ℕ) (found : Option Window) → at < length known
+      → IfSome found (IsWindowOver graph log horizon (get_or edges at 0)) → AreKnown graph log horizon edges known → AreKnown graph log horizon edges (set known at found)
+  more_known edges known at found within own others place below = elim (cases_eq place at) [
+    | inl same ↦ subst (λ k. IfSome (get_or (set known at found) k None) (IsWindowOver graph log horizon (get_or edges k 0))) (sym same)
+        (subst (λ o. IfSome o (IsWindowOver graph log horizon (get_or edges at 0))) (sym (get_or-set_same known at found None within)) own)
+    | inr apart ↦ subst (λ o. IfSome o (IsWindowOver graph log horizon (get_or edges place 0))) (sym (get_or-set_other known at place found None apart)) (others place below)
+  ]
+
+-- What is known stays so where horizon and edges are the same.
+pub known_same : (graph : Tfpg) (log : Logbook) (horizon other : ℕ) (edges others : List ℕ) → horizon ≡ other → edges ≡ others
+    → (known : List (Option Window)) → AreKnown graph log horizon edges known → AreKnown graph log other others known
+known_same graph log horizon other edges others same are known is =
+    subst (λ (es : List ℕ). AreKnown graph log other es known) are (subst (λ (h : ℕ). AreKnown graph log h edges known) same is)
+
+-- The windows round a span are known.
+pub windows_known : (graph : Tfpg) (log : Logbook) (number horizon : ℕ) (edges : List ℕ) (windows : List (Option Window)) → AreWindows graph log number horizon edges windows
+    → AreKnown graph log horizon edges windows
+windows_known graph log number horizon edges windows are place below = is_over graph log (get_or edges place 0) number horizon (slice_index_or windows place None) (are place below)
+
+-- the windows of the first edges, and of one more
+pub more_windows : (graph : Tfpg) (log : Logbook) (number horizon : ℕ) (edges : List ℕ) (known : List (Option Window)) (at : ℕ) (found : Option Window) → at < length known
+    → found ≡ window_over graph log number horizon (get_or edges at 0)
+    → ((place : ℕ) → place < at → slice_index_or known place None ≡ window_over graph log number horizon (get_or edges place 0))
+    → (place : ℕ) → place < at + 1 → slice_index_or (set known at found) place None ≡ window_over graph log number horizon (get_or edges place 0)
+more_windows graph log number horizon edges known at found within own others place below = elim (cases_eq place at) [
+  | inl same ↦ subst (λ k. slice_index_or (set known at found) k None ≡ window_over graph log number horizon (get_or edges k 0)) (sym same) (get_or-set_same known at found None within ∙ own)
+  | inr apart ↦ get_or-set_other known at place found None apart ∙ others place (omega (arith, below, apart))
+]

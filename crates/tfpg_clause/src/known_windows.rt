@@ -1,0 +1,62 @@
+//! Windows of edges that are known from earlier spans: so each is looked for once while one goes through the spans.
+
+ghost use Rattle.std.specs.Prelude.{◌≡◌, ◌<◌, ◌≤◌, length, All, IfSome, slice_index_or, None};
+ghost use Rattle.tfpg_clause.specs.inside.KnownWindows.{window_over, IsWindowOver, AreKnown, AreWindows};
+ghost use Rattle.tfpg_clause.specs.inside.Ranges.{IsSmallWindow};
+
+use crate::may::find_span;
+use crate::must::find_window;
+use tfpg_graph::Graph;
+use tfpg_log::{Log, Window};
+
+/// The window of the edge round the span of this number, up to a horizon, where there is one. It is not looked for where
+/// the span lies in the window that is known. Else the cost is that of [`Log::window_of`].
+pub(crate) fn window_round(
+    graph: &Graph,
+    log: &Log,
+    edge: u32,
+    number: u32,
+    horizon: u64,
+    known: Option<Window>,
+) -> Option<Window>
+    requires edge { edge < length graph.now.edges }
+    requires known { IfSome known (IsWindowOver graph.now log.now horizon edge) }
+    ensures value { result ≡ window_over graph.now log.now number horizon edge }
+    ensures small { IfSome result IsSmallWindow }
+{
+    let _ordered = log.len();
+    let instant = find_span(log, number, horizon)?.lo;
+    match known {
+        Some(window) if window.lo <= instant && instant <= window.hi => Some(window),
+        _ => find_window(graph, log, edge, number, horizon),
+    }
+}
+
+/// Takes the windows of these edges round the span of this number, up to a horizon, in place of those that are known.
+pub(crate) fn take_windows(
+    graph: &Graph,
+    log: &Log,
+    edges: &[u32],
+    number: u32,
+    horizon: u64,
+    known: &mut [Option<Window>],
+)
+    requires edges { All (λ edge. edge < length graph.now.edges) edges.now }
+    requires room { length edges.now ≤ length known.old }
+    requires known { AreKnown graph.now log.now horizon edges.now known.old }
+    ensures { AreWindows graph.now log.now number horizon edges.now known.new }
+{
+    for place in 0..edges.len() {
+        known[place] = window_round(graph, log, edges[place], number, horizon, known[place]);
+    }
+}
+
+/// What is known at the place.
+pub(crate) fn known_at(known: &[Option<Window>], place: usize) -> Option<Window>
+    ensures { result ≡ slice_index_or known.now place None }
+{
+    match known.get(place) {
+        Some(window) => *window,
+        None => None,
+    }
+}

@@ -1,0 +1,27 @@
+//! The laws of clauses and of refutations that the proofs of this crate rest on.
+
+ghost use Rattle.tfpg_search.specs.inside.ClauseLaws.{ClauseLaws};
+
+use tfpg_clause::laws::{
+    a_clause_has_few_small_alternatives, a_log_goes_on_from_its_first_events, a_partial_tree_grows,
+    a_partial_tree_has_one_present_leaf, a_refutation_is_finished, a_tree_stays,
+    bounds_hold_of_the_times_of_nodes, frames_are_at_the_present_leaf, frames_follow_the_path,
+    what_is_allowed_stays_allowed,
+};
+
+/// Clauses have few and small alternatives, what is allowed stays allowed, and frames follow the steps of a tree to its
+/// present leaf. It does nothing.
+pub(crate) fn clause_laws()
+    ensures { ClauseLaws }
+{
+    bounds_hold_of_the_times_of_nodes();
+    a_clause_has_few_small_alternatives();
+    a_log_goes_on_from_its_first_events();
+    what_is_allowed_stays_allowed();
+    a_partial_tree_grows();
+    a_partial_tree_has_one_present_leaf();
+    a_tree_stays();
+    a_refutation_is_finished();
+    frames_are_at_the_present_leaf();
+    frames_follow_the_path();
+}
