@@ -121,8 +121,12 @@ fn put_ranked_line(
     )
 }
 
-/// Appends the lines of the activations.
-fn put_activations(graph: &Graph, trace: &[Activation], into: &mut Vec<u8>) -> Result<(), NoMemory>
+/// Appends the lines of the activations, in their order.
+pub fn put_activations(
+    graph: &Graph,
+    trace: &[Activation],
+    into: &mut Vec<u8>,
+) -> Result<(), NoMemory>
     requires { All (λ activation. activation.node < length graph.now.nodes) trace.now }
     ensures { Appends result into.old.items into.new.items (flat_map (activation_text graph.now) trace.now) }
 {

@@ -37,8 +37,9 @@ fn put_pieces(pieces: &[&[u8]], into: &mut Vec<u8>) -> Result<(), NoMemory>
     Ok(())
 }
 
-/// Appends a set: a hyphen for the empty one, else the names of its members with commas between.
-fn put_set(graph: &Graph, set: Set, into: &mut Vec<u8>) -> Result<(), NoMemory>
+/// Appends a set: a hyphen for the empty one, else the names of its members with commas between. Costs linear time in the
+/// count of failure modes, besides its text.
+pub fn put_set(graph: &Graph, set: Set, into: &mut Vec<u8>) -> Result<(), NoMemory>
     requires { All (λ place. place < length (failures graph.now)) set }
     ensures { Appends result into.old.items into.new.items (set_word graph.now set) }
 {

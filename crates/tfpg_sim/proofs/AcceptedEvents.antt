@@ -89,19 +89,19 @@ number_word number small = record {
   lacks = decimal_lacks 32 number refl (omega arith);
 }
 
-lacks_checked : (byte : ℕ) (word : List ℕ) → list_all (λ other. not (eqb other byte)) word ≡ true → Lacks byte word
+pub lacks_checked : (byte : ℕ) (word : List ℕ) → list_all (λ other. not (eqb other byte)) word ≡ true → Lacks byte word
 lacks_checked byte [] all = All-nil (λ other. eqb other byte ≡ false)
 lacks_checked byte (first ∷ others) all =
     let parts = and_parts (not (eqb first byte)) (list_all (λ other. not (eqb other byte)) others) all in
     All-cons (λ other. eqb other byte ≡ false) first others (not-true (eqb first byte) parts.0) (lacks_checked byte others parts.1)
 
 -- a word and more words have no line end where both have none
-clean : (word : List ℕ) (words : List (List ℕ)) → HasNoLineEnd word → HasNoLineEnd (line_of words) → HasNoLineEnd (line_of (word ∷ words))
+pub clean : (word : List ℕ) (words : List (List ℕ)) → HasNoLineEnd word → HasNoLineEnd (line_of words) → HasNoLineEnd (line_of (word ∷ words))
 clean word [] own rest = own
 clean word (next ∷ words) own rest =
     All-append (λ byte. eqb byte 10 ≡ false) word (32 ∷ line_of (next ∷ words)) own (All-cons (λ byte. eqb byte 10 ≡ false) 32 (line_of (next ∷ words)) refl rest)
 
-number_clean : (number : ℕ) → number ≤ max_time → HasNoLineEnd (decimal number)
+pub number_clean : (number : ℕ) → number ≤ max_time → HasNoLineEnd (decimal number)
 number_clean number small = decimal_lacks 10 number refl (omega arith)
 
 digits : (number : ℕ) → number ≤ max_time → length (decimal number) ≤ 13

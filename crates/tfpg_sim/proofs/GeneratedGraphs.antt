@@ -49,7 +49,7 @@ lettered_name letter number is small =
     (le-leb (length (decimal number)) 31 (let short : length (decimal number) ≤ 13 = length-decimal-le 13 number (omega arith) (omega arith) (omega arith) in omega arith)))
 
 -- each node has a name
-is_name-node : (node : ℕ) → node < 1000 → IsTrue (is_name (node_name node))
+pub is_name-node : (node : ℕ) → node < 1000 → IsTrue (is_name (node_name node))
 is_name-node node small = ⊎_elim
     (λ low. ap is_name (failure_name node low) ∙ lettered_name 70 node refl small)
     (λ high. ap is_name (discrepancy_name node high) ∙ lettered_name 68 (node - 16) refl (omega arith)) (cases_lt node 16)
@@ -98,7 +98,7 @@ pub length-failure_kinds : (n : ℕ) → length (failure_kinds n) ≡ n
 length-failure_kinds zero = refl
 length-failure_kinds (suc n) = omega (arith, length_push (failure_kinds n) (Failure (n + 1)), length-failure_kinds n)
 
-failure_kind : (n k : ℕ) (d : Kind) → k < n → get_or (failure_kinds n) k d ≡ Failure (k + 1)
+pub failure_kind : (n k : ℕ) (d : Kind) → k < n → get_or (failure_kinds n) k d ≡ Failure (k + 1)
 failure_kind zero k d within = absurd (omega arith)
 failure_kind (suc n) k d within = ⊎_elim
     (λ less. get_or_append_left (failure_kinds n) (Failure (n + 1) ∷ []) d k (omega (arith, length-failure_kinds n)) ∙ failure_kind n k d less)
@@ -445,6 +445,21 @@ generated_valid number size some few =
 -- It has as many discrepancies as its size says.
 pub generated_kinds : (number size : ℕ) → length (draft_of number size).kinds ≡ 4 * size
 generated_kinds number size = (drafts (generator number 1) (4 * size)).count
+
+-- It has 16 failure modes.
+pub generated_failures : (number size : ℕ) → length (failures (generated_graph number size)) ≡ 16
+generated_failures number size =
+    let kinds : List Kind = (draft_of number size).kinds in
+    let is = drafts (generator number 1) (4 * size) in
+    let own : count_by is_failure (failure_kinds 16) ≡ 16 = refl in
+    omega (
+      arith,
+      length-numbers_from (λ (node : Node). is_failure node.kind) 0 (named 0 (failure_kinds 16 ++ kinds)),
+      count-named 0 (failure_kinds 16 ++ kinds),
+      sum_by-append (λ kind. cond (is_failure kind) 1 0) (failure_kinds 16) kinds,
+      count-none kinds is.discrepancies,
+      own,
+    )
 
 -- Each of its edges is active in the first mode alone, or in both.
 pub generated_modes : (number size : ℕ) → All HasDrawnModes (draft_of number size).edges

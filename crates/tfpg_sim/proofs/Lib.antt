@@ -22,3 +22,5 @@ pub mod AcceptedLines
 pub mod ExplainedLogs
 pub mod GeneratedGraphs
 pub mod GraphTexts
+pub mod GeneratedScripts
+pub mod SimulatedSets

@@ -7,6 +7,7 @@
 //!   log from the set.
 //! - [`generate`] draws a graph and a script for it, which are [`Generated`].
 //! - [`a_generated_graph_is_valid`] is a law: a generated graph is valid, at each number and each size up to 100.
+//! - [`a_generated_script_is_right`] is a last one: its script is right, and starts one or two of its failure modes.
 //! - [`SimFault`] says why there is none.
 #![tactic(auto)]
 
@@ -31,8 +32,8 @@ mod trace;
 pub use fault::SimFault;
 pub use generating::{Generated, generate};
 pub use laws::{
-    a_generated_graph_is_valid, a_simulated_log_is_accepted_and_explained,
-    a_simulated_trace_keeps_the_rules,
+    a_generated_graph_is_valid, a_generated_script_is_right,
+    a_simulated_log_is_accepted_and_explained, a_simulated_trace_keeps_the_rules,
 };
 pub use simulated::Simulated;
 pub use simulation::simulate;
