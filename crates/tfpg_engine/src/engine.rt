@@ -4,6 +4,7 @@ ghost use Rattle.std.specs.Prelude.{◌≡◌, ◌≤◌, ◌<◌, ◌↔◌, �
 ghost use Rattle.tfpg_evidence.specs.declared.round.Round.{Round};
 ghost use Rattle.tfpg_hyp.specs.Hypotheses.{max_hypotheses, HasHypotheses};
 ghost use Rattle.tfpg_log.specs.Accepted.{reply_to};
+ghost use Rattle.tfpg_log.specs.Log.{IsOf};
 ghost use Rattle.tfpg_log.specs.LogOfLines.{new_log};
 ghost use Rattle.tfpg_log.specs.declared.refusal.Refusal.{Refusal};
 ghost use Rattle.tfpg_engine.specs.Engining.{EngineRepresents, Brings};
@@ -150,11 +151,26 @@ impl Engine {
         &self.graph
     }
 
-    /// The log of the accepted lines.
+    /// The log of the accepted lines, which is of the graph.
     pub fn log(&self) -> &Log
-        ensures { result.now ≡ self.now.log }
+        ensures log { result.now ≡ self.now.log }
+        ensures of { IsOf self.now.graph result.now }
     {
         &self.log
+    }
+
+    /// The greatest number of failure modes of a hypothesis.
+    pub fn k(&self) -> u32
+        ensures { result ≡ self.now.k }
+    {
+        self.k
+    }
+
+    /// How many splits of a hypothesis a round has at most.
+    pub fn budget(&self) -> u64
+        ensures { result ≡ self.now.budget }
+    {
+        self.budget
     }
 
     /// The table of hypotheses.

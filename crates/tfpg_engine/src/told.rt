@@ -32,3 +32,10 @@ impl From<NoMemory> for EventFault {
         EventFault::NoMemory
     }
 }
+
+/// An engine ends only where memory runs out.
+impl From<EventFault> for NoMemory {
+    fn from(_e: EventFault) -> NoMemory {
+        NoMemory
+    }
+}

@@ -2,7 +2,7 @@ mod Ranks
 mod Chosen
 mod Counted
 mod Listed
-mod Tables
+pub mod Tables
 mod Parts
 mod Fractions
 mod FittingSets

@@ -15,7 +15,7 @@ use Rattle.tfpg_evidence.specs.declared.finding.Status.TheVariants.{Ranked, Cove
 use Rattle.tfpg_evidence.specs.declared.round.Round.{Round}
 use Rattle.tfpg_evidence.specs.RoundOf.{IsStepOf, IsStatusOf, IsFindingOf, IsRankedIn, IsRoundOf, is_ranked, finding_numbered}
 use Rattle.tfpg_clause.specs.Trees.{Judged}
-use Rattle.tfpg_clause.proofs.ListCuts.{All-back}
+use Rattle.tfpg_base.proofs.lists.Elements.{All-back}
 use Rattle.tfpg_hyp.specs.Rounds.{IsRound, IsFinding, HasEvidence, place_at, place_of_status, steps_in, steps_so_far}
 use Rattle.tfpg_hyp.specs.declared.place.Place.{Place}
 use Rattle.tfpg_hyp.proofs.FittingSets.{at_place}
