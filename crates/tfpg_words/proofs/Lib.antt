@@ -1,0 +1,5 @@
+pub mod walk
+pub mod Taken
+pub mod Once
+pub mod Commands
+pub mod Limits

@@ -1,0 +1,6 @@
+pub mod View
+pub mod Turns
+pub mod Walks
+pub mod Rows
+pub mod Main
+pub mod Forms

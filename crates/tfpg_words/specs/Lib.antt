@@ -1,0 +1,8 @@
+-- What words are, apart from which command they follow.
+pub mod Words
+-- What a line of words means.
+pub mod Meaning
+-- What the contracts say.
+pub mod Plans
+-- What the code and its proofs need besides. Nothing above reaches it.
+pub mod inside

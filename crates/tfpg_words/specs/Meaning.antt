@@ -1,0 +1,137 @@
+-- What the words of a command line mean: a command with its values, or the first cause by which they are refused.
+use Rattle.std.specs.Prelude.{ℕ, ◌^◌, ◌&&◌, Bool, List, [], ◌∷◌, Option, Some, None, Result, Ok, Err}
+use Rattle.std.specs.Prelude.{bytes_eq, codes, if◌then◌else◌, is_some, nat_le, find}
+use Rattle.tfpg_base.specs.Words.{number_of}
+use Rattle.tfpg_words.specs.declared.usage_cause.UsageCause.{UsageCause}
+use Rattle.tfpg_words.specs.declared.usage_cause.UsageCause.TheVariants.{NoCommand, UnknownCommand, BadWords, BadNumber, OutOfRange, BadPanel}
+use Rattle.tfpg_words.specs.Words.{Form, Parts, Use, Word, parts_of}
+
+-- What a command asks for.
+pub data Meaning : Type 0 where
+  Diagnose : (k budget : ℕ) (graph : Word) → Meaning
+  Explain : (graph log : Word) → Meaning
+  Simulate : (draw : ℕ) (trace : Bool) (graph script : Word) → Meaning
+  Generate : (draw size : ℕ) → Meaning
+
+-- The first use of this name.
+abbrev pub use_of : Word → List Use → Option Use
+use_of name uses = find (λ used. bytes_eq used.name name) uses
+
+-- A number from `least` to `most`, or why there is none.
+abbrev pub within : ℕ → ℕ → Option ℕ → Result ℕ UsageCause
+within least most None = Err BadNumber
+within least most (Some number) = if nat_le least number && nat_le number most then Ok number else Err OutOfRange
+
+-- An option whose value is a number: its name, its limits, and what it is where it is not used.
+pub record NumberOption : Type 0 where
+  pub name : Word
+  pub least : ℕ
+  pub most : ℕ
+  pub default : ℕ
+
+abbrev pub number_in : NumberOption → Option Use → Result ℕ UsageCause
+number_in option None = Ok option.default
+number_in option (Some used) = within option.least option.most (number_of used.value)
+
+abbrev pub number_by : NumberOption → List Use → Result ℕ UsageCause
+number_by option uses = number_in option (use_of option.name uses)
+
+-- Of two causes that refuse a number the one that counts: a word that is no number comes before a number out of its limits.
+abbrev pub first_of : UsageCause → UsageCause → UsageCause
+first_of BadNumber other = BadNumber
+first_of cause other = other
+
+-- Two numbers, or the first cause by which one of them is refused.
+abbrev pub both : Result ℕ UsageCause → Result ℕ UsageCause → Result (ℕ × ℕ) UsageCause
+both (Ok first) (Ok second) = Ok (first, second)
+both (Ok first) (Err cause) = Err cause
+both (Err cause) (Ok second) = Err cause
+both (Err cause) (Err other) = Err (first_of cause other)
+
+abbrev pub k_option : NumberOption
+k_option = record { name = codes "--k"; least = 0; most = 64; default = 2 }
+
+abbrev pub budget_option : NumberOption
+budget_option = record { name = codes "--budget"; least = 1; most = 10 ^ 12; default = 1000 }
+
+abbrev pub draw_option : NumberOption
+draw_option = record { name = codes "--draw"; least = 0; most = 10 ^ 12; default = 1 }
+
+abbrev pub size_option : NumberOption
+size_option = record { name = codes "--size"; least = 1; most = 100; default = 10 }
+
+-- `diagnose [--k N] [--budget N] GRAPH [PANEL]..`. For now no word is a panel.
+abbrev pub diagnose_form : Form
+diagnose_form = record { options = k_option.name ∷ budget_option.name ∷ []; flags = [] }
+
+abbrev pub diagnose_with : Word → List Word → Result (ℕ × ℕ) UsageCause → Result Meaning UsageCause
+diagnose_with graph panels (Err cause) = Err cause
+diagnose_with graph [] (Ok (k, budget)) = Ok (Diagnose k budget graph)
+diagnose_with graph (panel ∷ panels) (Ok numbers) = Err BadPanel
+
+abbrev pub diagnose_on : List Use → List Word → Result Meaning UsageCause
+diagnose_on uses [] = Err BadWords
+diagnose_on uses (graph ∷ panels) = diagnose_with graph panels (both (number_by k_option uses) (number_by budget_option uses))
+
+abbrev pub diagnose_of : Option Parts → Result Meaning UsageCause
+diagnose_of None = Err BadWords
+diagnose_of (Some parts) = diagnose_on parts.uses parts.positional
+
+-- `explain GRAPH LOG`
+abbrev pub explain_form : Form
+explain_form = record { options = []; flags = [] }
+
+abbrev pub explain_on : List Word → Result Meaning UsageCause
+explain_on (graph ∷ log ∷ []) = Ok (Explain graph log)
+explain_on _ = Err BadWords
+
+abbrev pub explain_of : Option Parts → Result Meaning UsageCause
+explain_of None = Err BadWords
+explain_of (Some parts) = explain_on parts.positional
+
+-- `simulate [--draw N] [--trace] GRAPH SCRIPT`
+abbrev pub simulate_form : Form
+simulate_form = record { options = draw_option.name ∷ []; flags = codes "--trace" ∷ [] }
+
+abbrev pub simulate_with : Bool → Word → Word → Result ℕ UsageCause → Result Meaning UsageCause
+simulate_with trace graph script (Err cause) = Err cause
+simulate_with trace graph script (Ok draw) = Ok (Simulate draw trace graph script)
+
+abbrev pub simulate_on : List Use → List Word → Result Meaning UsageCause
+simulate_on uses (graph ∷ script ∷ []) =
+    simulate_with (is_some (use_of (codes "--trace") uses)) graph script (number_by draw_option uses)
+simulate_on uses _ = Err BadWords
+
+abbrev pub simulate_of : Option Parts → Result Meaning UsageCause
+simulate_of None = Err BadWords
+simulate_of (Some parts) = simulate_on parts.uses parts.positional
+
+-- `generate [--draw N] [--size N]`
+abbrev pub generate_form : Form
+generate_form = record { options = draw_option.name ∷ size_option.name ∷ []; flags = [] }
+
+abbrev pub generate_with : Result (ℕ × ℕ) UsageCause → Result Meaning UsageCause
+generate_with (Err cause) = Err cause
+generate_with (Ok (draw, size)) = Ok (Generate draw size)
+
+abbrev pub generate_on : List Use → List Word → Result Meaning UsageCause
+generate_on uses [] = generate_with (both (number_by draw_option uses) (number_by size_option uses))
+generate_on uses _ = Err BadWords
+
+abbrev pub generate_of : Option Parts → Result Meaning UsageCause
+generate_of None = Err BadWords
+generate_of (Some parts) = generate_on parts.uses parts.positional
+
+-- What the words after a command mean.
+abbrev pub command_meaning : Word → List Word → Result Meaning UsageCause
+command_meaning command words =
+    if bytes_eq command (codes "diagnose") then diagnose_of (parts_of diagnose_form words)
+    else (if bytes_eq command (codes "explain") then explain_of (parts_of explain_form words)
+    else (if bytes_eq command (codes "simulate") then simulate_of (parts_of simulate_form words)
+    else (if bytes_eq command (codes "generate") then generate_of (parts_of generate_form words)
+    else Err UnknownCommand)))
+
+-- What the words after the program's name mean.
+abbrev pub meaning : List Word → Result Meaning UsageCause
+meaning [] = Err NoCommand
+meaning (command ∷ words) = command_meaning command words

@@ -1,0 +1,28 @@
+-- What `plan` answers.
+use Rattle.std.specs.Prelude.{◌≡◌, Result, Ok, Err}
+use Rattle.tfpg_words.specs.declared.usage_cause.UsageCause.{UsageCause}
+use Rattle.tfpg_words.specs.declared.plan_fault.PlanFault.{PlanFault}
+use Rattle.tfpg_words.specs.declared.plan_fault.PlanFault.TheVariants as fault
+use Rattle.tfpg_words.specs.declared.command.Command.{Command}
+use Rattle.tfpg_words.specs.declared.command.Command.TheVariants as command
+use Rattle.tfpg_words.specs.declared.command.Planned.{Planned}
+use Rattle.tfpg_words.specs.Meaning.{Meaning, Diagnose, Explain, Simulate, Generate}
+
+-- what a command asks for
+abbrev pub meaning_of : Command → Meaning
+meaning_of (command.Diagnose k budget graph) = Diagnose k budget graph
+meaning_of (command.Explain graph log) = Explain graph log
+meaning_of (command.Simulate draw trace graph script) = Simulate draw trace graph script
+meaning_of (command.Generate draw size) = Generate draw size
+
+-- A command has this meaning; a refusal gives its cause; and memory may run out on any words.
+abbrev pub IsPlanOf : Result Meaning UsageCause → Result Planned PlanFault → Type 0
+IsPlanOf meant (Ok planned) = meant ≡ Ok (meaning_of planned.command)
+IsPlanOf meant (Err (fault.Usage cause)) = meant ≡ Err cause
+IsPlanOf meant (Err fault.NoMemory) = Unit {0}
+
+-- the same of the command alone
+abbrev pub IsCommandOf : Result Meaning UsageCause → Result Command PlanFault → Type 0
+IsCommandOf meant (Ok planned) = meant ≡ Ok (meaning_of planned)
+IsCommandOf meant (Err (fault.Usage cause)) = meant ≡ Err cause
+IsCommandOf meant (Err fault.NoMemory) = Unit {0}

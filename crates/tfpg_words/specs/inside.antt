@@ -1,0 +1,5 @@
+pub mod Parts
+pub mod Rules
+pub mod Rows
+pub mod Given
+pub mod Numbers

@@ -1,0 +1,41 @@
+//! What the words ask for.
+
+use tfpg_base::Text;
+
+/// A command with its values.
+#[derive(Drop)]
+pub enum Command {
+    /// `diagnose [--k N] [--budget N] GRAPH`: reports on a log, for the sets of at most `k` failure modes, with at most
+    /// `budget` splits for each set and round. `k` is at most 64, 2 by default; `budget` is 1 to 10^12, 1000 by default.
+    Diagnose {
+        k: u32,
+        budget: u64,
+        graph: Text,
+    },
+    /// `explain GRAPH LOG`: whether a map explains the log.
+    Explain {
+        graph: Text,
+        log: Text,
+    },
+    /// `simulate [--draw N] [--trace] GRAPH SCRIPT`: the log of a script, or with `--trace` its map. `draw` is at most
+    /// 10^12, 1 by default.
+    Simulate {
+        draw: u64,
+        trace: bool,
+        graph: Text,
+        script: Text,
+    },
+    /// `generate [--draw N] [--size N]`: a made case. `draw` is at most 10^12, 1 by default; `size` is 1 to 100, 10 by
+    /// default.
+    Generate {
+        draw: u64,
+        size: u32,
+    },
+}
+
+/// What is to be done.
+#[derive(Drop)]
+pub struct Planned {
+    /// The command.
+    pub command: Command,
+}

@@ -1,0 +1,27 @@
+//! The words of the command line: which command they ask for, and with which values.
+//!
+//! [`plan`] reads the words after the program's name. It answers a [`Command`], or the first [`UsageCause`] by which the
+//! words are refused.
+//!
+//! ```
+//! // The words `diagnose --k 1 engine.tfpg`.
+//! match plan(alloc, &words)?.command {
+//!     Command::Diagnose { k, budget, graph } => {} // k is 1, budget is 1000
+//!     _ => {}
+//! }
+//! ```
+#![tactic(auto)]
+
+mod command;
+mod form;
+pub mod laws;
+mod number;
+mod parts;
+mod plan_fault;
+mod planning;
+mod usage_cause;
+
+pub use command::{Command, Planned};
+pub use plan_fault::PlanFault;
+pub use planning::plan;
+pub use usage_cause::UsageCause;

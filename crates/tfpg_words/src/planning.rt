@@ -1,0 +1,194 @@
+//! The plan of a line of words.
+
+ghost use Rattle.std.specs.Prelude.{◌≡◌, map};
+ghost use Rattle.std.specs.String.{string_bytes};
+ghost use Rattle.tfpg_words.specs.Meaning.{command_meaning, diagnose_form, diagnose_of, explain_form, explain_of, generate_form, generate_of, meaning, simulate_form, simulate_of};
+ghost use Rattle.tfpg_words.specs.Plans.{IsCommandOf, IsPlanOf};
+ghost use Rattle.tfpg_words.specs.Words.{parts_of};
+ghost use Rattle.tfpg_words.specs.inside.Given.{diagnose_given, explain_given, generate_given, simulate_given};
+ghost use Rattle.tfpg_words.specs.inside.Parts.{rows_in};
+
+use crate::command::{Command, Planned};
+use crate::form::Form;
+use crate::number::{NumberOption, both};
+use crate::parts::Parts;
+use crate::plan_fault::PlanFault;
+use crate::usage_cause::UsageCause;
+use std::alloc::Global;
+use tfpg_base::Text;
+
+const K: NumberOption = NumberOption {
+    name: "k",
+    least: 0,
+    most: 64,
+    default: 2,
+};
+
+const BUDGET: NumberOption = NumberOption {
+    name: "budget",
+    least: 1,
+    most: 1_000_000_000_000,
+    default: 1000,
+};
+
+const DRAW: NumberOption = NumberOption {
+    name: "draw",
+    least: 0,
+    most: 1_000_000_000_000,
+    default: 1,
+};
+
+const SIZE: NumberOption = NumberOption {
+    name: "size",
+    least: 1,
+    most: 100,
+    default: 10,
+};
+
+/// Reads the words after the program's name.
+///
+/// An option stands as `--name value` or `--name=value`, at most once, anywhere after the command; a flag stands as
+/// `--name`. The first `--` makes all later words positional. Every other word that begins with a hyphen and has another
+/// byte is an option word, and never a value nor a positional word. Takes time in the length of the words.
+///
+/// # Errors
+///
+/// The first [`UsageCause`] that holds of the words, or out of memory.
+///
+/// ```
+/// let planned = plan(alloc, &words)?; // `simulate --draw=7 engine.tfpg case.script`
+/// if let Command::Simulate { draw, trace, .. } = planned.command {
+///     // draw is 7, trace is false
+/// }
+/// ```
+pub fn plan(alloc: Global, words: &[String]) -> Result<Planned, PlanFault>
+    ensures { IsPlanOf (meaning (map string_bytes words.now)) result }
+{
+    let [command, words @ ..] = words else {
+        return Err(PlanFault::Usage(UsageCause::NoCommand));
+    };
+    let command = command_of(alloc, command.as_str(), words)?;
+    Ok(Planned { command })
+}
+
+/// The command of this name, with the words after it.
+fn command_of(alloc: Global, command: &str, words: &[String]) -> Result<Command, PlanFault>
+    ensures { IsCommandOf (command_meaning command.now (map string_bytes words.now)) result }
+{
+    if command == "diagnose" {
+        diagnose(alloc, words)
+    } else if command == "explain" {
+        explain(alloc, words)
+    } else if command == "simulate" {
+        simulate(alloc, words)
+    } else if command == "generate" {
+        generate(alloc, words)
+    } else {
+        Err(PlanFault::Usage(UsageCause::UnknownCommand))
+    }
+}
+
+/// `diagnose [--k N] [--budget N] GRAPH [PANEL]..`
+fn diagnose(alloc: Global, words: &[String]) -> Result<Command, PlanFault>
+    ensures { IsCommandOf (diagnose_of (parts_of diagnose_form (map string_bytes words.now))) result }
+{
+    let form = Form {
+        options: &[K.name, BUDGET.name],
+        flags: &[],
+    };
+    let parts = Parts::of(alloc, &form, words)?;
+    diagnose_by(alloc, &parts)
+}
+
+fn diagnose_by(alloc: Global, parts: &Parts) -> Result<Command, PlanFault>
+    ensures { IsCommandOf (diagnose_given (rows_in parts.now)) result }
+{
+    let Some([graph, panels @ ..]) = parts.positional() else {
+        return Err(PlanFault::Usage(UsageCause::BadWords));
+    };
+    let (k, budget) = both(K.number_in(parts), BUDGET.number_in(parts))?;
+    if !panels.is_empty() {
+        return Err(PlanFault::Usage(UsageCause::BadPanel));
+    }
+    Ok(Command::Diagnose {
+        k: k as u32,
+        budget,
+        graph: Text::of(alloc, graph)?,
+    })
+}
+
+/// `explain GRAPH LOG`
+fn explain(alloc: Global, words: &[String]) -> Result<Command, PlanFault>
+    ensures { IsCommandOf (explain_of (parts_of explain_form (map string_bytes words.now))) result }
+{
+    let form = Form {
+        options: &[],
+        flags: &[],
+    };
+    let parts = Parts::of(alloc, &form, words)?;
+    explain_by(alloc, &parts)
+}
+
+fn explain_by(alloc: Global, parts: &Parts) -> Result<Command, PlanFault>
+    ensures { IsCommandOf (explain_given (rows_in parts.now)) result }
+{
+    let Some([graph, log]) = parts.positional() else {
+        return Err(PlanFault::Usage(UsageCause::BadWords));
+    };
+    Ok(Command::Explain {
+        graph: Text::of(alloc, graph)?,
+        log: Text::of(alloc, log)?,
+    })
+}
+
+/// `simulate [--draw N] [--trace] GRAPH SCRIPT`
+fn simulate(alloc: Global, words: &[String]) -> Result<Command, PlanFault>
+    ensures { IsCommandOf (simulate_of (parts_of simulate_form (map string_bytes words.now))) result }
+{
+    let form = Form {
+        options: &[DRAW.name],
+        flags: &["trace"],
+    };
+    let parts = Parts::of(alloc, &form, words)?;
+    simulate_by(alloc, &parts)
+}
+
+fn simulate_by(alloc: Global, parts: &Parts) -> Result<Command, PlanFault>
+    ensures { IsCommandOf (simulate_given (rows_in parts.now)) result }
+{
+    let Some([graph, script]) = parts.positional() else {
+        return Err(PlanFault::Usage(UsageCause::BadWords));
+    };
+    let draw = DRAW.number_in(parts)?;
+    Ok(Command::Simulate {
+        draw,
+        trace: parts.has("trace"),
+        graph: Text::of(alloc, graph)?,
+        script: Text::of(alloc, script)?,
+    })
+}
+
+/// `generate [--draw N] [--size N]`
+fn generate(alloc: Global, words: &[String]) -> Result<Command, PlanFault>
+    ensures { IsCommandOf (generate_of (parts_of generate_form (map string_bytes words.now))) result }
+{
+    let form = Form {
+        options: &[DRAW.name, SIZE.name],
+        flags: &[],
+    };
+    let parts = Parts::of(alloc, &form, words)?;
+    generate_by(&parts)
+}
+
+fn generate_by(parts: &Parts) -> Result<Command, PlanFault>
+    ensures { IsCommandOf (generate_given (rows_in parts.now)) result }
+{
+    if let Some([_, ..]) = parts.positional() {
+        return Err(PlanFault::Usage(UsageCause::BadWords));
+    }
+    let (draw, size) = both(DRAW.number_in(parts), SIZE.number_in(parts))?;
+    Ok(Command::Generate {
+        draw,
+        size: size as u32,
+    })
+}

@@ -1,0 +1,18 @@
+//! Why the words of the command line are refused.
+
+/// Why the words of the command line are refused. Of several that hold, the first in this order counts.
+#[derive(Clone, Copy, Debug, PartialEq, Eq)]
+pub enum UsageCause {
+    /// There is no word.
+    NoCommand,
+    /// The first word is no command.
+    UnknownCommand,
+    /// An option is unknown or used twice, a value is missing, or a positional word is missing or too many.
+    BadWords,
+    /// A value is no number.
+    BadNumber,
+    /// A number is below the least or above the greatest that its option takes.
+    OutOfRange,
+    /// A word in the place of a panel is none. For now this holds of each word in such a place.
+    BadPanel,
+}
