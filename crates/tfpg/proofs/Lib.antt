@@ -1,10 +1,7 @@
 pub mod Refused
 pub mod LogTexts
-pub mod EmptySet
-pub mod EmptyRounds
-pub mod Reporting
 pub mod Putting
-pub mod Answering
+pub mod AnsweredLines
 pub mod InputLines
 pub mod Turns
 pub mod MapCourse
@@ -14,3 +11,7 @@ pub mod MapWords
 pub mod MapTexts
 pub mod OneMap
 pub mod Stops
+pub mod Diagnosing
+pub mod FewHypotheses
+pub mod Truths
+pub mod Completing

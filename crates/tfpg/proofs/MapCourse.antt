@@ -1,6 +1,6 @@
 -- Reading the map of the input, one turn after another.
-use Rattle.std.proofs.Common.{◌-◌, ◌^◌, ◌≡◌, ◌⊎◌, ◌==◌, ℕ, zero, suc, ◌+◌, ◌<◌, ◌≤◌, Bool, true, false, cond, List, [], ◌∷◌, ◌++◌, length, take, drop, get_or, All, Option, Some, None, Result, Ok, Err, refl, sym, ap, subst, ◌∙◌, arith, inl, inr}
-use Rattle.std.specs.Prelude.{IfOk, IfErr, IsErrAnd, OnOk, IsErrOf}
+use Rattle.std.proofs.Common.{◌^◌, ◌≡◌, ◌==◌, ℕ, zero, suc, ◌+◌, ◌<◌, ◌≤◌, Bool, true, false, cond, List, [], ◌∷◌, ◌++◌, length, take, get_or, All, Option, Some, None, Result, Ok, Err, refl, sym, ap, subst, ◌∙◌, arith, inl, inr}
+use Rattle.std.specs.Prelude.{IfOk, IfErr, IsErrAnd}
 use Rattle.std.proofs.lemmas.Bool.{eqb-true, eq-eqb}
 use Rattle.std.proofs.lemmas.List.{append-nil, length-append}
 use Rattle.std.proofs.lemmas.List.Elements.{All-head, All-tail}
@@ -9,24 +9,20 @@ use Rattle.tfpg_base.specs.declared.line.Line.{Line}
 use Rattle.tfpg_base.specs.declared.line.Line.TheVariants as line
 use Rattle.tfpg_base.specs.declared.line.LineFault.{LineFault}
 use Rattle.tfpg_base.specs.declared.line.LineFault.TheVariants as fault
-use Rattle.tfpg_base.specs.Lines.{Reading, Buffered, LinesRepresent, Continues, lines_of, whole_lines, max_bytes, longest_line, new_reading, with_bytes, with_line}
-use Rattle.tfpg_base.specs.Outside.{SourceState, Rose, Takes}
+use Rattle.tfpg_base.specs.Lines.{Buffered, LinesRepresent, Continues, lines_of, longest_line, new_reading, with_bytes, with_line}
+use Rattle.tfpg_base.specs.Outside.{SourceState, Rose}
 use Rattle.tfpg_base.specs.Trace.{time_of}
 use Rattle.tfpg_base.proofs.ReadingOn.{GaveLine, Continues-turn, Continues-text, Continues-too_long}
 use Rattle.tfpg_base.proofs.Taking.{Takes-append, Takes-nothing}
 use Rattle.tfpg_graph.specs.Graph.{Tfpg}
 use Rattle.tfpg.specs.Map.{SpellsMap, BeginsMap, IsActivationOf}
 use Rattle.tfpg.specs.declared.map.Map.{Map}
-use Rattle.tfpg.specs.declared.map.MapFault.{MapFault}
-use Rattle.tfpg.specs.declared.map.MapFault.TheVariants as taking
 use Rattle.tfpg.specs.declared.map.MapReader.{MapReader}
 use Rattle.tfpg.specs.declared.map.NoMap.{NoMap}
 use Rattle.tfpg.specs.declared.map.NoMap.TheVariants as none
-use Rattle.tfpg.specs.declared.map_reading.MapTurn.{MapTurn}
-use Rattle.tfpg.specs.declared.map_reading.MapTurn.TheVariants as turn
 use Rattle.tfpg.specs.inside.Faults.{no_map_of_lines}
 use Rattle.tfpg.specs.inside.MapLines.{HasRead, MapRepresents}
-use Rattle.tfpg.specs.inside.MapReading.{IsReadingMap, HasReadAll, ReadsOn, ReadsMap, ReturnsMap, LacksMap}
+use Rattle.tfpg.specs.inside.MapReading.{IsReadingMap, HasReadAll, ReadsMap, ReturnsMap, LacksMap}
 use Rattle.tfpg.proofs.InputLines.{rest_of, rest_is_left, rest_at_end, front_of_input, front_is_within, came_to_end, front_before, front_with, few_lines}
 use Rattle.tfpg.proofs.MapTexts.{HasRead-begins, no_map-long}
 

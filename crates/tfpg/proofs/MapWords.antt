@@ -1,12 +1,11 @@
 -- What the words of the lines of a map say.
-use Rattle.std.proofs.Common.{◌≡◌, ◌≢◌, ℕ, zero, suc, ◌+◌, ◌<◌, ◌≤◌, ◌^◌, ◌==◌, Bool, true, false, not, cond, List, [], ◌∷◌, length, map, get_or, leb, All, AllPairs, IsTrue, Option, Some, None, unwrap_or, slice_get, codes, refl, ap, sym, subst, ◌∙◌, arith}
+use Rattle.std.proofs.Common.{◌≡◌, ℕ, ◌+◌, ◌<◌, ◌≤◌, ◌^◌, ◌==◌, Bool, true, false, not, cond, List, [], ◌∷◌, length, map, get_or, leb, All, IsTrue, Option, Some, None, unwrap_or, codes, refl, ap, sym, subst, ◌∙◌, arith}
 use Rattle.std.specs.Prelude.{decimal, IfSome}
-use Rattle.std.specs.Option.{option_map, option_and_then}
-use Rattle.std.specs.List.{AllByRecursion, list_all, join_with_byte, slice_split, position}
+use Rattle.std.specs.Option.{option_and_then}
+use Rattle.std.specs.List.{AllByRecursion, list_all, join_with_byte, slice_split}
 use Rattle.std.specs.Str.{bytes_eq}
 use Rattle.std.proofs.lemmas.Bool.{and_parts, not-true, eq-eqb, eqb-true, ne_eqb, lt-ltb, false≢true}
 use Rattle.std.proofs.lemmas.Bool.Decides.{nat_tests}
-use Rattle.std.proofs.lemmas.List.{length-map}
 use Rattle.std.proofs.lemmas.List.Elements.{All-nil, All-cons, All-head, All-tail, All-weaker, All-append}
 use Rattle.std.proofs.lemmas.List.Quantifiers.{position-Some}
 use Rattle.std.proofs.lemmas.List.Splits.{join_with_byte-slice_split, length-slice_split}
@@ -25,7 +24,7 @@ use Rattle.tfpg_graph.specs.Valid.{IsValid}
 use Rattle.tfpg_graph.proofs.lemmas.declared.Named.{named_found}
 use Rattle.tfpg_base.proofs.lists.Positions.{position-at}
 use Rattle.tfpg_graph.proofs.lemmas.reading.SpelledEdges.{is_name-name_of, node_named-name_of}
-use Rattle.tfpg_trace.proofs.NumberedItems.{IsItemOf, item_of, one_place}
+use Rattle.tfpg_trace.proofs.NumberedItems.{item_of, one_place}
 use Rattle.tfpg_report.specs.Blocks.{set_word, name_word}
 use Rattle.tfpg.specs.Map.{IsSetOf, IsActivationOf, set_line, at_line}
 use Rattle.tfpg.specs.inside.MapLines.{word_after_set, words_after_at, failure_named, failure_name, AreFrom}

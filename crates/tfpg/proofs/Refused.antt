@@ -1,7 +1,6 @@
 -- Files that give no graph, or no log.
-use Rattle.std.proofs.Common.{◌≡◌, ◌⊎◌, ◌<◌, ℕ, List, [], ◌∷◌, ◌++◌, length, take, Option, Some, None, IfSome, refl, sym, ap, subst, ◌∙◌, inl, inr, append_assoc}
-use Rattle.std.proofs.lemmas.List.{append-nil}
-use Rattle.tfpg_base.specs.Outside.{ShelfState, Rose, NotesName, file_of}
+use Rattle.std.proofs.Common.{◌≡◌, ◌⊎◌, ℕ, List, [], ◌∷◌, ◌++◌, take, Option, Some, None, IfSome, ap, subst, ◌∙◌, inl, inr, append_assoc}
+use Rattle.tfpg_base.specs.Outside.{ShelfState, NotesName, file_of}
 use Rattle.tfpg_graph.specs.declared.cause.GraphRefusal.{GraphRefusal}
 use Rattle.tfpg_graph.specs.declared.cause.GraphRefusal.TheVariants.{Fault, NoMemory}
 use Rattle.tfpg_graph.specs.Faults.{IsRefusalOf}

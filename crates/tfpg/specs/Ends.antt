@@ -6,9 +6,9 @@ use Rattle.tfpg_graph.specs.declared.cause.GraphCause.TheVariants as graph
 use Rattle.tfpg.specs.declared.end.CheckCause.{CheckCause}
 use Rattle.tfpg.specs.declared.end.CheckCause.TheVariants as check
 use Rattle.tfpg.specs.declared.end.End.{End}
-use Rattle.tfpg.specs.declared.end.End.TheVariants.{Done, NotAccepted, Usage, Graph, ReadFault, WriteFault, TooMuchInput, NoMemory}
-use Rattle.tfpg.specs.declared.end.UsageCause.{UsageCause}
-use Rattle.tfpg.specs.declared.end.UsageCause.TheVariants as usage
+use Rattle.tfpg.specs.declared.end.End.TheVariants.{Done, NotAccepted, Usage, Graph, TooManyHypotheses, ReadFault, WriteFault, TooMuchInput, NoMemory}
+use Rattle.tfpg_words.specs.declared.usage_cause.UsageCause.{UsageCause}
+use Rattle.tfpg_words.specs.declared.usage_cause.UsageCause.TheVariants as usage
 
 -- the status with which the program exits
 abbrev pub status_of : End → ℕ
@@ -16,18 +16,25 @@ status_of Done = 0
 status_of (NotAccepted line cause) = 1
 status_of (Usage cause) = 2
 status_of (Graph line cause) = 3
+status_of (TooManyHypotheses count) = 4
 status_of ReadFault = 5
 status_of WriteFault = 6
 status_of TooMuchInput = 7
 status_of NoMemory = 8
 
--- the name of why a line of the input is refused
+-- the name of why a line of the input or of the script is refused
 abbrev pub check_cause_name : CheckCause → List ℕ
 check_cause_name check.BadMap = codes "BadMap"
+check_cause_name check.BadScript = codes "BadScript"
 
 -- the name of why the words of the command line are refused
 abbrev pub usage_name : UsageCause → List ℕ
-usage_name usage.NotBuilt = codes "NotBuilt"
+usage_name usage.NoCommand = codes "NoCommand"
+usage_name usage.UnknownCommand = codes "UnknownCommand"
+usage_name usage.BadWords = codes "BadWords"
+usage_name usage.BadNumber = codes "BadNumber"
+usage_name usage.OutOfRange = codes "OutOfRange"
+usage_name usage.BadPanel = codes "BadPanel"
 
 -- the name of what is wrong with a graph
 abbrev pub graph_cause_name : GraphCause → List ℕ
@@ -59,6 +66,7 @@ line_of_end Done = []
 line_of_end (NotAccepted line cause) = line_of (codes "not" ∷ codes "accepted" ∷ decimal line ∷ check_cause_name cause ∷ [])
 line_of_end (Usage cause) = line_of (codes "usage" ∷ usage_name cause ∷ [])
 line_of_end (Graph line cause) = line_of (codes "graph" ∷ decimal line ∷ graph_cause_name cause ∷ [])
+line_of_end (TooManyHypotheses count) = line_of (codes "too" ∷ codes "many" ∷ codes "hypotheses" ∷ decimal count ∷ [])
 line_of_end ReadFault = codes "read fault"
 line_of_end WriteFault = codes "write fault"
 line_of_end TooMuchInput = codes "too much input"

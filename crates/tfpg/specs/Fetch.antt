@@ -1,5 +1,5 @@
 -- What fetching files gives: the graph of one, and the log of another.
-use Rattle.std.specs.Prelude.{◌≡◌, ◌⊎◌, ℕ, ◌≤◌, List, [], ◌∷◌, ◌++◌, length, take, Option, Some, None, IfSome}
+use Rattle.std.specs.Prelude.{◌≡◌, ◌⊎◌, ℕ, ◌≤◌, List, [], ◌∷◌, ◌++◌, length, take, Option, Some, IfSome, Result, Ok, Err}
 use Rattle.tfpg_base.specs.Lines.{lines_of}
 use Rattle.tfpg_base.specs.Outside.{ShelfState, Rose, Gives, PassesLimit, longest_file}
 use Rattle.tfpg_graph.specs.declared.cause.GraphFault.{GraphFault}
@@ -9,7 +9,8 @@ use Rattle.tfpg_graph.specs.Valid.{IsValid}
 use Rattle.tfpg_graph.specs.Faults.{IsFirstFault}
 use Rattle.tfpg_log.specs.Log.{Logbook}
 use Rattle.tfpg_log.specs.LogOfLines.{log_of_lines}
-use Rattle.tfpg.specs.Command.{Asked, Diagnose, Explain, NotBuilt}
+use Rattle.tfpg_words.specs.declared.usage_cause.UsageCause.{UsageCause}
+use Rattle.tfpg_words.specs.Meaning.{Meaning, Diagnose, Explain, Simulate, Generate}
 use Rattle.tfpg.specs.declared.fault.FetchFault.{FetchFault}
 use Rattle.tfpg.specs.declared.fault.FetchFault.TheVariants.{Failed, TooLong, Graph, NoMemory}
 
@@ -36,6 +37,11 @@ pub record HasFaultyGraph (shelf : ShelfState) (name : List ℕ) (fault : GraphF
   pub file : HasFile shelf name text
   pub first : IsFirstFault text fault
 
+-- The file of the one name spells the graph, and the file of the other has this text.
+pub record GivesGraphAndText (shelf : ShelfState) (graph_name text_name : List ℕ) (graph : Tfpg) (text : List ℕ) : Type 0 where
+  pub of_graph : GivesGraph shelf graph_name graph
+  pub file : HasFile shelf text_name text
+
 -- The file of the one name spells the graph, and the log is that of the lines of the file of the other.
 pub record GivesGraphAndLog (shelf : ShelfState) (graph_name log_name : List ℕ) (graph : Tfpg) (log : Logbook) : Type 0 where
   pub of_graph : GivesGraph shelf graph_name graph
@@ -51,15 +57,15 @@ IsFetchFault before now name TooLong = IsTooLong before name
 IsFetchFault before now name (Graph fault) = HasFaultyGraph before name fault
 IsFetchFault before now name NoMemory = Unit {0}
 
--- Why there is no graph and no log of the files of these names: the shelf failed; the first of them that is not as short as
+-- Why there is no graph and no text of the files of these names: the shelf failed; the first of them that is not as short as
 -- it may be is too long; both were fetched, and this is the first fault of the graph's text; or memory ran out.
 abbrev pub IsFilesFault : ShelfState → ShelfState → List ℕ → List ℕ → FetchFault → Type 0
-IsFilesFault before now graph_name log_name Failed = Rose before.faults now.faults
-IsFilesFault before now graph_name log_name TooLong =
-    IsTooLong before graph_name ⊎ ((text : List ℕ) × HasFile before graph_name text × IsTooLong before log_name)
-IsFilesFault before now graph_name log_name (Graph fault) =
-    (text : List ℕ) × HasFile before log_name text × HasFaultyGraph before graph_name fault
-IsFilesFault before now graph_name log_name NoMemory = Unit {0}
+IsFilesFault before now graph_name text_name Failed = Rose before.faults now.faults
+IsFilesFault before now graph_name text_name TooLong =
+    IsTooLong before graph_name ⊎ ((text : List ℕ) × HasFile before graph_name text × IsTooLong before text_name)
+IsFilesFault before now graph_name text_name (Graph fault) =
+    (text : List ℕ) × HasFile before text_name text × HasFaultyGraph before graph_name fault
+IsFilesFault before now graph_name text_name NoMemory = Unit {0}
 
 -- The name was asked for, or no name was.
 abbrev pub AsksFor : List ℕ → Option (List (List ℕ)) → Option (List (List ℕ)) → Type 0
@@ -70,7 +76,9 @@ abbrev pub AsksInOrder : List (List ℕ) → Option (List (List ℕ)) → Option
 AsksInOrder wanted before after = IfSome before (λ names. (count : ℕ) × (after ≡ Some (names ++ take count wanted)))
 
 -- No name was asked for but those that the words name, in their order.
-abbrev pub AsksOnly : Asked → Option (List (List ℕ)) → Option (List (List ℕ)) → Type 0
-AsksOnly NotBuilt before after = after ≡ before
-AsksOnly (Diagnose graph) before after = AsksFor graph before after
-AsksOnly (Explain graph log) before after = AsksInOrder (graph ∷ log ∷ []) before after
+abbrev pub AsksOnly : Result Meaning UsageCause → Option (List (List ℕ)) → Option (List (List ℕ)) → Type 0
+AsksOnly (Err cause) before after = after ≡ before
+AsksOnly (Ok (Diagnose k budget graph)) before after = AsksFor graph before after
+AsksOnly (Ok (Explain graph log)) before after = AsksInOrder (graph ∷ log ∷ []) before after
+AsksOnly (Ok (Simulate draw trace graph script)) before after = AsksInOrder (graph ∷ script ∷ []) before after
+AsksOnly (Ok (Generate draw size)) before after = after ≡ before

@@ -1,5 +1,5 @@
 -- What `explain` does with the streams, once it has a graph and a log: it reads a map, and writes the verdict on it.
-use Rattle.std.specs.Prelude.{◌≡◌, ◌⊎◌, ℕ, ◌+◌, ◌≤◌, List, [], ◌++◌, length, take}
+use Rattle.std.specs.Prelude.{◌≡◌, ℕ, ◌+◌, ◌≤◌, List, [], ◌++◌, length, take}
 use Rattle.tfpg_base.specs.declared.activation.Activation.{Activation}
 use Rattle.tfpg_base.specs.Lines.{lines_of, whole_lines, max_bytes}
 use Rattle.tfpg_base.specs.Outside.{SourceState, Rose, Takes, Puts, IsAtEnd}
@@ -9,7 +9,7 @@ use Rattle.tfpg_trace.specs.declared.verdict.Verdict.{Verdict}
 use Rattle.tfpg_trace.specs.FirstFault.{IsVerdict}
 use Rattle.tfpg.specs.declared.end.CheckCause.TheVariants.{BadMap}
 use Rattle.tfpg.specs.declared.end.End.{End}
-use Rattle.tfpg.specs.declared.end.End.TheVariants.{Done, NotAccepted, Usage, Graph, ReadFault, WriteFault, TooMuchInput, NoMemory}
+use Rattle.tfpg.specs.declared.end.End.TheVariants.{Done, NotAccepted, Usage, Graph, TooManyHypotheses, ReadFault, WriteFault, TooMuchInput, NoMemory}
 use Rattle.tfpg.specs.Map.{SpellsMap, BeginsMap, IsMapFault}
 use Rattle.tfpg.specs.Streams.{Streams, HasLeft, HasNoFault}
 use Rattle.tfpg.specs.Verdicts.{verdict_text}
@@ -61,6 +61,7 @@ JudgingEnds graph log before now taken (NotAccepted line cause) =
     RefusesMap graph before.input now.input taken line × (cause ≡ BadMap) × (now.output ≡ before.output)
 JudgingEnds graph log before now taken (Usage cause) = ⊥
 JudgingEnds graph log before now taken (Graph line cause) = ⊥
+JudgingEnds graph log before now taken (TooManyHypotheses count) = ⊥
 JudgingEnds graph log before now taken ReadFault =
     Rose before.input.faults now.input.faults × BeginsMap graph (whole_lines taken) × (now.output ≡ before.output)
 JudgingEnds graph log before now taken WriteFault = BeginsVerdict graph log before now taken

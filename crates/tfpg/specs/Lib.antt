@@ -1,13 +1,19 @@
 -- What the public contracts say.
-pub mod Command
 pub mod Fetch
 pub mod Streams
 pub mod Judging
 pub mod Verdicts
+pub mod Saying
 pub mod Run
 pub mod ForNow
 pub mod Ends
 pub mod EndsOf
 pub mod Map
+pub mod MapText
+pub mod Simulating
+pub mod Completeness
+pub mod Diagnosed
+pub mod Summary
+pub mod Generating
 -- What no public contract cites.
 pub mod inside

@@ -1,8 +1,10 @@
 -- What no public contract cites.
-pub mod Words
-pub mod Diagnoser
-pub mod EmptyRounds
+pub mod Answering
 pub mod Course
 pub mod MapLines
 pub mod MapReading
 pub mod Faults
+pub mod Plans
+pub mod Diagnosed
+pub mod Summary
+pub mod Drawn

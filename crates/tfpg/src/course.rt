@@ -1,26 +1,25 @@
 //! The course of a diagnosis: one line after another, each answered before the next is taken.
 
-ghost use Rattle.std.specs.Prelude.{◌≡◌, ◌++◌, ℕ, List, IfOk, IfErr, OnErr, Err};
+ghost use Rattle.std.specs.Prelude.{◌≡◌, ◌++◌, [], ℕ, List, IfOk, IfErr, OnErr, Err};
 ghost use Rattle.tfpg_base.specs.Outside.{Rose, Puts};
 ghost use Rattle.tfpg_graph.specs.Graph.{Tfpg};
 ghost use Rattle.tfpg_graph.specs.Valid.{IsValid};
+ghost use Rattle.tfpg_log.specs.LogOfLines.{new_log};
+ghost use Rattle.tfpg_engine.specs.Engining.{EngineRepresents};
 ghost use Rattle.tfpg_report.specs.Blocks.{head_text};
-ghost use Rattle.tfpg.specs.ForNow.{budget};
 ghost use Rattle.tfpg.specs.Run.{Diagnoses};
 ghost use Rattle.tfpg.specs.Streams.{Streams, streams};
+ghost use Rattle.tfpg.specs.inside.Answering.{IsReady};
 ghost use Rattle.tfpg.specs.inside.Course.{IsUnderWay, LeadsTo};
-ghost use Rattle.tfpg.specs.inside.Diagnoser.{IsReady};
 
-use crate::diagnoser::{Diagnoser, refused_block};
+use crate::answering::{answer, refused_block};
 use crate::fault::StreamFault;
 use crate::output::put_all;
 use std::alloc::Global;
-use tfpg_base::{Line, Lines, NoMemory, Sink, Source};
-use tfpg_graph::Graph;
+use std::sync::ledger::Ledger;
+use tfpg_base::{Line, Lines, NoMemory, Sink, Source, Steps};
+use tfpg_engine::Engine;
 use tfpg_report::{RefusedLine, head};
-
-/// The budget that the report names. The empty hypothesis never spends it.
-const BUDGET: u64 = 1000;
 
 /// Whether a line was answered, or the input has ended.
 #[derive(Clone, Copy)]
@@ -29,22 +28,25 @@ pub(crate) enum Turn {
     Ended,
 }
 
-/// Diagnoses the lines of the input, and writes the report.
-pub(crate) fn diagnose<S: Source, K: Sink>(
+/// Diagnoses the lines of the input by a new engine, and writes the report.
+pub(crate) fn diagnose<S: Source, K: Sink, L: Ledger>(
     alloc: Global,
-    graph: Graph,
+    engine: &mut Engine,
     input: &mut S,
     out: &mut K,
+    work: &mut Steps<L>,
 ) -> Result<(), StreamFault>
-    requires { IsValid graph }
-    ensures { Diagnoses graph (streams (S.state input.old) (K.state out.old)) (streams (S.state input.new) (K.state out.new)) result }
+    requires valid { IsValid engine.old.graph }
+    requires unread { engine.old.log ≡ new_log }
+    requires new { EngineRepresents engine.old [] }
+    ensures { Diagnoses engine.old.graph engine.old.k engine.old.budget
+        (streams (S.state input.old) (K.state out.old)) (streams (S.state input.new) (K.state out.new)) result }
 {
-    let mut diagnoser = Diagnoser::new(alloc, graph);
     let mut lines = Lines::new(alloc)?;
-    let head = first_line(alloc)?;
+    let head = first_line(alloc, engine.k(), engine.budget())?;
     put_all(out, &head)?;
     loop {
-        match take_turn(alloc, &mut diagnoser, &mut lines, input, out)? {
+        match take_turn(alloc, engine, &mut lines, input, out, work)? {
             Turn::Answered => {}
             Turn::Ended => return Ok(()),
         }
@@ -52,30 +54,30 @@ pub(crate) fn diagnose<S: Source, K: Sink>(
 }
 
 /// The first line of the report.
-fn first_line(alloc: Global) -> Result<Vec<u8>, NoMemory>
-    ensures { IfOk result (λ line. line.items ≡ head_text 0 budget) }
+fn first_line(alloc: Global, k: u32, budget: u64) -> Result<Vec<u8>, NoMemory>
+    ensures { IfOk result (λ line. line.items ≡ head_text k budget) }
 {
     let mut line = Vec::new(alloc);
-    head(0, BUDGET, &mut line)?;
+    head(k, budget, &mut line)?;
     Ok(line)
 }
 
 /// Takes the next line, and writes its block.
-fn take_turn<S: Source, K: Sink>(
+fn take_turn<S: Source, K: Sink, L: Ledger>(
     alloc: Global,
-    diagnoser: &mut Diagnoser,
+    engine: &mut Engine,
     lines: &mut Lines,
     input: &mut S,
     out: &mut K,
+    work: &mut Steps<L>,
 ) -> Result<Turn, StreamFault>
-    requires { IsReady diagnoser.old }
-    ensures turn { (graph : Tfpg) (before : Streams)
-        → IsUnderWay graph before (streams (S.state input.old) (K.state out.old)) lines.old diagnoser.old
-        → IfOk result (LeadsTo graph before (streams (S.state input.new) (K.state out.new)) lines.old.number lines.new diagnoser.new) }
-    ensures stopped { (graph : Tfpg) (before : Streams)
-        → IsUnderWay graph before (streams (S.state input.old) (K.state out.old)) lines.old diagnoser.old
-        → IfErr result (λ fault. Diagnoses graph before (streams (S.state input.new) (K.state out.new)) (Err fault)) }
-    ensures ready { IsReady diagnoser.new }
+    requires { IsReady engine.old }
+    ensures turn { (graph : Tfpg) (k budget : ℕ) (before : Streams)
+        → IsUnderWay graph k budget before (streams (S.state input.old) (K.state out.old)) lines.old engine.old
+        → IfOk result (LeadsTo graph k budget before (streams (S.state input.new) (K.state out.new)) lines.old.number lines.new engine.new) }
+    ensures stopped { (graph : Tfpg) (k budget : ℕ) (before : Streams)
+        → IsUnderWay graph k budget before (streams (S.state input.old) (K.state out.old)) lines.old engine.old
+        → IfErr result (λ fault. Diagnoses graph k budget before (streams (S.state input.new) (K.state out.new)) (Err fault)) }
 {
     match lines.next(input)? {
         Line::End => Ok(Turn::Ended),
@@ -84,7 +86,7 @@ fn take_turn<S: Source, K: Sink>(
             put_block(out, &block)
         }
         Line::Text => {
-            let block = diagnoser.answer(lines.number(), lines.text())?;
+            let block = answer(alloc, engine, lines.number(), lines.text(), work)?;
             put_block(out, &block)
         }
     }

@@ -7,7 +7,7 @@ ghost use Rattle.tfpg_base.specs.Words.{line_of};
 ghost use Rattle.tfpg.specs.Ends.{check_cause_name, graph_cause_name, line_of_end, status_of, usage_name};
 ghost use Rattle.tfpg.specs.declared.end.End.TheVariants as ends;
 ghost use Rattle.tfpg.specs.EndsOf.{end_of_fetch_fault, end_of_stream_fault};
-ghost use Rattle.tfpg.specs.inside.Faults.{end_of_no_map};
+ghost use Rattle.tfpg.specs.inside.Faults.{end_of_no_map, end_of_plan_fault, end_of_sim_fault, end_of_table_fault};
 
 use crate::fault::{FetchFault, StreamFault};
 use crate::map::NoMap;
@@ -15,19 +15,17 @@ use itoa::Buffer;
 use std::process::ExitCode;
 use tfpg_base::{Failed, NoMemory, put_words};
 use tfpg_graph::GraphCause;
+use tfpg_hyp::TableFault;
+use tfpg_sim::SimFault;
+use tfpg_words::{PlanFault, UsageCause};
 
-/// Why the words of the command line are refused.
-#[derive(Clone, Copy, Debug, PartialEq, Eq)]
-pub enum UsageCause {
-    /// For now: the words are neither `diagnose --k 0 GRAPH` nor `explain GRAPH LOG`.
-    NotBuilt,
-}
-
-/// Why a line of the input is refused.
+/// Why a line of the input or of the script is refused.
 #[derive(Clone, Copy, Debug, PartialEq, Eq)]
 pub enum CheckCause {
     /// No map begins with the lines up to this one.
     BadMap,
+    /// Of `simulate`: the first line of the script that is at fault.
+    BadScript,
 }
 
 /// How a run ends. Of several that would hold, the first in the order of the work decides: words, files, graph, and then
@@ -36,12 +34,14 @@ pub enum CheckCause {
 pub enum End {
     /// The input was read to its end, and all was written.
     Done,
-    /// This line of the input is refused.
+    /// This line of the input or of the script is refused.
     NotAccepted { line: u64, cause: CheckCause },
     /// The words are refused.
     Usage { cause: UsageCause },
     /// The graph file has this fault in this line.
     Graph { line: u64, cause: GraphCause },
+    /// There are more than 4,096 sets of at most `k` failure modes, exactly this many.
+    TooManyHypotheses { count: u128 },
     /// The shelf of files or the input failed.
     ReadFault,
     /// The output failed.
@@ -62,6 +62,7 @@ impl End {
             End::NotAccepted { .. } => 1,
             End::Usage { .. } => 2,
             End::Graph { .. } => 3,
+            End::TooManyHypotheses { .. } => 4,
             End::ReadFault => 5,
             End::WriteFault => 6,
             End::TooMuchInput => 7,
@@ -85,6 +86,7 @@ impl End {
             End::NotAccepted { line, cause } => put_not_accepted(*line, *cause, into),
             End::Usage { cause } => put_usage(*cause, into),
             End::Graph { line, cause } => put_graph(*line, *cause, into),
+            End::TooManyHypotheses { count } => put_too_many(*count, into),
             End::ReadFault => put(b"read fault", into),
             End::WriteFault => put(b"write fault", into),
             End::TooMuchInput => put(b"too much input", into),
@@ -105,6 +107,28 @@ impl From<FetchFault> for End {
                 cause: fault.cause,
             },
             FetchFault::NoMemory => End::NoMemory,
+        }
+    }
+}
+
+impl From<PlanFault> for End {
+    ghost from_gives = { λ fault e. e ≡ end_of_plan_fault fault };
+
+    fn from(fault: PlanFault) -> End {
+        match fault {
+            PlanFault::Usage(cause) => End::Usage { cause },
+            PlanFault::NoMemory => End::NoMemory,
+        }
+    }
+}
+
+impl From<TableFault> for End {
+    ghost from_gives = { λ fault e. e ≡ end_of_table_fault fault };
+
+    fn from(fault: TableFault) -> End {
+        match fault {
+            TableFault::TooMany { count } => End::TooManyHypotheses { count },
+            TableFault::NoMemory => End::NoMemory,
         }
     }
 }
@@ -134,6 +158,20 @@ impl From<NoMap> for End {
             NoMap::ReadFault => End::ReadFault,
             NoMap::TooMuchInput => End::TooMuchInput,
             NoMap::NoMemory => End::NoMemory,
+        }
+    }
+}
+
+impl From<SimFault> for End {
+    ghost from_gives = { λ fault e. e ≡ end_of_sim_fault fault };
+
+    fn from(fault: SimFault) -> End {
+        match fault {
+            SimFault::BadScript { line } => End::NotAccepted {
+                line,
+                cause: CheckCause::BadScript,
+            },
+            SimFault::NoMemory => End::NoMemory,
         }
     }
 }
@@ -193,6 +231,22 @@ fn put_graph(line: u64, cause: GraphCause, into: &mut Vec<u8>) -> Result<(), NoM
     )
 }
 
+/// Appends what is said of a graph that has too many hypotheses.
+fn put_too_many(count: u128, into: &mut Vec<u8>) -> Result<(), NoMemory>
+    ensures { Appends result into.old.items into.new.items (line_of (codes "too" ∷ codes "many" ∷ codes "hypotheses" ∷ decimal count ∷ [])) }
+{
+    let mut digits = Buffer::new();
+    put_words(
+        into,
+        &[
+            b"too",
+            b"many",
+            b"hypotheses",
+            digits.format(count).as_bytes(),
+        ],
+    )
+}
+
 /// Appends a text.
 fn put(text: &[u8], into: &mut Vec<u8>) -> Result<(), NoMemory>
     ensures { Appends result into.old.items into.new.items text.now }
@@ -207,6 +261,7 @@ fn check_cause_word(cause: CheckCause) -> &'static [u8]
 {
     match cause {
         CheckCause::BadMap => b"BadMap",
+        CheckCause::BadScript => b"BadScript",
     }
 }
 
@@ -215,7 +270,12 @@ fn usage_cause_word(cause: UsageCause) -> &'static [u8]
     ensures { result.now ≡ usage_name cause }
 {
     match cause {
-        UsageCause::NotBuilt => b"NotBuilt",
+        UsageCause::NoCommand => b"NoCommand",
+        UsageCause::UnknownCommand => b"UnknownCommand",
+        UsageCause::BadWords => b"BadWords",
+        UsageCause::BadNumber => b"BadNumber",
+        UsageCause::OutOfRange => b"OutOfRange",
+        UsageCause::BadPanel => b"BadPanel",
     }
 }
 

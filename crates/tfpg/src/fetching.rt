@@ -1,4 +1,4 @@
-//! The graph of a file, and the log of another.
+//! The graph of a file, and the log or the text of another.
 
 ghost use Rattle.std.specs.Prelude.{◌≡◌, ◌∷◌, [], IfOk, IfErr, OnOk, length};
 ghost use Rattle.tfpg_base.specs.Lines.{lines_of};
@@ -6,7 +6,7 @@ ghost use Rattle.tfpg_base.specs.Outside.{NotesName};
 ghost use Rattle.tfpg_graph.specs.Valid.{IsValid};
 ghost use Rattle.tfpg_log.specs.Log.{IsOf};
 ghost use Rattle.tfpg_log.specs.LogOfLines.{log_after, log_of_lines};
-ghost use Rattle.tfpg.specs.Fetch.{HasFile, GivesGraph, GivesGraphAndLog, IsFetchFault, IsFilesFault, AsksFor, AsksInOrder};
+ghost use Rattle.tfpg.specs.Fetch.{HasFile, GivesGraph, GivesGraphAndLog, GivesGraphAndText, IsFetchFault, IsFilesFault, AsksFor, AsksInOrder};
 ghost use Rattle.tfpg.specs.inside.Faults.{IsFileFault};
 
 use crate::fault::FetchFault;
@@ -43,11 +43,27 @@ pub(crate) fn fetch_graph_and_log<F: Shelf>(
     ensures fault { IfErr result (IsFilesFault (F.state shelf.old) (F.state shelf.new) graph_name.now log_name.now) }
     ensures asks { AsksInOrder (graph_name.now ∷ log_name.now ∷ []) (F.state shelf.old).asked (F.state shelf.new).asked }
 {
-    let graph_text = fetch_file(alloc, shelf, graph_name)?;
-    let log_text = fetch_file(alloc, shelf, log_name)?;
-    let graph = read(alloc, &graph_text)?;
+    let (graph, log_text) = fetch_graph_and_text(alloc, shelf, graph_name, log_name)?;
     let log = log_of_text(alloc, &graph, &log_text)?;
     Ok((graph, log))
+}
+
+/// Fetches the files of these names, both before the first is read, and reads its graph.
+pub(crate) fn fetch_graph_and_text<F: Shelf>(
+    alloc: Global,
+    shelf: &mut F,
+    graph_name: &str,
+    text_name: &str,
+) -> Result<(Graph, Vec<u8>), FetchFault>
+    ensures given { IfOk result (λ both. GivesGraphAndText (F.state shelf.old) graph_name.now text_name.now both.0 both.1.items) }
+    ensures no_fault { OnOk result ((F.state shelf.new).faults ≡ (F.state shelf.old).faults) }
+    ensures fault { IfErr result (IsFilesFault (F.state shelf.old) (F.state shelf.new) graph_name.now text_name.now) }
+    ensures asks { AsksInOrder (graph_name.now ∷ text_name.now ∷ []) (F.state shelf.old).asked (F.state shelf.new).asked }
+{
+    let graph_text = fetch_file(alloc, shelf, graph_name)?;
+    let text = fetch_file(alloc, shelf, text_name)?;
+    let graph = read(alloc, &graph_text)?;
+    Ok((graph, text))
 }
 
 /// Fetches the file of this name.

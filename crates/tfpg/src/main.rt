@@ -3,31 +3,42 @@
 //! [`run::run`] is the top call, over any shelf of files, input and output. `main` calls it on the real ones.
 #![tactic(auto)]
 
-mod command;
+ghost use Rattle.std.specs.Prelude.{◌≡◌, ◌<◌};
+
+mod answering;
 mod course;
-mod diagnoser;
+mod diagnosis;
 mod end;
 mod fault;
 mod fetching;
+mod generating;
 mod judging;
 mod laws;
 mod map;
 mod map_lines;
 mod map_reading;
+mod map_text;
 mod output;
 mod real;
 mod run;
+mod simulating;
+mod summary;
 #[cfg(test)]
 mod tests;
 mod verdict_line;
+mod words;
 
-use command::words_after_name;
-use end::{End, UsageCause};
+use end::End;
 use real::{FileShelf, StandardInput, StandardOutput};
+use std::alloc::Global;
 use std::io::{ErrorKind, Write};
+use std::marker::Brand;
 use std::process::ExitCode;
+use std::sync::ledger::{Blank, Ledger};
 use std::{env, io};
-use tfpg_base::NoMemory;
+use tfpg_base::{NoMemory, Shelf, Sink, Source, Steps};
+use tfpg_words::UsageCause;
+use words::words_after_name;
 
 /// Runs on the words of the command line, says how that ended, and exits with its status.
 fn main(rt: HostRuntime) -> ExitCode {
@@ -55,7 +66,7 @@ fn end_without_words(error: &io::Error) -> End {
         End::NoMemory
     } else {
         End::Usage {
-            cause: UsageCause::NotBuilt,
+            cause: UsageCause::BadWords,
         }
     }
 }
@@ -65,7 +76,35 @@ fn run_words(rt: &HostRuntime, words: &[String]) -> End {
     let mut shelf = FileShelf::new(rt);
     let mut input = StandardInput::new(rt.stdin());
     let mut output = StandardOutput::new(rt.stdout());
-    run::run(rt.alloc(), words, &mut shelf, &mut input, &mut output)
+    run_over(rt.alloc(), words, &mut shelf, &mut input, &mut output)
+}
+
+/// Runs on these words, over this shelf, input and output.
+fn run_over<F: Shelf, S: Source, K: Sink>(
+    alloc: Global,
+    words: &[String],
+    shelf: &mut F,
+    input: &mut S,
+    out: &mut K,
+) -> End {
+    run_counted::<F, S, K, Brand>(alloc, words, shelf, input, out, Blank::new(1))
+}
+
+/// The same with a new counter of steps, which costs nothing.
+fn run_counted<F: Shelf, S: Source, K: Sink, L: Ledger>(
+    alloc: Global,
+    words: &[String],
+    shelf: &mut F,
+    input: &mut S,
+    out: &mut K,
+    blank: Blank,
+) -> End
+    requires name { blank.name ≡ L.name }
+    requires parts { blank.parts ≡ L.parts }
+    requires some { 0 < blank.parts }
+{
+    let mut work = Steps::<L>::new(blank);
+    run::run(alloc, words, shelf, input, out, &mut work)
 }
 
 /// Writes the line of the end to standard error, where it has one. Where that fails, nothing more can be said.

@@ -1,47 +1,100 @@
 //! The top call: from the words and the bytes of the outside to the bytes of a report, or of a verdict.
 
-ghost use Rattle.std.specs.Prelude.{◌≡◌, ◌∷◌, [], map, string_bytes, OnOk, IfErr};
-ghost use Rattle.tfpg.specs.Command.{asked_by};
+ghost use Rattle.std.specs.Prelude.{◌≡◌, ◌≤◌, ◌∷◌, [], map, string_bytes, OnOk, IfErr, Ok};
+ghost use Rattle.tfpg_words.specs.Meaning.{Meaning, meaning};
+ghost use Rattle.tfpg.specs.Completeness.{CanBeDone, IsCompleted, IsShort, NothingFails};
+ghost use Rattle.tfpg_words.specs.Plans.{meaning_of};
+ghost use Rattle.tfpg.specs.inside.Plans.{AreWithinLimits};
 ghost use Rattle.tfpg.specs.inside.Faults.{end_of_work};
 ghost use Rattle.tfpg.specs.Fetch.{AsksOnly, AsksFor, AsksInOrder};
-ghost use Rattle.tfpg.specs.Run.{RunEnds, StopsAt, ExplainEnds};
+ghost use Rattle.tfpg.specs.Run.{RunEnds, CommandEnds, DiagnoseEnds, ExplainEnds};
 ghost use Rattle.tfpg.specs.Streams.{streams};
 
-use crate::command::{Command, command_of};
 use crate::course::diagnose;
-use crate::end::{End, UsageCause};
+use crate::end::End;
 use crate::fetching::{fetch_graph, fetch_graph_and_log};
+use crate::generating::put_generated;
 use crate::judging::judge;
+use crate::simulating::simulate_files;
 use std::alloc::Global;
-use tfpg_base::{Shelf, Sink, Source};
+use std::sync::ledger::Ledger;
+use tfpg_base::{Shelf, Sink, Source, Steps};
+use tfpg_engine::Engine;
+use tfpg_graph::laws::a_text_has_at_most_one_first_fault;
+use tfpg_words::laws::numbers_are_within_their_limits;
+use tfpg_words::{Command, plan};
 
 /// Does what the words say. To diagnose it reads the graph that they name, then takes the input line by line, and writes the
 /// block of each line before the next one is taken. To explain it reads the graph and the log that they name, then the map of
-/// the input, and then writes the verdict on it.
-pub fn run<F: Shelf, S: Source, K: Sink>(
+/// the input, and then writes the verdict on it. To simulate it reads the graph and the script that they name, and writes the log
+/// or the map of what happens. To generate it draws both, diagnoses the log, and writes what became of the truth. Searches count
+/// their steps on `work`.
+pub fn run<F: Shelf, S: Source, K: Sink, L: Ledger>(
     alloc: Global,
     words: &[String],
     shelf: &mut F,
     input: &mut S,
     out: &mut K,
+    work: &mut Steps<L>,
 ) -> End
     // Each end has its cause, and what was written by then is right.
-    ensures ends { RunEnds (asked_by (map string_bytes words.now)) (F.state shelf.old) (F.state shelf.new)
+    ensures ends { RunEnds (meaning (map string_bytes words.now)) (F.state shelf.old) (F.state shelf.new)
         (streams (S.state input.old) (K.state out.old)) (streams (S.state input.new) (K.state out.new)) result }
 
+    // Where the words are right, the files and the input serve them and nothing fails, it is done, or memory ran out.
+    ensures completes { (meant : Meaning) → meaning (map string_bytes words.now) ≡ Ok meant → CanBeDone meant (F.state shelf.old) →
+        NothingFails (F.state shelf.old) (F.state shelf.new) (streams (S.state input.old) (K.state out.old)) (streams (S.state input.new) (K.state out.new)) →
+        IsShort (S.state input.old) → IsCompleted meant result }
+
     // No answer comes from a file that the words do not name.
-    ensures asks { AsksOnly (asked_by (map string_bytes words.now)) (F.state shelf.old).asked (F.state shelf.new).asked }
+    ensures asks { AsksOnly (meaning (map string_bytes words.now)) (F.state shelf.old).asked (F.state shelf.new).asked }
 {
-    match command_of(words) {
-        None => End::Usage {
-            cause: UsageCause::NotBuilt,
-        },
-        Some(Command::Diagnose { graph }) => {
-            end_of(diagnose_file(alloc, graph, shelf, input, out))
+    numbers_are_within_their_limits();
+    a_text_has_at_most_one_first_fault();
+    match plan(alloc, words) {
+        Ok(planned) => end_of(perform(alloc, &planned.command, shelf, input, out, work)),
+        Err(fault) => End::from(fault),
+    }
+}
+
+/// Does what a command asks for.
+fn perform<F: Shelf, S: Source, K: Sink, L: Ledger>(
+    alloc: Global,
+    command: &Command,
+    shelf: &mut F,
+    input: &mut S,
+    out: &mut K,
+    work: &mut Steps<L>,
+) -> Result<(), End>
+    requires { AreWithinLimits (meaning_of command.now) }
+    ensures done { OnOk result (CommandEnds (Ok (meaning_of command.now)) (F.state shelf.old) (F.state shelf.new)
+        (streams (S.state input.old) (K.state out.old)) (streams (S.state input.new) (K.state out.new)) End.Done) }
+    ensures stopped { IfErr result (CommandEnds (Ok (meaning_of command.now)) (F.state shelf.old) (F.state shelf.new)
+        (streams (S.state input.old) (K.state out.old)) (streams (S.state input.new) (K.state out.new))) }
+    ensures asks { AsksOnly (Ok (meaning_of command.now)) (F.state shelf.old).asked (F.state shelf.new).asked }
+{
+    match command {
+        Command::Diagnose { k, budget, graph } => {
+            diagnose_file(alloc, *k, *budget, graph.as_str(), shelf, input, out, work)
         }
-        Some(Command::Explain { graph, log }) => {
-            end_of(explain_by_files(alloc, graph, log, shelf, input, out))
+        Command::Explain { graph, log } => {
+            explain_by_files(alloc, graph.as_str(), log.as_str(), shelf, input, out)
         }
+        Command::Simulate {
+            draw,
+            trace,
+            graph,
+            script,
+        } => simulate_files(
+            alloc,
+            graph.as_str(),
+            script.as_str(),
+            *draw,
+            *trace,
+            shelf,
+            out,
+        ),
+        Command::Generate { draw, size } => put_generated(alloc, *draw, *size, out, work),
     }
 }
 
@@ -55,22 +108,27 @@ fn end_of(work: Result<(), End>) -> End
     }
 }
 
-/// Diagnoses the graph of the file of this name.
-fn diagnose_file<F: Shelf, S: Source, K: Sink>(
+/// Diagnoses the graph of the file of this name, for all sets of at most `k` failure modes.
+fn diagnose_file<F: Shelf, S: Source, K: Sink, L: Ledger>(
     alloc: Global,
+    k: u32,
+    budget: u64,
     name: &str,
     shelf: &mut F,
     input: &mut S,
     out: &mut K,
+    work: &mut Steps<L>,
 ) -> Result<(), End>
-    ensures done { OnOk result (StopsAt (F.state shelf.old) (F.state shelf.new) name.now
+    requires { 1 ≤ budget }
+    ensures done { OnOk result (DiagnoseEnds (F.state shelf.old) (F.state shelf.new) k budget name.now
         (streams (S.state input.old) (K.state out.old)) (streams (S.state input.new) (K.state out.new)) End.Done) }
-    ensures stopped { IfErr result (StopsAt (F.state shelf.old) (F.state shelf.new) name.now
+    ensures stopped { IfErr result (DiagnoseEnds (F.state shelf.old) (F.state shelf.new) k budget name.now
         (streams (S.state input.old) (K.state out.old)) (streams (S.state input.new) (K.state out.new))) }
     ensures asks { AsksFor name.now (F.state shelf.old).asked (F.state shelf.new).asked }
 {
     let graph = fetch_graph(alloc, shelf, name)?;
-    Ok(diagnose(alloc, graph, input, out)?)
+    let mut engine = Engine::new(alloc, graph, k, budget)?;
+    Ok(diagnose(alloc, &mut engine, input, out, work)?)
 }
 
 /// Judges the map of the input by the graph and the log of the files of these names.

@@ -2,14 +2,18 @@
 
 ghost use Rattle.std.specs.Prelude.{◌<◌};
 
+mod diagnosing;
 mod explaining;
+mod generating;
+mod simulating;
 
-use crate::end::{End, UsageCause};
-use crate::run::run;
+use crate::end::End;
+use crate::run_over;
 use std::alloc::{AllocError, Global};
 use std::test::Fail;
 use tfpg_base::{MemoryShelf, MemorySink, MemorySource};
 use tfpg_graph::GraphCause;
+use tfpg_words::UsageCause;
 
 pub(crate) const GRAPH: &[u8] =
     b"tfpg 1\nmode N\nfailure F 1\nor A watch 0\nor E watch 0\nedge F A 1 3 *\nedge F E 9 9 *\nend\n";
@@ -52,23 +56,16 @@ const SLOW_CYCLE: &[u8] =
 const LOG: &[u8] = b"5 tick\n10 alarm E\n9 tick\n12 tick\n";
 
 const REPORT: &[u8] =
-    b"report 1 k 0 budget 1000\nround 1 1 5\nranked 0 cost 0 robust 1/1 set -\ncounts ranked 1 covered 0 rejected 0 open 0\nround 2 2 10\nhyp 0\ncycle 2\nwhy unreached E 10\nwhy upto 2\nrejected 0 set -\ncounts ranked 0 covered 0 rejected 1 open 0\nrefused 3 TimeBack 10\nround 3 4 12\ncounts ranked 0 covered 0 rejected 1 open 0\n";
+    b"report 1 k 0 budget 1000\nround 1 1 5\nranked 0 cost 0 robust 1/1 set -\ncounts ranked 1 covered 0 rejected 0 open 0\nround 2 2 10\nhyp 0\ncycle 2\nwhy upto 2\nwhy unreached E 10\nrejected 0 set -\ncounts ranked 0 covered 0 rejected 1 open 0\nrefused 3 TimeBack 10\nround 3 4 12\ncounts ranked 0 covered 0 rejected 1 open 0\n";
 
-/// Words that are of neither shape.
-const REFUSED_WORDS: [&[&str]; 13] = [
-    &[],
-    &["diagnose"],
-    &["diagnose", "--k", "1", "g"],
-    &["diagnose", "--k=0", "g"],
-    &["diagnose", "--k", "0", "-g"],
-    &["check", "--k", "0", "g"],
-    &["diagnose", "--k", "0", "g", "h"],
-    &["explain"],
-    &["explain", "g"],
-    &["explain", "-g", "l"],
-    &["explain", "g", "-l"],
-    &["explain", "g", "l", "m"],
-    &["judge", "g", "l"],
+/// Words that are refused, and why.
+const REFUSED_WORDS: [(&[&str], UsageCause); 6] = [
+    (&[], UsageCause::NoCommand),
+    (&["judge", "g", "l"], UsageCause::UnknownCommand),
+    (&["explain", "g"], UsageCause::BadWords),
+    (&["diagnose", "g", "--k", "x"], UsageCause::BadNumber),
+    (&["diagnose", "g", "--k", "65"], UsageCause::OutOfRange),
+    (&["diagnose", "g", "log"], UsageCause::BadPanel),
 ];
 
 /// The words of a command line.
@@ -81,7 +78,7 @@ pub(crate) fn words_of(alloc: Global, texts: &[&str]) -> Result<Vec<String>, All
 }
 
 /// How a run on a graph of this text ends.
-fn run_over(
+fn run_on_text(
     alloc: Global,
     graph: &[u8],
     input: &mut MemorySource<'_>,
@@ -90,7 +87,7 @@ fn run_over(
     let words = words_of(alloc, &["diagnose", "--k", "0", "g"])?;
     let files = [("g", graph)];
     let mut shelf = MemoryShelf::new(alloc, &files, &[]);
-    Ok(run(alloc, &words, &mut shelf, input, out))
+    Ok(run_over(alloc, &words, &mut shelf, input, out))
 }
 
 /// How a run on the graph and the log ends, and what it writes, where input and output go in pieces of at most so many
@@ -105,7 +102,7 @@ fn run_in_pieces(
 {
     let mut input = MemorySource::new(LOG, most, input_fails);
     let mut out = MemorySink::new(alloc, most, output_fails);
-    let end = run_over(alloc, GRAPH, &mut input, &mut out)?;
+    let end = run_on_text(alloc, GRAPH, &mut input, &mut out)?;
     Ok((end, Vec::from_slice(alloc, out.bytes())?))
 }
 
@@ -121,7 +118,7 @@ fn run_on(
     let mut shelf = MemoryShelf::new(alloc, &files, shelf_fails);
     let mut input = MemorySource::new(b"", 1, &[]);
     let mut out = MemorySink::new(alloc, 1, &[]);
-    Ok(run(alloc, &words, &mut shelf, &mut input, &mut out))
+    Ok(run_over(alloc, &words, &mut shelf, &mut input, &mut out))
 }
 
 #[test]
@@ -164,12 +161,12 @@ const MORNINGS: [(&str, &[u8], &[u8]); 2] = [
     (
         "array",
         b"60000 sweep\n1200000 tick\n2100000 mode Eclipse\n2160000 silent BusLow\n4200000 mode Sun\n4203000 alarm ArrayLow\n4190000 silent BatteryLow\n4800000 sweep\n7800000 mode Eclipse\n9300000 alarm BatteryLow\n9320000 silent BusLow\n9900000 mode Safe\n9900000 mode Saving\n10800000 sweep\n",
-        b"report 1 k 0 budget 1000\nround 1 1 60000\nranked 0 cost 0 robust 1/1 set -\ncounts ranked 1 covered 0 rejected 0 open 0\nround 2 2 1200000\nranked 0 cost 0 robust 1/1 set -\ncounts ranked 1 covered 0 rejected 0 open 0\nround 3 3 2100000\nranked 0 cost 0 robust 1/1 set -\ncounts ranked 1 covered 0 rejected 0 open 0\nround 4 4 2160000\nranked 0 cost 0 robust 1/1 set -\ncounts ranked 1 covered 0 rejected 0 open 0\nround 5 5 4200000\nranked 0 cost 0 robust 1/1 set -\ncounts ranked 1 covered 0 rejected 0 open 0\nround 6 6 4203000\nhyp 0\ncycle 2\nwhy unreached ArrayLow 4203000\nwhy upto 6\nrejected 0 set -\ncounts ranked 0 covered 0 rejected 1 open 0\nrefused 7 TimeBack 4203000\nround 7 8 4800000\ncounts ranked 0 covered 0 rejected 1 open 0\nround 8 9 7800000\ncounts ranked 0 covered 0 rejected 1 open 0\nround 9 10 9300000\ncounts ranked 0 covered 0 rejected 1 open 0\nround 10 11 9320000\ncounts ranked 0 covered 0 rejected 1 open 0\nrefused 12 NotAMode\nround 11 13 9900000\ncounts ranked 0 covered 0 rejected 1 open 0\nround 12 14 10800000\ncounts ranked 0 covered 0 rejected 1 open 0\n",
+        b"report 1 k 0 budget 1000\nround 1 1 60000\nranked 0 cost 0 robust 1/1 set -\ncounts ranked 1 covered 0 rejected 0 open 0\nround 2 2 1200000\nranked 0 cost 0 robust 1/1 set -\ncounts ranked 1 covered 0 rejected 0 open 0\nround 3 3 2100000\nranked 0 cost 0 robust 1/1 set -\ncounts ranked 1 covered 0 rejected 0 open 0\nround 4 4 2160000\nranked 0 cost 0 robust 1/1 set -\ncounts ranked 1 covered 0 rejected 0 open 0\nround 5 5 4200000\nranked 0 cost 0 robust 1/1 set -\ncounts ranked 1 covered 0 rejected 0 open 0\nround 6 6 4203000\nhyp 0\ncycle 2\nwhy upto 6\nwhy unreached ArrayLow 4203000\nrejected 0 set -\ncounts ranked 0 covered 0 rejected 1 open 0\nrefused 7 TimeBack 4203000\nround 7 8 4800000\ncounts ranked 0 covered 0 rejected 1 open 0\nround 8 9 7800000\ncounts ranked 0 covered 0 rejected 1 open 0\nround 9 10 9300000\ncounts ranked 0 covered 0 rejected 1 open 0\nround 10 11 9320000\ncounts ranked 0 covered 0 rejected 1 open 0\nrefused 12 NotAMode\nround 11 13 9900000\ncounts ranked 0 covered 0 rejected 1 open 0\nround 12 14 10800000\ncounts ranked 0 covered 0 rejected 1 open 0\n",
     ),
     (
         "relay",
         b"300000 tick\n1200000 sweep\n2100000 mode Eclipse\n2100150 alarm BusLow\n2101000 alarm PayloadOff\n2110000 silent BatteryLow\n2400000 silent ChargeLow\n2460000 sweep\n4200000 mode Saving\n4200500 alarm BusLow\n5400000 tick\n",
-        b"report 1 k 0 budget 1000\nround 1 1 300000\nranked 0 cost 0 robust 1/1 set -\ncounts ranked 1 covered 0 rejected 0 open 0\nround 2 2 1200000\nranked 0 cost 0 robust 1/1 set -\ncounts ranked 1 covered 0 rejected 0 open 0\nround 3 3 2100000\nranked 0 cost 0 robust 1/1 set -\ncounts ranked 1 covered 0 rejected 0 open 0\nround 4 4 2100150\nhyp 0\ncycle 2\nwhy unreached BusLow 2100150\nwhy upto 4\nrejected 0 set -\ncounts ranked 0 covered 0 rejected 1 open 0\nround 5 5 2101000\ncounts ranked 0 covered 0 rejected 1 open 0\nround 6 6 2110000\ncounts ranked 0 covered 0 rejected 1 open 0\nrefused 7 NotMonitored\nround 7 8 2460000\ncounts ranked 0 covered 0 rejected 1 open 0\nround 8 9 4200000\ncounts ranked 0 covered 0 rejected 1 open 0\nrefused 10 SecondAlarm 2100150\nround 9 11 5400000\ncounts ranked 0 covered 0 rejected 1 open 0\n",
+        b"report 1 k 0 budget 1000\nround 1 1 300000\nranked 0 cost 0 robust 1/1 set -\ncounts ranked 1 covered 0 rejected 0 open 0\nround 2 2 1200000\nranked 0 cost 0 robust 1/1 set -\ncounts ranked 1 covered 0 rejected 0 open 0\nround 3 3 2100000\nranked 0 cost 0 robust 1/1 set -\ncounts ranked 1 covered 0 rejected 0 open 0\nround 4 4 2100150\nhyp 0\ncycle 2\nwhy upto 4\nwhy unreached BusLow 2100150\nrejected 0 set -\ncounts ranked 0 covered 0 rejected 1 open 0\nround 5 5 2101000\ncounts ranked 0 covered 0 rejected 1 open 0\nround 6 6 2110000\ncounts ranked 0 covered 0 rejected 1 open 0\nrefused 7 NotMonitored\nround 7 8 2460000\ncounts ranked 0 covered 0 rejected 1 open 0\nround 8 9 4200000\ncounts ranked 0 covered 0 rejected 1 open 0\nrefused 10 SecondAlarm 2100150\nround 9 11 5400000\ncounts ranked 0 covered 0 rejected 1 open 0\n",
     ),
 ];
 
@@ -178,7 +175,7 @@ fn reports_on_the_satellite(rt: HostRuntime) -> Result<(), Fail> {
     for (name, log, report) in &MORNINGS {
         let mut input = MemorySource::new(*log, 4096, &[]);
         let mut out = MemorySink::new(rt.alloc(), 4096, &[]);
-        let end = run_over(rt.alloc(), SATELLITE, &mut input, &mut out)?;
+        let end = run_on_text(rt.alloc(), SATELLITE, &mut input, &mut out)?;
         assert_eq!(rt; end, End::Done, "{name}");
         assert_eq!(rt; out.bytes(), *report, "{name}");
     }
@@ -202,43 +199,43 @@ const LOGS: [(&str, &[usize], &[u8], &[u8]); 10] = [
         "alarm, and a time that falls",
         &[],
         b"30 alarm A\n29 tick\n31 tick\n",
-        b"round 1 1 30\nhyp 0\ncycle 2\nwhy unreached A 30\nwhy upto 1\nrejected 0 set -\ncounts ranked 0 covered 0 rejected 1 open 0\nrefused 2 TimeBack 30\nround 2 3 31\ncounts ranked 0 covered 0 rejected 1 open 0\n",
+        b"round 1 1 30\nhyp 0\ncycle 2\nwhy upto 1\nwhy unreached A 30\nrejected 0 set -\ncounts ranked 0 covered 0 rejected 1 open 0\nrefused 2 TimeBack 30\nround 2 3 31\ncounts ranked 0 covered 0 rejected 1 open 0\n",
     ),
     (
         "second alarm",
         &[],
         b"30 alarm A\n40 alarm A\n45 silent A\n",
-        b"round 1 1 30\nhyp 0\ncycle 2\nwhy unreached A 30\nwhy upto 1\nrejected 0 set -\ncounts ranked 0 covered 0 rejected 1 open 0\nrefused 2 SecondAlarm 30\nrefused 3 SilentAfterAlarm 30\n",
+        b"round 1 1 30\nhyp 0\ncycle 2\nwhy upto 1\nwhy unreached A 30\nrejected 0 set -\ncounts ranked 0 covered 0 rejected 1 open 0\nrefused 2 SecondAlarm 30\nrefused 3 SilentAfterAlarm 30\n",
     ),
     (
         "greatest time",
         &[],
         b"1000000000000 alarm A\n1000000000001 tick\n",
-        b"round 1 1 1000000000000\nhyp 0\ncycle 2\nwhy unreached A 1000000000000\nwhy upto 1\nrejected 0 set -\ncounts ranked 0 covered 0 rejected 1 open 0\nrefused 2 TimeTooLarge\n",
+        b"round 1 1 1000000000000\nhyp 0\ncycle 2\nwhy upto 1\nwhy unreached A 1000000000000\nrejected 0 set -\ncounts ranked 0 covered 0 rejected 1 open 0\nrefused 2 TimeTooLarge\n",
     ),
     (
         "sweep, then alarm",
         &[],
         b"10 sweep\n10 alarm A\n",
-        b"round 1 1 10\nranked 0 cost 0 robust 1/1 set -\ncounts ranked 1 covered 0 rejected 0 open 0\nround 2 2 10\nhyp 0\ncycle 2\nwhy unreached A 10\nwhy upto 2\nrejected 0 set -\ncounts ranked 0 covered 0 rejected 1 open 0\n",
+        b"round 1 1 10\nranked 0 cost 0 robust 1/1 set -\ncounts ranked 1 covered 0 rejected 0 open 0\nround 2 2 10\nhyp 0\ncycle 2\nwhy upto 2\nwhy unreached A 10\nrejected 0 set -\ncounts ranked 0 covered 0 rejected 1 open 0\n",
     ),
     (
         "silence, then alarm",
         &[],
         b"10 silent A\n10 alarm A\n",
-        b"round 1 1 10\nranked 0 cost 0 robust 1/1 set -\ncounts ranked 1 covered 0 rejected 0 open 0\nround 2 2 10\nhyp 0\ncycle 2\nwhy unreached A 10\nwhy upto 2\nrejected 0 set -\ncounts ranked 0 covered 0 rejected 1 open 0\n",
+        b"round 1 1 10\nranked 0 cost 0 robust 1/1 set -\ncounts ranked 1 covered 0 rejected 0 open 0\nround 2 2 10\nhyp 0\ncycle 2\nwhy upto 2\nwhy unreached A 10\nrejected 0 set -\ncounts ranked 0 covered 0 rejected 1 open 0\n",
     ),
     (
         "alarm of an AND node",
         &[],
         b"20 mode D\n30 alarm C\n",
-        b"round 1 1 20\nranked 0 cost 0 robust 1/1 set -\ncounts ranked 1 covered 0 rejected 0 open 0\nround 2 2 30\nhyp 0\ncycle 2\nwhy unreached C 30\nwhy upto 2\nrejected 0 set -\ncounts ranked 0 covered 0 rejected 1 open 0\n",
+        b"round 1 1 20\nranked 0 cost 0 robust 1/1 set -\ncounts ranked 1 covered 0 rejected 0 open 0\nround 2 2 30\nhyp 0\ncycle 2\nwhy upto 2\nwhy unreached C 30\nrejected 0 set -\ncounts ranked 0 covered 0 rejected 1 open 0\n",
     ),
     (
         "changes of mode",
         &[],
         b"20 mode D\n20 alarm A\n21 mode A\n21 mode N\n",
-        b"round 1 1 20\nranked 0 cost 0 robust 1/1 set -\ncounts ranked 1 covered 0 rejected 0 open 0\nround 2 2 20\nhyp 0\ncycle 2\nwhy unreached A 20\nwhy upto 2\nrejected 0 set -\ncounts ranked 0 covered 0 rejected 1 open 0\nrefused 3 NotAMode\nround 3 4 21\ncounts ranked 0 covered 0 rejected 1 open 0\n",
+        b"round 1 1 20\nranked 0 cost 0 robust 1/1 set -\ncounts ranked 1 covered 0 rejected 0 open 0\nround 2 2 20\nhyp 0\ncycle 2\nwhy upto 2\nwhy unreached A 20\nrejected 0 set -\ncounts ranked 0 covered 0 rejected 1 open 0\nrefused 3 NotAMode\nround 3 4 21\ncounts ranked 0 covered 0 rejected 1 open 0\n",
     ),
     (
         "refused lines",
@@ -271,7 +268,7 @@ fn answers_each_line_of_a_log(rt: HostRuntime) -> Result<(), Fail> {
         let log = log_of(rt.alloc(), *lengths, *after)?;
         let mut input = MemorySource::new(&log, 4096, &[]);
         let mut out = MemorySink::new(rt.alloc(), 4096, &[]);
-        let end = run_over(rt.alloc(), TWO_MODES, &mut input, &mut out)?;
+        let end = run_on_text(rt.alloc(), TWO_MODES, &mut input, &mut out)?;
         assert_eq!(rt; end, End::Done, "{name}");
         assert_eq!(rt; out.bytes().strip_prefix(HEAD), Some(*blocks), "{name}");
     }
@@ -303,7 +300,7 @@ fn refuses_what_is_too_much_for_a_log(rt: HostRuntime) -> Result<(), Fail> {
         }
         let mut input = MemorySource::new(&log, 4096, &[]);
         let mut out = MemorySink::new(rt.alloc(), 4096, &[]);
-        let end = run_over(rt.alloc(), TWO_MODES, &mut input, &mut out)?;
+        let end = run_on_text(rt.alloc(), TWO_MODES, &mut input, &mut out)?;
         assert_eq!(rt; end, End::Done, "{name}");
         assert!(rt; out.bytes().ends_with(*last), "{name}");
     }
@@ -312,10 +309,8 @@ fn refuses_what_is_too_much_for_a_log(rt: HostRuntime) -> Result<(), Fail> {
 
 #[test]
 fn words_and_files_that_are_refused(rt: HostRuntime) -> Result<(), Fail> {
-    let usage = End::Usage {
-        cause: UsageCause::NotBuilt,
-    };
-    for words in REFUSED_WORDS {
+    for (words, cause) in REFUSED_WORDS {
+        let usage = End::Usage { cause };
         assert_eq!(rt; run_on(rt.alloc(), words, GRAPH, &[])?, usage, "{words:?}");
     }
     let words = ["diagnose", "--k", "0", "g"];

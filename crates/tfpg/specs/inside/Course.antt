@@ -5,19 +5,20 @@ use Rattle.tfpg_base.specs.declared.line.Line.TheVariants as line
 use Rattle.tfpg_base.specs.Lines.{Reading, Buffered, LinesRepresent, lines_of, max_bytes}
 use Rattle.tfpg_base.specs.Outside.{Takes, Puts, IsAtEnd}
 use Rattle.tfpg_graph.specs.Graph.{Tfpg}
+use Rattle.tfpg_engine.specs.Engining.{Engining}
 use Rattle.tfpg_report.specs.Blocks.{Block}
 use Rattle.tfpg_check.specs.Report.{AreBlocks, report_text, progress_of}
-use Rattle.tfpg.specs.declared.diagnoser.Diagnoser.{Diagnoser}
 use Rattle.tfpg.specs.declared.course.Turn.{Turn}
 use Rattle.tfpg.specs.declared.course.Turn.TheVariants.{Answered, Ended}
-use Rattle.tfpg.specs.ForNow.{budget, LosesNone, OpensNone}
-use Rattle.tfpg.specs.inside.Diagnoser.{DiagnoserRepresents}
+use Rattle.tfpg.specs.ForNow.{LosesNone}
+use Rattle.tfpg.specs.Saying.{RoundsSay}
+use Rattle.tfpg.specs.inside.Answering.{EngineReports}
 use Rattle.tfpg.specs.Run.{Diagnoses}
 use Rattle.tfpg.specs.Streams.{Streams, HasNoFault}
 
 -- A diagnosis that began with the streams before has come to this: each line that the reader has returned is answered,
 -- its block is written, and nothing else was written but the head. Nothing has failed.
-pub record IsUnderWay (graph : Tfpg) (before now : Streams) (lines : Buffered) (diagnoser : Diagnoser) : Type 0 where
+pub record IsUnderWay (graph : Tfpg) (k budget : ℕ) (before now : Streams) (lines : Buffered) (engine : Engining) : Type 0 where
   pub reading : Reading
   pub takes : Takes before.input now.input reading.taken
   pub few : length reading.taken ≤ max_bytes
@@ -25,15 +26,14 @@ pub record IsUnderWay (graph : Tfpg) (before now : Streams) (lines : Buffered) (
   pub goes_on : (reading.ended ≡ None) ⊎ ((reading.ended ≡ Some (Ok line.End)) × IsAtEnd now.input)
   pub front : take (length reading.given) (lines_of reading.taken) ≡ reading.given
   pub blocks : List Block
-  pub writes : Puts before.output now.output (report_text graph 0 budget blocks)
-  pub are_blocks : AreBlocks graph 0 budget reading.given blocks
+  pub writes : Puts before.output now.output (report_text graph k budget blocks)
+  pub are_blocks : AreBlocks graph k budget reading.given blocks
   pub no_losses : AllByRecursion LosesNone blocks
-  pub none_open : AllByRecursion OpensNone blocks
-  pub reported : DiagnoserRepresents diagnoser (progress_of graph reading.given blocks)
-  pub same_graph : diagnoser.graph ≡ graph
+  pub say : RoundsSay graph k budget reading.given blocks
+  pub reports : EngineReports graph k budget engine (progress_of graph reading.given blocks)
   pub no_fault : HasNoFault before now
 
 -- What a turn after the line of this number leads to: the diagnosis is under way still, one line on; or it is done.
-abbrev pub LeadsTo : Tfpg → Streams → Streams → ℕ → Buffered → Diagnoser → Turn → Type 0
-LeadsTo graph before now number lines diagnoser Answered = IsUnderWay graph before now lines diagnoser × (lines.number ≡ number + 1)
-LeadsTo graph before now number lines diagnoser Ended = Diagnoses graph before now (Ok tt)
+abbrev pub LeadsTo : Tfpg → ℕ → ℕ → Streams → Streams → ℕ → Buffered → Engining → Turn → Type 0
+LeadsTo graph k budget before now number lines engine Answered = IsUnderWay graph k budget before now lines engine × (lines.number ≡ number + 1)
+LeadsTo graph k budget before now number lines engine Ended = Diagnoses graph k budget before now (Ok tt)

@@ -7,12 +7,18 @@ use Rattle.tfpg_base.specs.declared.outside.ShelfFault.{ShelfFault}
 use Rattle.tfpg_base.specs.declared.outside.ShelfFault.TheVariants as shelf
 use Rattle.tfpg_graph.specs.declared.cause.GraphRefusal.{GraphRefusal}
 use Rattle.tfpg_graph.specs.declared.cause.GraphRefusal.TheVariants as refusal
+use Rattle.tfpg_words.specs.declared.plan_fault.PlanFault.{PlanFault}
+use Rattle.tfpg_words.specs.declared.plan_fault.PlanFault.TheVariants as plan
+use Rattle.tfpg_hyp.specs.declared.table.TableFault.{TableFault}
+use Rattle.tfpg_hyp.specs.declared.table.TableFault.TheVariants as table
 use Rattle.tfpg.specs.declared.fault.FetchFault.{FetchFault}
 use Rattle.tfpg.specs.declared.fault.FetchFault.TheVariants as fetch
 use Rattle.tfpg.specs.declared.fault.StreamFault.{StreamFault}
 use Rattle.tfpg.specs.declared.fault.StreamFault.TheVariants as streams
 use Rattle.tfpg.specs.Fetch.{IsTooLong}
-use Rattle.tfpg.specs.declared.end.CheckCause.TheVariants.{BadMap}
+use Rattle.tfpg_sim.specs.declared.fault.SimFault.{SimFault}
+use Rattle.tfpg_sim.specs.declared.fault.SimFault.TheVariants as sim
+use Rattle.tfpg.specs.declared.end.CheckCause.TheVariants.{BadMap, BadScript}
 use Rattle.tfpg.specs.declared.end.End.{End}
 use Rattle.tfpg.specs.declared.end.End.TheVariants as ends
 use Rattle.tfpg.specs.declared.map.NoMap.{NoMap}
@@ -45,6 +51,21 @@ end_of_no_map (maps.Refused line) = ends.NotAccepted line BadMap
 end_of_no_map maps.ReadFault = ends.ReadFault
 end_of_no_map maps.TooMuchInput = ends.TooMuchInput
 end_of_no_map maps.NoMemory = ends.NoMemory
+
+-- the end of a run that has no table of hypotheses
+abbrev pub end_of_table_fault : TableFault → End
+end_of_table_fault (table.TooMany count) = ends.TooManyHypotheses count
+end_of_table_fault table.NoMemory = ends.NoMemory
+
+-- the end of a run that has no plan
+abbrev pub end_of_plan_fault : PlanFault → End
+end_of_plan_fault (plan.Usage cause) = ends.Usage cause
+end_of_plan_fault plan.NoMemory = ends.NoMemory
+
+-- the end of a run whose script is not simulated
+abbrev pub end_of_sim_fault : SimFault → End
+end_of_sim_fault (sim.BadScript line) = ends.NotAccepted line BadScript
+end_of_sim_fault sim.NoMemory = ends.NoMemory
 
 -- the end of a run whose work has this result
 abbrev pub end_of_work : Result (Unit {0}) End → End

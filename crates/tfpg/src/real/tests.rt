@@ -3,7 +3,7 @@ ghost use Rattle.std.specs.Prelude.{◌≡◌, IfOk};
 use super::steady::{SteadyRead, SteadyWrite};
 use super::*;
 use crate::end::End;
-use crate::run::run;
+use crate::run_over;
 use crate::tests::words_of;
 use std::alloc::AllocError;
 use std::fs::File;
@@ -174,7 +174,7 @@ fn run_on<S: Source, K: Sink>(
 ) -> Result<End, AllocError> {
     let words = words_of(rt.alloc(), &["diagnose", "--k", "0", name])?;
     let mut shelf = FileShelf::new(rt);
-    Ok(run(rt.alloc(), &words, &mut shelf, input, out))
+    Ok(run_over(rt.alloc(), &words, &mut shelf, input, out))
 }
 
 #[test]

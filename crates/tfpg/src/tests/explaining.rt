@@ -4,7 +4,7 @@ ghost use Rattle.std.specs.Prelude.{◌<◌};
 
 use super::{GRAPH, TWO_MODES, log_of, words_of};
 use crate::end::{CheckCause, End};
-use crate::run::run;
+use crate::run_over;
 use std::alloc::{AllocError, Global};
 use std::test::Fail;
 use tfpg_base::{MemoryShelf, MemorySink, MemorySource};
@@ -236,7 +236,7 @@ fn explained(
     let mut shelf = MemoryShelf::new(alloc, &files, &[]);
     let mut input = MemorySource::new(map, most, input_fails);
     let mut out = MemorySink::new(alloc, most, output_fails);
-    let end = run(alloc, &words, &mut shelf, &mut input, &mut out);
+    let end = run_over(alloc, &words, &mut shelf, &mut input, &mut out);
     Ok((end, Vec::from_slice(alloc, out.bytes())?))
 }
 
@@ -252,7 +252,7 @@ fn over_files(
     let mut shelf = MemoryShelf::new(alloc, files, shelf_fails);
     let mut input = MemorySource::new(b"set -\n", 4096, &[]);
     let mut out = MemorySink::new(alloc, 4096, &[]);
-    let end = run(alloc, &words, &mut shelf, &mut input, &mut out);
+    let end = run_over(alloc, &words, &mut shelf, &mut input, &mut out);
     Ok((end, shelf.asked().len()))
 }
 

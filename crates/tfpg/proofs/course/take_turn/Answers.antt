@@ -8,61 +8,60 @@ use Rattle.tfpg.proofs.Turns.{err_is, stopped_by, ends_by_fault, met_end, met_te
 use Rattle.tfpg.proofs.course.take_turn.Goals as goal
 
 pub returns-in_err-next-clause-stopped : goal.returns-in_err-next-clause-stopped
-returns-in_err-next-clause-stopped g c graph before under =
+returns-in_err-next-clause-stopped g c graph k b before under =
     err_is c.from_residual.result _ (stream_fault_of_lines c.in_err-next.field-0.0) c.from_residual.ensures.1
-    (ends_by_fault graph before _ c.args.lines.now c.next.new.self c.args.diagnoser.now _ c.in_err-next.field-0.0 under (c.in_err-next.ensures under.reading under.represents))
+    (ends_by_fault graph k b before _ c.args.lines.now c.next.new.self c.args.engine.now _ c.in_err-next.field-0.0 under (c.in_err-next.ensures under.reading under.represents))
 
 pub returns-in-End-clause-turn : goal.returns-in-End-clause-turn
-returns-in-End-clause-turn g c graph before under =
-    met_end graph before _ c.args.lines.now c.args.diagnoser.now _ c.next.new.self under c.in_ok-next.field-0 (c.in_ok-next.ensures under.reading under.represents) c.in-End.is
+returns-in-End-clause-turn g c graph k b before under =
+    met_end graph k b before _ c.args.lines.now c.args.engine.now _ c.next.new.self under c.in_ok-next.field-0 (c.in_ok-next.ensures under.reading under.represents) c.in-End.is
 
 pub returns-in_err-block-in-TooLong-clause-stopped : goal.returns-in_err-block-in-TooLong-clause-stopped
-returns-in_err-block-in-TooLong-clause-stopped g c graph before under =
-    let met = met_long graph before _ c.args.lines.now c.args.diagnoser.now _ c.next.new.self under c.in_ok-next.field-0 (c.in_ok-next.ensures under.reading under.represents) c.in-TooLong.is in
+returns-in_err-block-in-TooLong-clause-stopped g c graph k b before under =
+    let met = met_long graph k b before _ c.args.lines.now c.args.engine.now _ c.next.new.self under c.in_ok-next.field-0 (c.in_ok-next.ensures under.reading under.represents) c.in-TooLong.is in
     err_is c.from_residual-in_err-block-in-TooLong.result _ faults.NoMemory c.from_residual-in_err-block-in-TooLong.ensures.1
-    (gave_without_memory graph before _ c.args.lines.now c.args.diagnoser.now _ c.next.new.self under met.0)
+    (gave_without_memory graph k b before _ c.args.lines.now c.args.engine.now _ c.next.new.self under met.0)
 
 pub returns-in_ok-block-in-TooLong-clause-turn : goal.returns-in_ok-block-in-TooLong-clause-turn
-returns-in_ok-block-in-TooLong-clause-turn g c graph before under =
-    let answered = answered_long graph before _ c.args.lines.now c.args.diagnoser.now _ c.next.new.self under c.in_ok-next.field-0 (c.in_ok-next.ensures under.reading under.represents)
+returns-in_ok-block-in-TooLong-clause-turn g c graph k b before under =
+    let answered = answered_long graph k b before _ c.args.lines.now c.args.engine.now _ c.next.new.self under c.in_ok-next.field-0 (c.in_ok-next.ensures under.reading under.represents)
     c.number.result c.in_ok-block-in-TooLong.block.items c.in-TooLong.is c.in_ok-block-in-TooLong.ensures in
-    IfOk-weaker c.put_block.result _ _ (λ turn h. subst (LeadsTo graph before _ c.args.lines.now.number c.next.new.self c.args.diagnoser.now) (sym h.0) (
-      gave_block graph before _ c.args.lines.now c.args.diagnoser.now _ c.next.new.self under answered.gave
-          c.number.result c.in_ok-block-in-TooLong.block.items c.args.diagnoser.now _ c.number.ensures answered.block (Puts-same (g.K.Sink.state c.args.out.now) (g.K.Sink.state c.put_block.new.out) _ _ c.deref.ensures.value h.1) h.2 under.same_graph,
-      gave_one_more graph before _ c.args.lines.now c.args.diagnoser.now _ c.next.new.self under answered.gave
-          c.number.result c.in_ok-block-in-TooLong.block.items c.args.diagnoser.now (g.K.Sink.state c.put_block.new.out) c.number.ensures answered.block,
+    IfOk-weaker c.put_block.result _ _ (λ turn h. subst (LeadsTo graph k b before _ c.args.lines.now.number c.next.new.self c.args.engine.now) (sym h.0) (
+      gave_block graph k b before _ c.args.lines.now c.args.engine.now _ c.next.new.self under answered.gave
+          c.number.result c.in_ok-block-in-TooLong.block.items c.args.engine.now _ c.number.ensures answered.block (Puts-same (g.K.Sink.state c.args.out.now) (g.K.Sink.state c.put_block.new.out) _ _ c.deref.ensures.value h.1) h.2,
+      gave_one_more graph k b before _ c.args.lines.now c.args.engine.now _ c.next.new.self under answered.gave
+          c.number.result c.in_ok-block-in-TooLong.block.items c.args.engine.now (g.K.Sink.state c.put_block.new.out) c.number.ensures answered.block,
     )) c.put_block.ensures.put
 
 pub returns-in_ok-block-in-TooLong-clause-stopped : goal.returns-in_ok-block-in-TooLong-clause-stopped
-returns-in_ok-block-in-TooLong-clause-stopped g c graph before under =
-    let answered = answered_long graph before _ c.args.lines.now c.args.diagnoser.now _ c.next.new.self under c.in_ok-next.field-0 (c.in_ok-next.ensures under.reading under.represents)
+returns-in_ok-block-in-TooLong-clause-stopped g c graph k b before under =
+    let answered = answered_long graph k b before _ c.args.lines.now c.args.engine.now _ c.next.new.self under c.in_ok-next.field-0 (c.in_ok-next.ensures under.reading under.represents)
     c.number.result c.in_ok-block-in-TooLong.block.items c.in-TooLong.is c.in_ok-block-in-TooLong.ensures in
     stopped_by c.put_block.result _ _ _ c.put_block.ensures.cause c.put_block.ensures.front c.put_block.ensures.failed (λ front rose.
-    gave_front graph before _ c.args.lines.now c.args.diagnoser.now _ c.next.new.self under answered.gave
-    c.number.result c.in_ok-block-in-TooLong.block.items c.args.diagnoser.now _ c.number.ensures answered.block front.0 front.1 (sym c.deref.ensures.value ∙ front.2) front.3 rose)
+    gave_front graph k b before _ c.args.lines.now c.args.engine.now _ c.next.new.self under answered.gave
+    c.number.result c.in_ok-block-in-TooLong.block.items c.args.engine.now _ c.number.ensures answered.block front.0 front.1 (sym c.deref.ensures.value ∙ front.2) front.3 rose)
 
 pub returns-in_err-block-in-Text-clause-stopped : goal.returns-in_err-block-in-Text-clause-stopped
-returns-in_err-block-in-Text-clause-stopped g c graph before under =
-    let met = met_text graph before _ c.args.lines.now c.args.diagnoser.now _ c.next.new.self under c.in_ok-next.field-0 (c.in_ok-next.ensures under.reading under.represents) c.in-Text.is in
+returns-in_err-block-in-Text-clause-stopped g c graph k b before under =
+    let met = met_text graph k b before _ c.args.lines.now c.args.engine.now _ c.next.new.self under c.in_ok-next.field-0 (c.in_ok-next.ensures under.reading under.represents) c.in-Text.is in
     err_is c.from_residual-in_err-block-in-Text.result _ faults.NoMemory c.from_residual-in_err-block-in-Text.ensures.1
-    (gave_without_memory graph before _ c.args.lines.now c.args.diagnoser.now _ c.next.new.self under met.0)
+    (gave_without_memory graph k b before _ c.args.lines.now c.args.engine.now _ c.next.new.self under met.0)
 
 pub returns-in_ok-block-in-Text-clause-turn : goal.returns-in_ok-block-in-Text-clause-turn
-returns-in_ok-block-in-Text-clause-turn g c graph before under =
-    let answered = answered_text graph before _ c.args.lines.now c.args.diagnoser.now _ c.next.new.self under c.in_ok-next.field-0 (c.in_ok-next.ensures under.reading under.represents)
-    c.number-in-Text.result c.text.result.now c.in_ok-block-in-Text.block.items c.answer.new.self c.in-Text.is c.text.ensures c.in_ok-block-in-Text.ensures.block in
-    IfOk-weaker c.put_block-in-Text.result _ _ (λ turn h. subst (LeadsTo graph before _ c.args.lines.now.number c.next.new.self c.answer.new.self) (sym h.0) (
-      gave_block graph before _ c.args.lines.now c.args.diagnoser.now _ c.next.new.self under answered.gave
-          c.number-in-Text.result c.in_ok-block-in-Text.block.items c.answer.new.self _ c.number-in-Text.ensures answered.block (Puts-same (g.K.Sink.state c.args.out.now) (g.K.Sink.state c.put_block-in-Text.new.out) _ _ c.deref-in-Text.ensures.value h.1) h.2
-          (c.in_ok-block-in-Text.ensures.graph ∙ under.same_graph),
-      gave_one_more graph before _ c.args.lines.now c.args.diagnoser.now _ c.next.new.self under answered.gave
-          c.number-in-Text.result c.in_ok-block-in-Text.block.items c.answer.new.self (g.K.Sink.state c.put_block-in-Text.new.out) c.number-in-Text.ensures answered.block,
+returns-in_ok-block-in-Text-clause-turn g c graph k b before under =
+    let answered = answered_text graph k b before _ c.args.lines.now c.args.engine.now _ c.next.new.self under c.in_ok-next.field-0 (c.in_ok-next.ensures under.reading under.represents)
+    c.number-in-Text.result c.text.result.now c.in_ok-block-in-Text.block.items c.answer.new.engine c.in-Text.is c.text.ensures (c.in_ok-block-in-Text.ensures graph k b) in
+    IfOk-weaker c.put_block-in-Text.result _ _ (λ turn h. subst (LeadsTo graph k b before _ c.args.lines.now.number c.next.new.self c.answer.new.engine) (sym h.0) (
+      gave_block graph k b before _ c.args.lines.now c.args.engine.now _ c.next.new.self under answered.gave
+          c.number-in-Text.result c.in_ok-block-in-Text.block.items c.answer.new.engine _ c.number-in-Text.ensures answered.block (Puts-same (g.K.Sink.state c.args.out.now) (g.K.Sink.state c.put_block-in-Text.new.out) _ _ c.deref-in-Text.ensures.value h.1) h.2,
+      gave_one_more graph k b before _ c.args.lines.now c.args.engine.now _ c.next.new.self under answered.gave
+          c.number-in-Text.result c.in_ok-block-in-Text.block.items c.answer.new.engine (g.K.Sink.state c.put_block-in-Text.new.out) c.number-in-Text.ensures answered.block,
     )) c.put_block-in-Text.ensures.put
 
 pub returns-in_ok-block-in-Text-clause-stopped : goal.returns-in_ok-block-in-Text-clause-stopped
-returns-in_ok-block-in-Text-clause-stopped g c graph before under =
-    let answered = answered_text graph before _ c.args.lines.now c.args.diagnoser.now _ c.next.new.self under c.in_ok-next.field-0 (c.in_ok-next.ensures under.reading under.represents)
-    c.number-in-Text.result c.text.result.now c.in_ok-block-in-Text.block.items c.answer.new.self c.in-Text.is c.text.ensures c.in_ok-block-in-Text.ensures.block in
+returns-in_ok-block-in-Text-clause-stopped g c graph k b before under =
+    let answered = answered_text graph k b before _ c.args.lines.now c.args.engine.now _ c.next.new.self under c.in_ok-next.field-0 (c.in_ok-next.ensures under.reading under.represents)
+    c.number-in-Text.result c.text.result.now c.in_ok-block-in-Text.block.items c.answer.new.engine c.in-Text.is c.text.ensures (c.in_ok-block-in-Text.ensures graph k b) in
     stopped_by c.put_block-in-Text.result _ _ _ c.put_block-in-Text.ensures.cause c.put_block-in-Text.ensures.front c.put_block-in-Text.ensures.failed (λ front rose.
-    gave_front graph before _ c.args.lines.now c.args.diagnoser.now _ c.next.new.self under answered.gave
-    c.number-in-Text.result c.in_ok-block-in-Text.block.items c.answer.new.self _ c.number-in-Text.ensures answered.block front.0 front.1 (sym c.deref-in-Text.ensures.value ∙ front.2) front.3 rose)
+    gave_front graph k b before _ c.args.lines.now c.args.engine.now _ c.next.new.self under answered.gave
+    c.number-in-Text.result c.in_ok-block-in-Text.block.items c.answer.new.engine _ c.number-in-Text.ensures answered.block front.0 front.1 (sym c.deref-in-Text.ensures.value ∙ front.2) front.3 rose)

@@ -1,5 +1,4 @@
 use Rattle.std.proofs.lemmas.Result.{err_from_is_err_and}
-use Rattle.std.proofs.Common.{rules}
 use Rattle.tfpg.specs.Fetch.{HasFile}
 use Rattle.tfpg.proofs.Refused.{IsFetchFault-refused}
 use Rattle.tfpg.proofs.fetching.fetch_graph.Goals as goal

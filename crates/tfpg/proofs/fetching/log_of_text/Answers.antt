@@ -1,4 +1,4 @@
-use Rattle.std.proofs.Common.{rules, tests, ◌==◌, ◌∙◌, ap, map}
+use Rattle.std.proofs.Common.{rules, tests, ◌==◌, ◌∙◌, ap}
 use Rattle.std.proofs.lemmas.Iterator.Splits.{YieldsList-from_slice_split}
 use Rattle.std.proofs.lemmas.Iterator.Consumers.{YieldsList-end}
 use Rattle.tfpg_log.specs.LogOfLines.{log_of_lines}

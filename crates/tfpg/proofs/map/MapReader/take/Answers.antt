@@ -1,4 +1,4 @@
-use Rattle.std.proofs.Common.{rules, ◌≡◌, Some, sym, ap, ◌∙◌}
+use Rattle.std.proofs.Common.{◌∙◌}
 use Rattle.std.proofs.lemmas.Result.{on_ok_weaker}
 use Rattle.tfpg.proofs.MapTexts.{HasRead-more, HasRead-fault}
 use Rattle.tfpg.proofs.map.MapReader.take.Goals as goal

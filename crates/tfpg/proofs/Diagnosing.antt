@@ -1,0 +1,154 @@
+-- A diagnosis of lines that are all accepted: one round for each.
+use Rattle.std.proofs.Common.{◌≡◌, ℕ, ◌+◌, ◌-◌, ◌<◌, ⊎_elim, cond, List, [], ◌∷◌, ◌++◌, length, map, take, Some, None, refl, sym, ap, subst, ◌∙◌, arith}
+use Rattle.std.specs.Prelude.{slice_get, option_map}
+use Rattle.std.proofs.lemmas.Bool.{cases_lt}
+use Rattle.std.proofs.lemmas.List.{take-append-le, take_all, take-map, map-append, length_push}
+use Rattle.std.proofs.lemmas.Option.{slice_get_within, slice_get-map, same_Some}
+use Rattle.tfpg_base.proofs.lists.Written.{slice_get-push_before, slice_get-push_at}
+use Rattle.tfpg_graph.specs.Graph.{Tfpg}
+use Rattle.tfpg_log.specs.declared.event.Offered.TheVariants.{Accepted, Refused}
+use Rattle.tfpg_log.specs.declared.refusal.Refusal.{Refusal}
+use Rattle.tfpg_log.specs.Accepted.{reply_to}
+use Rattle.tfpg_log.specs.Log.{Logbook, with_event}
+use Rattle.tfpg_log.specs.LogOfLines.{new_log, log_after_reply, log_of_lines}
+use Rattle.tfpg_log.proofs.LogsOfLines.{log_of_lines-push}
+use Rattle.tfpg_evidence.specs.declared.round.Round.{Round}
+use Rattle.tfpg_hyp.specs.Rounds.{IsRound}
+use Rattle.tfpg_engine.specs.Earned.{AreEarned}
+use Rattle.tfpg_engine.specs.Engining.{EngineRepresents, GivesRound}
+use Rattle.tfpg_sim.specs.AcceptedLog.{AreAccepted, IsAccepted}
+use Rattle.tfpg_sim.proofs.DrawLists.{take-next}
+use Rattle.tfpg.specs.declared.diagnosis.Diagnosis.{Diagnosis}
+use Rattle.tfpg.specs.Diagnosed.{IsRoundOfLine}
+use Rattle.tfpg.specs.inside.Diagnosed.{HasDiagnosed}
+
+-- a new diagnosis has taken no line
+pub nothing_diagnosed : (graph : Tfpg) (d : Diagnosis) → d.engine.graph ≡ graph → d.engine.k ≡ 2 → d.engine.budget ≡ 50 → d.engine.log ≡ new_log → EngineRepresents d.engine []
+    → d.last ≡ None → HasDiagnosed graph [] d
+nothing_diagnosed graph d graph_is k_is budget_is log_is represents last = record {
+  graph_is = graph_is;
+  k_is = k_is;
+  budget_is = budget_is;
+  log_is = log_is;
+  counted = ap (λ (l : Logbook). length l.events) log_is;
+  rounds = [];
+  represents = represents;
+  rounds_are = record { one_each = refl; each = λ place round at. absurd (let none : None ≡ Some round = at in cc) };
+  last_is = last;
+}
+
+-- ---- lines of a list
+
+module _ {X : Type 0} (f : X → List ℕ) (xs : List X) (i : ℕ) (x : X) (at : slice_get xs i ≡ Some x) where
+  -- the next line is accepted after those so far
+  pub line_accepted : (graph : Tfpg) → AreAccepted graph (map f xs) → IsAccepted graph (map f (take i xs)) (f x)
+  line_accepted graph accepted =
+      subst (λ (ls : List (List ℕ)). IsAccepted graph ls (f x)) (take-map f i xs) (accepted i (f x) (slice_get-map f xs i ∙ ap (option_map f) at))
+
+  -- and comes after them
+  pub lines_more : map f (take i xs) ++ f x ∷ [] ≡ map f (take (i + 1) xs)
+  lines_more = sym (ap (map f) (take-next xs i x at) ∙ map-append f (take i xs) (x ∷ []))
+
+-- ---- one line more
+
+-- a round of the same graph and log
+round_moved : (graph other : Tfpg) (k k' budget budget' : ℕ) (log log' : Logbook) (line line' : ℕ) (rounds : List Round) (round : Round)
+    → graph ≡ other → k ≡ k' → budget ≡ budget' → log ≡ log' → line ≡ line' → IsRound graph k budget rounds log line round → IsRound other k' budget' rounds log' line' round
+round_moved graph other k k' budget budget' log log' line line' rounds round g e b l n is =
+    subst (λ (x : Tfpg). IsRound x k' budget' rounds log' line' round) g
+    (subst (λ (x : ℕ). IsRound graph x budget' rounds log' line' round) e
+    (subst (λ (x : ℕ). IsRound graph k x rounds log' line' round) b
+    (subst (λ (x : Logbook). IsRound graph k budget rounds x line' round) l
+    (subst (λ (x : ℕ). IsRound graph k budget rounds log x round) n is))))
+
+earned_moved : (graph other : Tfpg) (budget budget' : ℕ) (log log' : Logbook) (rounds : List Round) (round : Round)
+    → graph ≡ other → budget ≡ budget' → log ≡ log' → AreEarned graph log budget rounds round → AreEarned other log' budget' rounds round
+earned_moved graph other budget budget' log log' rounds round g b l are =
+    subst (λ (x : Tfpg). AreEarned x log' budget' rounds round) g
+    (subst (λ (x : ℕ). AreEarned graph log' x rounds round) b
+    (subst (λ (x : Logbook). AreEarned graph x budget rounds round) l are))
+
+module _ (graph : Tfpg) (lines : List (List ℕ)) (line : List ℕ) (before now : Diagnosis) (number : ℕ) (round : Round) (has : HasDiagnosed graph lines before) (accepted : IsAccepted graph lines line)
+    (number_is : number ≡ length before.engine.log.events + 1) (gives : GivesRound number line has.rounds round before.engine now.engine) where
+  -- the line is the event
+  log_more : log_of_lines graph (lines ++ line ∷ []) ≡ with_event (log_of_lines graph lines) gives.event
+  log_more =
+      log_of_lines-push graph lines line
+      ∙ ap (λ b. cond b (log_of_lines graph lines) (log_after_reply (log_of_lines graph lines) (reply_to graph (log_of_lines graph lines) line))) accepted.1
+      ∙ ap (log_after_reply (log_of_lines graph lines))
+      (subst (λ (g : Tfpg). reply_to g (log_of_lines graph lines) line ≡ Accepted gives.event) has.graph_is
+      (subst (λ (l : Logbook). reply_to before.engine.graph l line ≡ Accepted gives.event) has.log_is gives.accepted))
+
+  log_now : now.engine.log ≡ log_of_lines graph (lines ++ line ∷ [])
+  log_now = gives.log ∙ ap (λ (l : Logbook). with_event l gives.event) has.log_is ∙ sym log_more
+
+  -- the round is that of the line
+  round_of_line : IsRoundOfLine graph 2 50 (lines ++ line ∷ []) (length lines) has.rounds round
+  round_of_line =
+      let all : take (length lines + 1) (lines ++ line ∷ []) ≡ lines ++ line ∷ [] = take_all (length lines + 1) (lines ++ line ∷ []) (omega (arith, length_push lines line)) in
+      let log : now.engine.log ≡ log_of_lines graph (take (length lines + 1) (lines ++ line ∷ [])) = log_now ∙ ap (log_of_lines graph) (sym all) in
+      let counted = has.counted in
+      record {
+        round_is = round_moved before.engine.graph graph before.engine.k 2 before.engine.budget 50 now.engine.log _ number (length lines + 1) has.rounds round
+            has.graph_is has.k_is has.budget_is log (omega (arith, number_is, counted)) gives.round_is;
+        earned = earned_moved before.engine.graph graph before.engine.budget 50 now.engine.log _ has.rounds round has.graph_is has.budget_is log gives.earned;
+      }
+
+  -- the rounds before it are those of the lines before it
+  earlier_round : (place : ℕ) (other : Round) → place < length lines → IsRoundOfLine graph 2 50 lines place (take place has.rounds) other
+      → IsRoundOfLine graph 2 50 (lines ++ line ∷ []) place (take place (has.rounds ++ round ∷ [])) other
+  earlier_round place other within is =
+      let one_each = has.rounds_are.one_each in
+      let rounds : take place (has.rounds ++ round ∷ []) ≡ take place has.rounds = take-append-le place has.rounds (round ∷ []) (omega arith) in
+      let front : take (place + 1) (lines ++ line ∷ []) ≡ take (place + 1) lines = take-append-le (place + 1) lines (line ∷ []) (omega arith) in
+      subst (λ (rs : List Round). IsRoundOfLine graph 2 50 (lines ++ line ∷ []) place rs other) (sym rounds)
+      (record {
+        round_is = subst (λ (ls : List (List ℕ)). IsRound graph 2 50 (take place has.rounds) (log_of_lines graph ls) (place + 1) other) (sym front) is.round_is;
+        earned = subst (λ (ls : List (List ℕ)). AreEarned graph (log_of_lines graph ls) 50 (take place has.rounds) other) (sym front) is.earned;
+      })
+
+  each_round : (place : ℕ) (other : Round) → slice_get (has.rounds ++ round ∷ []) place ≡ Some other
+      → IsRoundOfLine graph 2 50 (lines ++ line ∷ []) place (take place (has.rounds ++ round ∷ [])) other
+  each_round place other at =
+      let one_each = has.rounds_are.one_each in
+      let within = slice_get_within (has.rounds ++ round ∷ []) place other at in
+      ⊎_elim
+      (λ earlier. earlier_round place other (omega (arith, one_each, earlier))
+      (has.rounds_are.each place other (sym (slice_get-push_before has.rounds round place earlier) ∙ at)))
+      (λ past.
+      let last : place ≡ length has.rounds = omega (arith, past, within, length_push has.rounds round) in
+      let same : round ≡ other = same_Some round other (sym (slice_get-push_at has.rounds round place last) ∙ at) in
+      let front : take place (has.rounds ++ round ∷ []) ≡ has.rounds =
+      take-append-le place has.rounds (round ∷ []) (omega (arith, last)) ∙ take_all place has.rounds (omega (arith, last)) in
+      subst (λ (r : Round). IsRoundOfLine graph 2 50 (lines ++ line ∷ []) place (take place (has.rounds ++ round ∷ [])) r) same
+      (subst (λ (rs : List Round). IsRoundOfLine graph 2 50 (lines ++ line ∷ []) place rs round) (sym front)
+      (subst (λ (n : ℕ). IsRoundOfLine graph 2 50 (lines ++ line ∷ []) n has.rounds round) (sym (last ∙ one_each)) round_of_line)))
+      (cases_lt place (length has.rounds))
+
+  -- The diagnosis has taken one line more.
+  pub one_more_diagnosed : now.engine.graph ≡ before.engine.graph → now.engine.k ≡ before.engine.k → now.engine.budget ≡ before.engine.budget → now.last ≡ Some round
+      → HasDiagnosed graph (lines ++ line ∷ []) now
+  one_more_diagnosed graph_same k_same budget_same last =
+      let one_each = has.rounds_are.one_each in
+      let counted = has.counted in
+      let events : now.engine.log.events ≡ before.engine.log.events ++ gives.event ∷ [] = ap (λ (l : Logbook). l.events) gives.log in
+      record {
+        graph_is = graph_same ∙ has.graph_is;
+        k_is = k_same ∙ has.k_is;
+        budget_is = budget_same ∙ has.budget_is;
+        log_is = log_now;
+        counted = omega (arith, ap length events, length_push before.engine.log.events gives.event, counted, length_push lines line);
+        rounds = has.rounds ++ round ∷ [];
+        represents = gives.represents;
+        rounds_are = record { one_each = omega (arith, length_push has.rounds round, one_each, length_push lines line); each = each_round };
+        last_is = last ∙ sym (slice_get-push_at has.rounds round (length (has.rounds ++ round ∷ []) - 1) (omega (arith, length_push has.rounds round)));
+      }
+
+-- an accepted line is not refused
+pub not_refused : (graph : Tfpg) (lines : List (List ℕ)) (line : List ℕ) (before : Diagnosis) (refusal : Refusal) → HasDiagnosed graph lines before → IsAccepted graph lines line
+    → reply_to before.engine.graph before.engine.log line ≡ Refused refusal → ⊥
+not_refused graph lines line before refusal has accepted is =
+    let refused : reply_to graph (log_of_lines graph lines) line ≡ Refused refusal =
+    subst (λ (g : Tfpg). reply_to g (log_of_lines graph lines) line ≡ Refused refusal) has.graph_is
+    (subst (λ (l : Logbook). reply_to before.engine.graph l line ≡ Refused refusal) has.log_is is) in
+    let both : Accepted accepted.0 ≡ Refused refusal = sym accepted.2 ∙ refused in cc

@@ -1,0 +1,57 @@
+-- What `generate` does: it draws a graph and a script, simulates the script, diagnoses the log, and writes what became of the truth.
+use Rattle.std.specs.Prelude.{◌≡◌, ℕ, List, [], ◌∷◌, ◌++◌, length, Contains, false}
+use Rattle.tfpg_base.specs.Lines.{lines_of}
+use Rattle.tfpg_base.specs.Outside.{SinkState, Rose, Puts}
+use Rattle.tfpg_evidence.specs.declared.finding.Finding.{Finding}
+use Rattle.tfpg_evidence.specs.declared.round.Round.{Round}
+use Rattle.tfpg_hyp.specs.Rounds.{is_rejected}
+use Rattle.tfpg_sim.specs.declared.simulated.Simulated.{Simulated}
+use Rattle.tfpg_sim.specs.Generated.{generated_graph, generated_script}
+use Rattle.tfpg_sim.specs.Simulated.{IsSimulationOf}
+use Rattle.tfpg.specs.declared.end.End.{End}
+use Rattle.tfpg.specs.declared.end.End.TheVariants.{Done, NotAccepted, Usage, Graph, TooManyHypotheses, ReadFault, WriteFault, TooMuchInput, NoMemory}
+use Rattle.tfpg.specs.Diagnosed.{AreRoundsOf}
+use Rattle.tfpg.specs.Summary.{summary_text}
+
+-- The text says what was drawn by the number and the size, and what the last of the rounds of the simulated log says: how many sets
+-- have each status, and the status of the simulated set, which is never rejected. A set has at most 2 failure modes, and at most 50
+-- splits in a round.
+pub record HasSummary (number size : ℕ) (text : List ℕ) : Type 0 where
+  pub simulated : Simulated
+  pub simulation : IsSimulationOf (generated_graph number size) (generated_script number size) number simulated
+  pub earlier : List Round
+  pub last : Round
+  pub rounds : AreRoundsOf (generated_graph number size) 2 50 (lines_of simulated.log) (earlier ++ last ∷ [])
+  pub truth : Finding
+  pub found : Contains last.findings truth
+  pub of_set : truth.set ≡ simulated.set
+  pub not_rejected : is_rejected truth.status ≡ false
+  pub text_is : text ≡ summary_text number size (generated_graph number size) (length (lines_of simulated.log)) (length (earlier ++ last ∷ [])) last.counts
+      simulated.set truth.status
+
+-- The whole text was written, and nothing failed.
+pub record WritesSummary (number size : ℕ) (before now : SinkState) : Type 0 where
+  pub text : List ℕ
+  pub has : HasSummary number size text
+  pub writes : Puts before now text
+  pub no_fault : now.faults ≡ before.faults
+
+-- The output failed, and what was written begins the text.
+pub record BeginsSummary (number size : ℕ) (before now : SinkState) : Type 0 where
+  pub front : List ℕ
+  pub rest : List ℕ
+  pub has : HasSummary number size (front ++ rest)
+  pub writes : Puts before now front
+  pub rose : Rose before.faults now.faults
+
+-- How `generate` ends. Before the whole text is known, nothing is written.
+abbrev pub GenerateEnds : ℕ → ℕ → SinkState → SinkState → End → Type 0
+GenerateEnds number size before now Done = WritesSummary number size before now
+GenerateEnds number size before now (NotAccepted line cause) = ⊥
+GenerateEnds number size before now (Usage cause) = ⊥
+GenerateEnds number size before now (Graph line cause) = ⊥
+GenerateEnds number size before now (TooManyHypotheses count) = ⊥
+GenerateEnds number size before now ReadFault = ⊥
+GenerateEnds number size before now WriteFault = BeginsSummary number size before now
+GenerateEnds number size before now TooMuchInput = ⊥
+GenerateEnds number size before now NoMemory = now ≡ before

@@ -1,0 +1,74 @@
+-- What `simulate` does: it writes the log that a script makes, or the map of what happened.
+use Rattle.std.specs.Prelude.{◌≡◌, ◌⊎◌, ℕ, List, ◌++◌, Bool, true, false, Err}
+use Rattle.tfpg_base.specs.Outside.{ShelfState, SinkState, Rose, Puts}
+use Rattle.tfpg_graph.specs.Graph.{Tfpg}
+use Rattle.tfpg_sim.specs.declared.simulated.Simulated.{Simulated}
+use Rattle.tfpg_sim.specs.Script.{script_of}
+use Rattle.tfpg_sim.specs.Simulated.{IsSimulationOf}
+use Rattle.tfpg.specs.declared.end.CheckCause.TheVariants.{BadScript}
+use Rattle.tfpg.specs.declared.end.End.{End}
+use Rattle.tfpg.specs.declared.end.End.TheVariants.{Done, NotAccepted, Usage, Graph, TooManyHypotheses, ReadFault, WriteFault, TooMuchInput, NoMemory}
+use Rattle.tfpg.specs.declared.fault.FetchFault.{FetchFault}
+use Rattle.tfpg.specs.EndsOf.{end_of_fetch_fault}
+use Rattle.tfpg.specs.Fetch.{GivesGraphAndText, IsFilesFault}
+use Rattle.tfpg.specs.MapText.{map_text}
+
+-- what is written of a simulation: the map of its set and its trace where the trace is asked for, else its log
+abbrev pub simulated_text : Tfpg → Bool → Simulated → List ℕ
+simulated_text graph true simulated = map_text graph simulated.set simulated.trace
+simulated_text graph false simulated = simulated.log
+
+-- The script is right, and this is the text of its simulation on the graph with the draws of the number.
+pub record HasSimulation (graph : Tfpg) (script : List ℕ) (draw : ℕ) (trace : Bool) (text : List ℕ) : Type 0 where
+  pub simulated : Simulated
+  pub is : IsSimulationOf graph script draw simulated
+  pub text_is : text ≡ simulated_text graph trace simulated
+
+-- The whole text was written, and nothing failed.
+pub record WritesSimulation (graph : Tfpg) (script : List ℕ) (draw : ℕ) (trace : Bool) (before now : SinkState) : Type 0 where
+  pub text : List ℕ
+  pub has : HasSimulation graph script draw trace text
+  pub writes : Puts before now text
+  pub no_fault : now.faults ≡ before.faults
+
+-- The output failed, and what was written begins the text.
+pub record BeginsSimulation (graph : Tfpg) (script : List ℕ) (draw : ℕ) (trace : Bool) (before now : SinkState) : Type 0 where
+  pub front : List ℕ
+  pub rest : List ℕ
+  pub has : HasSimulation graph script draw trace (front ++ rest)
+  pub writes : Puts before now front
+  pub rose : Rose before.faults now.faults
+
+-- How a simulation of the script on the graph ends. Before its whole text is known, nothing is written.
+abbrev pub SimulationEnds : Tfpg → List ℕ → ℕ → Bool → SinkState → SinkState → End → Type 0
+SimulationEnds graph script draw trace before now Done = WritesSimulation graph script draw trace before now
+SimulationEnds graph script draw trace before now (NotAccepted line cause) =
+    (script_of graph script ≡ Err line) × (cause ≡ BadScript) × (now ≡ before)
+SimulationEnds graph script draw trace before now (Usage cause) = ⊥
+SimulationEnds graph script draw trace before now (Graph line cause) = ⊥
+SimulationEnds graph script draw trace before now (TooManyHypotheses count) = ⊥
+SimulationEnds graph script draw trace before now ReadFault = ⊥
+SimulationEnds graph script draw trace before now WriteFault = BeginsSimulation graph script draw trace before now
+SimulationEnds graph script draw trace before now TooMuchInput = ⊥
+SimulationEnds graph script draw trace before now NoMemory = now ≡ before
+
+-- There is no graph or no script of the files of these names, for this reason, and the output is untouched.
+pub record LacksScript (shelf_before shelf_now : ShelfState) (graph_name script_name : List ℕ) (before now : SinkState) (end : End) : Type 0 where
+  pub fault : FetchFault
+  pub is_fault : IsFilesFault shelf_before shelf_now graph_name script_name fault
+  pub end_is : end ≡ end_of_fetch_fault fault
+  pub untouched : now ≡ before
+
+-- The script of the one file was simulated on the graph of the other.
+pub record SimulatesByFiles (shelf_before shelf_now : ShelfState) (graph_name script_name : List ℕ) (draw : ℕ) (trace : Bool) (before now : SinkState) (end : End) : Type 0 where
+  pub graph : Tfpg
+  pub script : List ℕ
+  pub gives : GivesGraphAndText shelf_before graph_name script_name graph script
+  pub no_fault : shelf_now.faults ≡ shelf_before.faults
+  pub ends : SimulationEnds graph script draw trace before now end
+
+-- There is no graph or no script of the files of those names; or the one was simulated on the other.
+abbrev pub SimulateEnds : ShelfState → ShelfState → List ℕ → List ℕ → ℕ → Bool → SinkState → SinkState → End → Type 0
+SimulateEnds shelf_before shelf_now graph_name script_name draw trace before now end =
+    LacksScript shelf_before shelf_now graph_name script_name before now end
+    ⊎ SimulatesByFiles shelf_before shelf_now graph_name script_name draw trace before now end

@@ -1,0 +1,17 @@
+-- What the code knows when it writes the three lines of `generate`.
+use Rattle.std.specs.Prelude.{◌≡◌, ℕ, List, Contains}
+use Rattle.tfpg_graph.specs.Graph.{Tfpg}
+use Rattle.tfpg_evidence.specs.declared.finding.Finding.{Finding}
+use Rattle.tfpg_evidence.specs.declared.round.Round.{Round}
+use Rattle.tfpg.specs.Summary.{summary_text}
+
+-- the round has a finding on the set
+pub record HasFindingOn (set : List ℕ) (round : Round) : Type 0 where
+  pub finding : Finding
+  pub there : Contains round.findings finding
+  pub on_set : finding.set ≡ set
+
+-- The text is the three lines by this round, the last of so many, and by its finding on the set.
+pub record SaysOfRound (number size : ℕ) (graph : Tfpg) (rounds : ℕ) (set text : List ℕ) (round : Round) : Type 0 where
+  pub has : HasFindingOn set round
+  pub text_is : text ≡ summary_text number size graph rounds rounds round.counts set has.finding.status

@@ -1,0 +1,75 @@
+//! Drawing a graph and a script, and diagnosing the log that the script makes.
+
+ghost use Rattle.std.specs.Prelude.{◌≤◌, IfOk, IfErr, OnOk};
+ghost use Rattle.tfpg.specs.Generating.{GenerateEnds, HasSummary};
+ghost use Rattle.tfpg.specs.inside.Drawn.{IsDrawn};
+
+use crate::diagnosis::{diagnose_lines, lines_in};
+use crate::end::End;
+use crate::output::put_all;
+use crate::summary::summary_of;
+use std::alloc::Global;
+use std::sync::ledger::Ledger;
+use tfpg_base::{NoMemory, Sink, Steps};
+use tfpg_graph::Graph;
+use tfpg_hyp::laws::rounds_say_which_sets_fit;
+use tfpg_sim::{Generated, SimFault, Simulated, a_generated_script_is_right, generate, simulate};
+
+/// A drawn graph, and the simulation of the script that was drawn with it.
+#[derive(Drop)]
+struct Drawn {
+    graph: Graph,
+    simulated: Simulated,
+}
+
+/// Draws a graph and a script by the number and the size, simulates the script with the same number, diagnoses the log, and
+/// writes three lines: what was drawn, what the last round says, and what it says of the simulated set.
+pub(crate) fn put_generated<K: Sink, L: Ledger>(
+    alloc: Global,
+    number: u64,
+    size: u32,
+    out: &mut K,
+    work: &mut Steps<L>,
+) -> Result<(), End>
+    requires some { 1 ≤ size }
+    requires few { size ≤ 100 }
+    ensures done { OnOk result (GenerateEnds number size (K.state out.old) (K.state out.new) End.Done) }
+    ensures stopped { IfErr result (GenerateEnds number size (K.state out.old) (K.state out.new)) }
+{
+    let text = summary(alloc, number, size, work)?;
+    put_all(out, &text)?;
+    Ok(())
+}
+
+/// The three lines.
+fn summary<L: Ledger>(
+    alloc: Global,
+    number: u64,
+    size: u32,
+    work: &mut Steps<L>,
+) -> Result<Vec<u8>, NoMemory>
+    requires some { 1 ≤ size }
+    requires few { size ≤ 100 }
+    ensures { IfOk result (λ text. HasSummary number size text.items) }
+{
+    rounds_say_which_sets_fit();
+    let Drawn { graph, simulated } = draw_simulation(alloc, number, size)?;
+    let lines = lines_in(alloc, simulated.log.as_slice())?;
+    let diagnosis = diagnose_lines(alloc, graph, &lines, work)?;
+    summary_of(alloc, number, size, &diagnosis, simulated.set)
+}
+
+/// Draws a graph and a script, and simulates the script. A drawn script is never at fault.
+fn draw_simulation(alloc: Global, number: u64, size: u32) -> Result<Drawn, NoMemory>
+    requires some { 1 ≤ size }
+    requires few { size ≤ 100 }
+    ensures { IfOk result (λ drawn. IsDrawn number size drawn.graph drawn.simulated) }
+{
+    a_generated_script_is_right();
+    let Generated { graph, script } = generate(alloc, number, size)?;
+    match simulate(alloc, &graph, script.as_slice(), number) {
+        Ok(simulated) => Ok(Drawn { graph, simulated }),
+        Err(SimFault::NoMemory) => Err(NoMemory),
+        Err(SimFault::BadScript { .. }) => unreachable!(),
+    }
+}

@@ -1,0 +1,88 @@
+//! Simulating the script of a file on the graph of another.
+
+ghost use Rattle.std.specs.Prelude.{◌≡◌, ◌∷◌, ◌<◌, [], All, IfOk, IfErr, OnOk, length};
+ghost use Rattle.tfpg_graph.specs.Graph.{failures};
+ghost use Rattle.tfpg_sim.specs.Script.{script_of};
+ghost use Rattle.tfpg_sim.specs.ScriptAnswers.{IsFaultAt};
+ghost use Rattle.tfpg.specs.Fetch.{AsksInOrder};
+ghost use Rattle.tfpg.specs.Simulating.{HasSimulation, SimulateEnds, SimulationEnds, simulated_text};
+
+use crate::end::End;
+use crate::fetching::fetch_graph_and_text;
+use crate::map_text::map_text;
+use crate::output::put_all;
+use std::alloc::Global;
+use tfpg_base::{NoMemory, Shelf, Sink};
+use tfpg_graph::Graph;
+use tfpg_sim::{SimFault, Simulated, simulate};
+
+/// Simulates the script of the one file on the graph of the other, with delays and latenesses drawn by the number, and
+/// writes the log; or, where the trace is asked for, the map of the set and the trace.
+pub(crate) fn simulate_files<F: Shelf, K: Sink>(
+    alloc: Global,
+    graph_name: &str,
+    script_name: &str,
+    draw: u64,
+    trace: bool,
+    shelf: &mut F,
+    out: &mut K,
+) -> Result<(), End>
+    ensures done { OnOk result (SimulateEnds (F.state shelf.old) (F.state shelf.new) graph_name.now script_name.now draw trace
+        (K.state out.old) (K.state out.new) End.Done) }
+    ensures stopped { IfErr result (SimulateEnds (F.state shelf.old) (F.state shelf.new) graph_name.now script_name.now draw trace
+        (K.state out.old) (K.state out.new)) }
+    ensures asks { AsksInOrder (graph_name.now ∷ script_name.now ∷ []) (F.state shelf.old).asked (F.state shelf.new).asked }
+{
+    let (graph, script) = fetch_graph_and_text(alloc, shelf, graph_name, script_name)?;
+    put_simulation(alloc, &graph, &script, draw, trace, out)
+}
+
+/// Simulates the script on the graph, and writes its text.
+fn put_simulation<K: Sink>(
+    alloc: Global,
+    graph: &Graph,
+    script: &[u8],
+    draw: u64,
+    trace: bool,
+    out: &mut K,
+) -> Result<(), End>
+    ensures done { OnOk result (SimulationEnds graph.now script.now draw trace (K.state out.old) (K.state out.new) End.Done) }
+    ensures stopped { IfErr result (SimulationEnds graph.now script.now draw trace (K.state out.old) (K.state out.new)) }
+{
+    let text = simulation_text(alloc, graph, script, draw, trace)?;
+    put_all(out, &text)?;
+    Ok(())
+}
+
+/// The text of the simulation of the script on the graph.
+fn simulation_text(
+    alloc: Global,
+    graph: &Graph,
+    script: &[u8],
+    draw: u64,
+    trace: bool,
+) -> Result<Vec<u8>, SimFault>
+    ensures text { IfOk result (λ text. HasSimulation graph.now script.now draw trace text.items) }
+    ensures fault { IfErr result (IsFaultAt (script_of graph.now script.now)) }
+{
+    let simulated = simulate(alloc, graph, script, draw)?;
+    Ok(text_of(alloc, graph, simulated, trace)?)
+}
+
+/// The text of a simulation: its map where the trace is asked for, else its log.
+fn text_of(
+    alloc: Global,
+    graph: &Graph,
+    simulated: Simulated,
+    trace: bool,
+) -> Result<Vec<u8>, NoMemory>
+    requires members { All (λ place. place < length (failures graph.now)) simulated.set }
+    requires within { All (λ activation. activation.node < length graph.now.nodes) simulated.trace }
+    ensures { IfOk result (λ text. text.items ≡ simulated_text graph.now trace simulated) }
+{
+    if trace {
+        map_text(alloc, graph, simulated.set, &simulated.trace)
+    } else {
+        Ok(simulated.log.into_vec())
+    }
+}
