@@ -1,4 +1,4 @@
-//! Tests of the public calls of the crates of evidence and of what makes it, with a file for each crate.
+//! Tests of the public calls of the crates of evidence, of what makes it, and of the words, with a file for each crate.
 //!
 //! A crate with tests is proved again together with them. So tests stand apart, and the crates that they call are proved
 //! once. Those of the crates of the model stand in `tfpg_model_tests`: the two are proved side by side.
@@ -18,3 +18,5 @@ mod kernel;
 mod search;
 #[cfg(test)]
 mod sim;
+#[cfg(test)]
+mod words;
