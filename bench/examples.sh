@@ -13,7 +13,7 @@ differs() {
 
 for report in "$top"/examples/*.report; do
     name=$(basename "$report" .report)
-    "$top/tfpg" diagnose --k 0 "$top/examples/${name%%-*}.tfpg" < "${report%.report}.log" | cmp -s - "$report" || differs "$name"
+    "$top/tfpg" diagnose "$top/examples/${name%%-*}.tfpg" < "${report%.report}.log" | cmp -s - "$report" || differs "$name"
 done
 
 for verdict in "$top"/examples/*.verdict; do

@@ -1,0 +1,131 @@
+#!/usr/bin/env python3
+"""Times whole diagnoses: seconds, milliseconds an event, and peak memory, the shortest of three runs each.
+
+    bench/diagnose.py
+
+- "two faults": 64 failure modes, 512 nodes, 2,048 edges, two modes, and the log of a script that starts two failure modes.
+- "many pairs": 64 failure modes, of which 1,020 pairs explain the log and none alone; so each round writes 1,020 traces.
+- "long log": 16,384 ticks over a small graph, after no alarm and after one.
+- "generated": `generate` with the sizes 10, 30 and 100, ten numbers each.
+"""
+
+import random
+import subprocess
+import sys
+import tempfile
+import time
+from pathlib import Path
+
+TFPG = Path(__file__).resolve().parent.parent / "tfpg"
+TWO_MODES = """tfpg 1
+mode N
+mode D
+failure F1 3
+failure F2 5
+or A watch 0
+or B hidden
+and C watch 0
+edge F1 A 10 20 N,D
+edge F2 A 5 5 N
+edge F1 B 0 inf *
+edge A C 0 10 *
+edge B C 0 10 *
+end
+"""
+
+
+def large_graph(draws, failures=64, nodes=512, edges=2048):
+    """A graph of so many nodes and edges, each of which leads to a later node."""
+    name = lambda node: f"F{node}" if node < failures else f"D{node}"
+    lines = ["tfpg 1", "mode N", "mode D"]
+    lines += [f"failure F{place} {place + 1}" for place in range(failures)]
+    for node in range(failures, nodes):
+        kind = "and" if draws.random() < 0.15 else "or"
+        monitor = f"watch {draws.randint(0, 20)}" if draws.random() < 0.6 else "hidden"
+        lines.append(f"{kind} D{node} {monitor}")
+    seen, incoming = set(), dict.fromkeys(range(nodes), 0)
+
+    def add(source, target):
+        if (source, target) in seen or incoming[target] == 32:
+            return
+        seen.add((source, target))
+        incoming[target] += 1
+        least = draws.randint(1, 50)
+        most = "inf" if draws.random() < 0.1 else least + draws.randint(0, 60)
+        modes = "*" if draws.random() < 0.8 else "N"
+        lines.append(f"edge {name(source)} {name(target)} {least} {most} {modes}")
+
+    for node in range(failures, nodes):
+        add(draws.randint(0, failures - 1 if draws.random() < 0.5 else node - 1), node)
+    while len(seen) < edges:
+        target = draws.randint(failures, nodes - 1)
+        add(draws.randint(0, target - 1), target)
+    return "\n".join([*lines, "end"]) + "\n"
+
+
+def large_script(draws, events=250):
+    """A script that starts two failure modes, with changes of mode, sweeps and ticks."""
+    timed, now = [(5, "start F3"), (40, "start F17")], 0
+    for _ in range(events):
+        now += draws.randint(1, 6)
+        chance = draws.random()
+        timed.append((now, f"mode {draws.choice('ND')}" if chance < 0.03 else "sweep" if chance < 0.06 else "tick"))
+    lines = [f"{at} {what}" for at, what in sorted(timed, key=lambda it: it[0])]
+    return "\n".join([*lines, f"{now + 10} stop"]) + "\n"
+
+
+def many_pairs(failures=64, hubs=20):
+    """A graph in which each failure mode leads to one of two monitored nodes, by way of a hidden one."""
+    lines = ["tfpg 1", "mode N", *[f"failure F{place} {place + 1}" for place in range(failures)]]
+    lines += [*[f"or H{hub} hidden" for hub in range(hubs)], "or A watch 10", "or B watch 10"]
+    lines += [f"edge F{place} H{place % hubs} 1 50 *" for place in range(failures)]
+    lines += [f"edge H{hub} {'A' if 2 * hub < hubs else 'B'} 1 50 *" for hub in range(hubs)]
+    return "\n".join([*lines, "end"]) + "\n"
+
+
+def run(words, log=b""):
+    """The output, the seconds of the shortest of three runs, and the peak memory in KB, as GNU time reports it."""
+    best = None
+    for _ in range(3):
+        began = time.perf_counter()
+        done = subprocess.run(["/usr/bin/time", "-f", "%M", TFPG, *words], input=log, capture_output=True, check=True)
+        took = time.perf_counter() - began
+        best = took if best is None else min(best, took)
+    return done.stdout, best, int(done.stderr.split()[-1])
+
+
+def show(name, events, seconds, peak, report):
+    counts = report.decode().rstrip("\n").split("\n")[-1]
+    print(f"{name:22} {events:6} events {seconds:8.3f} s {1000 * seconds / max(events, 1):8.4f} ms an event {peak / 1024:6.1f} MB  {counts}")
+
+
+def main():
+    subprocess.run([TFPG, "generate", "--size", "1"], stdout=subprocess.DEVNULL, check=True)
+    with tempfile.TemporaryDirectory() as folder:
+        top = Path(folder)
+        draws = random.Random(7)
+        (top / "large").write_text(large_graph(draws))
+        (top / "script").write_text(large_script(draws))
+        (top / "small").write_text(TWO_MODES)
+        (top / "pairs").write_text(many_pairs())
+        for size in (10, 30, 100):
+            for number in range(10):
+                text, seconds, peak = run(["generate", "--draw", str(number), "--size", str(size)])
+                lines = int(text.split(b"\n", 1)[0].rsplit(b" ", 1)[1])
+                show(f"generated {size} {number}", lines, seconds, peak, text)
+        log, _, _ = run(["simulate", "--draw", "5", str(top / "large"), str(top / "script")])
+        for k in (1, 2):
+            report, seconds, peak = run(["diagnose", "--k", str(k), str(top / "large")], log)
+            show(f"two faults, k {k}", log.count(b"\n"), seconds, peak, report)
+        ticks = "".join(f"{at} tick\n" for at in range(6, 16389)).encode()
+        for name, first in (("no alarm", b"5 tick\n"), ("an alarm", b"5 alarm A\n")):
+            report, seconds, peak = run(["diagnose", str(top / "small")], first + ticks)
+            show(f"long log, {name}", 16384, seconds, peak, report)
+        pairs = "100 alarm A\n110 alarm B\n" + "".join(f"{at} tick\n" for at in range(111, 409))
+        report, seconds, peak = run(["diagnose", str(top / "pairs")], pairs.encode())
+        show("many pairs", 300, seconds, peak, report)
+    return 0
+
+
+if __name__ == "__main__":
+    sys.exit(main())

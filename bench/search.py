@@ -1,0 +1,143 @@
+#!/usr/bin/env python3
+"""Times the search of one hypothesis, and counts its steps. The one failure mode is its only member; the empty set costs next to
+nothing beside it.
+
+    bench/search.py
+
+- "wide": 512 nodes, 2,048 edges, the log of a script with 300 sweeps and ticks and the alarms that come of them.
+- "spans": the same graph, 1,024 changes of mode and then ticks, without an alarm: each event looks once at up to 1,024 spans of
+  each edge, for the empty set.
+- "dense": a small graph with AND nodes, whose edges are cut by changes of mode, where many splits are needed.
+
+Seconds are the shortest of three runs of `diagnose --k 1`, with the start of the program.
+"""
+
+import random
+import subprocess
+import sys
+import tempfile
+import time
+from pathlib import Path
+
+TFPG = Path(__file__).resolve().parent.parent / "tfpg"
+
+
+def wide_graph(draws, nodes=512, edges=2048):
+    """A graph with one failure mode, in which each edge leads to a later node."""
+    name = lambda node: f"D{node}" if node else "F"
+    lines = ["tfpg 1", "mode N", "mode D", "failure F 1"]
+    for node in range(1, nodes):
+        kind = "and" if draws.random() < 0.2 else "or"
+        monitor = f"watch {draws.randint(0, 20)}" if draws.random() < 0.6 else "hidden"
+        lines.append(f"{kind} D{node} {monitor}")
+    seen, incoming = set(), dict.fromkeys(range(nodes), 0)
+    for node in [*range(1, nodes), *[None] * edges]:
+        target = node or draws.randint(1, nodes - 1)
+        source = draws.randint(max(0, target - 40), target - 1)
+        if len(seen) == edges or (source, target) in seen or incoming[target] == 32:
+            continue
+        seen.add((source, target))
+        incoming[target] += 1
+        least = draws.randint(1, 50)
+        modes = "*" if draws.random() < 0.9 else "N"
+        lines.append(f"edge {name(source)} {name(target)} {least} {least + draws.randint(0, 60)} {modes}")
+    return "\n".join([*lines, "end"]) + "\n"
+
+
+def wide_script(draws, events=300):
+    """A script with the start of the failure mode, sweeps and ticks."""
+    now, lines = 0, ["0 start F"]
+    for _ in range(events):
+        now += draws.randint(1, 8)
+        lines.append(f"{now} {'sweep' if draws.random() < 0.2 else 'tick'}")
+    return "\n".join([*lines, f"{now} stop"]) + "\n"
+
+
+def span_script(changes=1024, ticks=100):
+    """A script in which nothing fails, with so many changes of mode."""
+    lines = [f"{at} mode {'DN'[at % 2]}" for at in range(changes)]
+    lines += [f"{changes + at} tick" for at in range(ticks)]
+    return "\n".join([*lines, f"{changes + ticks} stop"]) + "\n"
+
+
+def dense_graph(draws, layers, width, modes):
+    """Layers of nodes, each with edges from up to three nodes of the layer before, active in some of the modes."""
+    lines = ["tfpg 1", *[f"mode M{mode}" for mode in range(modes)], "failure F 1"]
+    rows = [["F"]]
+    for layer in range(layers):
+        rows.append([f"N{layer}_{place}" for place in range(width)])
+        for name in rows[-1]:
+            kind = "and" if draws.random() < 0.4 else "or"
+            seen = layer == layers - 1 and draws.random() < 0.5
+            lines.append(f"{kind} {name} {f'watch {draws.randint(0, 3)}' if seen else 'hidden'}")
+    for before, row in zip(rows, rows[1:]):
+        for target in row:
+            for source in draws.sample(before, min(len(before), draws.randint(1, 3))):
+                least = draws.randint(0, 6)
+                most = least + draws.randint(0, 8)
+                active = sorted(draws.sample(range(modes), draws.randint(1, modes)))
+                words = "*" if len(active) == modes else ",".join(f"M{mode}" for mode in active)
+                lines.append(f"edge {source} {target} {least} {most} {words}")
+    return "\n".join([*lines, "end"]) + "\n"
+
+
+def dense_script(draws, events, modes):
+    """A script that changes the mode at every second event or so."""
+    now, timed = 0, [(1, "start F")]
+    for _ in range(events):
+        now += draws.randint(1, 4)
+        chance = draws.random()
+        timed.append((now, f"mode M{draws.randrange(modes)}" if chance < 0.5 else "sweep" if chance < 0.6 else "tick"))
+    lines = [f"{at} {what}" for at, what in sorted(timed, key=lambda it: it[0])]
+    return "\n".join([*lines, f"{now + 5} stop"]) + "\n"
+
+
+def simulated(folder, draw, graph, script):
+    """The log of the script on the graph."""
+    (folder / "graph").write_text(graph)
+    (folder / "script").write_text(script)
+    words = [TFPG, "simulate", "--draw", str(draw), str(folder / "graph"), str(folder / "script")]
+    return subprocess.run(words, stdout=subprocess.PIPE, check=True).stdout
+
+
+def show(name, folder, log):
+    """Diagnoses the log, and says what it cost."""
+    best = None
+    for _ in range(3):
+        began = time.perf_counter()
+        words = [TFPG, "diagnose", "--k", "1", "--budget", "1000000", str(folder / "graph")]
+        report = subprocess.run(words, input=log, stdout=subprocess.PIPE, check=True).stdout
+        took = time.perf_counter() - began
+        best = took if best is None else min(best, took)
+    lines = report.decode().split("\n")
+    splits = sum(line.startswith("split ") for line in lines)
+    cycles = sum(line.startswith("cycle ") for line in lines)
+    events = log.count(b"\n")
+    alarms = log.count(b" alarm ")
+    print(f"{name:10} {events:5} events, {alarms:3} alarms: {splits:6} splits {cycles:6} cycles {best:8.3f} s  {lines[-2]}")
+
+
+def main():
+    subprocess.run([TFPG, "generate", "--size", "1"], stdout=subprocess.DEVNULL, check=True)
+    with tempfile.TemporaryDirectory() as top:
+        folder = Path(top)
+        draws = random.Random(11)
+        graph = wide_graph(draws)
+        show("wide", folder, simulated(folder, 1, graph, wide_script(draws)))
+        show("spans", folder, simulated(folder, 1, graph, span_script()))
+        for seed in SEEDS:
+            draws = random.Random(seed)
+            layers, width, modes = draws.randint(2, 6), draws.randint(2, 5), draws.randint(2, 3)
+            graph = dense_graph(draws, layers, width, modes)
+            log = simulated(folder, seed, graph, dense_script(draws, draws.randint(10, 40), modes))
+            # Without the sweeps less is known, and more has to be searched.
+            show(f"dense {seed}", folder, b"".join(line for line in log.splitlines(True) if b"sweep" not in line))
+    return 0
+
+
+# Draws that gave hard cases.
+SEEDS = [129, 302, 48, 243]
+
+
+if __name__ == "__main__":
+    sys.exit(main())
