@@ -6,8 +6,10 @@ pub mod Appended
 pub mod Joined
 pub mod Numbers
 pub mod Separators
+pub mod WordLengths
 pub mod Sets
 pub mod Traces
+pub mod TraceTimes
 pub mod Taking
 pub mod LinesOf
 pub mod LinesAndParts

@@ -1,9 +1,9 @@
 -- Laws of words and of the bytes that stand between them.
-use Rattle.std.proofs.Common.{◌≡◌, ℕ, ◌<◌, ◌^◌, Bool, true, false, eqb, ◌==◌, List, [], ◌∷◌, ◌++◌, length, refl, ap, sym, ◌∙◌, arith}
+use Rattle.std.proofs.Common.{◌≡◌, ℕ, ◌<◌, ◌^◌, Bool, true, false, not, eqb, ◌==◌, List, [], ◌∷◌, ◌++◌, length, refl, ap, sym, ◌∙◌, arith}
 use Rattle.std.specs.Prelude.{decimal}
 use Rattle.std.specs.List.{All, AllByRecursion, list_all, join_with_byte, slice_split}
 use Rattle.std.specs.Char.{is_ascii_digit}
-use Rattle.std.proofs.lemmas.Bool.{and_parts, and_from, or_left, both_ways, false_from_ne_true, eqb-true, eq-eqb, false≢true}
+use Rattle.std.proofs.lemmas.Bool.{and_parts, and_from, not-true, or_left, both_ways, false_from_ne_true, eqb-true, eq-eqb, false≢true}
 use Rattle.std.proofs.lemmas.List.Elements.{All-nil, All-cons}
 use Rattle.std.proofs.lemmas.List.Splits.{slice_split_none, slice_split_at, join_with_byte-slice_split}
 use Rattle.tfpg_base.specs.Words.{words_of, is_letter, is_name_byte, is_name, is_number}
@@ -34,6 +34,13 @@ slice_split-join byte (word ∷ second ∷ others) some lack =
     slice_split_at (λ other. other == byte) word byte (join_with_byte byte (second ∷ others)) lack.0
     (eq-eqb byte byte refl)
     ∙ ap (λ words. word ∷ words) (slice_split-join byte (second ∷ others) (omega arith) lack.1)
+
+-- a word lacks a byte where a test of each of its bytes says so
+pub lacks_checked : (byte : ℕ) (word : List ℕ) → list_all (λ other. not (other == byte)) word ≡ true → Lacks byte word
+lacks_checked byte [] all = All-nil (λ other. eqb other byte ≡ false)
+lacks_checked byte (first ∷ others) all =
+    let parts = and_parts (not (eqb first byte)) (list_all (λ other. not (eqb other byte)) others) all in
+    All-cons (λ other. eqb other byte ≡ false) first others (not-true (eqb first byte) parts.0) (lacks_checked byte others parts.1)
 
 -- where each byte passes a test that this byte fails, the word lacks it
 lacks_by_test : (test : ℕ → Bool) (byte : ℕ) (word : List ℕ) → test byte ≡ false → list_all test word ≡ true → Lacks byte word

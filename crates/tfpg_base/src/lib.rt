@@ -4,7 +4,8 @@
 //! - [`Source`], [`Sink`] and [`Shelf`] are the outside. Each counts the calls that failed, and contracts may know its
 //!   contents. [`MemorySource`], [`MemorySink`] and [`MemoryShelf`] are each in memory; [`SteadySource`]
 //!   and [`Discard`] never fail.
-//! - [`Lines`] cuts what a source gives into lines.
+//! - [`Lines`] cuts what a source gives into lines. [`without_last_line_end`] leaves of a text that is in memory what
+//!   stands between its line ends.
 //! - [`Words`] cuts a line into words. [`read_name`] and [`read_number`] know the two forms of words that every
 //!   text format uses.
 //! - [`Set`] is a set of failure modes, [`Trace`] says when which node became active.
@@ -30,6 +31,7 @@
 mod activation;
 mod constraint;
 mod items;
+mod last_line_end;
 pub mod laws;
 mod limits;
 mod line;
@@ -48,6 +50,7 @@ mod words;
 pub use activation::Activation;
 pub use constraint::Constraint;
 pub use items::{Bytes, Items, LineList, NumberList};
+pub use last_line_end::without_last_line_end;
 pub use limits::{BUFFER_SIZE, LONGEST_FILE, LONGEST_LINE, MAX_BYTES, MAX_TIME, MAX_WORDS, NEVER};
 pub use line::{Line, LineFault};
 pub use lines::Lines;
