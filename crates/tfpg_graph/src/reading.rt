@@ -1,7 +1,6 @@
 //! Reads the text of a graph.
 
-ghost use Rattle.std.specs.Prelude.{◌≡◌, ◌<◌, ◌≤◌, length, IfOk, IfErr};
-ghost use Rattle.tfpg_base.specs.Lines.{parts_of, lines_of};
+ghost use Rattle.std.specs.Prelude.{IfOk, IfErr};
 ghost use Rattle.tfpg_graph.specs.Graph.{Tfpg};
 ghost use Rattle.tfpg_graph.specs.Text.{Spells};
 ghost use Rattle.tfpg_graph.specs.Valid.{IsValid};
@@ -21,6 +20,7 @@ use crate::cause::GraphRefusal;
 use crate::graph::Graph;
 use crate::reading::reader::Reader;
 use std::alloc::Global;
+use tfpg_base::without_last_line_end;
 
 /// Reads the text of a graph.
 ///
@@ -47,15 +47,4 @@ pub fn read(alloc: Global, text: &[u8]) -> Result<Graph, GraphRefusal>
         };
     }
     reader.end(alloc, body, line_count)
-}
-
-/// The text before a line end at its end.
-fn without_last_line_end(text: &[u8]) -> &[u8]
-    ensures lines { 0 < length text.now → lines_of text.now ≡ parts_of result.now }
-    ensures front { length result.now ≤ length text.now }
-{
-    match text.strip_suffix(b"\n".as_slice()) {
-        Some(front) => front,
-        None => text,
-    }
 }

@@ -3,12 +3,12 @@ use Rattle.std.proofs.Common.{◌≡◌, ℕ, ◌<◌, ◌≤◌, ◌^◌, ◌==
 use Rattle.std.specs.Prelude.{decimal}
 use Rattle.std.specs.Option.{option_map}
 use Rattle.std.specs.List.{AllByRecursion, list_any, list_all, join_with_byte}
-use Rattle.std.proofs.lemmas.Bool.{and_parts, not-true, ne_eqb, le-ltb, false≢true, or_from}
-use Rattle.std.proofs.lemmas.List.Elements.{All-nil, All-cons, All-append}
+use Rattle.std.proofs.lemmas.Bool.{ne_eqb, le-ltb, false≢true, or_from}
+use Rattle.std.proofs.lemmas.List.Elements.{All-cons, All-append}
 use Rattle.tfpg_base.specs.Words.{line_of, is_name, is_number}
 use Rattle.tfpg_base.specs.Lines.{longest_line}
 use Rattle.tfpg_base.proofs.Numbers.{is_number-decimal}
-use Rattle.tfpg_base.proofs.Separators.{Lacks, name_lacks, decimal_lacks, slice_split-join}
+use Rattle.tfpg_base.proofs.Separators.{Lacks, lacks_checked, name_lacks, decimal_lacks, slice_split-join}
 use Rattle.tfpg_graph.specs.declared.kind.Kind.{Kind}
 use Rattle.tfpg_graph.specs.declared.kind.Kind.TheVariants.{Failure, Or, And}
 use Rattle.tfpg_graph.specs.Text.{mode_line, node_words, tmax_word}
@@ -22,12 +22,14 @@ pub record IsWord (word : List ℕ) : Type 0 where
   pub some : (length word == 0) ≡ false
   pub lacks : Lacks 32 word
 
-no_empty_word : (words : List (List ℕ)) → AllByRecursion IsWord words
+-- words of a line, of which none is empty
+pub no_empty_word : (words : List (List ℕ)) → AllByRecursion IsWord words
     → list_any (λ word. length word == 0) words ≡ false
 no_empty_word [] are = refl
 no_empty_word (word ∷ words) are = or_from _ _ are.0.some (no_empty_word words are.1)
 
-no_space : (words : List (List ℕ)) → AllByRecursion IsWord words → AllByRecursion (Lacks 32) words
+-- and none has a space
+pub no_space : (words : List (List ℕ)) → AllByRecursion IsWord words → AllByRecursion (Lacks 32) words
 no_space [] are = tt
 no_space (word ∷ words) are = (are.0.lacks, no_space words are.1)
 
@@ -42,14 +44,8 @@ short_line_says words some are short =
     said : List (List ℕ) → Option Statement
     said parts = cond (list_any (λ word. length word == 0) parts) None (statement_in parts)
 
-lacks_checked : (byte : ℕ) (word : List ℕ) → list_all (λ other. not (other == byte)) word ≡ true → Lacks byte word
-lacks_checked byte [] all = All-nil (λ other. (other == byte) ≡ false)
-lacks_checked byte (first ∷ others) all =
-    let parts = and_parts (not (first == byte)) (list_all (λ other. not (other == byte)) others) all in
-    All-cons (λ other. (other == byte) ≡ false) first others (not-true (first == byte) parts.0)
-    (lacks_checked byte others parts.1)
-
-keyword : (word : List ℕ) → (length word == 0) ≡ false → list_all (λ other. not (other == 32)) word ≡ true → IsWord word
+-- a word that is written out
+pub keyword : (word : List ℕ) → (length word == 0) ≡ false → list_all (λ other. not (other == 32)) word ≡ true → IsWord word
 keyword word some all = record { some = some; lacks = lacks_checked 32 word all }
 
 pub some_name : (name : List ℕ) → is_name name ≡ true → (length name == 0) ≡ false
@@ -63,7 +59,8 @@ some_number : (word : List ℕ) → is_number word ≡ true → (length word == 
 some_number [] number = absurd (false≢true number)
 some_number (first ∷ others) number = ne_eqb (length (first ∷ others)) 0 (λ e. omega (arith, e))
 
-IsWord-decimal : (number : ℕ) → number < 2 ^ 64 → IsWord (decimal number)
+-- the text of a number is a word
+pub IsWord-decimal : (number : ℕ) → number < 2 ^ 64 → IsWord (decimal number)
 IsWord-decimal number small =
     record { some = some_number (decimal number) (is_number-decimal number small); lacks = decimal_lacks 32 number refl small }
 

@@ -2,33 +2,23 @@
 use Rattle.std.proofs.Common.{ℕ, suc, zero, ◌*◌, ◌≤◌, ◌==◌, List, [], ◌∷◌, ◌++◌, length, slice_get, All, IsTrue, Option, Some, None, IfSome, unwrap_or, codes, arith}
 use Rattle.std.specs.Prelude.{decimal}
 use Rattle.std.specs.Option.{option_map}
-use Rattle.std.specs.List.{list_all, join_with_byte}
-use Rattle.std.proofs.lemmas.Bool.{and_parts, leb-true, false≢true, cond_both}
-use Rattle.std.proofs.lemmas.Fmt.{length-decimal-le}
+use Rattle.std.specs.List.{join_with_byte}
+use Rattle.std.proofs.lemmas.Bool.{cond_both}
 use Rattle.std.proofs.lemmas.List.{length-append}
 use Rattle.std.proofs.lemmas.List.Elements.{All-head, All-tail}
-use Rattle.tfpg_base.specs.Words.{is_name, is_letter, is_name_byte, line_of}
+use Rattle.tfpg_base.specs.Words.{is_name, line_of}
 use Rattle.tfpg_base.specs.Lines.{longest_line}
+use Rattle.tfpg_base.specs.Times.{max_time}
+use Rattle.tfpg_base.proofs.WordLengths.{name_short, number_short}
 use Rattle.tfpg_graph.specs.declared.kind.Kind.{Kind}
 use Rattle.tfpg_graph.specs.declared.kind.Kind.TheVariants.{Failure, Or, And}
 use Rattle.tfpg_graph.specs.declared.edge.Edge.{Edge}
 use Rattle.tfpg_graph.specs.Graph.{Tfpg, Node, name_at}
 use Rattle.tfpg_graph.specs.Text.{mode_line, node_words, watch_words, tmax_word, edge_line, modes_word, all_modes}
-use Rattle.tfpg_base.specs.Times.{max_time}
 use Rattle.tfpg_graph.specs.Valid.{HasValidNumber, IsValidEdge}
 use Rattle.tfpg_graph.specs.inside.writing.Written.{modes_before, mode_names_before}
 use Rattle.tfpg_graph.proofs.lemmas.writing.ModeBits.{modes_before-few}
 use Rattle.tfpg_graph.proofs.lemmas.writing.ModeNames.{All-named, length-named}
-
-name_short : (name : List ℕ) → IsTrue (is_name name) → length name ≤ 32
-name_short [] named = absurd (false≢true named)
-name_short (first ∷ others) named =
-    let parts = and_parts (is_letter first) _ named in
-    let fits = leb-true (length others) 31 (and_parts (list_all is_name_byte others) _ parts.1).1 in
-    omega (arith, fits)
-
-number_short : (number : ℕ) → number ≤ max_time → length (decimal number) ≤ 13
-number_short number small = length-decimal-le 13 number (omega arith) (omega arith) (omega arith)
 
 pub short_mode : (name : List ℕ) → IsTrue (is_name name) → length (mode_line name) ≤ longest_line
 short_mode name named = omega (arith, name_short name named)
