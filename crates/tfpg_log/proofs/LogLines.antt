@@ -1,13 +1,10 @@
 -- The shape of a line, by its words.
-use Rattle.std.proofs.Common.{◌≡◌, ℕ, Bool, true, false, ◌||◌, eqb, List, [], ◌∷◌, length, map, None, refl, sym, ap, ◌∙◌}
+use Rattle.std.proofs.Common.{◌≡◌, ℕ, true, false, eqb, List, length, map, None, refl, sym, ap, ◌∙◌}
 use Rattle.std.specs.List.{list_any}
 use Rattle.std.specs.Borrow.{Bor}
 use Rattle.tfpg_base.specs.Words.{words_of}
+use Rattle.tfpg_base.proofs.lists.Images.{list_any-map}
 use Rattle.tfpg_log.specs.LogStatements.{log_statement_of, log_statement_in}
-
-list_any-map : {X Y : Type 0} (p : Y → Bool) (f : X → Y) (xs : List X) → list_any p (map f xs) ≡ list_any (λ x. p (f x)) xs
-list_any-map p f [] = refl
-list_any-map p f (x ∷ xs) = ap (λ b. p (f x) || b) (list_any-map p f xs)
 
 -- whether the line of these words has an empty one
 pub has_empty : (line : List ℕ) (words : List (Bor (List ℕ))) → map (λ word. word.now) words ≡ words_of line

@@ -12,7 +12,7 @@ use Rattle.tfpg_graph.proofs.lemmas.reading.SaidWords.{cond_second, statement_in
 use Rattle.tfpg_graph.proofs.lemmas.reading.LinesSay.{IsWord, short_line_says}
 
 -- no part of a line round its spaces has a space
-parts_lack : (line : List ℕ) → AllByRecursion (Lacks 32) (words_of line)
+pub parts_lack : (line : List ℕ) → AllByRecursion (Lacks 32) (words_of line)
 parts_lack [] = (All-nil (λ other. (other == 32) ≡ false), tt)
 parts_lack (byte ∷ line) = by (byte == 32) refl (words_of line) (parts_lack line)
   where
@@ -31,7 +31,7 @@ no_space word lacks has =
     false≢true (sym (All-contains (λ other. (other == 32) ≡ false) word 32 lacks has) ∙ eq-eqb 32 32 refl)
 
 -- words of which none is empty, and none has a space
-line_words : (words : List (List ℕ)) → list_any (λ word. length word == 0) words ≡ false → AllByRecursion (Lacks 32) words
+pub line_words : (words : List (List ℕ)) → list_any (λ word. length word == 0) words ≡ false → AllByRecursion (Lacks 32) words
     → All IsLineWord words
 line_words [] none lack = All-nil IsLineWord
 line_words (word ∷ words) none lack =
@@ -50,7 +50,7 @@ is_word word is = record {
     nothing [] empty = refl
     nothing (first ∷ others) empty = absurd (omega arith)
 
-are_words : (words : List (List ℕ)) → All IsLineWord words → AllByRecursion IsWord words
+pub are_words : (words : List (List ℕ)) → All IsLineWord words → AllByRecursion IsWord words
 are_words [] are = tt
 are_words (word ∷ words) are = (is_word word (All-head IsLineWord word words are), are_words words (All-tail IsLineWord word words are))
 
