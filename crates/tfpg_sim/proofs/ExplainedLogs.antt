@@ -4,6 +4,7 @@ use Rattle.std.proofs.lemmas.Bool.{cond_both, eqb-true}
 use Rattle.std.proofs.lemmas.List.Elements.{All-head, All-tail, All-contains, All-weaker}
 use Rattle.tfpg_base.proofs.lists.Elements.{Contains-head, Contains-tail, Contains-cons_cases, Contains-nil, All-from_members}
 use Rattle.tfpg_base.proofs.Sets.{Contains-with_member, with_member-keeps}
+use Rattle.tfpg_base.proofs.TraceTimes.{time_there}
 use Rattle.tfpg_base.specs.declared.activation.Activation.{Activation}
 use Rattle.tfpg_base.specs.Lines.{lines_of}
 use Rattle.tfpg_base.specs.Set.{with_member}
@@ -17,7 +18,6 @@ use Rattle.tfpg_log.specs.Explains.{Explains, IsMember}
 use Rattle.tfpg_log.specs.Log.{Logbook, now_of, mode_at, time_of_event}
 use Rattle.tfpg_log.specs.LogOfLines.{log_of_lines}
 use Rattle.tfpg_log.specs.Rules.{HasAge, IsDue, KeepsMay, KeepsMust}
-use Rattle.tfpg_trace.proofs.Activations.{time_there}
 use Rattle.tfpg_trace.proofs.FailureModes.{stands_there, no_failure}
 use Rattle.tfpg_sim.specs.declared.entry.Entry.{Entry}
 use Rattle.tfpg_sim.specs.declared.entry.Entry.TheVariants.{Start, Mode, Sweep, Tick, Stop}

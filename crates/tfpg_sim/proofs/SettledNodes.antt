@@ -5,13 +5,13 @@ use Rattle.std.proofs.lemmas.Bool.{eqb-true, eqb-false, eq-eqb}
 use Rattle.std.proofs.lemmas.List.{get_or_past}
 use Rattle.std.proofs.lemmas.List.Elements.{All-contains}
 use Rattle.tfpg_base.proofs.lists.Elements.{All-from_members, Contains-tail}
+use Rattle.tfpg_base.proofs.lists.Passing.{Contains-filter_only}
 use Rattle.tfpg_base.specs.declared.activation.Activation.{Activation}
 use Rattle.tfpg_base.specs.Trace.{time_of, with_time}
 use Rattle.tfpg_base.proofs.Traces.{time_of-with_time, time_of-with_time_other}
 use Rattle.tfpg_graph.specs.declared.edge.Edge.{Edge}
 use Rattle.tfpg_graph.specs.Graph.{Tfpg, is_kind_at, is_failure, incoming, edge_from_to}
 use Rattle.tfpg_base.proofs.lists.Positions.{All-none}
-use Rattle.tfpg_trace.proofs.NumberedItems.{was_there}
 use Rattle.tfpg_trace.proofs.IncomingEdges.{item_among}
 use Rattle.tfpg_log.specs.Log.{Logbook}
 use Rattle.tfpg_sim.specs.Simulation.{Carries, Arrives, IsFirst}
@@ -42,7 +42,7 @@ no_edge : (graph : Tfpg) (settled node : ℕ) → edge_from_to graph settled nod
 no_edge graph settled node none number edge member at same =
     let item = item_among (λ (e : Edge). eqb e.target node) graph.edges number member in
     let own : item.0 ≡ edge = (let both : Some item.0 ≡ Some edge = sym item.2 ∙ at in cc) in
-    let passes : eqb edge.target node ≡ true = ap (λ (e : Edge). eqb e.target node) (sym own) ∙ (was_there (λ (e : Edge). eqb e.target node) graph.edges item.0 item.1).2 in
+    let passes : eqb edge.target node ≡ true = ap (λ (e : Edge). eqb e.target node) (sym own) ∙ (Contains-filter_only (λ (e : Edge). eqb e.target node) graph.edges item.0 item.1).2 in
     let fails = All-contains (λ (e : Edge). eqb e.source settled && eqb e.target node ≡ false) graph.edges edge
     (All-none (λ (e : Edge). eqb e.source settled && eqb e.target node) graph.edges none) (item_in graph.edges number edge at) in
     let holds : eqb edge.source settled && eqb edge.target node ≡ true =

@@ -6,6 +6,7 @@ use Rattle.std.proofs.lemmas.List.Elements.{All-contains}
 use Rattle.tfpg_base.specs.declared.activation.Activation.{Activation}
 use Rattle.tfpg_base.specs.Trace.{IsRisingByNode}
 use Rattle.tfpg_base.proofs.lists.Elements.{All-from_members}
+use Rattle.tfpg_base.proofs.TraceTimes.{activation_there, time_there}
 use Rattle.tfpg_graph.specs.Graph.{Tfpg, is_kind_at, is_failure, is_monitored}
 use Rattle.tfpg_log.specs.declared.event.Event.{Event}
 use Rattle.tfpg_log.specs.declared.event.Event.TheVariants.{Alarm, Silent, Sweep, Tick, Mode}
@@ -15,7 +16,6 @@ use Rattle.tfpg_trace.specs.declared.verdict.Verdict.{Verdict}
 use Rattle.tfpg_trace.specs.declared.verdict.Verdict.TheVariants as verdict
 use Rattle.tfpg_trace.specs.Broken.{KeepRulesBefore}
 use Rattle.tfpg_trace.specs.FirstFault.{IsOnTimeFromSet, IsVerdict}
-use Rattle.tfpg_trace.proofs.Activations.{activation_there, time_there}
 use Rattle.tfpg_trace.proofs.Decided.{member_or_not, not_later}
 
 -- a test that gives a time passed

@@ -5,15 +5,16 @@ use Rattle.std.proofs.lemmas.List.Elements.{All-contains, All-get_or, All-same, 
 use Rattle.std.proofs.lemmas.List.{take_all}
 use Rattle.std.proofs.lemmas.Option.{slice_get-get_or, slice_get_within, get_or_from_slice_get}
 use Rattle.tfpg_base.proofs.lists.Elements.{All-from_members}
+use Rattle.tfpg_base.proofs.lists.Passing.{Contains-filter, Contains-filter_only}
 use Rattle.tfpg_graph.specs.Graph.{numbers_from}
 use Rattle.tfpg_graph.proofs.Numbered.{All-below-numbers_from}
-use Rattle.tfpg_trace.proofs.NumberedItems.{item_of, number_of, kept, was_there}
+use Rattle.tfpg_trace.proofs.NumberedItems.{item_of, number_of}
 
 module _ {X : Type 0} (p : X → Bool) (xs : List X) where
   -- the number of an item that passes stands among the numbers of those
   pub number_among : (x : X) → Contains (filter p xs) x → (number : ℕ) × Contains (numbers_from 0 p xs) number × (slice_get xs number ≡ Some x)
   number_among x member =
-      let found = was_there p xs x member in
+      let found = Contains-filter_only p xs x member in
       let at = number_of p 0 xs found.0 x found.1 found.2 in
       let there : slice_get (numbers_from 0 p xs) at.0 ≡ Some found.0 = at.1 ∙ ap Some (omega arith) in (
         found.0,
@@ -27,7 +28,7 @@ module _ {X : Type 0} (p : X → Bool) (xs : List X) where
       let of = item_of p 0 xs member.0 number (slice_get-get_or (numbers_from 0 p xs) member.0 number member.1 ∙ ap Some member.2) in
       let same : of.place ≡ number = omega (arith, of.counted) in
       let at : slice_get xs number ≡ Some of.item = ap (slice_get xs) (sym same) ∙ of.at in
-      (of.item, kept p xs number of.item at of.passes, at)
+      (of.item, Contains-filter p xs number of.item at of.passes, at)
 
   module _ (P : X → Type 0) where
     -- what holds at one of the numbers holds of an item that passes

@@ -5,7 +5,6 @@ pub mod AgesByWindow
 pub mod MayRule
 pub mod FirstNodes
 pub mod Sweeps
-pub mod Activations
 pub mod Decided
 pub mod Explained
 pub mod Beginnings

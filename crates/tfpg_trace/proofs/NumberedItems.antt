@@ -1,8 +1,6 @@
 -- What the numbers of the items that pass a test say of the items.
-use Rattle.std.proofs.Common.{◌≡◌, ℕ, zero, suc, ◌+◌, Bool, true, false, cond, List, [], ◌∷◌, filter, Some, slice_get, inl, inr, refl, ap, sym, ◌∙◌, arith}
-use Rattle.std.specs.Prelude.{Contains}
+use Rattle.std.proofs.Common.{◌≡◌, ℕ, zero, suc, ◌+◌, Bool, true, false, cond, List, [], ◌∷◌, Some, slice_get, refl, ap, ◌∙◌, arith}
 use Rattle.std.proofs.lemmas.Option.{slice_get_within}
-use Rattle.tfpg_base.proofs.lists.Elements.{Contains-tail, Contains-nil, Contains-cons_cases}
 use Rattle.tfpg_graph.specs.Graph.{numbers_from}
 
 -- The item of a number that is counted from another one, and passes.
@@ -72,34 +70,3 @@ module _ {X : Type 0} (p : X → Bool) where
           → (k : ℕ) × (slice_get (cond b (first ∷ numbers_from (first + 1) p ys) (numbers_from (first + 1) p ys)) k ≡ Some (first + suc place))
       by true more = (suc more.0, more.1 ∙ ap Some (omega arith))
       by false more = (more.0, more.1 ∙ ap Some (omega arith))
-
-  -- an item that passes is among those that do
-  pub kept : (xs : List X) (place : ℕ) (x : X) → slice_get xs place ≡ Some x → p x ≡ true → Contains (filter p xs) x
-  kept [] place x at passes = absurd (omega (arith, slice_get_within {A = X} [] place x at))
-  kept (y ∷ ys) zero x at passes = by (p y) (ap p same ∙ passes)
-    where
-      same : y ≡ x
-      same = cc
-
-      by : (b : Bool) → b ≡ true → Contains (cond b (y ∷ filter p ys) (filter p ys)) x
-      by true is = (0, omega arith, same)
-      by false is = cc
-  kept (y ∷ ys) (suc place) x at passes = by (p y) (kept ys place x at passes)
-    where
-      by : (b : Bool) → Contains (filter p ys) x → Contains (cond b (y ∷ filter p ys) (filter p ys)) x
-      by true more = Contains-tail y (filter p ys) x more
-      by false more = more
-
-  -- and each of those is an item that passes
-  pub was_there : (xs : List X) (x : X) → Contains (filter p xs) x → (place : ℕ) × (slice_get xs place ≡ Some x) × (p x ≡ true)
-  was_there [] x member = absurd (Contains-nil x member)
-  was_there (y ∷ ys) x member = by (p y) refl member (was_there ys x)
-    where
-      by : (b : Bool) → p y ≡ b → Contains (cond b (y ∷ filter p ys) (filter p ys)) x
-          → (Contains (filter p ys) x → (place : ℕ) × (slice_get ys place ≡ Some x) × (p x ≡ true))
-          → (place : ℕ) × (slice_get (y ∷ ys) place ≡ Some x) × (p x ≡ true)
-      by true passes among rest = elim (Contains-cons_cases y (filter p ys) x among) [
-        | inl same ↦ (0, ap Some same, ap p (sym same) ∙ passes)
-        | inr more ↦ (let found = rest more in (suc found.0, found.1, found.2))
-      ]
-      by false fails among rest = let found = rest among in (suc found.0, found.1, found.2)
