@@ -11,6 +11,7 @@ use Rattle.tfpg_base.proofs.lists.Elements.{Contains-head}
 use Rattle.tfpg_base.proofs.LinesOf.{lines_of-after as lines_of-behind}
 use Rattle.tfpg_base.specs.declared.activation.Activation.{Activation}
 use Rattle.tfpg_base.specs.Lines.{lines_of, with_line_end, HasNoLineEnd}
+use Rattle.tfpg_base.proofs.lists.Choices.{option_map-some}
 use Rattle.tfpg_graph.specs.Graph.{Tfpg}
 use Rattle.tfpg_graph.specs.Valid.{IsValid}
 use Rattle.tfpg_log.specs.declared.event.Event.{Event}
@@ -26,7 +27,6 @@ use Rattle.tfpg_sim.specs.SimulatedLog.{event_line, log_text}
 use Rattle.tfpg_sim.specs.inside.Entries.{IsScript}
 use Rattle.tfpg_sim.proofs.AcceptedEvents.{IsUnalarmed, IsNext, line_said, event_line-said, is_accepted, is_short, is_clean}
 use Rattle.tfpg_sim.proofs.AlarmTimes.{length-latenesses, lateness_within, alarmed_at}
-use Rattle.tfpg_sim.proofs.FilteredItems.{from_map}
 use Rattle.tfpg_sim.proofs.LoggedEvents.{IsLogged, AreLogged}
 use Rattle.tfpg_sim.proofs.PutAlarms.{IsOther, Precedes, AreInOrder, before_each, not_later}
 use Rattle.tfpg_sim.proofs.ScriptOrder.{small}
@@ -41,7 +41,7 @@ cut_at (y ∷ xs) (suc n) x at = ap (λ zs. y ∷ zs) (cut_at xs n x at)
 
 -- the image of an item
 image_at : {X Y : Type 0} (f : X → Y) (xs : List X) (n : ℕ) (y : Y) → slice_get (map f xs) n ≡ Some y → (x : X) × (slice_get xs n ≡ Some x) × (f x ≡ y)
-image_at f xs n y at = from_map f (slice_get xs n) y (sym (slice_get-map f xs n) ∙ at)
+image_at f xs n y at = option_map-some f (slice_get xs n) y (sym (slice_get-map f xs n) ∙ at)
 
 -- lines with their line ends
 ended_lines : {X : Type 0} (whole line : X → List ℕ) (xs : List X) → ((x : X) → whole x ≡ with_line_end (line x)) → flat_map whole xs ≡ flat_map with_line_end (map line xs)

@@ -7,6 +7,8 @@ use Rattle.std.proofs.lemmas.List.Elements.{All-contains}
 use Rattle.tfpg_base.proofs.lists.Elements.{All-from_members}
 use Rattle.tfpg_base.specs.declared.activation.Activation.{Activation}
 use Rattle.tfpg_base.specs.Trace.{time_of}
+use Rattle.tfpg_base.proofs.lists.Choices.{option_and_then-some, option_map-some}
+use Rattle.tfpg_base.proofs.lists.Passing.{slice_get-filter_map, slice_get-filter_map_only, each_from_length-filter_map, not_each_from_length-filter_map}
 use Rattle.tfpg_graph.specs.declared.edge.Edge.{Edge}
 use Rattle.tfpg_graph.specs.declared.kind.Kind.{Kind}
 use Rattle.tfpg_graph.specs.declared.kind.Kind.TheVariants.{Or, And}
@@ -16,7 +18,6 @@ use Rattle.tfpg_sim.specs.declared.flight.Flight.{Flight}
 use Rattle.tfpg_sim.specs.inside.Flights.{Lands, LandsBy}
 use Rattle.tfpg_sim.specs.inside.Arrivals.{flight_over}
 use Rattle.tfpg_sim.specs.Simulation.{Carries, Arrives, IsFirst}
-use Rattle.tfpg_sim.proofs.FilteredItems.{from_and_then, from_map, value_there, item_there, each_valued, some_valueless}
 
 -- the first instant at which the one holds is that of the other
 pub IsFirst-same : (Holds Other : ℕ → Type 0) (limit : ℕ) (first : Option ℕ) → ((x : ℕ) → Holds x → Other x) → ((x : ℕ) → Other x → Holds x)
@@ -45,9 +46,9 @@ pub flights_small : (graph : Tfpg) (delays : List ℕ) (trace : List Activation)
     → All (λ (flight : Flight). (flight.start ≤ 2 ^ 42) × (flight.delay ≤ 2 ^ 42)) (filter_map (flight_over graph delays trace) numbers)
 flights_small graph delays trace numbers small times = λ k d within.
     let at = slice_get-get_or (filter_map (flight_over graph delays trace) numbers) k d within in
-    let item = item_there (flight_over graph delays trace) numbers k _ at in
-    let edge = from_and_then (λ (e : Edge). option_map (λ start. record { modes = e.modes; start = start; delay = slice_index delays item.0 }) (time_of trace e.source)) (slice_get graph.edges item.0) _ item.2 in
-    let start = from_map (λ start. record { modes = edge.0.modes; start = start; delay = slice_index delays item.0 }) (time_of trace edge.0.source) _ edge.2 in
+    let item = slice_get-filter_map_only (flight_over graph delays trace) numbers k _ at in
+    let edge = option_and_then-some (λ (e : Edge). option_map (λ start. record { modes = e.modes; start = start; delay = slice_index delays item.0 }) (time_of trace e.source)) (slice_get graph.edges item.0) _ item.2 in
+    let start = option_map-some (λ start. record { modes = edge.0.modes; start = start; delay = slice_index delays item.0 }) (time_of trace edge.0.source) _ edge.2 in
     subst (λ (flight : Flight). (flight.start ≤ 2 ^ 42) × (flight.delay ≤ 2 ^ 42)) start.2
     (time_small (2 ^ 42) trace edge.0.source start.0 times start.1, delay_small item.0)
   where
@@ -73,8 +74,8 @@ module _ (graph : Tfpg) (log : Logbook) (delays : List ℕ) (trace : List Activa
   -- and the other way round
   pub landed : (x number : ℕ) (flight : Flight) → flight_over graph delays trace number ≡ Some flight → Lands log x flight → Carries graph log delays trace x number
   landed x number flight is lands =
-      let edge = from_and_then (λ (e : Edge). option_map (λ start. record { modes = e.modes; start = start; delay = slice_index delays number }) (time_of trace e.source)) (slice_get graph.edges number) flight is in
-      let start = from_map (λ start. record { modes = edge.0.modes; start = start; delay = slice_index delays number }) (time_of trace edge.0.source) flight edge.2 in
+      let edge = option_and_then-some (λ (e : Edge). option_map (λ start. record { modes = e.modes; start = start; delay = slice_index delays number }) (time_of trace e.source)) (slice_get graph.edges number) flight is in
+      let start = option_map-some (λ start. record { modes = edge.0.modes; start = start; delay = slice_index delays number }) (time_of trace edge.0.source) flight edge.2 in
       let within : number < length delays = let inside = slice_get_within graph.edges number edge.0 edge.1 in omega arith in
       let same : record { modes = edge.0.modes; start = start.0; delay = slice_index delays number } ≡ flight = start.2 in
       let here = subst (Lands log x) (sym same) lands in
@@ -103,13 +104,13 @@ module _ (graph : Tfpg) (log : Logbook) (delays : List ℕ) (trace : List Activa
         → IsFirst (LandsBy false log flights) limit first → IsFirst (Arrives graph log delays trace node) limit first
     or_arrival lag limit first kind = IsFirst-same (LandsBy false log flights) (Arrives graph log delays trace node) limit first
         (λ x some. record {
-          or_node = λ _. let item = item_there (flight_over graph delays trace) (incoming graph node) some.0 some.1 some.2 in
+          or_node = λ _. let item = slice_get-filter_map_only (flight_over graph delays trace) (incoming graph node) some.0 some.1 some.2 in
               (item.0, item.1, landed x item.0 some.1 item.2 some.3);
           and_node = λ other. absurd (not_kind is_and (Or lag) kind refl other);
         })
         (λ x arrives. let some = arrives.or_node (has_kind is_or (Or lag) kind refl) in
         let flight = carried x some.0 some.2 in
-        let place = value_there (flight_over graph delays trace) (incoming graph node) some.0 flight.0 some.1 flight.1 in
+        let place = slice_get-filter_map (flight_over graph delays trace) (incoming graph node) some.0 flight.0 some.1 flight.1 in
         (place.0, flight.0, place.1, flight.2))
 
     pub and_arrival : (lag : Option ℕ) (limit : ℕ) (first : Option ℕ) → kind_at graph node ≡ Some (And lag)
@@ -119,11 +120,11 @@ module _ (graph : Tfpg) (log : Logbook) (delays : List ℕ) (trace : List Activa
         (λ x all. record {
           or_node = λ other. absurd (not_kind is_or (And lag) kind refl other);
           and_node = λ _. All-from_members (Carries graph log delays trace x) (incoming graph node) (λ number member.
-              let valued = each_valued (flight_over graph delays trace) (incoming graph node) many number member in
-              let place = value_there (flight_over graph delays trace) (incoming graph node) number valued.0 member valued.1 in
+              let valued = each_from_length-filter_map (flight_over graph delays trace) (incoming graph node) many number member in
+              let place = slice_get-filter_map (flight_over graph delays trace) (incoming graph node) number valued.0 member valued.1 in
               landed x number valued.0 valued.1 (all place.0 valued.0 place.1));
         })
-        (λ x arrives place flight at. let item = item_there (flight_over graph delays trace) (incoming graph node) place flight at in
+        (λ x arrives place flight at. let item = slice_get-filter_map_only (flight_over graph delays trace) (incoming graph node) place flight at in
         let own = carried x item.0 (All-contains (Carries graph log delays trace x) (incoming graph node) item.0 (arrives.and_node (has_kind is_and (And lag) kind refl)) item.1) in
         subst (Lands log x) (let same : own.0 ≡ flight = (let somes : Some own.0 ≡ Some flight = sym own.1 ∙ item.2 in cc) in same) own.2)
 
@@ -131,6 +132,6 @@ module _ (graph : Tfpg) (log : Logbook) (delays : List ℕ) (trace : List Activa
     pub no_arrival : (lag : Option ℕ) (limit : ℕ) → kind_at graph node ≡ Some (And lag) → length flights < length (incoming graph node)
         → IsFirst (Arrives graph log delays trace node) limit None
     no_arrival lag limit kind few = λ x upto arrives.
-        some_valueless (flight_over graph delays trace) (incoming graph node) few (λ number member.
+        not_each_from_length-filter_map (flight_over graph delays trace) (incoming graph node) few (λ number member.
         let own = carried x number (All-contains (Carries graph log delays trace x) (incoming graph node) number (arrives.and_node (has_kind is_and (And lag) kind refl)) member) in
         (own.0, own.1))

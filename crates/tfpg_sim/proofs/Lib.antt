@@ -3,10 +3,8 @@ pub mod DrawLists
 pub mod ReachedTimes
 pub mod Landing
 pub mod SplitSpans
-pub mod FilteredItems
 pub mod ArrivingFlights
 pub mod SettledNodes
-pub mod PushedItems
 pub mod ScriptOrder
 pub mod WholeRuns
 pub mod ScriptLines

@@ -8,6 +8,7 @@ use Rattle.std.proofs.lemmas.List.Sums.{sum_by-cons}
 use Rattle.std.proofs.lemmas.Option.{slice_get_within, get_or_from_slice_get}
 use Rattle.tfpg_base.proofs.lists.Elements.{AllPairs-head, AllPairs-tail}
 use Rattle.tfpg_base.specs.declared.activation.Activation.{Activation}
+use Rattle.tfpg_base.proofs.lists.Passing.{slice_get-filter_map, length-filter_map}
 use Rattle.tfpg_graph.specs.Graph.{Tfpg}
 use Rattle.tfpg_log.specs.declared.event.Event.{Event}
 use Rattle.tfpg_log.specs.declared.event.Event.TheVariants as event
@@ -18,7 +19,6 @@ use Rattle.tfpg_sim.specs.Script.{time_of_entry, time_so_far, last_of, has_stopp
 use Rattle.tfpg_sim.specs.Simulation.{event_of_entry}
 use Rattle.tfpg_sim.specs.SimulatedLog.{alarm_time, with_alarm, with_alarms}
 use Rattle.tfpg_sim.specs.inside.Entries.{IsEntryOf, IsScript}
-use Rattle.tfpg_sim.proofs.FilteredItems.{value_there, values_few}
 use Rattle.tfpg_sim.proofs.PutAlarms.{put, put_there, All-put, alarm_there, still_there, one_more, changes_same, modes_same, IsOther, Precedes, AreInOrder, order_put}
 use Rattle.tfpg_sim.proofs.ReadScripts.{few_entries, few_changes}
 use Rattle.tfpg_sim.proofs.ScriptOrder.{all_by_last, in_order}
@@ -190,11 +190,11 @@ module _ (graph : Tfpg) (entries : List Entry) (trace : List Activation) (latene
       each = All-own (IsLogged 0) entries (λ k d within.
           own_logged (get_or entries k d) (Contains-get_or entries k d within) (script.own k d within) (all_by_last graph entries script k d within));
       alarmed = λ node time within at. absurd (omega arith);
-      few = omega (arith, values_few event_of_entry entries, few_entries graph entries script);
+      few = omega (arith, length-filter_map event_of_entry entries, few_entries graph entries script);
       changes = omega (arith, own_changes entries, few_changes graph entries script);
       modes = λ instant. refl;
       last =
-          let there = value_there event_of_entry entries (Stop stop) (event.Tick stop) (Contains-read entries (length entries - 1) (Stop stop) (stop_last entries stops)) refl in
+          let there = slice_get-filter_map event_of_entry entries (Stop stop) (event.Tick stop) (Contains-read entries (length entries - 1) (Stop stop) (stop_last entries stops)) refl in
           Contains-read (filter_map event_of_entry entries) there.0 (event.Tick stop) there.1;
     }
 

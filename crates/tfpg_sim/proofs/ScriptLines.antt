@@ -11,11 +11,11 @@ use Rattle.tfpg_base.specs.Words.{words_of, number_of}
 use Rattle.tfpg_base.specs.Times.{max_time}
 use Rattle.tfpg_graph.specs.Graph.{Tfpg, is_kind_at, is_failure, node_named, mode_named}
 use Rattle.tfpg_base.proofs.lists.Written.{slice_get-push_before, slice_get-push_at as slice_get-push_last}
+use Rattle.tfpg_base.proofs.lists.Choices.{option_and_then-some, option_map-some}
 use Rattle.tfpg_sim.specs.declared.entry.Entry.{Entry}
 use Rattle.tfpg_sim.specs.declared.entry.Entry.TheVariants.{Start, Mode, Sweep, Tick, Stop}
 use Rattle.tfpg_sim.specs.Script.{time_in, failure_named, entry_alone, entry_with_name, entry_in, entry_of, may_follow, next_entry}
 use Rattle.tfpg_sim.specs.inside.Entries.{IsEntryOf, IsScript}
-use Rattle.tfpg_sim.proofs.FilteredItems.{from_and_then, from_map}
 
 -- what a value that was tested is
 pub from_test : {X : Type 0} (b : Bool) (x y : X) → then_some b x ≡ Some y → (b ≡ true) × (x ≡ y)
@@ -25,7 +25,7 @@ from_test false x y is = absurd (let none : None ≡ Some y = is in cc)
 -- a time that is read is not too large
 time_small : (word : List ℕ) (time : ℕ) → time_in word ≡ Some time → time ≤ max_time
 time_small word time is =
-    let number = from_and_then (λ n. then_some (nat_le n max_time) n) (number_of word) time is in
+    let number = option_and_then-some (λ n. then_some (nat_le n max_time) n) (number_of word) time is in
     let test = from_test (nat_le number.0 max_time) number.0 time number.2 in
     let upto : number.0 ≤ max_time = (let holds = test.0 in grind (arith, nat_tests, holds)) in let same = test.1 in omega arith
 
@@ -43,7 +43,7 @@ alone_own graph word time entry small =
 -- what a failure mode that is named is
 failure_own : (graph : Tfpg) (name : List ℕ) (node : ℕ) → failure_named graph name ≡ Some node → IsTrue (is_kind_at is_failure graph node)
 failure_own graph name node is =
-    let found = from_and_then (λ n. then_some (is_kind_at is_failure graph n) n) (node_named graph name) node is in
+    let found = option_and_then-some (λ n. then_some (is_kind_at is_failure graph n) n) (node_named graph name) node is in
     let test = from_test (is_kind_at is_failure graph found.0) found.0 node found.2 in
     subst (λ n. IsTrue (is_kind_at is_failure graph n)) test.1 test.0
 
@@ -51,10 +51,10 @@ failure_own graph name node is =
 named_own : (graph : Tfpg) (word name : List ℕ) (time : ℕ) (entry : Entry) → time ≤ max_time → entry_with_name graph word name time ≡ Some entry → IsEntryOf graph entry
 named_own graph word name time entry small =
     cond_both (bytes_eq word (codes "start")) _ _ (λ o. o ≡ Some entry → IsEntryOf graph entry)
-    (λ _ is. let found = from_map (λ node. Start time node) (failure_named graph name) entry is in
+    (λ _ is. let found = option_map-some (λ node. Start time node) (failure_named graph name) entry is in
     subst (IsEntryOf graph) found.2 (small, failure_own graph name found.0 found.1))
     (λ _. cond_both (bytes_eq word (codes "mode")) _ _ (λ o. o ≡ Some entry → IsEntryOf graph entry)
-    (λ _ is. let found = from_map (λ mode. Mode time mode) (mode_named graph name) entry is in
+    (λ _ is. let found = option_map-some (λ mode. Mode time mode) (mode_named graph name) entry is in
     subst (IsEntryOf graph) found.2 (small, (position-Some (λ mode. bytes_eq mode name) graph.modes found.0 [] found.1).0))
     (λ _ is. absurd (let none : None ≡ Some entry = is in cc)))
 
@@ -63,10 +63,10 @@ entry_own : (graph : Tfpg) (words : List (List ℕ)) (entry : Entry) → entry_i
 entry_own graph [] entry is = absurd (let none : None ≡ Some entry = is in cc)
 entry_own graph (time ∷ []) entry is = absurd (let none : None ≡ Some entry = is in cc)
 entry_own graph (time ∷ word ∷ []) entry is =
-    let found = from_and_then (λ t. entry_alone word t) (time_in time) entry is in
+    let found = option_and_then-some (λ t. entry_alone word t) (time_in time) entry is in
     alone_own graph word found.0 entry (time_small time found.0 found.1) found.2
 entry_own graph (time ∷ word ∷ name ∷ []) entry is =
-    let found = from_and_then (λ t. entry_with_name graph word name t) (time_in time) entry is in
+    let found = option_and_then-some (λ t. entry_with_name graph word name t) (time_in time) entry is in
     named_own graph word name found.0 entry (time_small time found.0 found.1) found.2
 entry_own graph (time ∷ word ∷ name ∷ more ∷ others) entry is = absurd (let none : None ≡ Some entry = is in cc)
 
@@ -87,7 +87,7 @@ script_push graph before more line entry is are script = subst (IsScript graph) 
 })
   where
     found : (e : Entry) × (entry_of graph line ≡ Some e) × (then_some (may_follow before e) e ≡ Some entry)
-    found = from_and_then (λ e. then_some (may_follow before e) e) (entry_of graph line) entry is
+    found = option_and_then-some (λ e. then_some (may_follow before e) e) (entry_of graph line) entry is
 
     tested : (may_follow before found.0 ≡ true) × (found.0 ≡ entry)
     tested = from_test (may_follow before found.0) found.0 entry found.2
