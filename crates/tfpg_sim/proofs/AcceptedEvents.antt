@@ -1,23 +1,25 @@
 -- The line of an event that may come next is accepted as this event.
-use Rattle.std.proofs.Common.{◌≡◌, ℕ, ◌<◌, ◌≤◌, true, false, not, cond, eqb, ltb, leb, List, [], ◌∷◌, ◌++◌, length, get_or, IsTrue, Option, Some, None, unwrap_or, codes, refl, ap, ◌∙◌, arith, length-append}
+use Rattle.std.proofs.Common.{◌≡◌, ℕ, ◌<◌, ◌≤◌, false, not, eqb, ltb, leb, List, [], ◌∷◌, ◌++◌, length, get_or, IsTrue, Option, Some, None, unwrap_or, codes, refl, ap, ◌∙◌, arith, length-append}
 use Rattle.std.specs.Prelude.{decimal, is_none, option_map, option_and_then, count_by}
 use Rattle.std.specs.Bool.{then_some}
 use Rattle.std.specs.Option.{option_map_or}
-use Rattle.std.specs.List.{AllByRecursion, list_any, list_all}
+use Rattle.std.specs.List.{AllByRecursion}
 use Rattle.std.specs.Str.Parse.{digits_value}
-use Rattle.std.proofs.lemmas.Bool.{and_parts, or_from, le-ltb, lt-leb, leb-true, ne_eqb, not-true, false≢true}
-use Rattle.std.proofs.lemmas.List.Elements.{All-nil, All-cons, All-append}
-use Rattle.std.proofs.lemmas.Fmt.{decimal_is_IsNumeral, length-decimal-le}
+use Rattle.std.proofs.lemmas.Bool.{le-ltb, lt-leb}
+use Rattle.std.proofs.lemmas.List.Elements.{All-cons, All-append}
+use Rattle.std.proofs.lemmas.Fmt.{decimal_is_IsNumeral}
 use Rattle.std.proofs.lemmas.Option.{slice_get-get_or}
 use Rattle.tfpg_base.specs.Choice.{first_of, unless_refused}
 use Rattle.tfpg_base.specs.Lines.{with_line_end, longest_line, HasNoLineEnd}
 use Rattle.tfpg_base.specs.Times.{max_time}
-use Rattle.tfpg_base.specs.Words.{line_of, is_letter, is_name, is_name_byte, is_number}
+use Rattle.tfpg_base.specs.Words.{line_of, is_name, is_number}
 use Rattle.tfpg_base.proofs.Numbers.{is_number-decimal}
-use Rattle.tfpg_base.proofs.Separators.{Lacks, name_lacks, decimal_lacks, slice_split-join}
+use Rattle.tfpg_base.proofs.Separators.{lacks_checked, name_lacks, decimal_lacks}
+use Rattle.tfpg_base.proofs.WordLengths.{name_short, number_short}
 use Rattle.tfpg_graph.specs.Graph.{Tfpg, node_named, mode_named, is_monitored}
 use Rattle.tfpg_graph.specs.Valid.{IsValid}
-use Rattle.tfpg_graph.proofs.lemmas.reading.LinesSay.{IsWord, IsWord-name}
+use Rattle.tfpg_graph.proofs.lemmas.reading.LinesSay.{IsWord, IsWord-name, IsWord-decimal, keyword, no_empty_word, no_space}
+use Rattle.tfpg_graph.proofs.lemmas.reading.SaidLines.{line_words}
 use Rattle.tfpg_graph.proofs.lemmas.reading.SpelledEdges.{is_name-name_of, node_named-name_of}
 use Rattle.tfpg_graph.proofs.lemmas.reading.SpelledValues.{position-named}
 use Rattle.tfpg_log.specs.declared.event.Event.{Event}
@@ -28,8 +30,9 @@ use Rattle.tfpg_log.specs.declared.refusal.Refusal.{Refusal}
 use Rattle.tfpg_log.specs.declared.refusal.Refusal.TheVariants.{BadLine, BadNumber, TimeTooLarge, TimeBack, UnknownName, NotMonitored, NotAMode, SecondAlarm, SilentAfterAlarm, LogFull, ModesFull}
 use Rattle.tfpg_log.specs.Log.{Logbook, now_of, alarm_of, is_mode_change, time_of_event, IsEventOf}
 use Rattle.tfpg_log.specs.LogOfLines.{is_too_long}
-use Rattle.tfpg_log.specs.LogStatements.{LogStatement, Alarm, Silent, Sweep, Tick, Mode, words_of_log_statement, log_statement_in, log_statement_of}
+use Rattle.tfpg_log.specs.LogStatements.{LogStatement, Alarm, Silent, Sweep, Tick, Mode, words_of_log_statement, log_statement_of}
 use Rattle.tfpg_log.specs.Accepted.{time_refusals, statement_refusals, event_of, offered, reply_to_statement, reply_to}
+use Rattle.tfpg_log.proofs.WrittenLines.{read_as_written}
 use Rattle.tfpg_trace.proofs.Sweeps.{monitored_within}
 use Rattle.tfpg_sim.specs.SimulatedLog.{node_word, mode_word, event_line}
 
@@ -71,30 +74,6 @@ event_line-said graph (event.Mode time mode) = refl
 
 -- ---- words
 
-no_empty_word : (words : List (List ℕ)) → AllByRecursion IsWord words → list_any (λ word. eqb (length word) 0) words ≡ false
-no_empty_word [] are = refl
-no_empty_word (word ∷ words) are = or_from _ _ are.0.some (no_empty_word words are.1)
-
-no_space : (words : List (List ℕ)) → AllByRecursion IsWord words → AllByRecursion (Lacks 32) words
-no_space [] are = tt
-no_space (word ∷ words) are = (are.0.lacks, no_space words are.1)
-
-some_number : (word : List ℕ) → is_number word ≡ true → eqb (length word) 0 ≡ false
-some_number [] number = absurd (false≢true number)
-some_number (first ∷ others) number = ne_eqb (length (first ∷ others)) 0 (λ e. omega (arith, e))
-
-number_word : (number : ℕ) → number ≤ max_time → IsWord (decimal number)
-number_word number small = record {
-  some = some_number (decimal number) (is_number-decimal number (omega arith));
-  lacks = decimal_lacks 32 number refl (omega arith);
-}
-
-pub lacks_checked : (byte : ℕ) (word : List ℕ) → list_all (λ other. not (eqb other byte)) word ≡ true → Lacks byte word
-lacks_checked byte [] all = All-nil (λ other. eqb other byte ≡ false)
-lacks_checked byte (first ∷ others) all =
-    let parts = and_parts (not (eqb first byte)) (list_all (λ other. not (eqb other byte)) others) all in
-    All-cons (λ other. eqb other byte ≡ false) first others (not-true (eqb first byte) parts.0) (lacks_checked byte others parts.1)
-
 -- a word and more words have no line end where both have none
 pub clean : (word : List ℕ) (words : List (List ℕ)) → HasNoLineEnd word → HasNoLineEnd (line_of words) → HasNoLineEnd (line_of (word ∷ words))
 clean word [] own rest = own
@@ -103,32 +82,6 @@ clean word (next ∷ words) own rest =
 
 pub number_clean : (number : ℕ) → number ≤ max_time → HasNoLineEnd (decimal number)
 number_clean number small = decimal_lacks 10 number refl (omega arith)
-
-digits : (number : ℕ) → number ≤ max_time → length (decimal number) ≤ 13
-digits number small = length-decimal-le 13 number (omega arith) (omega arith) (omega arith)
-
-name_short : (name : List ℕ) → IsTrue (is_name name) → length name ≤ 32
-name_short [] named = absurd (false≢true named)
-name_short (first ∷ others) named =
-    let parts = and_parts (is_letter first) _ named in
-    let fits = leb-true (length others) 31 (and_parts (list_all is_name_byte others) _ parts.1).1 in
-    omega (arith, fits)
-
-statement_read : (time : List ℕ) (statement : LogStatement) → log_statement_in (time ∷ words_of_log_statement statement) ≡ Some (time, statement)
-statement_read time (Alarm name) = refl
-statement_read time (Silent name) = refl
-statement_read time Sweep = refl
-statement_read time Tick = refl
-statement_read time (Mode name) = refl
-
--- a line of words is read by its words
-words_read : (words : List (List ℕ)) → 0 < length words → AllByRecursion IsWord words → log_statement_of (line_of words) ≡ log_statement_in words
-words_read words some are =
-    (λ i. in_words (slice_split-join 32 words some (no_space words are) i))
-    ∙ ap (λ b. cond b None (log_statement_in words)) (no_empty_word words are)
-  where
-    in_words : List (List ℕ) → Option (List ℕ × LogStatement)
-    in_words parts = cond (list_any (λ word. eqb (length word) 0) parts) None (log_statement_in parts)
 
 -- ---- tests
 
@@ -179,13 +132,21 @@ module _ (graph : Tfpg) (valid : IsValid graph) (log : Logbook) where
     room : then_some (leb MAX_EVENTS (length log.events)) LogFull ≡ None
     room = ap (λ b. then_some b LogFull) (lt-leb MAX_EVENTS (length log.events) next.room)
 
+    -- a line of these words is read as the statement
+    read : (statement : LogStatement) → AllByRecursion IsWord (words_of_log_statement statement)
+        → log_statement_of (line_of (decimal time ∷ words_of_log_statement statement)) ≡ Some (decimal time, statement)
+    read statement words =
+        let all : List (List ℕ) = decimal time ∷ words_of_log_statement statement in
+        let are : AllByRecursion IsWord all = (IsWord-decimal time (let small = next.in_range in omega arith), words) in
+        (read_as_written (line_of all) (decimal time) statement).1 (record { words = refl; each = line_words all (no_empty_word all are) (no_space all are) })
+
     -- a line whose words these are, which no test refuses, is accepted
     accepted : (statement : LogStatement) (made : Event) → AllByRecursion IsWord (words_of_log_statement statement)
         → AreNone (statement_refusals graph log statement) → event_of graph (digits_value 10 (decimal time)) statement ≡ made
         → reply_to graph log (line_of (decimal time ∷ words_of_log_statement statement)) ≡ Accepted made
     accepted statement made words none is =
         ap (λ read. option_map_or (λ (parts : List ℕ × LogStatement). reply_to_statement graph log parts.0 parts.1) read (Refused BadLine))
-        (words_read (decimal time ∷ words_of_log_statement statement) (omega arith) (number_word time next.in_range, words) ∙ statement_read (decimal time) statement)
+        (read statement words)
         ∙ ap (λ refusal. offered (unless_refused refusal (event_of graph (digits_value 10 (decimal time)) statement)))
         (none_first (time_refusals (now_of log) (decimal time) ++ statement_refusals graph log statement) (number, (not_late, (not_before, none))))
         ∙ ap Accepted is
@@ -196,7 +157,7 @@ module _ (graph : Tfpg) (valid : IsValid graph) (log : Logbook) where
       let e = event.Alarm time node in
       let within = monitored_within graph node next.own in
       let found = node_found node within in
-      accepted e next (Alarm (node_word graph node)) e (record { some = refl; lacks = lacks_checked 32 (codes "alarm") refl }, (IsWord-name (node_word graph node) (node_name node within), tt)) (
+      accepted e next (Alarm (node_word graph node)) e (keyword (codes "alarm") refl refl, (IsWord-name (node_word graph node) (node_name node within), tt)) (
         ap (λ o. then_some (is_none o) UnknownName) found,
         (
           ap (option_and_then (λ n. then_some (not (is_monitored graph n)) NotMonitored)) found ∙ ap (λ b. then_some (not b) NotMonitored) next.own,
@@ -207,7 +168,7 @@ module _ (graph : Tfpg) (valid : IsValid graph) (log : Logbook) where
       let e = event.Silent time node in
       let within = monitored_within graph node next.own in
       let found = node_found node within in
-      accepted e next (Silent (node_word graph node)) e (record { some = refl; lacks = lacks_checked 32 (codes "silent") refl }, (IsWord-name (node_word graph node) (node_name node within), tt)) (
+      accepted e next (Silent (node_word graph node)) e (keyword (codes "silent") refl refl, (IsWord-name (node_word graph node) (node_name node within), tt)) (
         ap (λ o. then_some (is_none o) UnknownName) found,
         (
           ap (option_and_then (λ n. then_some (not (is_monitored graph n)) NotMonitored)) found ∙ ap (λ b. then_some (not b) NotMonitored) next.own,
@@ -216,14 +177,14 @@ module _ (graph : Tfpg) (valid : IsValid graph) (log : Logbook) where
       ) (λ i. event.Silent (value e next i) (unwrap_or (found i) 0))
   is_accepted (event.Sweep time) next =
       let e = event.Sweep time in
-      accepted e next Sweep e (record { some = refl; lacks = lacks_checked 32 (codes "sweep") refl }, tt) (room e next, tt) (ap event.Sweep (value e next))
+      accepted e next Sweep e (keyword (codes "sweep") refl refl, tt) (room e next, tt) (ap event.Sweep (value e next))
   is_accepted (event.Tick time) next =
       let e = event.Tick time in
-      accepted e next Tick e (record { some = refl; lacks = lacks_checked 32 (codes "tick") refl }, tt) (room e next, tt) (ap event.Tick (value e next))
+      accepted e next Tick e (keyword (codes "tick") refl refl, tt) (room e next, tt) (ap event.Tick (value e next))
   is_accepted (event.Mode time mode) next =
       let e = event.Mode time mode in
       let found = mode_found mode next.own in
-      accepted e next (Mode (mode_word graph mode)) e (record { some = refl; lacks = lacks_checked 32 (codes "mode") refl }, (IsWord-name (mode_word graph mode) (mode_name mode next.own), tt)) (
+      accepted e next (Mode (mode_word graph mode)) e (keyword (codes "mode") refl refl, (IsWord-name (mode_word graph mode) (mode_name mode next.own), tt)) (
         ap (λ o. then_some (is_none o) NotAMode) found,
         (room e next, (ap (λ b. then_some b ModesFull) (lt-leb MAX_MODE_CHANGES (count_by is_mode_change log.events) (next.mode_room refl)), tt)),
       ) (λ i. event.Mode (value e next i) (unwrap_or (found i) 0))
@@ -238,7 +199,7 @@ module _ (graph : Tfpg) (valid : IsValid graph) (log : Logbook) where
           omega (
             arith,
             length-append (decimal time) (32 ∷ (codes "alarm" ++ 32 ∷ node_word graph node)),
-            digits time next.in_range,
+            number_short time next.in_range,
             name_short (node_word graph node) (node_name node within),
           )
       by (event.Silent time node) next =
@@ -246,16 +207,16 @@ module _ (graph : Tfpg) (valid : IsValid graph) (log : Logbook) where
           omega (
             arith,
             length-append (decimal time) (32 ∷ (codes "silent" ++ 32 ∷ node_word graph node)),
-            digits time next.in_range,
+            number_short time next.in_range,
             name_short (node_word graph node) (node_name node within),
           )
-      by (event.Sweep time) next = omega (arith, length-append (decimal time) (32 ∷ codes "sweep"), digits time next.in_range)
-      by (event.Tick time) next = omega (arith, length-append (decimal time) (32 ∷ codes "tick"), digits time next.in_range)
+      by (event.Sweep time) next = omega (arith, length-append (decimal time) (32 ∷ codes "sweep"), number_short time next.in_range)
+      by (event.Tick time) next = omega (arith, length-append (decimal time) (32 ∷ codes "tick"), number_short time next.in_range)
       by (event.Mode time mode) next =
           omega (
             arith,
             length-append (decimal time) (32 ∷ (codes "mode" ++ 32 ∷ mode_word graph mode)),
-            digits time next.in_range,
+            number_short time next.in_range,
             name_short (mode_word graph mode) (mode_name mode next.own),
           )
 

@@ -18,7 +18,7 @@ use Rattle.tfpg_base.specs.Words.{line_of}
 use Rattle.tfpg_base.proofs.Sets.{IsSet-with_member}
 use Rattle.tfpg_base.proofs.LinesOf.{lines_of-after}
 use Rattle.tfpg_base.proofs.Numbers.{number_of-decimal}
-use Rattle.tfpg_base.proofs.Separators.{name_lacks, decimal_lacks, slice_split-join}
+use Rattle.tfpg_base.proofs.Separators.{name_lacks, decimal_lacks, slice_split-join, lacks_checked}
 use Rattle.tfpg_graph.specs.declared.kind.Kind.{Kind}
 use Rattle.tfpg_graph.specs.declared.kind.Kind.TheVariants.{Failure}
 use Rattle.tfpg_graph.specs.Graph.{Tfpg, is_kind_at, is_failure, node_named, failures, place_of_failure}
@@ -34,7 +34,7 @@ use Rattle.tfpg_sim.specs.Generated.{draw, failure_count, node_name, failure_kin
 use Rattle.tfpg_sim.specs.Simulation.{event_of_entry}
 use Rattle.tfpg_sim.specs.SimulatedLog.{with_started, set_of, alarm_time, with_alarm, with_alarms, log_events}
 use Rattle.tfpg_sim.specs.Script.{entry_in, entry_of, entry_with_name, failure_named, may_follow, with_line, with_next, read_lines, stopped, script_of, time_so_far}
-use Rattle.tfpg_sim.proofs.AcceptedEvents.{lacks_checked, clean, number_clean}
+use Rattle.tfpg_sim.proofs.AcceptedEvents.{clean, number_clean}
 use Rattle.tfpg_sim.proofs.ExplainedLogs.{events_are}
 use Rattle.tfpg_sim.proofs.PutAlarms.{put_there, one_more}
 use Rattle.tfpg_sim.proofs.GeneratedGraphs.{generated_valid, generated_failures, length-failure_kinds, failure_kind, length-named, get_or-named, node_of, is_name-node}
