@@ -12,8 +12,8 @@ mod write_node;
 
 use crate::graph::Graph;
 use crate::writing::write_edge::put_edge;
-use crate::writing::write_node::put_node;
 use tfpg_base::{NoMemory, put_line};
+pub use write_node::put_node;
 
 /// Appends the canonical text of the graph: a line for each mode, node and edge in their order, no comment, and a star
 /// for the modes of an edge that is active in all. Where memory runs out, the old bytes may be followed by a part of the

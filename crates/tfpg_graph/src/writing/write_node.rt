@@ -9,8 +9,9 @@ use crate::kind::Kind;
 use itoa::Buffer;
 use tfpg_base::{NoMemory, put_line};
 
-/// Appends the line of a node.
-pub(crate) fn put_node(name: &[u8], kind: Kind, into: &mut Vec<u8>) -> Result<(), NoMemory>
+/// Appends the line that declares a node of this name and kind, with its line end. A lag is written in milliseconds.
+/// Where memory runs out, a part of the line may follow the old bytes. Takes time and memory in the length of the line.
+pub fn put_node(name: &[u8], kind: Kind, into: &mut Vec<u8>) -> Result<(), NoMemory>
     ensures { Appends result into.old.items into.new.items (text_line (node_words name.now kind)) }
 {
     match kind {

@@ -1,6 +1,6 @@
 //! The text of a generated graph, and the graph that is read of it.
 
-ghost use Rattle.std.specs.Prelude.{◌≡◌, ◌≤◌, ◌∷◌, length, All, IfOk};
+ghost use Rattle.std.specs.Prelude.{◌≡◌, ◌≤◌, length, All, IfOk};
 ghost use Rattle.std.specs.List.{flat_map};
 ghost use Rattle.tfpg_base.specs.Append.{Appends};
 ghost use Rattle.tfpg_graph.specs.Valid.{IsValid};
@@ -8,7 +8,7 @@ ghost use Rattle.tfpg_graph.specs.inside.writing.Written.{node_text};
 ghost use Rattle.tfpg_sim.specs.Generated.{failure_kinds, named, graph_of};
 ghost use Rattle.tfpg_sim.specs.inside.GraphText.{modes_text, edge_text_by_number, draft_text, HasDrawnModes};
 ghost use Rattle.tfpg_base.specs.TextLine.{text_line};
-ghost use Rattle.tfpg_graph.specs.Text.{watch_words, node_words};
+ghost use Rattle.tfpg_graph.specs.Text.{node_words};
 ghost use Rattle.tfpg_sim.specs.Generated.{node_name};
 
 use crate::generating::draft::{Draft, FAILURE_COUNT};
@@ -16,7 +16,7 @@ use crate::generating::node_name::node_name;
 use itoa::Buffer;
 use std::alloc::Global;
 use tfpg_base::{NoMemory, put_line};
-use tfpg_graph::{Edge, Graph, GraphRefusal, Kind, read};
+use tfpg_graph::{Edge, Graph, GraphRefusal, Kind, put_node, read};
 
 /// The graph of the draft, which is valid.
 pub(crate) fn graph_of(alloc: Global, draft: &Draft) -> Result<Graph, NoMemory>
@@ -53,7 +53,7 @@ fn put_failures(alloc: Global, into: &mut Vec<u8>) -> Result<(), NoMemory>
 {
     for place in 0..FAILURE_COUNT {
         let rarity = u64::from(place) + 1;
-        put_node(alloc, place, Kind::Failure { rarity }, into)?;
+        put_node_by_number(alloc, place, Kind::Failure { rarity }, into)?;
     }
     Ok(())
 }
@@ -64,46 +64,22 @@ fn put_discrepancies(alloc: Global, kinds: &[Kind], into: &mut Vec<u8>) -> Resul
     ensures { Appends result into.old.items into.new.items (flat_map node_text (named 16 kinds.now)) }
 {
     for place in 0..kinds.len() {
-        put_node(alloc, FAILURE_COUNT + place as u32, kinds[place], into)?;
+        put_node_by_number(alloc, FAILURE_COUNT + place as u32, kinds[place], into)?;
     }
     Ok(())
 }
 
 /// Appends the line of a node of this number and kind.
-fn put_node(alloc: Global, node: u32, kind: Kind, into: &mut Vec<u8>) -> Result<(), NoMemory>
+fn put_node_by_number(
+    alloc: Global,
+    node: u32,
+    kind: Kind,
+    into: &mut Vec<u8>,
+) -> Result<(), NoMemory>
     ensures { Appends result into.old.items into.new.items (text_line (node_words (node_name node) kind)) }
 {
     let name = node_name(alloc, node)?;
-    match kind {
-        Kind::Failure { rarity } => {
-            let mut digits = Buffer::new();
-            put_line(into, &[b"failure", &name, digits.format(rarity).as_bytes()])
-        }
-        Kind::Or { lag } => put_discrepancy(b"or", &name, lag, into),
-        Kind::And { lag } => put_discrepancy(b"and", &name, lag, into),
-    }
-}
-
-/// Appends the line of a discrepancy of this keyword.
-fn put_discrepancy(
-    keyword: &[u8],
-    name: &[u8],
-    lag: Option<u64>,
-    into: &mut Vec<u8>,
-) -> Result<(), NoMemory>
-    ensures { Appends result into.old.items into.new.items
-        (text_line (keyword.now ∷ name.now ∷ watch_words lag)) }
-{
-    match lag {
-        Some(lag) => {
-            let mut digits = Buffer::new();
-            put_line(
-                into,
-                &[keyword, name, b"watch", digits.format(lag).as_bytes()],
-            )
-        }
-        None => put_line(into, &[keyword, name, b"hidden"]),
-    }
+    put_node(&name, kind, into)
 }
 
 /// Appends the lines of the edges.

@@ -3,8 +3,8 @@ use Rattle.tfpg_base.proofs.Appended.{Appends-err_after}
 use Rattle.tfpg_sim.proofs.GraphTexts.{nodes_next}
 use Rattle.tfpg_sim.proofs.generating.graph_text.put_discrepancies.Goals as goal
 
-pub returns-in_err-put_node : goal.returns-in_err-put_node
-returns-in_err-put_node c = Appends-err_after _ _ _ _ _ _ c.from_residual.ensures.0 c.loop-place.invariant c.in_err-put_node.ensures
+pub returns-in_err-put_node_by_number : goal.returns-in_err-put_node_by_number
+returns-in_err-put_node_by_number c = Appends-err_after _ _ _ _ _ _ c.from_residual.ensures.0 c.loop-place.invariant c.in_err-put_node_by_number.ensures
 
 pub loop-place-preserved : goal.loop-place-preserved
-loop-place-preserved c = nodes_next 16 c.loop-place.place c.args.kinds.now _ c.args.into.now.items c.loop-place.into.items c.put_node.new.into.items (omega arith) c.loop-place.invariant c.in_ok-put_node.ensures
+loop-place-preserved c = nodes_next 16 c.loop-place.place c.args.kinds.now _ c.args.into.now.items c.loop-place.into.items c.put_node_by_number.new.into.items (omega arith) c.loop-place.invariant c.in_ok-put_node_by_number.ensures

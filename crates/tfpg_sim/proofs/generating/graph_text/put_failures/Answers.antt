@@ -3,10 +3,10 @@ use Rattle.tfpg_base.proofs.Appended.{Appends-err_after}
 use Rattle.tfpg_sim.proofs.GraphTexts.{failures_next}
 use Rattle.tfpg_sim.proofs.generating.graph_text.put_failures.Goals as goal
 
-pub returns-in_err-put_node : goal.returns-in_err-put_node
-returns-in_err-put_node c = Appends-err_after _ _ _ _ _ _ c.from_residual.ensures.0 c.loop-place.invariant c.in_err-put_node.ensures
+pub returns-in_err-put_node_by_number : goal.returns-in_err-put_node_by_number
+returns-in_err-put_node_by_number c = Appends-err_after _ _ _ _ _ _ c.from_residual.ensures.0 c.loop-place.invariant c.in_err-put_node_by_number.ensures
 
 pub loop-place-preserved : goal.loop-place-preserved
 loop-place-preserved c =
-    failures_next c.loop-place.place (c.from-rarity.result + 1) c.args.into.now.items c.loop-place.into.items c.put_node.new.into.items
-    (ap (λ n. n + 1) c.from-rarity.ensures) c.loop-place.invariant c.in_ok-put_node.ensures
+    failures_next c.loop-place.place (c.from-rarity.result + 1) c.args.into.now.items c.loop-place.into.items c.put_node_by_number.new.into.items
+    (ap (λ n. n + 1) c.from-rarity.ensures) c.loop-place.invariant c.in_ok-put_node_by_number.ensures
