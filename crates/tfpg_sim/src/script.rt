@@ -2,7 +2,6 @@
 
 ghost use Rattle.std.specs.Prelude.{◌≡◌, ◌<◌, ◌≤◌, length, IfOk, IfErr};
 ghost use Rattle.std.specs.List.{list_any};
-ghost use Rattle.tfpg_base.specs.Lines.{parts_of, lines_of};
 ghost use Rattle.tfpg_sim.specs.Script.{has_stopped, time_so_far, starts, is_new, may_follow, next_entry, script_of};
 ghost use Rattle.tfpg_sim.specs.inside.Entries.{IsScript};
 ghost use Rattle.tfpg_sim.specs.ScriptAnswers.{IsFaultAt};
@@ -11,6 +10,7 @@ use crate::SimFault;
 use crate::entry::Entry;
 use crate::script_line::read_entry;
 use std::alloc::Global;
+use tfpg_base::without_last_line_end;
 use tfpg_graph::Graph;
 
 /// How many lines a script has at most.
@@ -45,17 +45,6 @@ pub(crate) fn read_script(alloc: Global, graph: &Graph, text: &[u8]) -> Result<V
         });
     }
     Ok(entries)
-}
-
-/// The text before a line end at its end.
-fn without_last_line_end(text: &[u8]) -> &[u8]
-    requires { 0 < length text.now }
-    ensures { lines_of text.now ≡ parts_of result.now }
-{
-    match text.strip_suffix(b"\n".as_slice()) {
-        Some(front) => front,
-        None => text,
-    }
 }
 
 /// What a line after these says, where it is right.

@@ -1,8 +1,9 @@
-use Rattle.std.proofs.Common.{rules, tests, ◌≡◌, ◌+◌, ◌==◌, ◌∷◌, ◌++◌, ◌∙◌, sym, ap, subst, map, length, drop, None, Some, Ok, Err, true, false}
+use Rattle.std.proofs.Common.{rules, tests, arith, ◌≡◌, ◌+◌, ◌==◌, ◌∷◌, ◌++◌, ◌∙◌, sym, ap, subst, map, length, drop, None, Some, Ok, Err, true, false}
+use Rattle.std.proofs.lemmas.Bool.{eqb-false}
 use Rattle.std.proofs.lemmas.Iterator.Consumers.{YieldsList-so_far, YieldsList-turn, YieldsList-end}
 use Rattle.std.proofs.lemmas.Iterator.Splits.{YieldsList-from_slice_split}
 use Rattle.std.proofs.lemmas.List.{map_push}
-use Rattle.tfpg_base.specs.Lines.{parts_of}
+use Rattle.tfpg_base.specs.Lines.{lines_of, parts_of}
 use Rattle.tfpg_graph.proofs.lemmas.reading.WholeText.{lines_at}
 use Rattle.tfpg_sim.specs.Script.{has_stopped, next_entry}
 use Rattle.tfpg_sim.specs.Script.{read_lines, with_next}
@@ -10,7 +11,13 @@ use Rattle.tfpg_sim.specs.inside.Entries.{IsScript}
 use Rattle.tfpg_sim.proofs.ScriptLines.{script_push, script_none}
 use Rattle.tfpg_sim.proofs.ReadLines.{read_lines-push, script_of-fault, script_of-stopped, script_of-missing}
 use Rattle.tfpg_sim.proofs.script.read_script.Goals as goal
-use Rattle.tfpg_sim.proofs.script.read_script.Goals.{In-Some, In-None}
+use Rattle.tfpg_sim.proofs.script.read_script.Goals.{After-next, In-Some, In-None}
+
+-- the text has a byte, so its lines are the parts
+same_lines : (c : After-next) → lines_of c.args.text.now ≡ parts_of c.without_last_line_end.result.now
+same_lines c =
+    let some : (length c.args.text.now == 0) ≡ false = sym c.is_empty.ensures ∙ c.if-is_empty.false in
+    c.without_last_line_end.ensures.lines (omega (arith, eqb-false (length c.args.text.now) 0 some))
 
 -- this line stands after those so far
 parts_round : (c : In-Some) → parts_of c.without_last_line_end.result.now
@@ -39,7 +46,7 @@ returns-in_default-clause-fault c =
     ap (λ before. next_entry c.args.graph.now before c.in-Some.line.now) (sym c.deref.ensures.value) ∙ sym c.next_entry.ensures ∙ c.in_default.is in
     script_of-fault c.args.graph.now c.args.text.now c.without_last_line_end.result.now (map (λ line. line.now) c.loop-line.yielded)
     (drop (length c.loop-line.yielded + 1) (parts_of c.without_last_line_end.result.now)) c.in-Some.line.now c.loop-line.entries.items
-    c.without_last_line_end.ensures (parts_round at.In-Some) c.loop-line.invariant.read none
+    (same_lines at.After-next) (parts_round at.In-Some) c.loop-line.invariant.read none
     ∙ ap (λ n. Err (n + 1)) (ap length (sym c.deref.ensures.value) ∙ c.deref.ensures.len ∙ sym c.len.ensures)
 
 pub returns-then-not-has_stopped-clause-fault : goal.returns-then-not-has_stopped-clause-fault
@@ -47,7 +54,7 @@ returns-then-not-has_stopped-clause-fault c =
     let at = goal.at.returns-then-not-has_stopped-clause-fault c in
     let stop : has_stopped c.loop-line.entries.items ≡ false = ap has_stopped (sym c.deref-2.ensures.value) ∙ sym c.has_stopped.ensures ∙ c.if-not-has_stopped.true in
     script_of-missing c.args.graph.now c.args.text.now c.without_last_line_end.result.now (map (λ line. line.now) c.loop-line.yielded)
-    c.loop-line.entries.items c.without_last_line_end.ensures (all_parts at.In-None) c.loop-line.invariant.read stop
+    c.loop-line.entries.items (same_lines at.After-next) (all_parts at.In-None) c.loop-line.invariant.read stop
     ∙ ap (λ n. Err (n + 1)) (ap length (sym c.deref-2.ensures.value) ∙ c.deref-2.ensures.len ∙ sym c.len-then-not-has_stopped.ensures)
 
 pub returns-clause-read : goal.returns-clause-read
@@ -56,7 +63,7 @@ returns-clause-read c =
     let stop : has_stopped c.loop-line.entries.items ≡ true =
     ap has_stopped (sym c.deref-2.ensures.value) ∙ sym c.has_stopped.ensures ∙ c.if-not-has_stopped.false in
     script_of-stopped c.args.graph.now c.args.text.now c.without_last_line_end.result.now (map (λ line. line.now) c.loop-line.yielded)
-    c.loop-line.entries.items c.without_last_line_end.ensures (all_parts at.In-None) c.loop-line.invariant.read stop
+    c.loop-line.entries.items (same_lines at.After-next) (all_parts at.In-None) c.loop-line.invariant.read stop
 
 pub loop-line-init : goal.loop-line-init
 loop-line-init c = record { read = ap Ok (sym c.new-entries.ensures.items); script = subst (IsScript c.args.graph.now) (sym c.new-entries.ensures.items) (script_none c.args.graph.now) }
