@@ -32,6 +32,7 @@ pub mod TreeWalk
 pub mod Grafts
 pub mod TreeSteps
 pub mod TreesKept
+pub mod TreeFronts
 pub mod TraceNumbers
 pub mod NoTrace
 pub mod PresentLeaf

@@ -24,7 +24,8 @@ mod tree_laws;
 
 pub use tree_laws::{
     a_partial_tree_grows, a_refutation_is_finished, a_tree_stays, frames_are_at_the_present_leaf,
-    frames_follow_the_path, the_last_step_of_a_tree_is_right,
+    frames_follow_the_path, the_front_of_a_tree_is_a_partial_tree,
+    the_last_step_of_a_tree_is_right,
 };
 
 /// What is allowed at a log stays allowed at each log that goes on from it, with the same constraints: `clause` says it of

@@ -20,6 +20,7 @@ use Rattle.tfpg_engine.specs.declared.slot.Slot.{Slot}
 use Rattle.tfpg_engine.specs.declared.slot.Slot.TheVariants.{Untouched}
 use Rattle.tfpg_engine.specs.Engining.{Engining, EngineRepresents, GivesRound, SlotRepresents}
 use Rattle.tfpg_engine.specs.inside.Slots.{AllCanGoOn, IsEngine}
+use Rattle.tfpg_engine.specs.inside.TreeLaws.{TreeLaws}
 use Rattle.tfpg_engine.specs.inside.Turns.{IsOfGraph, MakesRound}
 use Rattle.tfpg_engine.proofs.Rounding.{StandBefore, can_go_on, still_go_on, round_is, earned, settled, represents}
 
@@ -69,14 +70,14 @@ module _ (graph : Tfpg) (k : ℕ) (table : Hypotheses) (budget : ℕ) (log : Log
 
 -- ---- an event that is accepted
 
-module _ (view : Engining) (engine : IsEngine view) (running : view.ended ≡ false) (event : Event) (log : Logbook) (log_is : log ≡ with_event view.log event) (ordered : IsOrdered log)
+module _ (laws : TreeLaws) (view : Engining) (engine : IsEngine view) (running : view.ended ≡ false) (event : Event) (log : Logbook) (log_is : log ≡ with_event view.log event) (ordered : IsOrdered log)
     (lent : List Slot) (lent_is : lent ≡ view.slots) where
   goes_on : GoesOn view.log log
   goes_on = (event ∷ [], ap (λ (l : Logbook). l.events) log_is)
 
   -- each slot can go on at the log with the event
   pub lent_go_on : AllCanGoOn view.graph log view.table lent
-  lent_go_on = subst (AllCanGoOn view.graph log view.table) (sym lent_is) (can_go_on view.graph view.log log ordered goes_on view.table view.slots (engine.slots running))
+  lent_go_on = subst (AllCanGoOn view.graph log view.table) (sym lent_is) (can_go_on laws view.graph view.log log ordered goes_on view.table view.slots (engine.slots running))
 
   lent_each : length lent ≡ length view.table.sets
   lent_each = ap length lent_is ∙ engine.one_each
@@ -106,9 +107,9 @@ module _ (view : Engining) (engine : IsEngine view) (running : view.ended ≡ fa
         event = event;
         accepted = accepted;
         log = log_is;
-        round_is = round_is stand_before view.graph view.k view.budget line rounds view.log log view.table lent new round engine.table ordered goes_on made lent_each same_length lent_represents;
-        earned = earned stand_before view.graph view.k view.budget line rounds view.log log view.table lent new round engine.table ordered goes_on made lent_each same_length lent_represents;
-        settled = settled stand_before view.graph view.k view.budget line rounds view.log log view.table lent new round engine.table ordered goes_on made lent_each same_length lent_represents;
+        round_is = round_is laws stand_before view.graph view.k view.budget line rounds view.log log view.table lent new round engine.table ordered goes_on made lent_each same_length lent_represents;
+        earned = earned laws stand_before view.graph view.k view.budget line rounds view.log log view.table lent new round engine.table ordered goes_on made lent_each same_length lent_represents;
+        settled = settled laws stand_before view.graph view.k view.budget line rounds view.log log view.table lent new round engine.table ordered goes_on made lent_each same_length lent_represents;
         represents = record {
           one_each = omega (
             arith,
@@ -119,7 +120,7 @@ module _ (view : Engining) (engine : IsEngine view) (running : view.ended ≡ fa
           );
           running = running;
           slots = λ number set reach slot at_set at_reach at.
-              represents stand_before view.graph view.k view.budget line rounds view.log log view.table lent new round engine.table ordered goes_on made lent_each same_length lent_represents number set reach slot at_set at_reach
+              represents laws stand_before view.graph view.k view.budget line rounds view.log log view.table lent new round engine.table ordered goes_on made lent_each same_length lent_represents number set reach slot at_set at_reach
               (sym (ap (λ (ss : List Slot). slice_get ss number) back_is) ∙ at);
         };
       }

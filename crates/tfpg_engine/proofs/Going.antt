@@ -1,75 +1,46 @@
 -- What is kept of a hypothesis stays right at a log that goes on.
-use Rattle.std.proofs.Common.{◌≡◌, ℕ, ◌+◌, ◌≤◌, List, [], ◌∷◌, ◌++◌, length, take, sym, ap, subst, ◌∙◌, arith, append_assoc, length-append, length-take}
-use Rattle.std.specs.Prelude.{All, false}
-use Rattle.std.proofs.lemmas.List.{take-take, take-append-le, append-nil, take_all}
-use Rattle.std.proofs.lemmas.List.Elements.{All-take}
+use Rattle.std.proofs.Common.{◌≡◌, ℕ, ◌≤◌, List, [], ◌∷◌, ◌++◌, length, take, sym, ap, subst, ◌∙◌, arith, length-take}
+use Rattle.std.specs.Prelude.{false}
+use Rattle.std.proofs.lemmas.List.{take-append-le, append-nil, take_all}
 use Rattle.tfpg_graph.specs.Graph.{Tfpg}
 use Rattle.tfpg_log.specs.Log.{Logbook, GoesOn, IsOrdered, first_events}
-use Rattle.tfpg_clause.specs.Trees.{Judged, PathSplit, places_of, IsRight, IsPartial, IsPresentLeaf, IsRefutation}
-use Rattle.tfpg_clause.proofs.TreeSteps.{no_partial}
-use Rattle.tfpg_clause.proofs.TreesKept.{first_to_whole, leaf_stays, partial_stays, refutation_stays}
-use Rattle.tfpg_clause.proofs.LeafSteps.{leaf_begins}
-use Rattle.tfpg_clause.proofs.PresentLeaf.{leaf_there, one_leaf}
+use Rattle.tfpg_clause.specs.Trees.{Judged, PathSplit, IsPartial, IsPresentLeaf, IsRefutation}
 use Rattle.tfpg_search.specs.Live.{HasDistinctNames, HasNoNameTwice}
 use Rattle.tfpg_search.specs.Searching.{SearchRepresents}
 use Rattle.tfpg_engine.specs.declared.slot.Slot.{Slot}
 use Rattle.tfpg_engine.specs.declared.slot.Slot.TheVariants.{Untouched, Searched, Rejected}
 use Rattle.tfpg_engine.specs.Engining.{SlotRepresents}
+use Rattle.tfpg_engine.specs.inside.TreeLaws.{TreeLaws}
 use Rattle.tfpg_engine.specs.inside.Turns.{is_rejected_slot}
 
--- ---- fronts of trees
+-- ---- names on paths
 
-module _ (graph : Tfpg) (log : Logbook) (reach : List ℕ) where
-  -- what a partial tree begins with is one
-  partial_front : (front back : List Judged) → IsPartial graph log reach (front ++ back) → IsPartial graph log reach front
-  partial_front front back partial =
-      let long : length (front ++ back) ≡ length front + length back = length-append front back in
-      let more : length (back ++ partial.more) ≡ length back + length partial.more = length-append back partial.more in
-      record {
-        tree = partial.tree;
-        more = back ++ partial.more;
-        unfinished = (let u = partial.unfinished in omega arith);
-        steps_are = sym (append_assoc front back partial.more) ∙ partial.steps_are;
-        right =
-            subst (All (IsRight graph log reach)) (take-take (length front) (length (front ++ back)) (places_of partial.tree) (omega arith))
-            (All-take (IsRight graph log reach) (length front) (take (length (front ++ back)) (places_of partial.tree)) partial.right);
-      }
-
-  -- what a refutation begins with is a partial tree
-  refutation_front : (front : List Judged) (next : Judged) (back : List Judged) → IsRefutation graph log reach (front ++ next ∷ back) → IsPartial graph log reach front
-  refutation_front front next back refutation = record {
-    tree = refutation.tree;
-    more = next ∷ back;
-    unfinished = omega arith;
-    steps_are = refutation.steps_are;
-    right = All-take (IsRight graph log reach) (length front) (places_of refutation.tree) refutation.right;
-  }
-
+module _ (laws : TreeLaws) (graph : Tfpg) (log : Logbook) (reach : List ℕ) where
   -- without a step no name stands twice
   no_names : HasDistinctNames []
   no_names i j d before inside = absurd (omega (arith, inside))
 
   pub none_twice : HasNoNameTwice graph log reach []
-  none_twice [] back path is leaf = subst HasDistinctNames (one_leaf graph log reach [] [] path (leaf_begins graph log reach) leaf) no_names
+  none_twice [] back path is leaf = subst HasDistinctNames (laws.one_leaf graph log reach [] [] path (laws.leaf_begins graph log reach) leaf) no_names
   none_twice (first ∷ front) back path is leaf = cc
 
-module _ (graph : Tfpg) (earlier later : Logbook) (ordered : IsOrdered later) (goes_on : GoesOn earlier later) (reach : List ℕ) where
+module _ (laws : TreeLaws) (graph : Tfpg) (earlier later : Logbook) (ordered : IsOrdered later) (goes_on : GoesOn earlier later) (reach : List ℕ) where
   -- Where each front that has a present leaf was a partial tree before, no name stands twice.
   names_by : (steps : List Judged) → ((front back : List Judged) (path : List PathSplit) → steps ≡ front ++ back → IsPresentLeaf graph later reach front path → IsPartial graph earlier reach front)
       → HasNoNameTwice graph earlier reach steps → HasNoNameTwice graph later reach steps
   names_by steps fronts names front back path is leaf =
-      let there = leaf_there graph earlier reach front (fronts front back path is leaf) in
-      let same : there.0 ≡ path = one_leaf graph later reach front there.0 path (leaf_stays graph earlier later ordered goes_on reach front there.0 there.1) leaf in
+      let there = laws.leaf_there graph earlier reach front (fronts front back path is leaf) in
+      let same : there.0 ≡ path = laws.one_leaf graph later reach front there.0 path (laws.leaf_stays graph earlier later reach front there.0 ordered goes_on there.1) leaf in
       subst HasDistinctNames same (names front back there.0 is there.1)
 
   pub names_of_partial : (steps : List Judged) → IsPartial graph earlier reach steps → HasNoNameTwice graph earlier reach steps → HasNoNameTwice graph later reach steps
   names_of_partial steps partial names =
-      names_by steps (λ front back path is leaf. partial_front graph earlier reach front back (subst (IsPartial graph earlier reach) is partial)) names
+      names_by steps (λ front back path is leaf. laws.partial_front graph earlier reach front back (subst (IsPartial graph earlier reach) is partial)) names
 
   front_of : (front back : List Judged) (path : List PathSplit) → IsRefutation graph earlier reach (front ++ back) → IsPresentLeaf graph later reach front path → IsPartial graph earlier reach front
   front_of front [] path refutation leaf =
-      absurd (no_partial graph later reach front (refutation_stays graph earlier later ordered goes_on reach front (subst (IsRefutation graph earlier reach) (append-nil front) refutation)) leaf.partial)
-  front_of front (next ∷ back) path refutation leaf = refutation_front graph earlier reach front next back refutation
+      absurd (laws.finished graph later reach front (laws.refutation_stays graph earlier later reach front ordered goes_on (subst (IsRefutation graph earlier reach) (append-nil front) refutation)) leaf.partial)
+  front_of front (next ∷ back) path refutation leaf = laws.refutation_front graph earlier reach front next back refutation
 
   names_of_refutation : (steps : List Judged) → IsRefutation graph earlier reach steps → HasNoNameTwice graph earlier reach steps → HasNoNameTwice graph later reach steps
   names_of_refutation steps refutation names =
@@ -84,7 +55,7 @@ module _ (graph : Tfpg) (earlier later : Logbook) (ordered : IsOrdered later) (g
   pub slot_stays : (set : List ℕ) (slot : Slot) (steps : List Judged) → SlotRepresents graph earlier set reach slot steps → SlotRepresents graph later set reach slot steps
   slot_stays set Untouched steps is = is
   slot_stays set (Searched search) steps is = (is.0, is.1, subst (λ (log : Logbook). SearchRepresents graph log search steps) (same_first search.seen is.2.seen) is.2)
-  slot_stays set Rejected steps is = (refutation_stays graph earlier later ordered goes_on reach steps is.0, names_of_refutation steps is.0 is.1)
+  slot_stays set Rejected steps is = (laws.refutation_stays graph earlier later reach steps ordered goes_on is.0, names_of_refutation steps is.0 is.1)
 
 -- ---- what is kept of a hypothesis that is not rejected
 
@@ -97,14 +68,14 @@ pub record IsGoodPartial (graph : Tfpg) (log : Logbook) (reach : List ℕ) (step
   pub partial : IsPartial graph log reach steps
   pub names : HasNoNameTwice graph log reach steps
 
-pub slot_partial : (graph : Tfpg) (log : Logbook) → IsOrdered log → (set reach : List ℕ) (slot : Slot) (steps : List Judged) → is_rejected_slot slot ≡ false → SlotRepresents graph log set reach slot steps
+pub slot_partial : TreeLaws → (graph : Tfpg) (log : Logbook) → IsOrdered log → (set reach : List ℕ) (slot : Slot) (steps : List Judged) → is_rejected_slot slot ≡ false → SlotRepresents graph log set reach slot steps
     → IsGoodPartial graph log reach steps
-slot_partial graph log ordered set reach Untouched steps open_yet is =
-    subst (IsGoodPartial graph log reach) (sym is) (record { partial = (leaf_begins graph log reach).partial; names = none_twice graph log reach })
-slot_partial graph log ordered set reach (Searched search) steps open_yet is =
+slot_partial laws graph log ordered set reach Untouched steps open_yet is =
+    subst (IsGoodPartial graph log reach) (sym is) (record { partial = (laws.leaf_begins graph log reach).partial; names = none_twice laws graph log reach })
+slot_partial laws graph log ordered set reach (Searched search) steps open_yet is =
     subst (λ (r : List ℕ). IsGoodPartial graph log r steps) is.1
     (record {
-      partial = partial_stays graph (first_events log search.seen) log ordered (first_to_whole log search.seen) search.reach steps is.2.leaf.leaf.partial;
-      names = names_of_partial graph (first_events log search.seen) log ordered (first_to_whole log search.seen) search.reach steps is.2.leaf.leaf.partial is.2.names;
+      partial = laws.partial_stays graph (first_events log search.seen) log search.reach steps ordered (laws.first log search.seen) is.2.leaf.leaf.partial;
+      names = names_of_partial laws graph (first_events log search.seen) log ordered (laws.first log search.seen) search.reach steps is.2.leaf.leaf.partial is.2.names;
     })
-slot_partial graph log ordered set reach Rejected steps open_yet is = cc
+slot_partial laws graph log ordered set reach Rejected steps open_yet is = cc

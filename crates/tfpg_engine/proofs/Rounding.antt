@@ -26,6 +26,7 @@ use Rattle.tfpg_engine.specs.Earned.{AreEarned}
 use Rattle.tfpg_engine.specs.Engining.{SlotRepresents}
 use Rattle.tfpg_engine.specs.inside.Slots.{AllCanGoOn}
 use Rattle.tfpg_engine.specs.inside.Placed.{HasFraction}
+use Rattle.tfpg_engine.specs.inside.TreeLaws.{TreeLaws}
 use Rattle.tfpg_engine.specs.inside.Turns.{GoesOnFrom, IsTurn, AreTurns, MakesRound}
 use Rattle.tfpg_engine.proofs.Going.{slot_stays}
 use Rattle.tfpg_engine.proofs.Placing.{get_take, get_take_some}
@@ -95,11 +96,11 @@ module _ (graph : Tfpg) (log : Logbook) (budget : ℕ) (table : Hypotheses) (old
       (with_steps earlier.0 log finding.0.steps, goes.represents)
 
 -- what is kept can go on at a log that goes on
-pub can_go_on : (graph : Tfpg) (earlier later : Logbook) → IsOrdered later → GoesOn earlier later → (table : Hypotheses) (slots : List Slot) → AllCanGoOn graph earlier table slots
+pub can_go_on : TreeLaws → (graph : Tfpg) (earlier later : Logbook) → IsOrdered later → GoesOn earlier later → (table : Hypotheses) (slots : List Slot) → AllCanGoOn graph earlier table slots
     → AllCanGoOn graph later table slots
-can_go_on graph earlier later ordered goes_on table slots can number set reach slot at_set at_reach at_slot =
+can_go_on laws graph earlier later ordered goes_on table slots can number set reach slot at_set at_reach at_slot =
     let some = can number set reach slot at_set at_reach at_slot in
-    (some.0, slot_stays graph earlier later ordered goes_on reach set slot some.0 some.1)
+    (some.0, slot_stays laws graph earlier later ordered goes_on reach set slot some.0 some.1)
 
 -- ---- the steps of all rounds
 
@@ -119,7 +120,7 @@ StandBefore =
     (graph : Tfpg) (k : ℕ) (sets : List (List ℕ)) → IsTable graph k sets → (number other : ℕ) (part whole : List ℕ) → slice_get sets number ≡ Some part → slice_get sets other ≡ Some whole
     → IsProperPart part whole → number < other
 
-module _ (stand_before : StandBefore) (graph : Tfpg) (k : ℕ) (budget line : ℕ) (rounds : List Round) (old_log log : Logbook) (table : Hypotheses) (old new : List Slot) (round : Round)
+module _ (laws : TreeLaws) (stand_before : StandBefore) (graph : Tfpg) (k : ℕ) (budget line : ℕ) (rounds : List Round) (old_log log : Logbook) (table : Hypotheses) (old new : List Slot) (round : Round)
     (is_table : IsTableOf graph k table) (ordered : IsOrdered log) (goes_on : GoesOn old_log log) (made : MakesRound graph log budget table old new line round)
     (old_each : length old ≡ length table.sets) (new_each : length new ≡ length old)
     (represented : (number : ℕ) (set reach : List ℕ) (slot : Slot) → slice_get table.sets number ≡ Some set → slice_get table.reaches number ≡ Some reach → slice_get old number ≡ Some slot
@@ -161,7 +162,7 @@ module _ (stand_before : StandBefore) (graph : Tfpg) (k : ℕ) (budget line : �
       → GoesOnFrom graph log budget set reach (take number findings) (steps_so_far number rounds) now finding
   goes_at number set reach before now finding at_set at_reach at_before at_now at =
       (made.turns number set reach before now finding at_set at_reach at_before at_now at).goes_on (steps_so_far number rounds)
-      (slot_stays graph old_log log ordered goes_on reach set before (steps_so_far number rounds) (represented number set reach before at_set at_reach at_before))
+      (slot_stays laws graph old_log log ordered goes_on reach set before (steps_so_far number rounds) (represented number set reach before at_set at_reach at_before))
 
   finding_is : (number : ℕ) (set : List ℕ) (finding : Finding) → slice_get table.sets number ≡ Some set → slice_get findings number ≡ Some finding
       → IsFinding graph log budget (rounds ++ round ∷ []) findings number set finding

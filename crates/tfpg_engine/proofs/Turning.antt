@@ -30,6 +30,7 @@ use Rattle.tfpg_engine.specs.declared.slot.Slot.{Slot}
 use Rattle.tfpg_engine.specs.declared.slot.Slot.TheVariants.{Untouched, Searched, Rejected}
 use Rattle.tfpg_engine.specs.Earned.{IsEarned}
 use Rattle.tfpg_engine.specs.Engining.{SlotRepresents}
+use Rattle.tfpg_engine.specs.inside.TreeLaws.{TreeLaws}
 use Rattle.tfpg_engine.specs.inside.Turns.{is_rejected_slot, IsLeastPart, kept, status_by, IsWhole, GoesOnFrom, IsTurn, AreFirstTurns}
 use Rattle.tfpg_engine.proofs.Going.{slot_partial, whole_log}
 
@@ -76,14 +77,14 @@ module _ (graph : Tfpg) (log : Logbook) (budget : ℕ) (set reach : List ℕ) (n
   turn_rejected slot is = record { number_is = refl; set_is = refl; whole = λ place placed. cc; settled = λ enough. refl; goes_on = rejected_goes slot is }
 
   -- So is one with a ranked proper subset.
-  pub turn_covered : (slot : Slot) (by : ℕ) → is_rejected_slot slot ≡ false → IsLeastPart findings set by → IsTurn graph log budget set reach number findings slot slot (passed (status.Covered by))
-  turn_covered slot by open_yet least = record {
+  pub turn_covered : TreeLaws → (slot : Slot) (by : ℕ) → is_rejected_slot slot ≡ false → IsLeastPart findings set by → IsTurn graph log budget set reach number findings slot slot (passed (status.Covered by))
+  turn_covered laws slot by open_yet least = record {
     number_is = refl;
     set_is = refl;
     whole = λ place placed. cc;
     settled = λ enough. refl;
     goes_on = λ earlier represents.
-        let good = slot_partial graph log ordered set reach slot earlier open_yet represents in
+        let good = slot_partial laws graph log ordered set reach slot earlier open_yet represents in
         record {
           represents = subst (SlotRepresents graph log set reach slot) (sym (no_steps earlier)) represents;
           evidence = (subst (IsPartial graph log reach) (sym (no_steps earlier)) good.partial, refl, least.part, least.least);

@@ -12,6 +12,7 @@ ghost use Rattle.tfpg_engine.specs.Engining.{EngineRepresents, Brings};
 use crate::round;
 use crate::slot::Slot;
 use crate::told::{EventFault, Told};
+use crate::tree_laws::tree_laws;
 use std::alloc::Global;
 use std::marker::Model;
 use std::sync::ledger::Ledger;
@@ -119,6 +120,7 @@ impl Engine {
             Ok(Offered::Refused(refusal)) => Ok(Told::Refused(refusal)),
             Ok(Offered::Accepted(_)) => {
                 let _ordered = self.log.len();
+                tree_laws();
                 subsets_stand_before_their_supersets();
                 match round::make(
                     self.alloc,

@@ -12,6 +12,7 @@ mod order;
 mod round;
 mod slot;
 mod told;
+mod tree_laws;
 mod turn;
 mod turns;
 

@@ -11,6 +11,7 @@ ghost use Rattle.tfpg_engine.specs.inside.Turns.{IsTurn, IsLeastPart, is_rejecte
 
 use crate::covering::covering;
 use crate::slot::Slot;
+use crate::tree_laws::tree_laws;
 use std::alloc::Global;
 use std::mem;
 use std::sync::ledger::Ledger;
@@ -44,6 +45,7 @@ pub(crate) fn find<L: Ledger>(
     requires goes_on { CanGoOn graph.now log.now set reach.now slot.old }
     ensures { IfOk result (IsTurn graph.now log.now budget set reach.now number findings.now slot.old slot.new) }
 {
+    tree_laws();
     let _ordered = log.len();
     if slot.is_rejected() {
         return Ok(passed_over(alloc, number, set, Status::Rejected));

@@ -1,14 +1,13 @@
 -- What a call of a search comes to, for all steps that it represented before.
-use Rattle.std.proofs.Common.{◌≡◌, ℕ, ◌+◌, ◌≤◌, List, [], ◌∷◌, ◌++◌, length, take, Option, Some, None, refl, sym, ap, subst, ◌∙◌, arith, append_assoc, length-append}
+use Rattle.std.proofs.Common.{◌≡◌, ℕ, ◌≤◌, List, [], ◌∷◌, length, Option, Some, None, refl, sym, ap, subst, ◌∙◌}
 use Rattle.std.specs.Prelude.{All, Result, Ok, Err, map, option_map}
-use Rattle.std.proofs.lemmas.List.{take-take}
-use Rattle.std.proofs.lemmas.List.Elements.{All-take, All-nil, All-cons, All-head, All-tail}
+use Rattle.std.proofs.lemmas.List.Elements.{All-nil, All-cons, All-head, All-tail}
 use Rattle.tfpg_base.specs.declared.constraint.Constraint.{Constraint}
 use Rattle.tfpg_base.specs.declared.no_memory.NoMemory.{NoMemory}
 use Rattle.tfpg_graph.specs.Graph.{Tfpg}
 use Rattle.tfpg_log.specs.Log.{Logbook, IsOrdered, first_events}
 use Rattle.tfpg_evidence.specs.declared.step.Step.{Step}
-use Rattle.tfpg_clause.specs.Trees.{Judged, places_of, IsRight, IsPartial}
+use Rattle.tfpg_clause.specs.Trees.{Judged, IsPartial}
 use Rattle.tfpg_clause.specs.Clauses.{alternatives}
 use Rattle.tfpg_clause.specs.Order.{horizon_of}
 use Rattle.tfpg_clause.specs.declared.path.Frame.{Frame}
@@ -29,25 +28,10 @@ use Rattle.tfpg_search.proofs.Enough.{not_spent}
 
 -- ---- the steps of earlier rounds
 
--- what a partial tree begins with is one
-partial_front : (graph : Tfpg) (log : Logbook) (reach : List ℕ) (front back : List Judged) → IsPartial graph log reach (front ++ back) → IsPartial graph log reach front
-partial_front graph log reach front back partial =
-    let long : length (front ++ back) ≡ length front + length back = length-append front back in
-    let more : length (back ++ partial.more) ≡ length back + length partial.more = length-append back partial.more in
-    record {
-      tree = partial.tree;
-      more = back ++ partial.more;
-      unfinished = (let u = partial.unfinished in omega arith);
-      steps_are = sym (append_assoc front back partial.more) ∙ partial.steps_are;
-      right =
-          subst (All (IsRight graph log reach)) (take-take (length front) (length (front ++ back)) (places_of partial.tree) (omega arith))
-          (All-take (IsRight graph log reach) (length front) (take (length (front ++ back)) (places_of partial.tree)) partial.right);
-    }
-
 module _ (laws : ClauseLaws) (graph : Tfpg) (log : Logbook) (seen : ℕ) (ordered : IsOrdered log) (reach : List ℕ) where
   names_stay : (steps : List Judged) → IsPartial graph (first_events log seen) reach steps → HasNoNameTwice graph (first_events log seen) reach steps → HasNoNameTwice graph log reach steps
   names_stay steps partial names front back path is leaf =
-      let there = laws.leaf_there graph (first_events log seen) reach front (partial_front graph (first_events log seen) reach front back (subst (IsPartial graph (first_events log seen) reach) is partial)) in
+      let there = laws.leaf_there graph (first_events log seen) reach front (laws.partial_front graph (first_events log seen) reach front back (subst (IsPartial graph (first_events log seen) reach) is partial)) in
       let same : there.0 ≡ path = laws.one_leaf graph log reach front there.0 path (laws.leaf_stays graph (first_events log seen) log reach front there.0 ordered (laws.first log seen) there.1) leaf in
       subst HasDistinctNames same (names front back there.0 is there.1)
 

@@ -6,7 +6,7 @@ use tfpg_clause::laws::{
     a_clause_has_few_small_alternatives, a_log_goes_on_from_its_first_events, a_partial_tree_grows,
     a_partial_tree_has_one_present_leaf, a_refutation_is_finished, a_tree_stays,
     bounds_hold_of_the_times_of_nodes, frames_are_at_the_present_leaf, frames_follow_the_path,
-    what_is_allowed_stays_allowed,
+    the_front_of_a_tree_is_a_partial_tree, what_is_allowed_stays_allowed,
 };
 
 /// Clauses have few and small alternatives, what is allowed stays allowed, and frames follow the steps of a tree to its
@@ -18,6 +18,7 @@ pub(crate) fn clause_laws()
     a_clause_has_few_small_alternatives();
     a_log_goes_on_from_its_first_events();
     what_is_allowed_stays_allowed();
+    the_front_of_a_tree_is_a_partial_tree();
     a_partial_tree_grows();
     a_partial_tree_has_one_present_leaf();
     a_tree_stays();

@@ -43,6 +43,18 @@ pub fn the_last_step_of_a_tree_is_right()
         IsPartial graph log reach (steps ++ last ∷ []) → IsRightNext graph log reach steps last }
 {}
 
+/// What steps begin with is a partial tree.
+///
+/// - `partial`: where the steps are a partial tree.
+/// - `refutation`: where they are a refutation, and at least one step comes after.
+pub fn the_front_of_a_tree_is_a_partial_tree()
+    ensures partial { (graph : Tfpg) (log : Logbook) (reach : List ℕ) (front back : List Judged) →
+        IsPartial graph log reach (front ++ back) → IsPartial graph log reach front }
+    ensures refutation { (graph : Tfpg) (log : Logbook) (reach : List ℕ)
+        (front : List Judged) (next : Judged) (back : List Judged) →
+        IsRefutation graph log reach (front ++ next ∷ back) → IsPartial graph log reach front }
+{}
+
 /// Steps that are a refutation are no partial tree: none comes after them.
 pub fn a_refutation_is_finished()
     ensures { (graph : Tfpg) (log : Logbook) (reach : List ℕ) (steps : List Judged) →

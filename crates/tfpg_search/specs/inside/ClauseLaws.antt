@@ -32,6 +32,8 @@ pub record ClauseLaws : Type 0 where
       → alternatives graph earlier name ≡ Some clause → alternatives graph later name ≡ Some clause
   pub fact_stays : (graph : Tfpg) (earlier later : Logbook) (reach : List ℕ) (reason : Reason) (stated : Constraint) → IsOrdered later → GoesOn earlier later
       → fact graph earlier reach reason ≡ Some stated → fact graph later reach reason ≡ Some stated
+  -- what a partial tree begins with is one
+  pub partial_front : (graph : Tfpg) (log : Logbook) (reach : List ℕ) (front back : List Judged) → IsPartial graph log reach (front ++ back) → IsPartial graph log reach front
   -- a partial tree has one present leaf, which stays, and is no refutation
   pub leaf_begins : (graph : Tfpg) (log : Logbook) (reach : List ℕ) → IsPresentLeaf graph log reach [] []
   pub leaf_there : (graph : Tfpg) (log : Logbook) (reach : List ℕ) (steps : List Judged) → IsPartial graph log reach steps

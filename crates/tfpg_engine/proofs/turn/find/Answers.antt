@@ -11,4 +11,4 @@ returns-then-is_rejected g c =
 pub returns-in-Some : goal.returns-in-Some
 returns-in-Some g c =
     subst (IsTurn c.args.graph.now c.args.log.now c.args.budget c.args.set c.args.reach.now c.args.number c.args.findings.now c.args.slot.now c.args.slot.now) (sym c.passed_over-in-Some.ensures)
-    (turn_covered c.args.graph.now c.args.log.now c.args.budget c.args.set c.args.reach.now c.args.number c.args.findings.now c.len-ordered.ensures.ordered c.args.slot.now c.in-Some.by (is_by c.is_rejected.ensures c.if-is_rejected.false) c.in-Some.ensures)
+    (turn_covered c.args.graph.now c.args.log.now c.args.budget c.args.set c.args.reach.now c.args.number c.args.findings.now c.len-ordered.ensures.ordered c.tree_laws.ensures c.args.slot.now c.in-Some.by (is_by c.is_rejected.ensures c.if-is_rejected.false) c.in-Some.ensures)

@@ -14,6 +14,7 @@ returns c =
       first = c.a_log_goes_on_from_its_first_events.ensures;
       clause_stays = c.what_is_allowed_stays_allowed.ensures.clause;
       fact_stays = c.what_is_allowed_stays_allowed.ensures.fact;
+      partial_front = c.the_front_of_a_tree_is_a_partial_tree.ensures.partial;
       leaf_begins = c.a_partial_tree_grows.ensures.begins;
       leaf_there = leaves.there;
       one_leaf = leaves.only_one;

@@ -11,19 +11,19 @@ make-requires-clause-table g c = of_graph c.self.inside.graph c.self.inside.k c.
 
 pub make-requires-clause-go_on : goal.make-requires-clause-go_on
 make-requires-clause-go_on g c =
-    lent_go_on _ c.self.invariant c.if-self.false c.in-Ok-Accepted.field-0-0 c.offer.new.self (c.in-Ok-Accepted.ensures.log ∙ ap (log_after_reply c.self.inside.log) c.in-Ok-Accepted.field-0-is)
+    lent_go_on c.tree_laws.ensures _ c.self.invariant c.if-self.false c.in-Ok-Accepted.field-0-0 c.offer.new.self (c.in-Ok-Accepted.ensures.log ∙ ap (log_after_reply c.self.inside.log) c.in-Ok-Accepted.field-0-is)
     c.len-ordered.ensures.ordered c.deref_mut.result.now c.deref_mut.ensures.value
 
 pub invariant_of-self-in-Ok : goal.invariant_of-self-in-Ok
 invariant_of-self-in-Ok g c =
-    engine_now _ c.self.invariant c.if-self.false c.in-Ok-Accepted.field-0-0 c.offer.new.self (c.in-Ok-Accepted.ensures.log ∙ ap (log_after_reply c.self.inside.log) c.in-Ok-Accepted.field-0-is)
+    engine_now c.tree_laws.ensures _ c.self.invariant c.if-self.false c.in-Ok-Accepted.field-0-0 c.offer.new.self (c.in-Ok-Accepted.ensures.log ∙ ap (log_after_reply c.self.inside.log) c.in-Ok-Accepted.field-0-is)
     c.len-ordered.ensures.ordered c.deref_mut.result.now c.deref_mut.ensures.value c.args.line c.in-Ok.round c.make.new.slots _ c.in-Ok.ensures.round c.make.ensures.one_each
     (written_back c.self.inside.slots.items c.make.new.slots c.self.inside.slots.len (c.make.ensures.one_each ∙ ap length c.deref_mut.ensures.value)
     (sym c.deref_mut.ensures.len ∙ ap length c.deref_mut.ensures.value)) c.offer.ensures.of
 
 pub returns-in-Ok-clause-brings : goal.returns-in-Ok-clause-brings
 returns-in-Ok-clause-brings g c rounds represented =
-    gives_from _ c.self.invariant c.if-self.false c.in-Ok-Accepted.field-0-0 c.offer.new.self (c.in-Ok-Accepted.ensures.log ∙ ap (log_after_reply c.self.inside.log) c.in-Ok-Accepted.field-0-is)
+    gives_from c.tree_laws.ensures _ c.self.invariant c.if-self.false c.in-Ok-Accepted.field-0-0 c.offer.new.self (c.in-Ok-Accepted.ensures.log ∙ ap (log_after_reply c.self.inside.log) c.in-Ok-Accepted.field-0-is)
     c.len-ordered.ensures.ordered c.deref_mut.result.now c.deref_mut.ensures.value c.args.line c.in-Ok.round c.make.new.slots _ c.in-Ok.ensures.round c.make.ensures.one_each
     (written_back c.self.inside.slots.items c.make.new.slots c.self.inside.slots.len (c.make.ensures.one_each ∙ ap length c.deref_mut.ensures.value)
     (sym c.deref_mut.ensures.len ∙ ap length c.deref_mut.ensures.value))
