@@ -20,9 +20,3 @@ abbrev pub IsPlanOf : Result Meaning UsageCause → Result Planned PlanFault →
 IsPlanOf meant (Ok planned) = meant ≡ Ok (meaning_of planned.command)
 IsPlanOf meant (Err (fault.Usage cause)) = meant ≡ Err cause
 IsPlanOf meant (Err fault.NoMemory) = Unit {0}
-
--- the same of the command alone
-abbrev pub IsCommandOf : Result Meaning UsageCause → Result Command PlanFault → Type 0
-IsCommandOf meant (Ok planned) = meant ≡ Ok (meaning_of planned)
-IsCommandOf meant (Err (fault.Usage cause)) = meant ≡ Err cause
-IsCommandOf meant (Err fault.NoMemory) = Unit {0}

@@ -3,3 +3,4 @@ pub mod Rules
 pub mod Rows
 pub mod Given
 pub mod Numbers
+pub mod CommandOf

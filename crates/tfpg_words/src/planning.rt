@@ -3,8 +3,9 @@
 ghost use Rattle.std.specs.Prelude.{◌≡◌, map};
 ghost use Rattle.std.specs.String.{string_bytes};
 ghost use Rattle.tfpg_words.specs.Meaning.{command_meaning, diagnose_form, diagnose_of, explain_form, explain_of, generate_form, generate_of, meaning, simulate_form, simulate_of};
-ghost use Rattle.tfpg_words.specs.Plans.{IsCommandOf, IsPlanOf};
+ghost use Rattle.tfpg_words.specs.Plans.{IsPlanOf};
 ghost use Rattle.tfpg_words.specs.Words.{parts_of};
+ghost use Rattle.tfpg_words.specs.inside.CommandOf.{IsCommandOf};
 ghost use Rattle.tfpg_words.specs.inside.Given.{diagnose_given, explain_given, generate_given, simulate_given};
 ghost use Rattle.tfpg_words.specs.inside.Parts.{rows_in};
 

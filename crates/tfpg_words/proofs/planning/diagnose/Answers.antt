@@ -2,7 +2,7 @@ use Rattle.std.proofs.Common.{map, subst, Result}
 use Rattle.std.specs.String.{string_bytes}
 use Rattle.tfpg_words.specs.declared.usage_cause.UsageCause.{UsageCause}
 use Rattle.tfpg_words.specs.Meaning.{Meaning, diagnose_form}
-use Rattle.tfpg_words.specs.Plans.{IsCommandOf}
+use Rattle.tfpg_words.specs.inside.CommandOf.{IsCommandOf}
 use Rattle.tfpg_words.specs.Words.{parts_of}
 use Rattle.tfpg_words.specs.inside.Parts.{rows_in}
 use Rattle.tfpg_words.proofs.Commands.{diagnose_is}
