@@ -93,47 +93,47 @@ not_more count few more = omega (arith, few, more)
 
 -- ---- each command
 
-module _ (law : NoFaultOfValid) (shelf_before shelf_now : ShelfState) (before now : Streams) (calm : NothingFails shelf_before shelf_now before now) (short : IsShort before.input) where
+module _ (law : NoFaultOfValid) (shelf_before shelf_now : ShelfState) (before now : Streams) (calm : NothingFails shelf_before shelf_now before now) where
   -- a diagnosis has no fault but that memory ran out
-  no_stream_fault : (taken : List ℕ) → Takes before.input now.input taken → (fault : StreamFault) → IsShown before now taken fault → fault ≡ faults.NoMemory
-  no_stream_fault taken takes faults.ReadFault is = absurd (calm.input is)
-  no_stream_fault taken takes faults.WriteFault is = absurd (calm.output is)
-  no_stream_fault taken takes faults.TooMuchInput is = absurd (not_more (length taken) (few_taken before.input now.input taken short takes) is)
-  no_stream_fault taken takes faults.NoMemory is = refl
+  no_stream_fault : IsShort before.input → (taken : List ℕ) → Takes before.input now.input taken → (fault : StreamFault) → IsShown before now taken fault → fault ≡ faults.NoMemory
+  no_stream_fault short taken takes faults.ReadFault is = absurd (calm.input is)
+  no_stream_fault short taken takes faults.WriteFault is = absurd (calm.output is)
+  no_stream_fault short taken takes faults.TooMuchInput is = absurd (not_more (length taken) (few_taken before.input now.input taken short takes) is)
+  no_stream_fault short taken takes faults.NoMemory is = refl
 
   -- a diagnosis
-  diagnosed : (end : End) (k budget : ℕ) (name : List ℕ) → CanDiagnose shelf_before k name → DiagnoseEnds shelf_before shelf_now k budget name before now end
+  diagnosed : IsShort before.input → (end : End) (k budget : ℕ) (name : List ℕ) → CanDiagnose shelf_before k name → DiagnoseEnds shelf_before shelf_now k budget name before now end
       → (end ≡ ends.Done) ⊎ (end ≡ ends.NoMemory)
-  diagnosed end k budget name can (inl lacks) =
+  diagnosed short end k budget name can (inl lacks) =
       inr (without_memory end lacks.fault (fetched shelf_before can.files can.known law name can.graph can.gives shelf_now lacks.fault calm.shelf lacks.is_fault) lacks.end_is)
-  diagnosed end k budget name can (inr (inl many)) = absurd (omega (arith, many.too_many, can.few many.graph many.count many.gives many.counted))
-  diagnosed end k budget name can (inr (inr file)) = go file.result file.diagnoses.ends file.end_is
+  diagnosed short end k budget name can (inr (inl many)) = absurd (omega (arith, many.too_many, can.few many.graph many.count many.gives many.counted))
+  diagnosed short end k budget name can (inr (inr file)) = go file.result file.diagnoses.ends file.end_is
     where
       go : (result : Result (Unit {0}) StreamFault) → DiagnosisEnds file.graph k budget before now file.diagnoses.taken file.diagnoses.blocks file.diagnoses.written result
           → end ≡ end_of_result result → (end ≡ ends.Done) ⊎ (end ≡ ends.NoMemory)
       go (Ok done) is e = inl e
-      go (Err fault) is e = inr (e ∙ ap end_of_stream_fault (no_stream_fault file.diagnoses.taken file.diagnoses.takes fault is.0))
+      go (Err fault) is e = inr (e ∙ ap end_of_stream_fault (no_stream_fault short file.diagnoses.taken file.diagnoses.takes fault is.0))
 
   -- a map that is judged
-  judged : (graph : Tfpg) (log : Logbook) (taken : List ℕ) → Takes before.input now.input taken → (end : End) → JudgingEnds graph log before now taken end
+  judged : IsShort before.input → (graph : Tfpg) (log : Logbook) (taken : List ℕ) → Takes before.input now.input taken → (end : End) → JudgingEnds graph log before now taken end
       → (end ≡ ends.Done) ⊎ ((end ≡ ends.NoMemory) ⊎ ((line : ℕ) × (end ≡ ends.NotAccepted line BadMap)))
-  judged graph log taken takes ends.Done is = inl refl
-  judged graph log taken takes (ends.NotAccepted line cause) is = inr (inr (line, ap (ends.NotAccepted line) is.1))
-  judged graph log taken takes (ends.Usage cause) is = absurd is
-  judged graph log taken takes (ends.Graph line cause) is = absurd is
-  judged graph log taken takes (ends.TooManyHypotheses count) is = absurd is
-  judged graph log taken takes ends.ReadFault is = absurd (calm.input is.0)
-  judged graph log taken takes ends.WriteFault is = absurd (calm.output is.rose)
-  judged graph log taken takes ends.TooMuchInput is = absurd (not_more (length taken) (few_taken before.input now.input taken short takes) is.0)
-  judged graph log taken takes ends.NoMemory is = inr (inl refl)
+  judged short graph log taken takes ends.Done is = inl refl
+  judged short graph log taken takes (ends.NotAccepted line cause) is = inr (inr (line, ap (ends.NotAccepted line) is.1))
+  judged short graph log taken takes (ends.Usage cause) is = absurd is
+  judged short graph log taken takes (ends.Graph line cause) is = absurd is
+  judged short graph log taken takes (ends.TooManyHypotheses count) is = absurd is
+  judged short graph log taken takes ends.ReadFault is = absurd (calm.input is.0)
+  judged short graph log taken takes ends.WriteFault is = absurd (calm.output is.rose)
+  judged short graph log taken takes ends.TooMuchInput is = absurd (not_more (length taken) (few_taken before.input now.input taken short takes) is.0)
+  judged short graph log taken takes ends.NoMemory is = inr (inl refl)
 
-  explained : (end : End) (graph_name log_name : List ℕ) → CanExplain shelf_before graph_name log_name → ExplainEnds shelf_before shelf_now graph_name log_name before now end
+  explained : IsShort before.input → (end : End) (graph_name log_name : List ℕ) → CanExplain shelf_before graph_name log_name → ExplainEnds shelf_before shelf_now graph_name log_name before now end
       → (end ≡ ends.Done) ⊎ ((end ≡ ends.NoMemory) ⊎ ((line : ℕ) × (end ≡ ends.NotAccepted line BadMap)))
-  explained end graph_name log_name can (inl lacks) =
+  explained short end graph_name log_name can (inl lacks) =
       let file : HasFile shelf_before log_name can.gives.text = can.gives.file in
       inr (inl (without_memory end lacks.fault
       (both_fetched shelf_before can.files can.known law graph_name can.graph can.gives.of_graph shelf_now log_name can.gives.text file lacks.fault calm.shelf lacks.is_fault) lacks.end_is))
-  explained end graph_name log_name can (inr judges) = judged judges.graph judges.log judges.judges.taken judges.judges.takes end judges.judges.ends
+  explained short end graph_name log_name can (inr judges) = judged short judges.graph judges.log judges.judges.taken judges.judges.takes end judges.judges.ends
 
   -- a script that is simulated
   simulated : (graph : Tfpg) (script : List ℕ) (draw : ℕ) (trace : Bool) → ((line : ℕ) → script_of graph script ≡ Err line → ⊥) → (end : End)
@@ -168,9 +168,9 @@ module _ (law : NoFaultOfValid) (shelf_before shelf_now : ShelfState) (before no
   drawn draw size ends.TooMuchInput is = absurd is
   drawn draw size ends.NoMemory is = inr refl
 
-  completed : (meant : Meaning) (end : End) → CanBeDone meant shelf_before → CommandEnds (Ok meant) shelf_before shelf_now before now end → IsCompleted meant end
-  completed (Diagnose k budget graph) end can is = diagnosed end k budget graph can is
-  completed (Explain graph log) end can is = explained end graph log can is
+  completed : (meant : Meaning) (end : End) → CanBeDone meant shelf_before before.input → CommandEnds (Ok meant) shelf_before shelf_now before now end → IsCompleted meant end
+  completed (Diagnose k budget graph) end can is = diagnosed can.1 end k budget graph can.0 is
+  completed (Explain graph log) end can is = explained can.1 end graph log can.0 is
   completed (Simulate draw trace graph script) end can is = simulated_files end draw trace graph script can is.0
   completed (Generate draw size) end can is = drawn draw size end is.0
 
@@ -181,7 +181,7 @@ module _ (law : NoFaultOfValid) (shelf_before shelf_now : ShelfState) (before no
   without_words (Generate draw size) end is = inr is
 
   -- the whole run
-  pub run_completes : (words : Result Meaning UsageCause) (meant : Meaning) (end : End) → words ≡ Ok meant → CanBeDone meant shelf_before → RunEnds words shelf_before shelf_now before now end
+  pub run_completes : (words : Result Meaning UsageCause) (meant : Meaning) (end : End) → words ≡ Ok meant → CanBeDone meant shelf_before before.input → RunEnds words shelf_before shelf_now before now end
       → IsCompleted meant end
   run_completes words meant end e can is = go (subst (λ (w : Result Meaning UsageCause). RunEnds w shelf_before shelf_now before now end) e is)
     where

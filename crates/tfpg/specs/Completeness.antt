@@ -39,24 +39,24 @@ pub record CanSimulate (shelf : ShelfState) (graph_name script_name : List ℕ) 
   pub gives : GivesGraphAndText shelf graph_name script_name graph script
   pub right : (other : Tfpg) (text : List ℕ) (line : ℕ) → GivesGraphAndText shelf graph_name script_name other text → script_of other text ≡ Err line → ⊥
 
--- The files serve what the words mean.
-abbrev pub CanBeDone : Meaning → ShelfState → Type 0
-CanBeDone (Diagnose k budget graph) shelf = CanDiagnose shelf k graph
-CanBeDone (Explain graph log) shelf = CanExplain shelf graph log
-CanBeDone (Simulate draw trace graph script) shelf = CanSimulate shelf graph script
-CanBeDone (Generate draw size) shelf = Unit {0}
+-- The input is known, and has at most 2^32 bytes left.
+pub record IsShort (input : SourceState) : Type 0 where
+  pub known : List ℕ
+  pub left : input.left ≡ Some known
+  pub few : length known ≤ max_bytes
+
+-- The files serve what the words mean, and so does the input where it is read.
+abbrev pub CanBeDone : Meaning → ShelfState → SourceState → Type 0
+CanBeDone (Diagnose k budget graph) shelf input = CanDiagnose shelf k graph × IsShort input
+CanBeDone (Explain graph log) shelf input = CanExplain shelf graph log × IsShort input
+CanBeDone (Simulate draw trace graph script) shelf input = CanSimulate shelf graph script
+CanBeDone (Generate draw size) shelf input = Unit {0}
 
 -- Neither the shelf, nor the input, nor the output failed.
 pub record NothingFails (shelf_before shelf_now : ShelfState) (before now : Streams) : Type 0 where
   pub shelf : Rose shelf_before.faults shelf_now.faults → ⊥
   pub input : Rose before.input.faults now.input.faults → ⊥
   pub output : Rose before.output.faults now.output.faults → ⊥
-
--- The input is known, and has at most 2^32 bytes left.
-pub record IsShort (input : SourceState) : Type 0 where
-  pub known : List ℕ
-  pub left : input.left ≡ Some known
-  pub few : length known ≤ max_bytes
 
 -- The run is done, or memory ran out. A map may be refused besides.
 abbrev pub IsCompleted : Meaning → End → Type 0

@@ -32,7 +32,7 @@ pub enum CheckCause {
 /// input and output line by line.
 #[derive(Clone, Copy, Debug, PartialEq, Eq)]
 pub enum End {
-    /// The input was read to its end, and all was written.
+    /// All was written, and where the input is read, it was read to its end.
     Done,
     /// This line of the input or of the script is refused.
     NotAccepted { line: u64, cause: CheckCause },
@@ -195,7 +195,8 @@ impl From<Failed> for End {
 
 /// Appends what is said of a line that is refused.
 fn put_not_accepted(line: u64, cause: CheckCause, into: &mut Vec<u8>) -> Result<(), NoMemory>
-    ensures { Appends result into.old.items into.new.items (line_of (codes "not" ∷ codes "accepted" ∷ decimal line ∷ check_cause_name cause ∷ [])) }
+    ensures { Appends result into.old.items into.new.items
+        (line_of (codes "not" ∷ codes "accepted" ∷ decimal line ∷ check_cause_name cause ∷ [])) }
 {
     let mut digits = Buffer::new();
     put_words(
@@ -218,7 +219,8 @@ fn put_usage(cause: UsageCause, into: &mut Vec<u8>) -> Result<(), NoMemory>
 
 /// Appends what is said of a graph that is refused.
 fn put_graph(line: u64, cause: GraphCause, into: &mut Vec<u8>) -> Result<(), NoMemory>
-    ensures { Appends result into.old.items into.new.items (line_of (codes "graph" ∷ decimal line ∷ graph_cause_name cause ∷ [])) }
+    ensures { Appends result into.old.items into.new.items
+        (line_of (codes "graph" ∷ decimal line ∷ graph_cause_name cause ∷ [])) }
 {
     let mut digits = Buffer::new();
     put_words(
@@ -233,7 +235,8 @@ fn put_graph(line: u64, cause: GraphCause, into: &mut Vec<u8>) -> Result<(), NoM
 
 /// Appends what is said of a graph that has too many hypotheses.
 fn put_too_many(count: u128, into: &mut Vec<u8>) -> Result<(), NoMemory>
-    ensures { Appends result into.old.items into.new.items (line_of (codes "too" ∷ codes "many" ∷ codes "hypotheses" ∷ decimal count ∷ [])) }
+    ensures { Appends result into.old.items into.new.items
+        (line_of (codes "too" ∷ codes "many" ∷ codes "hypotheses" ∷ decimal count ∷ [])) }
 {
     let mut digits = Buffer::new();
     put_words(

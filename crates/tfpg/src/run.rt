@@ -2,7 +2,7 @@
 
 ghost use Rattle.std.specs.Prelude.{◌≡◌, ◌≤◌, ◌∷◌, [], map, string_bytes, OnOk, IfErr, Ok};
 ghost use Rattle.tfpg_words.specs.Meaning.{Meaning, meaning};
-ghost use Rattle.tfpg.specs.Completeness.{CanBeDone, IsCompleted, IsShort, NothingFails};
+ghost use Rattle.tfpg.specs.Completeness.{CanBeDone, IsCompleted, NothingFails};
 ghost use Rattle.tfpg_words.specs.Plans.{meaning_of};
 ghost use Rattle.tfpg.specs.inside.Plans.{AreWithinLimits};
 ghost use Rattle.tfpg.specs.inside.Faults.{end_of_work};
@@ -42,12 +42,15 @@ pub fn run<F: Shelf, S: Source, K: Sink, L: Ledger>(
         (streams (S.state input.old) (K.state out.old)) (streams (S.state input.new) (K.state out.new)) result }
 
     // Where the words are right, the files and the input serve them and nothing fails, it is done, or memory ran out.
-    ensures completes { (meant : Meaning) → meaning (map string_bytes words.now) ≡ Ok meant → CanBeDone meant (F.state shelf.old) →
-        NothingFails (F.state shelf.old) (F.state shelf.new) (streams (S.state input.old) (K.state out.old)) (streams (S.state input.new) (K.state out.new)) →
-        IsShort (S.state input.old) → IsCompleted meant result }
+    ensures completes { (meant : Meaning) → meaning (map string_bytes words.now) ≡ Ok meant →
+        CanBeDone meant (F.state shelf.old) (S.state input.old) →
+        NothingFails (F.state shelf.old) (F.state shelf.new)
+        (streams (S.state input.old) (K.state out.old)) (streams (S.state input.new) (K.state out.new)) →
+        IsCompleted meant result }
 
     // No answer comes from a file that the words do not name.
-    ensures asks { AsksOnly (meaning (map string_bytes words.now)) (F.state shelf.old).asked (F.state shelf.new).asked }
+    ensures asks { AsksOnly (meaning (map string_bytes words.now)) (F.state shelf.old).asked
+        (F.state shelf.new).asked }
 {
     numbers_are_within_their_limits();
     a_text_has_at_most_one_first_fault();
@@ -67,11 +70,14 @@ fn perform<F: Shelf, S: Source, K: Sink, L: Ledger>(
     work: &mut Steps<L>,
 ) -> Result<(), End>
     requires { AreWithinLimits (meaning_of command.now) }
-    ensures done { OnOk result (CommandEnds (Ok (meaning_of command.now)) (F.state shelf.old) (F.state shelf.new)
+    ensures done { OnOk result (CommandEnds (Ok (meaning_of command.now)) (F.state shelf.old)
+        (F.state shelf.new)
         (streams (S.state input.old) (K.state out.old)) (streams (S.state input.new) (K.state out.new)) End.Done) }
-    ensures stopped { IfErr result (CommandEnds (Ok (meaning_of command.now)) (F.state shelf.old) (F.state shelf.new)
+    ensures stopped { IfErr result (CommandEnds (Ok (meaning_of command.now)) (F.state shelf.old)
+        (F.state shelf.new)
         (streams (S.state input.old) (K.state out.old)) (streams (S.state input.new) (K.state out.new))) }
-    ensures asks { AsksOnly (Ok (meaning_of command.now)) (F.state shelf.old).asked (F.state shelf.new).asked }
+    ensures asks { AsksOnly (Ok (meaning_of command.now)) (F.state shelf.old).asked
+        (F.state shelf.new).asked }
 {
     match command {
         Command::Diagnose { k, budget, graph } => {
@@ -140,11 +146,14 @@ fn explain_by_files<F: Shelf, S: Source, K: Sink>(
     input: &mut S,
     out: &mut K,
 ) -> Result<(), End>
-    ensures done { OnOk result (ExplainEnds (F.state shelf.old) (F.state shelf.new) graph_name.now log_name.now
+    ensures done { OnOk result (ExplainEnds (F.state shelf.old) (F.state shelf.new) graph_name.now
+        log_name.now
         (streams (S.state input.old) (K.state out.old)) (streams (S.state input.new) (K.state out.new)) End.Done) }
-    ensures stopped { IfErr result (ExplainEnds (F.state shelf.old) (F.state shelf.new) graph_name.now log_name.now
+    ensures stopped { IfErr result (ExplainEnds (F.state shelf.old) (F.state shelf.new) graph_name.now
+        log_name.now
         (streams (S.state input.old) (K.state out.old)) (streams (S.state input.new) (K.state out.new))) }
-    ensures asks { AsksInOrder (graph_name.now ∷ log_name.now ∷ []) (F.state shelf.old).asked (F.state shelf.new).asked }
+    ensures asks { AsksInOrder (graph_name.now ∷ log_name.now ∷ []) (F.state shelf.old).asked
+        (F.state shelf.new).asked }
 {
     let (graph, log) = fetch_graph_and_log(alloc, shelf, graph_name, log_name)?;
     judge(alloc, &graph, &log, input, out)

@@ -6,12 +6,12 @@ use Rattle.tfpg.proofs.Completing.{by_work, run_completes}
 use Rattle.tfpg.proofs.run.run.Goals as goal
 
 pub returns-in-Ok-clause-completes : goal.returns-in-Ok-clause-completes
-returns-in-Ok-clause-completes g c meant e can calm short =
+returns-in-Ok-clause-completes g c meant e can calm =
     let words = meaning (map string_bytes c.args.words.now) in
     let shelf_before = g.F.Shelf.state c.args.shelf.now in
     let shelf_now = g.F.Shelf.state c.perform.new.shelf in
     let before = streams (g.S.Source.state c.args.input.now) (g.K.Sink.state c.args.out.now) in
     let now = streams (g.S.Source.state c.perform.new.input) (g.K.Sink.state c.perform.new.out) in
-    run_completes c.a_text_has_at_most_one_first_fault.ensures.none shelf_before shelf_now before now calm short words meant c.end_of.result e can
+    run_completes c.a_text_has_at_most_one_first_fault.ensures.none shelf_before shelf_now before now calm words meant c.end_of.result e can
     (by_work words (meaning_of c.in-Ok.planned.command) shelf_before shelf_now before now c.perform.result c.end_of.result
     c.in-Ok.ensures c.end_of.ensures c.perform.ensures.done c.perform.ensures.stopped)
