@@ -2,7 +2,7 @@
 
 ghost use Rattle.std.specs.Prelude.{◌≡◌, All, IfOk, IsTrue};
 ghost use Rattle.tfpg_evidence.specs.RoundOf.{IsFindingOf, IsReasonOf, IsRoundOf, IsStepOf, is_ranked};
-ghost use Rattle.tfpg_model_tests.specs.Sizes.{small};
+ghost use Rattle.tfpg_model_tests.specs.inside.Sizes.{small};
 
 use std::alloc::Global;
 use std::test::Fail;

@@ -1,0 +1,82 @@
+//! What the look-ups of a graph and of its copy return, and its written text.
+
+use std::alloc::Global;
+use std::test::Fail;
+use tfpg_graph::{Graph, read, write};
+
+/// Three modes, an AND discrepancy before its sources, comments, and edges that name their modes in every way.
+const THREE_MODES: &[u8] =
+    b"tfpg 1\n# modes\nmode N\nmode D\nmode R\n\nand C hidden\nor A watch 7\nfailure F1 3\nfailure F2 5\nedge A C 0 inf D,N\nedge F2 C 2 2 R\nedge F1 A 0 0 R,N,D\nedge F2 A 1 9 *\nend\n\n# the end\n";
+
+/// The canonical text of the same graph.
+const THREE_MODES_WRITTEN: &[u8] =
+    b"tfpg 1\nmode N\nmode D\nmode R\nand C hidden\nor A watch 7\nfailure F1 3\nfailure F2 5\nedge A C 0 inf N,D\nedge F2 C 2 2 R\nedge F1 A 0 0 *\nedge F2 A 1 9 *\nend\n";
+
+/// What its look-ups return, node by node, edge by edge, and mode by mode.
+const THREE_MODES_SEEN: &str = "node 0 And { lag: None } Some(0) None [0, 1]\n\
+    node 1 Or { lag: Some(7) } Some(1) None [2, 3]\n\
+    node 2 Failure { rarity: 3 } Some(2) Some(0) []\n\
+    node 3 Failure { rarity: 5 } Some(3) Some(1) []\n\
+    edge 0 Edge { source: 1, target: 0, tmin: 0, tmax: None, modes: 3 }\n\
+    edge 1 Edge { source: 3, target: 0, tmin: 2, tmax: Some(2), modes: 4 }\n\
+    edge 2 Edge { source: 2, target: 1, tmin: 0, tmax: Some(0), modes: 7 }\n\
+    edge 3 Edge { source: 3, target: 1, tmin: 1, tmax: Some(9), modes: 7 }\n\
+    mode 0 Some(0)\nmode 1 Some(1)\nmode 2 Some(2)\n\
+    failure 0 2\nfailure 1 3\n\
+    absent None None\n";
+
+/// What all look-ups of the graph return, as lines.
+fn look_ups(alloc: Global, graph: &Graph) -> Result<String, Fail> {
+    let mut seen = String::new(alloc);
+    for node in 0..graph.node_count() {
+        let kind = graph.kind(node);
+        let found = graph.find(graph.name(node));
+        let place = graph.place_of(node);
+        let incoming = graph.incoming(node);
+        let line = format!(in alloc; "node {node} {kind:?} {found:?} {place:?} {incoming:?}\n")?;
+        seen.push_str(line.as_str())?;
+    }
+    for number in 0..graph.edge_count() {
+        let line = format!(in alloc; "edge {number} {:?}\n", graph.edge(number))?;
+        seen.push_str(line.as_str())?;
+    }
+    for mode in 0..graph.mode_count() {
+        let found = graph.find_mode(graph.mode_name(mode));
+        let line = format!(in alloc; "mode {mode} {found:?}\n")?;
+        seen.push_str(line.as_str())?;
+    }
+    for place in 0..graph.failure_count() {
+        let line = format!(in alloc; "failure {place} {}\n", graph.failure_node(place))?;
+        seen.push_str(line.as_str())?;
+    }
+    let absent = format!(in alloc;
+        "absent {:?} {:?}\n",
+        graph.find(b"N"),
+        graph.find_mode(b"A")
+    )?;
+    seen.push_str(absent.as_str())?;
+    Ok(seen)
+}
+
+#[test]
+fn a_graph_and_its_copy_have_the_parts_of_the_text(rt: HostRuntime) -> Result<(), Fail> {
+    let graph = read(rt.alloc(), THREE_MODES)?;
+    let copy = graph.copy()?;
+    assert_eq!(rt; look_ups(rt.alloc(), &graph)?.as_str(), THREE_MODES_SEEN);
+    assert_eq!(rt; look_ups(rt.alloc(), &copy)?.as_str(), THREE_MODES_SEEN);
+    Ok(())
+}
+
+#[test]
+fn the_canonical_text_is_written(rt: HostRuntime) -> Result<(), Fail> {
+    for read_text in &[THREE_MODES, THREE_MODES_WRITTEN] {
+        let graph = read(rt.alloc(), *read_text)?;
+        let mut text = Vec::from_slice(rt.alloc(), b"# before\n")?;
+        write(&graph, &mut text)?;
+        assert_eq!(rt;
+            text.as_slice().strip_prefix(b"# before\n".as_slice()),
+            Some(THREE_MODES_WRITTEN)
+        );
+    }
+    Ok(())
+}
