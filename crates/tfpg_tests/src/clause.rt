@@ -1,15 +1,12 @@
 //! The public calls of `tfpg_clause`: which names are allowed with how many alternatives, the constraints of each kind of
 //! clause, which clause some times violate first, and which reasons state facts.
 
-ghost use Rattle.std.specs.Prelude.{IfOk};
-ghost use Rattle.tfpg_log.specs.Log.{IsOf};
-
-use std::alloc::Global;
+use crate::given::{log_of, reach_of_first};
 use std::test::Fail;
-use tfpg_base::{Constraint, Set};
+use tfpg_base::Constraint;
 use tfpg_clause::{NotAClause, NotAFact, constraint, count, fact, violated};
 use tfpg_evidence::{ClauseName, Reason};
-use tfpg_graph::{Graph, NodeSet, read};
+use tfpg_graph::{Graph, read};
 use tfpg_log::Log;
 
 /// Two failure modes, an OR node with an edge from each, a hidden OR node, and an AND node with an edge from both. The
@@ -25,25 +22,6 @@ const CUT: [&[u8]; 3] = [b"20 mode D", b"25 mode N", b"40 tick"];
 
 /// Two silences, an alarm, and a sweep after it.
 const SILENCES: [&[u8]; 4] = [b"5 silent A", b"7 sweep", b"30 alarm A", b"40 sweep"];
-
-/// The log of the lines.
-fn log_of(alloc: Global, graph: &Graph, lines: &[&[u8]]) -> Result<Log, Fail>
-    ensures { IfOk result (IsOf graph.now) }
-{
-    let mut log = Log::new(alloc);
-    for line in lines {
-        log.offer(graph, *line)?;
-    }
-    Ok(log)
-}
-
-/// The nodes that the first failure mode reaches, where there is one.
-fn reach_of_first(graph: &Graph) -> Option<NodeSet> {
-    if graph.failure_count() == 0 {
-        return None;
-    }
-    Some(graph.reach(Set::empty().with(0)))
-}
 
 /// How many alternatives names have that are allowed at a log with cuts, and which are not.
 const COUNTS: [(&str, ClauseName, Result<u32, NotAClause>); 16] = [

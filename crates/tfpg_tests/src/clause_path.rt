@@ -1,21 +1,18 @@
 //! The path to the present leaf, as `tfpg_clause` keeps it: where it goes on, and what is stated there.
 
-ghost use Rattle.std.specs.Prelude.{IfOk};
-ghost use Rattle.tfpg_log.specs.Log.{IsOf};
-
+use crate::given::{log_of, reach_of_first};
 use std::alloc::Global;
 use std::test::Fail;
-use tfpg_base::{Constraint, Set};
+use tfpg_base::Constraint;
 use tfpg_clause::{Frame, advance, picked, stated};
 use tfpg_evidence::{ClauseName, Reason};
-use tfpg_graph::{Graph, NodeSet, read};
-use tfpg_log::Log;
+use tfpg_graph::read;
 
 /// A failure mode F with an edge to A, which takes from 10 to 20. Their numbers are 0 and 1.
 const GRAPH: &[u8] = b"tfpg 1\nmode N\nfailure F 1\nor A watch 2\nedge F A 10 20 *\nend\n";
 
 /// One span up to 30.
-const LINE: &[u8] = b"30 alarm A";
+const LINES: [&[u8]; 1] = [b"30 alarm A"];
 
 /// A becomes active in the span only where the failure arrives: before it, after it, or within it by the edge.
 const MAY: ClauseName = ClauseName::OrMay {
@@ -68,23 +65,6 @@ fn a_path_goes_on_to_the_next_alternative(rt: HostRuntime) -> Result<(), Fail> {
     Ok(())
 }
 
-/// The log of the line.
-fn log_of(alloc: Global, graph: &Graph) -> Result<Log, Fail>
-    ensures { IfOk result (IsOf graph.now) }
-{
-    let mut log = Log::new(alloc);
-    log.offer(graph, LINE)?;
-    Ok(log)
-}
-
-/// The nodes that the failure mode reaches, where there is one.
-fn reach_of_first(graph: &Graph) -> Option<NodeSet> {
-    if graph.failure_count() == 0 {
-        return None;
-    }
-    Some(graph.reach(Set::empty().with(0)))
-}
-
 /// What reasons state on a path of two splits: in the alternative that the failure arrives, and in the one that A is active
 /// before the span.
 const STATED: [(&str, Reason, Option<Constraint>); 9] = [
@@ -134,7 +114,7 @@ const STATED: [(&str, Reason, Option<Constraint>); 9] = [
 #[test]
 fn reasons_state_facts_and_picks(rt: HostRuntime) -> Result<(), Fail> {
     let graph = read(rt.alloc(), GRAPH)?;
-    let log = log_of(rt.alloc(), &graph)?;
+    let log = log_of(rt.alloc(), &graph, &LINES)?;
     let reach = reach_of_first(&graph).ok_or("no failure mode")?;
     let path = path_of(rt.alloc(), &[(3, 3), (1, 3)])?;
     for (row, reason, expected) in &STATED {

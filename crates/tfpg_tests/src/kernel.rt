@@ -1,14 +1,13 @@
 //! The public calls of `tfpg_kernel`: a refutation step by step, each cause of a bad step, and steps under logs that grow.
 
-ghost use Rattle.std.specs.Prelude.{IfOk};
 ghost use Rattle.tfpg_log.specs.Log.{IsOf};
 
+use crate::given::{log_of, reach_of_first};
 use std::alloc::Global;
 use std::process::Abort;
 use std::test::Fail;
-use tfpg_base::Set;
 use tfpg_evidence::{ClauseName, Reason, Reasons, Step};
-use tfpg_graph::{Graph, NodeSet, read};
+use tfpg_graph::{Graph, read};
 use tfpg_kernel::{BadStep, Checker, Taken};
 use tfpg_log::Log;
 
@@ -234,25 +233,6 @@ const BAD: [Row; 13] = [
         answer: Taken::Bad(BadStep::NotNegative),
     },
 ];
-
-/// The log of the lines.
-fn log_of(alloc: Global, graph: &Graph, lines: &[&[u8]]) -> Result<Log, Fail>
-    ensures { IfOk result (IsOf graph.now) }
-{
-    let mut log = Log::new(alloc);
-    for line in lines {
-        log.offer(graph, *line)?;
-    }
-    Ok(log)
-}
-
-/// The nodes that the failure mode reaches, where there is one.
-fn reach_of_first(graph: &Graph) -> Option<NodeSet> {
-    if graph.failure_count() == 0 {
-        return None;
-    }
-    Some(graph.reach(Set::empty().with(0)))
-}
 
 /// A step that splits, or closes a leaf.
 fn step_of(alloc: Global, split: Option<ClauseName>, reasons: &[Reason]) -> Result<Step, Fail> {

@@ -11,6 +11,8 @@ mod clause_path;
 #[cfg(test)]
 mod engine;
 #[cfg(test)]
+mod given;
+#[cfg(test)]
 mod hyp;
 #[cfg(test)]
 mod kernel;

@@ -322,33 +322,37 @@ fn split_count(steps: &StepList) -> usize {
         .count()
 }
 
-/// The first row that a search asked at each event does not answer as expected.
-fn first_wrong_asked_at_each_event<L: Ledger>(
-    alloc: Global,
-    blank: Blank,
-    budget: u64,
-    rows: &[Row],
-) -> Result<Option<&'static str>, Fail>
-    requires budget { 1 ≤ budget }
-    requires name { blank.name ≡ L.name }
-    requires parts { blank.parts ≡ L.parts }
-    requires some { 0 < blank.parts }
-{
-    let mut work = Steps::<L>::new(blank);
-    for row in rows {
-        let graph = read(alloc, row.graph)?;
-        let (found, steps) = asked_at_each_event(alloc, &graph, row, budget, &mut work)?;
-        if !is_as_expected(&row.answer, &found, &steps) {
-            return Ok(Some(row.name));
-        }
-    }
-    Ok(None)
+/// When a search is asked.
+#[derive(Clone, Copy)]
+enum Asked {
+    /// At each event of the log.
+    AtEachEvent,
+    /// At the end alone.
+    AtTheEnd,
 }
 
-/// The first row that a search asked at the end alone does not answer as expected.
-fn first_wrong_asked_at_the_end<L: Ledger>(
+/// What a search finds at the end of the log that is asked at these times, with its steps.
+fn asked_then<L: Ledger>(
+    alloc: Global,
+    graph: &Graph,
+    row: &Row,
+    asked: Asked,
+    budget: u64,
+    work: &mut Steps<L>,
+) -> Result<(Found, StepList), Fail>
+    requires { 1 ≤ budget }
+{
+    match asked {
+        Asked::AtEachEvent => asked_at_each_event(alloc, graph, row, budget, work),
+        Asked::AtTheEnd => asked_at_the_end(alloc, graph, row, budget, work),
+    }
+}
+
+/// The first row that a search asked at these times does not answer as expected.
+fn first_wrong<L: Ledger>(
     alloc: Global,
     blank: Blank,
+    asked: Asked,
     budget: u64,
     rows: &[Row],
 ) -> Result<Option<&'static str>, Fail>
@@ -360,7 +364,7 @@ fn first_wrong_asked_at_the_end<L: Ledger>(
     let mut work = Steps::<L>::new(blank);
     for row in rows {
         let graph = read(alloc, row.graph)?;
-        let (found, steps) = asked_at_the_end(alloc, &graph, row, budget, &mut work)?;
+        let (found, steps) = asked_then(alloc, &graph, row, asked, budget, &mut work)?;
         if !is_as_expected(&row.answer, &found, &steps) {
             return Ok(Some(row.name));
         }
@@ -370,21 +374,21 @@ fn first_wrong_asked_at_the_end<L: Ledger>(
 
 #[test]
 fn a_search_that_is_asked_at_the_end_finds_what_the_log_says(rt: HostRuntime) -> Result<(), Fail> {
-    let wrong = first_wrong_asked_at_the_end::<Brand>(rt.alloc(), Blank::new(1), 1_000, &ROWS)?;
+    let wrong = first_wrong::<Brand>(rt.alloc(), Blank::new(1), Asked::AtTheEnd, 1_000, &ROWS)?;
     assert_eq!(rt; wrong, None);
     Ok(())
 }
 
 #[test]
 fn a_search_that_is_asked_at_each_event_finds_the_same(rt: HostRuntime) -> Result<(), Fail> {
-    let wrong = first_wrong_asked_at_each_event::<Brand>(rt.alloc(), Blank::new(1), 1_000, &ROWS)?;
+    let wrong = first_wrong::<Brand>(rt.alloc(), Blank::new(1), Asked::AtEachEvent, 1_000, &ROWS)?;
     assert_eq!(rt; wrong, None);
     Ok(())
 }
 
 #[test]
 fn a_budget_that_is_spent_comes_anew_with_the_next_event(rt: HostRuntime) -> Result<(), Fail> {
-    let wrong = first_wrong_asked_at_each_event::<Brand>(rt.alloc(), Blank::new(1), 1, &SPENT)?;
+    let wrong = first_wrong::<Brand>(rt.alloc(), Blank::new(1), Asked::AtEachEvent, 1, &SPENT)?;
     assert_eq!(rt; wrong, None);
     Ok(())
 }
