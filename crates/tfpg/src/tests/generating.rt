@@ -21,6 +21,30 @@ const DRAWN: [(&[&str], &[u8]); 4] = [
     ),
 ];
 
+/// Twenty draws.
+const TWENTY_DRAWS: [&str; 20] = [
+    "--draw=1",
+    "--draw=2",
+    "--draw=3",
+    "--draw=4",
+    "--draw=5",
+    "--draw=6",
+    "--draw=7",
+    "--draw=8",
+    "--draw=9",
+    "--draw=10",
+    "--draw=11",
+    "--draw=12",
+    "--draw=13",
+    "--draw=14",
+    "--draw=15",
+    "--draw=16",
+    "--draw=17",
+    "--draw=18",
+    "--draw=19",
+    "--draw=20",
+];
+
 /// How it ends, and what it writes, where the output fails at these calls.
 fn generated(
     alloc: Global,
@@ -72,6 +96,26 @@ fn says_what_became_of_the_truth(rt: HostRuntime) -> Result<(), Fail> {
         assert!(rt; is_summary(&text, begin), "{options:?}");
         assert_eq!(rt; text, again, "{options:?}");
     }
+    Ok(())
+}
+
+/// The first of these draws whose log is not diagnosed to its end, or rejects the simulated set.
+fn first_wrong_draw(
+    alloc: Global,
+    draws: &[&'static str],
+) -> Result<Option<&'static str>, AllocError> {
+    for draw in draws {
+        let (end, text) = generated(alloc, &[*draw, "--size=5"], &[])?;
+        if end != End::Done || !is_summary(&text, b"generated draw ") {
+            return Ok(Some(*draw));
+        }
+    }
+    Ok(None)
+}
+
+#[test]
+fn no_log_of_twenty_rejects_the_simulated_set(rt: HostRuntime) -> Result<(), Fail> {
+    assert_eq!(rt; first_wrong_draw(rt.alloc(), &TWENTY_DRAWS)?, None);
     Ok(())
 }
 
