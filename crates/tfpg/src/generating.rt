@@ -13,7 +13,8 @@ use std::sync::ledger::Ledger;
 use tfpg_base::{NoMemory, Sink, Steps};
 use tfpg_graph::Graph;
 use tfpg_hyp::laws::rounds_say_which_sets_fit;
-use tfpg_sim::{Generated, SimFault, Simulated, a_generated_script_is_right, generate, simulate};
+use tfpg_sim::laws::a_generated_script_is_right;
+use tfpg_sim::{Generated, SimFault, Simulated, generate, simulate};
 
 /// A drawn graph, and the simulation of the script that was drawn with it.
 #[derive(Drop)]

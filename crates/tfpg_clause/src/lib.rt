@@ -10,6 +10,16 @@
 //!
 //! Its definitions, in `specs/`, say which constraints are facts of a log and a reach, which clauses every trace meets,
 //! and which lists of steps refute a set of failure modes.
+//!
+//! ```
+//! match violated(&graph, &log, &times) {
+//!     None => {} // cut at now, the times keep the propagation rules
+//!     Some(name) => {
+//!         let alternatives = count(&graph, &log, name)?;
+//!         let first = constraint(&graph, &log, name, 1, 1)?; // of the first alternative
+//!     }
+//! }
+//! ```
 #![tactic(auto)]
 
 mod alternative;

@@ -3,6 +3,14 @@
 //! - [`Engine`] has a graph, a log that grows, and all sets of at most `k` failure modes. [`Engine::event`] takes a line.
 //! - [`Told`] is what a line brings: a refusal, or a round. [`EventFault`] says why there is neither.
 //! - [`Slot`] is what contracts see of what the engine keeps of a hypothesis.
+//!
+//! ```
+//! let mut engine = Engine::new(alloc, graph, 2, 1_000)?;
+//! match engine.event(1, b"30 alarm LowFlow", &mut work)? {
+//!     Told::Round(round) => {} // a finding on each set of at most two failure modes
+//!     Told::Refused(refusal) => {} // nothing has changed
+//! }
+//! ```
 #![tactic(auto)]
 
 mod counts;

@@ -9,6 +9,18 @@
 //! - [`Frame`] is what contracts see of a split on the path.
 //!
 //! What a closed tree is worth is a clause of [`Checker::take`]: no trace explains the log, nor one that goes on from it.
+//!
+//! ```
+//! let mut checker = Checker::new(alloc, reach);
+//! for step in &steps {
+//!     checker.reserve()?;
+//!     match checker.take(&graph, &log, step) {
+//!         Taken::Open => {}
+//!         Taken::Closed => {} // the steps are a refutation
+//!         Taken::Bad(cause) => {} // the checker is unchanged
+//!     }
+//! }
+//! ```
 #![tactic(auto)]
 
 mod answers;

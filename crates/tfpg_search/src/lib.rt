@@ -2,10 +2,19 @@
 //!
 //! - [`Search`] has one set of failure modes. [`Search::round`] searches on for a log that goes on, and appends its steps.
 //! - [`Found`] is what it found: a trace that explains the log, a refutation, or that the budget of the round was spent.
-//!
 //! - [`laws`] says that there is a budget that is always enough.
 //!
 //! The mathematics stands in `docs/search.md`.
+//!
+//! ```
+//! let mut search = Search::new(alloc, &graph, set, reach)?;
+//! let mut steps = StepList::new(alloc);
+//! match search.round(&graph, &log, 1_000, &mut steps, &mut work)? {
+//!     Found::Shown(trace) => {} // it explains the log from the set
+//!     Found::Closed => {} // the steps of all rounds are a refutation
+//!     Found::Spent => {} // 1,000 splits were not enough
+//! }
+//! ```
 #![tactic(auto)]
 
 mod add_facts;

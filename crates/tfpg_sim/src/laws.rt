@@ -33,7 +33,8 @@ pub fn a_simulated_trace_keeps_the_rules()
 /// among them. The simulated trace explains their log from the simulated set.
 pub fn a_simulated_log_is_accepted_and_explained()
     ensures accepted { (graph : Tfpg) (script : List ℕ) (number : ℕ) (simulated : Simulated) →
-        IsValid graph → IsSimulationOf graph script number simulated → AreAccepted graph (lines_of simulated.log) }
+        IsValid graph → IsSimulationOf graph script number simulated →
+        AreAccepted graph (lines_of simulated.log) }
     ensures events { (graph : Tfpg) (script : List ℕ) (number : ℕ) (simulated : Simulated) →
         IsValid graph → (is : IsSimulationOf graph script number simulated) →
         (log_of_lines graph (lines_of simulated.log)).events ≡

@@ -5,6 +5,14 @@
 //! - [`laws`] says that a trace has exactly one verdict.
 //!
 //! It goes through spans and windows, and never through single instants.
+//!
+//! ```
+//! match explains(&graph, &log, set, &trace) {
+//!     Verdict::Yes => {}
+//!     Verdict::Must { node, time } => {} // the node is not active by then, when the failure is due
+//!     fault => {} // something else is wrong with it first
+//! }
+//! ```
 #![tactic(auto)]
 
 mod ages;
