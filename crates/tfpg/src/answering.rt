@@ -28,8 +28,10 @@ pub(crate) fn answer<L: Ledger>(
     work: &mut Steps<L>,
 ) -> Result<Vec<u8>, NoMemory>
     requires { IsReady engine.old }
-    ensures { (graph : Tfpg) (k budget : ℕ) (before : Progress) → EngineReports graph k budget engine.old before
-        → length text.now ≤ longest_line → IfOk result (λ block. HasBlock graph k budget before number text.now block.items engine.new) }
+    ensures { (graph : Tfpg) (k budget : ℕ) (before : Progress) →
+        EngineReports graph k budget engine.old before
+        → length text.now ≤ longest_line → IfOk result
+        (λ block. HasBlock graph k budget before number text.now block.items engine.new) }
 {
     rounds_say_which_sets_fit();
     statuses_are_those_of_minimal_sets();

@@ -73,11 +73,15 @@ fn take_turn<S: Source, K: Sink, L: Ledger>(
 ) -> Result<Turn, StreamFault>
     requires { IsReady engine.old }
     ensures turn { (graph : Tfpg) (k budget : ℕ) (before : Streams)
-        → IsUnderWay graph k budget before (streams (S.state input.old) (K.state out.old)) lines.old engine.old
-        → IfOk result (LeadsTo graph k budget before (streams (S.state input.new) (K.state out.new)) lines.old.number lines.new engine.new) }
+        → IsUnderWay graph k budget before (streams (S.state input.old) (K.state out.old)) lines.old
+        engine.old
+        → IfOk result (LeadsTo graph k budget before (streams (S.state input.new) (K.state out.new))
+        lines.old.number lines.new engine.new) }
     ensures stopped { (graph : Tfpg) (k budget : ℕ) (before : Streams)
-        → IsUnderWay graph k budget before (streams (S.state input.old) (K.state out.old)) lines.old engine.old
-        → IfErr result (λ fault. Diagnoses graph k budget before (streams (S.state input.new) (K.state out.new)) (Err fault)) }
+        → IsUnderWay graph k budget before (streams (S.state input.old) (K.state out.old)) lines.old
+        engine.old
+        → IfErr result (λ fault. Diagnoses graph k budget before
+        (streams (S.state input.new) (K.state out.new)) (Err fault)) }
 {
     match lines.next(input)? {
         Line::End => Ok(Turn::Ended),
@@ -94,10 +98,12 @@ fn take_turn<S: Source, K: Sink, L: Ledger>(
 
 /// Writes a whole block.
 fn put_block<K: Sink>(out: &mut K, block: &[u8]) -> Result<Turn, StreamFault>
-    ensures put { IfOk result (λ turn. (turn ≡ Turn.Answered) × Puts (K.state out.old) (K.state out.new) block.now
+    ensures put { IfOk result (λ turn. (turn ≡ Turn.Answered) ×
+        Puts (K.state out.old) (K.state out.new) block.now
         × ((K.state out.new).faults ≡ (K.state out.old).faults)) }
     ensures cause { IfErr result (λ fault. fault ≡ StreamFault.WriteFault) }
-    ensures front { OnErr result ((front rest : List ℕ) × (block.now ≡ front ++ rest) × Puts (K.state out.old) (K.state out.new) front) }
+    ensures front { OnErr result ((front rest : List ℕ) × (block.now ≡ front ++ rest) ×
+        Puts (K.state out.old) (K.state out.new) front) }
     ensures failed { OnErr result (Rose (K.state out.old).faults (K.state out.new).faults) }
 {
     put_all(out, block)?;

@@ -84,7 +84,8 @@ impl Diagnosis {
     /// Takes one more line.
     fn take<L: Ledger>(&mut self, line: &[u8], work: &mut Steps<L>) -> Result<(), NoMemory>
         ensures { (graph : Tfpg) (lines : List (List ℕ)) → HasDiagnosed graph lines self.old
-            → IsAccepted graph lines line.now → OnOk result (HasDiagnosed graph (lines ++ line.now ∷ []) self.new) }
+            → IsAccepted graph lines line.now →
+            OnOk result (HasDiagnosed graph (lines ++ line.now ∷ []) self.new) }
     {
         let number = u64::from(self.engine.log().len()) + 1;
         match self.engine.event(number, line, work) {

@@ -37,11 +37,14 @@ pub(crate) fn fetch_graph_and_log<F: Shelf>(
     graph_name: &str,
     log_name: &str,
 ) -> Result<(Graph, Log), FetchFault>
-    ensures given { IfOk result (λ both. GivesGraphAndLog (F.state shelf.old) graph_name.now log_name.now both.0 both.1) }
+    ensures given { IfOk result (λ both. GivesGraphAndLog (F.state shelf.old) graph_name.now log_name.now
+        both.0 both.1) }
     ensures of_graph { IfOk result (λ both. IsOf both.0 both.1) }
     ensures no_fault { OnOk result ((F.state shelf.new).faults ≡ (F.state shelf.old).faults) }
-    ensures fault { IfErr result (IsFilesFault (F.state shelf.old) (F.state shelf.new) graph_name.now log_name.now) }
-    ensures asks { AsksInOrder (graph_name.now ∷ log_name.now ∷ []) (F.state shelf.old).asked (F.state shelf.new).asked }
+    ensures fault { IfErr result (IsFilesFault (F.state shelf.old) (F.state shelf.new) graph_name.now
+        log_name.now) }
+    ensures asks { AsksInOrder (graph_name.now ∷ log_name.now ∷ []) (F.state shelf.old).asked
+        (F.state shelf.new).asked }
 {
     let (graph, log_text) = fetch_graph_and_text(alloc, shelf, graph_name, log_name)?;
     let log = log_of_text(alloc, &graph, &log_text)?;
@@ -55,10 +58,13 @@ pub(crate) fn fetch_graph_and_text<F: Shelf>(
     graph_name: &str,
     text_name: &str,
 ) -> Result<(Graph, Vec<u8>), FetchFault>
-    ensures given { IfOk result (λ both. GivesGraphAndText (F.state shelf.old) graph_name.now text_name.now both.0 both.1.items) }
+    ensures given { IfOk result (λ both. GivesGraphAndText (F.state shelf.old) graph_name.now text_name.now
+        both.0 both.1.items) }
     ensures no_fault { OnOk result ((F.state shelf.new).faults ≡ (F.state shelf.old).faults) }
-    ensures fault { IfErr result (IsFilesFault (F.state shelf.old) (F.state shelf.new) graph_name.now text_name.now) }
-    ensures asks { AsksInOrder (graph_name.now ∷ text_name.now ∷ []) (F.state shelf.old).asked (F.state shelf.new).asked }
+    ensures fault { IfErr result (IsFilesFault (F.state shelf.old) (F.state shelf.new) graph_name.now
+        text_name.now) }
+    ensures asks { AsksInOrder (graph_name.now ∷ text_name.now ∷ []) (F.state shelf.old).asked
+        (F.state shelf.new).asked }
 {
     let graph_text = fetch_file(alloc, shelf, graph_name)?;
     let text = fetch_file(alloc, shelf, text_name)?;

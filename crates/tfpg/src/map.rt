@@ -64,9 +64,11 @@ impl MapReader {
 
     /// Reads one more line. A reader whose line was not taken is of no further use.
     pub(crate) fn take(&mut self, graph: &Graph, line: &[u8]) -> Result<(), MapFault>
-        ensures taken { (lines : List (List ℕ)) → MapRepresents graph.now self.old lines → length line.now ≤ longest_line
+        ensures taken { (lines : List (List ℕ)) → MapRepresents graph.now self.old lines →
+            length line.now ≤ longest_line
             → OnOk result (MapRepresents graph.now self.new (lines ++ line.now ∷ [])) }
-        ensures bad { (lines : List (List ℕ)) → MapRepresents graph.now self.old lines → IsErrOf result MapFault.BadMap
+        ensures bad { (lines : List (List ℕ)) → MapRepresents graph.now self.old lines →
+            IsErrOf result MapFault.BadMap
             → BeginsMap graph.now (lines ++ line.now ∷ []) → ⊥ }
     {
         let _valid = graph.node_count();

@@ -17,7 +17,8 @@ use tfpg_graph::Graph;
 /// The set that the line spells.
 pub(crate) fn read_set_line(alloc: Global, graph: &Graph, line: &[u8]) -> Result<Set, MapFault>
     ensures set { IfOk result (λ set. IsSetOf graph.now set × (line.now ≡ set_line graph.now set)) }
-    ensures bad { IsErrOf result MapFault.BadMap → (set : List ℕ) → IsSetOf graph.now set → line.now ≡ set_line graph.now set → ⊥ }
+    ensures bad { IsErrOf result MapFault.BadMap → (set : List ℕ) → IsSetOf graph.now set →
+        line.now ≡ set_line graph.now set → ⊥ }
 {
     let _valid = graph.node_count();
     let Some(word) = behind_set(line) else {
@@ -40,7 +41,8 @@ fn behind_set(line: &[u8]) -> Option<&[u8]>
 /// The set that the word spells.
 fn read_set(alloc: Global, graph: &Graph, word: &[u8]) -> Result<Set, MapFault>
     ensures set { IfOk result (λ set. IsSetOf graph.now set × (word.now ≡ set_word graph.now set)) }
-    ensures bad { IsErrOf result MapFault.BadMap → (set : List ℕ) → IsSetOf graph.now set → word.now ≡ set_word graph.now set → ⊥ }
+    ensures bad { IsErrOf result MapFault.BadMap → (set : List ℕ) → IsSetOf graph.now set →
+        word.now ≡ set_word graph.now set → ⊥ }
 {
     let _valid = graph.node_count();
     if word == b"-".as_slice() {
@@ -55,7 +57,8 @@ fn read_set(alloc: Global, graph: &Graph, word: &[u8]) -> Result<Set, MapFault>
 
 /// The parts of the word between its commas.
 fn parts_at_commas<'a>(alloc: Global, word: &'a [u8]) -> Result<Vec<&'a [u8]>, NoMemory>
-    ensures { IfOk result (λ names. map (λ name. name.now) names.items ≡ slice_split (λ byte. byte == 44) word.now) }
+    ensures { IfOk result (λ names. map (λ name. name.now) names.items
+        ≡ slice_split (λ byte. byte == 44) word.now) }
 {
     let mut names = Vec::new(alloc);
     for name in word.split(|byte| *byte == b',') {
@@ -67,8 +70,10 @@ fn parts_at_commas<'a>(alloc: Global, word: &'a [u8]) -> Result<Vec<&'a [u8]>, N
 /// The positions of the failure modes of these names, where they rise, and none is before the least one. Calls as deep as
 /// there are failure modes, at most.
 fn rising_places(graph: &Graph, names: &[&[u8]], least: u32) -> Option<Set>
-    ensures found { IfSome result (λ set. AreFrom graph.now least set × (map (failure_name graph.now) set ≡ map (λ name. name.now) names.now)) }
-    ensures none { IsNone result → (set : List ℕ) → AreFrom graph.now least set → map (failure_name graph.now) set ≡ map (λ name. name.now) names.now → ⊥ }
+    ensures found { IfSome result (λ set. AreFrom graph.now least set ×
+        (map (failure_name graph.now) set ≡ map (λ name. name.now) names.now)) }
+    ensures none { IsNone result → (set : List ℕ) → AreFrom graph.now least set →
+        map (failure_name graph.now) set ≡ map (λ name. name.now) names.now → ⊥ }
 {
     match names.split_first() {
         None => Some(Set::empty()),
@@ -93,8 +98,10 @@ fn find_failure(graph: &Graph, name: &[u8]) -> Option<u32>
 
 /// The activation that the line spells.
 pub(crate) fn read_activation(graph: &Graph, line: &[u8]) -> Option<Activation>
-    ensures found { IfSome result (λ activation. IsActivationOf graph.now activation × (line.now ≡ at_line graph.now activation)) }
-    ensures none { IsNone result → (activation : Activation) → IsActivationOf graph.now activation → line.now ≡ at_line graph.now activation → ⊥ }
+    ensures found { IfSome result (λ activation. IsActivationOf graph.now activation ×
+        (line.now ≡ at_line graph.now activation)) }
+    ensures none { IsNone result → (activation : Activation) → IsActivationOf graph.now activation →
+        line.now ≡ at_line graph.now activation → ⊥ }
 {
     let _valid = graph.node_count();
     let (name, time) = behind_at(line)?;

@@ -23,7 +23,8 @@ pub(crate) enum MapTurn {
 /// `Refused` at the first faulty line; an input without a line is refused at line 1.
 pub(crate) fn read_map<S: Source>(alloc: Global, graph: &Graph, input: &mut S) -> Result<Map, NoMap>
     ensures map { IfOk result (ReadsMap graph.now (S.state input.old) (S.state input.new)) }
-    ensures nodes { IfOk result (λ map. All (λ activation. activation.node < length graph.now.nodes) map.trace) }
+    ensures nodes { IfOk result (λ map. All (λ activation. activation.node < length graph.now.nodes)
+        map.trace) }
     ensures none { IfErr result (LacksMap graph.now (S.state input.old) (S.state input.new)) }
 {
     let mut reader = MapReader::new(alloc);
@@ -43,9 +44,11 @@ fn take_line<S: Source>(
     graph: &Graph,
     input: &mut S,
 ) -> Result<MapTurn, NoMap>
-    ensures turn { (before : SourceState) → IsReadingMap graph.now before (S.state input.old) lines.old reader.old
+    ensures turn { (before : SourceState) → IsReadingMap graph.now before (S.state input.old) lines.old
+        reader.old
         → IfOk result (ReadsOn graph.now before (S.state input.new) lines.old.number lines.new reader.new) }
-    ensures none { (before : SourceState) → IsReadingMap graph.now before (S.state input.old) lines.old reader.old
+    ensures none { (before : SourceState) → IsReadingMap graph.now before (S.state input.old) lines.old
+        reader.old
         → IfErr result (LacksMap graph.now before (S.state input.new)) }
 {
     match lines.next(input)? {

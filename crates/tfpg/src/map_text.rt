@@ -33,7 +33,8 @@ pub(crate) fn map_text(
 /// Appends the line of a set.
 fn put_set_line(graph: &Graph, set: Set, into: &mut Vec<u8>) -> Result<(), NoMemory>
     requires { All (λ place. place < length (failures graph.now)) set }
-    ensures { Appends result into.old.items into.new.items (text_line (codes "set" ∷ set_word graph.now set ∷ [])) }
+    ensures { Appends result into.old.items into.new.items
+        (text_line (codes "set" ∷ set_word graph.now set ∷ [])) }
 {
     into.extend_from_slice(b"set ")?;
     put_set(graph, set, into)?;

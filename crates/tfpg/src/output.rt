@@ -9,7 +9,8 @@ use tfpg_base::{Failed, Sink};
 pub(crate) fn put_all<K: Sink>(out: &mut K, piece: &[u8]) -> Result<(), Failed>
     ensures put { OnOk result (Puts (K.state out.old) (K.state out.new) piece.now) }
     ensures no_fault { OnOk result ((K.state out.new).faults ≡ (K.state out.old).faults) }
-    ensures front { OnErr result ((front rest : List ℕ) × (piece.now ≡ front ++ rest) × Puts (K.state out.old) (K.state out.new) front) }
+    ensures front { OnErr result ((front rest : List ℕ) × (piece.now ≡ front ++ rest) ×
+        Puts (K.state out.old) (K.state out.new) front) }
     ensures failed { OnErr result (Rose (K.state out.old).faults (K.state out.new).faults) }
 {
     let mut rest = piece;

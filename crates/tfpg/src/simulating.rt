@@ -27,11 +27,14 @@ pub(crate) fn simulate_files<F: Shelf, K: Sink>(
     shelf: &mut F,
     out: &mut K,
 ) -> Result<(), End>
-    ensures done { OnOk result (SimulateEnds (F.state shelf.old) (F.state shelf.new) graph_name.now script_name.now draw trace
+    ensures done { OnOk result (SimulateEnds (F.state shelf.old) (F.state shelf.new) graph_name.now
+        script_name.now draw trace
         (K.state out.old) (K.state out.new) End.Done) }
-    ensures stopped { IfErr result (SimulateEnds (F.state shelf.old) (F.state shelf.new) graph_name.now script_name.now draw trace
+    ensures stopped { IfErr result (SimulateEnds (F.state shelf.old) (F.state shelf.new) graph_name.now
+        script_name.now draw trace
         (K.state out.old) (K.state out.new)) }
-    ensures asks { AsksInOrder (graph_name.now ∷ script_name.now ∷ []) (F.state shelf.old).asked (F.state shelf.new).asked }
+    ensures asks { AsksInOrder (graph_name.now ∷ script_name.now ∷ []) (F.state shelf.old).asked
+        (F.state shelf.new).asked }
 {
     let (graph, script) = fetch_graph_and_text(alloc, shelf, graph_name, script_name)?;
     put_simulation(alloc, &graph, &script, draw, trace, out)
@@ -46,8 +49,10 @@ fn put_simulation<K: Sink>(
     trace: bool,
     out: &mut K,
 ) -> Result<(), End>
-    ensures done { OnOk result (SimulationEnds graph.now script.now draw trace (K.state out.old) (K.state out.new) End.Done) }
-    ensures stopped { IfErr result (SimulationEnds graph.now script.now draw trace (K.state out.old) (K.state out.new)) }
+    ensures done { OnOk result (SimulationEnds graph.now script.now draw trace (K.state out.old)
+        (K.state out.new) End.Done) }
+    ensures stopped { IfErr result (SimulationEnds graph.now script.now draw trace (K.state out.old)
+        (K.state out.new)) }
 {
     let text = simulation_text(alloc, graph, script, draw, trace)?;
     put_all(out, &text)?;

@@ -24,7 +24,8 @@ pub(crate) fn summary_of(
 ) -> Result<Vec<u8>, NoMemory>
     requires members { All (λ place. place < length (failures diagnosis.now.engine.graph)) set }
     requires found { IsSomeAnd diagnosis.now.last (HasFindingOn set) }
-    ensures { IfOk result (λ text. IsSomeAnd diagnosis.now.last (SaysOfRound number size diagnosis.now.engine.graph
+    ensures { IfOk result (λ text. IsSomeAnd diagnosis.now.last
+        (SaysOfRound number size diagnosis.now.engine.graph
         (length diagnosis.now.engine.log.events) set text.items)) }
 {
     match &diagnosis.last {

@@ -9,7 +9,8 @@ ghost use Rattle.tfpg_check.specs.Report.{new_progress, progress_after, progress
 /// before.
 pub fn a_report_goes_on_block_by_block()
     ensures start { (graph : Tfpg) → progress_of graph [] [] ≡ new_progress }
-    ensures step { (graph : Tfpg) (lines : List (List ℕ)) (blocks : List Block) (line : List ℕ) (block : Block) →
+    ensures step { (graph : Tfpg) (lines : List (List ℕ)) (blocks : List Block) (line : List ℕ)
+        (block : Block) →
         progress_of graph (lines ++ line ∷ []) (blocks ++ block ∷ [])
         ≡ progress_after graph (progress_of graph lines blocks) line block }
 {}

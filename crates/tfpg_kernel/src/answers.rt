@@ -22,10 +22,12 @@ use tfpg_clause::laws::{
 /// is not. It does nothing.
 pub(crate) fn moves_are_answers()
     ensures refused { (graph : Tfpg) (earlier log : Logbook) (old : Checking) (steps : List Judged)
-        (step : Step) → IsOrdered log → GoesOn earlier log → CheckerRepresents graph earlier old steps → old.closed ≡ true →
+        (step : Step) → IsOrdered log → GoesOn earlier log → CheckerRepresents graph earlier old steps →
+        old.closed ≡ true →
         IsAnswer graph log old.reach steps step (Bad AfterClosed) old }
     ensures moved { (graph : Tfpg) (earlier log : Logbook) (old new : Checking) (steps : List Judged)
-        (step : Step) (result : Taken) → IsOrdered log → GoesOn earlier log → CheckerRepresents graph earlier old steps →
+        (step : Step) (result : Taken) → IsOrdered log → GoesOn earlier log →
+        CheckerRepresents graph earlier old steps →
         old.closed ≡ false → new.reach ≡ old.reach → Moves graph log old step result new →
         IsAnswer graph log old.reach steps step result new }
 {

@@ -5,7 +5,8 @@ ghost use Rattle.tfpg_words.specs.Meaning.{meaning, Diagnose, Generate};
 
 /// The numbers of a command are within their limits.
 pub fn numbers_are_within_their_limits()
-    ensures diagnose { (words : List (List ℕ)) (k budget : ℕ) (graph : List ℕ) → meaning words ≡ Ok (Diagnose k budget graph) →
+    ensures diagnose { (words : List (List ℕ)) (k budget : ℕ) (graph : List ℕ) →
+        meaning words ≡ Ok (Diagnose k budget graph) →
         (k ≤ 64) × (1 ≤ budget) × (budget ≤ 10 ^ 12) }
     ensures generate { (words : List (List ℕ)) (draw size : ℕ) → meaning words ≡ Ok (Generate draw size) →
         (1 ≤ size) × (size ≤ 100) }

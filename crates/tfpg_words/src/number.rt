@@ -23,7 +23,8 @@ pub(crate) struct NumberOption {
 impl NumberOption {
     /// The number that the option has in these parts.
     pub(crate) fn number_in(&self, parts: &Parts) -> Result<u64, UsageCause>
-        ensures { result ≡ number_given (option_in self.now) (first_value self.now.name.now (rows_in parts.now)) }
+        ensures { result ≡ number_given (option_in self.now)
+            (first_value self.now.name.now (rows_in parts.now)) }
     {
         match parts.value_of(self.name) {
             Some(value) => within(self.least, self.most, value),

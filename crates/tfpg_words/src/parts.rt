@@ -33,7 +33,8 @@ impl<'a> Parts<'a> {
         words: &'a [String],
     ) -> Result<Parts<'a>, PlanFault>
         requires { IsFormed (options_in form.now) (flags_in form.now) }
-        ensures { TakesApart (form_in form.now) (parts_of (form_in form.now) (map string_bytes words.now)) result }
+        ensures { TakesApart (form_in form.now) (parts_of (form_in form.now) (map string_bytes words.now))
+            result }
     {
         let parts = Parts::taken(alloc, form, words)?;
         if !parts.are_once(form) {
@@ -45,7 +46,8 @@ impl<'a> Parts<'a> {
     /// Takes the words apart, where each word has its place.
     fn taken(alloc: Global, form: &Form, words: &'a [String]) -> Result<Parts<'a>, PlanFault>
         requires { IsFormed (options_in form.now) (flags_in form.now) }
-        ensures { TakesApart (form_in form.now) (parts_from (form_in form.now) (map string_bytes words.now) Any) result }
+        ensures { TakesApart (form_in form.now)
+            (parts_from (form_in form.now) (map string_bytes words.now) Any) result }
     {
         let command = command_for(alloc, form)?;
         let matches = parsed(command, words)?;

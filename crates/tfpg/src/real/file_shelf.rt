@@ -80,7 +80,9 @@ fn read_whole<R: Read>(reader: &mut R, into: &mut Vec<u8>) -> Result<(), ShelfFa
     ensures too_long { IsErrOf result ShelfFault.TooLong → length into.new.items ≡ 2 ^ 24 }
     ensures no_memory { IsErrOf result ShelfFault.NoMemory → vec_capacity into.old < 2 ^ 24 }
     ensures whole { OnOk result (IfSome (R.remaining reader.old) (λ known. into.new.items ≡ known)) }
-    ensures front { IsErrOf result ShelfFault.TooLong → IfSome (R.remaining reader.old) (λ known. (more : List ℕ) × (0 < length more) × (known ≡ into.new.items ++ more)) }
+    ensures front { IsErrOf result ShelfFault.TooLong →
+        IfSome (R.remaining reader.old) (λ known. (more : List ℕ) × (0 < length more) ×
+        (known ≡ into.new.items ++ more)) }
 {
     let mut room = [0; BLOCK];
     // The bound lets the call be proved to return; no run comes near it.
@@ -100,8 +102,10 @@ fn append(part: &[u8], into: &mut Vec<u8>) -> Result<(), ShelfFault>
     ensures small { OnOk result (length into.new.items ≤ 2 ^ 24) }
     ensures appended { OnOk result (into.new.items ≡ into.old.items ++ part.now) }
     ensures too_long { IsErrOf result ShelfFault.TooLong → length into.new.items ≡ 2 ^ 24 }
-    ensures front { IsErrOf result ShelfFault.TooLong → (more : List ℕ) × (0 < length more) × (into.old.items ++ part.now ≡ into.new.items ++ more) }
-    ensures no_memory { IsErrOf result ShelfFault.NoMemory → vec_capacity into.old < length into.old.items + length part.now }
+    ensures front { IsErrOf result ShelfFault.TooLong → (more : List ℕ) × (0 < length more) ×
+        (into.old.items ++ part.now ≡ into.new.items ++ more) }
+    ensures no_memory { IsErrOf result ShelfFault.NoMemory →
+        vec_capacity into.old < length into.old.items + length part.now }
     ensures limit { IsErrOf result ShelfFault.NoMemory → vec_capacity into.old < 2 ^ 24 }
     ensures capacity { vec_capacity into.old ≤ vec_capacity into.new }
     ensures no_fault { result ≢ Err ShelfFault.Failed }

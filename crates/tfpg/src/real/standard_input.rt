@@ -39,7 +39,11 @@ impl<R> StandardInput<R> {
 }
 
 impl<R: SteadyRead> Source for StandardInput<R> {
-    ghost state = { λ input. record { left = R.remaining input.reader; ended = input.ended; faults = input.faults.count } };
+    ghost state = { λ input. record {
+      left = R.remaining input.reader;
+      ended = input.ended;
+      faults = input.faults.count;
+    } };
 
     fn take(&mut self, room: &mut [u8]) -> Result<usize, Failed> {
         match read_uncut(&mut self.reader, room) {

@@ -10,12 +10,14 @@ use std::io::{Read, Stdin, Stdout, Write};
 
 /// A reader of which it does not become known what it has left.
 pub(crate) trait SteadyRead: Read {
-    ghost steady: { (before after : Self) → Keeps (Self.remaining before) (Self.remaining after) → Self.remaining after ≡ Self.remaining before };
+    ghost steady: { (before after : Self) → Keeps (Self.remaining before) (Self.remaining after) →
+        Self.remaining after ≡ Self.remaining before };
 }
 
 /// A writer of which it does not become known what it holds.
 pub(crate) trait SteadyWrite: Write {
-    ghost steady: { (before after : Self) → Keeps (Self.contents before) (Self.contents after) → Self.contents after ≡ Self.contents before };
+    ghost steady: { (before after : Self) → Keeps (Self.contents before) (Self.contents after) →
+        Self.contents after ≡ Self.contents before };
 }
 
 impl SteadyRead for Stdin {
