@@ -51,7 +51,8 @@ pub fn a_clause_has_few_small_alternatives()
         ((node : ℕ) → length (edges_into graph node) ≤ most) → (name : ClauseName) (count : ℕ) →
         count_of graph log name ≡ Some count → count < 2 * most + 3 }
     ensures small { (graph : Tfpg) (log : Logbook) (name : ClauseName) (clause : List (List Constraint)) →
-        IsValid graph → alternatives graph log name ≡ Some clause → All (IsSmall (length graph.nodes)) clause }
+        IsValid graph → alternatives graph log name ≡ Some clause →
+        All (IsSmall (length graph.nodes)) clause }
 {}
 
 /// A log goes on from its first events. So what was allowed at them is allowed at the log.

@@ -21,7 +21,8 @@ pub(crate) fn cut(alloc: Global, instant: u64, times: &[u64]) -> Result<Trace, N
 
 /// Activates the node, where its time is at most the instant.
 fn activate(trace: &mut Trace, instant: u64, node: u32, time: u64) -> Result<(), NoMemory>
-    ensures { OnOk result (trace.new ≡ (if nat_le time instant then with_time node time trace.old else trace.old)) }
+    ensures { OnOk result (trace.new
+        ≡ (if nat_le time instant then with_time node time trace.old else trace.old)) }
 {
     if time <= instant {
         trace.set(node, time)?;

@@ -136,7 +136,8 @@ impl LeafSystem {
         requires node { node < length self.old.demands.bounds }
         requires tighter { (bounds : Bounds) → Bounded self.old.demands node bounds → most < bounds.ceiling }
         ensures ok { OnOk result
-            (self.new.demands ≡ with_ceiling self.old.demands node most (length self.old.demands.bounds + node)) }
+            (self.new.demands ≡ with_ceiling self.old.demands node most
+            (length self.old.demands.bounds + node)) }
         ensures err { OnErr result (self.new ≡ self.old) }
         ensures nodes { length self.new.demands.bounds ≡ length self.old.demands.bounds }
         ensures reasons { pick_reasons self.new ≡ pick_reasons self.old }

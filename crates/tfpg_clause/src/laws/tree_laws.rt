@@ -20,24 +20,30 @@ ghost use Rattle.tfpg_clause.specs.declared.path.Frame.{Frame};
 /// - `closed`: where none has, the steps are a refutation.
 pub fn a_partial_tree_grows()
     ensures begins { (graph : Tfpg) (log : Logbook) (reach : List ℕ) → IsPresentLeaf graph log reach [] [] }
-    ensures split { (graph : Tfpg) (log : Logbook) (reach : List ℕ) (steps : List Judged) (path : List PathSplit)
+    ensures split { (graph : Tfpg) (log : Logbook) (reach : List ℕ) (steps : List Judged)
+        (path : List PathSplit)
         (name : ClauseName) (count : ℕ) →
         IsPresentLeaf graph log reach steps path → count_of graph log name ≡ Some count →
         IsPresentLeaf graph log reach (with_step steps log (Split name)) (path ++ new_split log name ∷ []) }
-    ensures next { (graph : Tfpg) (log : Logbook) (reach : List ℕ) (steps : List Judged) (path next : List PathSplit)
+    ensures next { (graph : Tfpg) (log : Logbook) (reach : List ℕ) (steps : List Judged)
+        (path next : List PathSplit)
         (reasons : List Reason) →
-        IsPresentLeaf graph log reach steps path → IsClosedLeaf graph log reach path (length log.events) reasons →
+        IsPresentLeaf graph log reach steps path →
+        IsClosedLeaf graph log reach path (length log.events) reasons →
         next_leaf graph log path ≡ Some next →
         IsPresentLeaf graph log reach (with_step steps log (Cycle reasons)) next }
-    ensures closed { (graph : Tfpg) (log : Logbook) (reach : List ℕ) (steps : List Judged) (path : List PathSplit)
+    ensures closed { (graph : Tfpg) (log : Logbook) (reach : List ℕ) (steps : List Judged)
+        (path : List PathSplit)
         (reasons : List Reason) →
-        IsPresentLeaf graph log reach steps path → IsClosedLeaf graph log reach path (length log.events) reasons →
+        IsPresentLeaf graph log reach steps path →
+        IsClosedLeaf graph log reach path (length log.events) reasons →
         next_leaf graph log path ≡ None → IsRefutation graph log reach (with_step steps log (Cycle reasons)) }
 {}
 
 /// The last step of a refutation, or of a partial tree, is right at the present leaf of the steps before it.
 pub fn the_last_step_of_a_tree_is_right()
-    ensures refutation { (graph : Tfpg) (log : Logbook) (reach : List ℕ) (steps : List Judged) (last : Judged) →
+    ensures refutation { (graph : Tfpg) (log : Logbook) (reach : List ℕ) (steps : List Judged)
+        (last : Judged) →
         IsRefutation graph log reach (steps ++ last ∷ []) → IsRightNext graph log reach steps last }
     ensures partial { (graph : Tfpg) (log : Logbook) (reach : List ℕ) (steps : List Judged) (last : Judged) →
         IsPartial graph log reach (steps ++ last ∷ []) → IsRightNext graph log reach steps last }
@@ -64,11 +70,13 @@ pub fn a_refutation_is_finished()
 /// Trees at a log are trees at each log that goes on from it, and what a reason states on a path stays: also where the later
 /// log has more events by which it is judged.
 pub fn a_tree_stays()
-    ensures leaf { (graph : Tfpg) (earlier later : Logbook) (reach : List ℕ) (steps : List Judged) (path : List PathSplit) →
+    ensures leaf { (graph : Tfpg) (earlier later : Logbook) (reach : List ℕ) (steps : List Judged)
+        (path : List PathSplit) →
         IsOrdered later → GoesOn earlier later →
         IsPresentLeaf graph earlier reach steps path → IsPresentLeaf graph later reach steps path }
     ensures partial { (graph : Tfpg) (earlier later : Logbook) (reach : List ℕ) (steps : List Judged) →
-        IsOrdered later → GoesOn earlier later → IsPartial graph earlier reach steps → IsPartial graph later reach steps }
+        IsOrdered later → GoesOn earlier later → IsPartial graph earlier reach steps →
+        IsPartial graph later reach steps }
     ensures refutation { (graph : Tfpg) (earlier later : Logbook) (reach : List ℕ) (steps : List Judged) →
         IsOrdered later → GoesOn earlier later →
         IsRefutation graph earlier reach steps → IsRefutation graph later reach steps }
@@ -96,10 +104,12 @@ pub fn frames_follow_the_path()
         (next : List PathSplit) × (next_leaf graph log path ≡ Some next) × AreFramesOf graph log next after }
     ensures both_end { (graph : Tfpg) (log : Logbook) (path : List PathSplit) (frames : List Frame) →
         AreFramesOf graph log path frames → path_after frames ≡ None → next_leaf graph log path ≡ None }
-    ensures frames_stay { (graph : Tfpg) (earlier later : Logbook) (path : List PathSplit) (frames : List Frame) →
+    ensures frames_stay { (graph : Tfpg) (earlier later : Logbook) (path : List PathSplit)
+        (frames : List Frame) →
         IsOrdered later → GoesOn earlier later →
         AreFramesOf graph earlier path frames → AreFramesOf graph later path frames }
-    ensures states_same { (graph : Tfpg) (log : Logbook) (reach : List ℕ) (path : List PathSplit) (frames : List Frame)
+    ensures states_same { (graph : Tfpg) (log : Logbook) (reach : List ℕ) (path : List PathSplit)
+        (frames : List Frame)
         (reason : Reason) →
         IsOrdered log → AreFramesOf graph log path frames →
         stated_by graph log reach frames reason ≡ stated graph log reach path (length log.events) reason }
@@ -114,21 +124,25 @@ pub fn frames_follow_the_path()
 /// - `stays`: at a log that goes on they are at the present leaf of the same steps.
 pub fn frames_are_at_the_present_leaf()
     ensures begins { (graph : Tfpg) (log : Logbook) (reach : List ℕ) → IsAtLeaf graph log reach [] [] }
-    ensures split { (graph : Tfpg) (log : Logbook) (reach : List ℕ) (frames : List Frame) (steps : List Judged)
+    ensures split { (graph : Tfpg) (log : Logbook) (reach : List ℕ) (frames : List Frame)
+        (steps : List Judged)
         (name : ClauseName) (count : ℕ) →
         IsAtLeaf graph log reach frames steps → count_of graph log name ≡ Some count →
         IsAtLeaf graph log reach (frames ++ new_frame name count ∷ []) (with_step steps log (Split name)) }
-    ensures next { (graph : Tfpg) (log : Logbook) (reach : List ℕ) (frames after : List Frame) (steps : List Judged)
+    ensures next { (graph : Tfpg) (log : Logbook) (reach : List ℕ) (frames after : List Frame)
+        (steps : List Judged)
         (reasons : List Reason) →
         IsOrdered log → IsAtLeaf graph log reach frames steps →
         IsClosedBy (stated_by graph log reach frames) reasons → path_after frames ≡ Some after →
         IsAtLeaf graph log reach after (with_step steps log (Cycle reasons)) }
-    ensures closed { (graph : Tfpg) (log : Logbook) (reach : List ℕ) (frames : List Frame) (steps : List Judged)
+    ensures closed { (graph : Tfpg) (log : Logbook) (reach : List ℕ) (frames : List Frame)
+        (steps : List Judged)
         (reasons : List Reason) →
         IsOrdered log → IsAtLeaf graph log reach frames steps →
         IsClosedBy (stated_by graph log reach frames) reasons → path_after frames ≡ None →
         IsRefutation graph log reach (with_step steps log (Cycle reasons)) }
-    ensures stays { (graph : Tfpg) (earlier later : Logbook) (reach : List ℕ) (frames : List Frame) (steps : List Judged) →
+    ensures stays { (graph : Tfpg) (earlier later : Logbook) (reach : List ℕ) (frames : List Frame)
+        (steps : List Judged) →
         IsOrdered later → GoesOn earlier later →
         IsAtLeaf graph earlier reach frames steps → IsAtLeaf graph later reach frames steps }
 {}

@@ -81,7 +81,8 @@ impl Search {
         ensures same { self.new ≡ record self.old { leaf = self.new.leaf } }
         ensures pushing { Pushing graph.now log.now self.old.reach self.old.path self.old.leaf self.new.leaf }
         ensures ok { OnOk result (pick_reasons self.new.leaf
-            ≡ pick_reasons self.old.leaf ++ picks_from split 1 (places_at graph.now log.now self.old.path split)) }
+            ≡ pick_reasons self.old.leaf ++ picks_from split 1
+            (places_at graph.now log.now self.old.path split)) }
         ensures closes { IfErr result (Closes (stated_by graph.now log.now self.old.reach self.old.path)) }
     {
         clause_laws();
@@ -133,7 +134,8 @@ impl Search {
     pub(super) fn leave(&mut self, kept: usize)
         requires counted { (before : ℕ) → slice_get self.old.entered kept ≡ Some before →
             before ≤ length (pick_reasons self.old.leaf) }
-        ensures same { self.new ≡ record self.old { entered = take kept self.old.entered; leaf = self.new.leaf } }
+        ensures same { self.new
+            ≡ record self.old { entered = take kept self.old.entered; leaf = self.new.leaf } }
         ensures leaf { Leaves (slice_get self.old.entered kept) self.old.leaf self.new.leaf }
     {
         let _count = self.leaf.pick_count();

@@ -129,7 +129,8 @@ impl Search {
             IsStated (fact graph.now log.now self.old.reach) stated self.old.leaf →
             IsStated (fact graph.now log.now self.old.reach) stated self.new.leaf }
         ensures closes { (stated : Reason → Option Constraint) →
-            IsStated (fact graph.now log.now self.old.reach) stated self.old.leaf → IfErr result (Closes stated) }
+            IsStated (fact graph.now log.now self.old.reach) stated self.old.leaf →
+            IfErr result (Closes stated) }
         ensures facts { OnOk result ((reason : Reason) (constraint : Constraint) →
             fact graph.now log.now self.old.reach reason ≡ Some constraint →
             (times : List ℕ) → IsSolution self.new.leaf.demands times → Meets times constraint) }
@@ -162,7 +163,8 @@ impl Search {
     /// Moves the path to the next leaf. Returns whether there is one.
     fn advance(&mut self) -> bool
         ensures same { self.new ≡ record self.old { path = self.new.path } }
-        ensures path { MatchBool result (path_after self.old.path ≡ Some self.new.path) (path_after self.old.path ≡ None) }
+        ensures path { MatchBool result (path_after self.old.path ≡ Some self.new.path)
+            (path_after self.old.path ≡ None) }
     {
         advance(&mut self.path)
     }
