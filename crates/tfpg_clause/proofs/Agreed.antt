@@ -1,11 +1,11 @@
 -- Numbers and a trace that say the same of each node up to an instant.
-use Rattle.std.proofs.Common.{◌≡◌, ℕ, zero, suc, ◌+◌, ◌<◌, ◌≤◌, Bool, true, false, cond, eqb, leb, List, [], ◌∷◌, length, get_or, Option, Some, None, refl, sym, ap, ◌∙◌, ◌⊎◌, inl, inr, arith}
-use Rattle.std.specs.Prelude.{All, Contains}
+use Rattle.std.proofs.Common.{◌≡◌, ℕ, zero, suc, ◌+◌, ◌<◌, ◌≤◌, Bool, true, false, cond, eqb, leb, List, [], ◌∷◌, length, get_or, Option, Some, None, refl, sym, ap, ◌∙◌, arith}
+use Rattle.std.specs.Prelude.{All}
 use Rattle.std.proofs.lemmas.Bool.{eqb-true, le-leb, leb-true, ne_eqb, eq-eqb}
 use Rattle.std.proofs.lemmas.List.Elements.{All-contains}
 use Rattle.tfpg_base.specs.declared.activation.Activation.{Activation}
-use Rattle.tfpg_base.specs.Trace.{IsRisingByNode, time_of}
-use Rattle.tfpg_base.proofs.lists.Elements.{Contains-tail, Contains-nil, Contains-cons_cases, AllPairs-head, AllPairs-tail}
+use Rattle.tfpg_base.specs.Trace.{time_of}
+use Rattle.tfpg_base.proofs.TraceTimes.{activation_there}
 use Rattle.tfpg_graph.specs.Graph.{Tfpg}
 use Rattle.tfpg_log.specs.Rules.{IsActive}
 use Rattle.tfpg_clause.specs.Cut.{cut, cut_from, AreNumbersOf}
@@ -24,20 +24,6 @@ module _ (count now : ℕ) (trace : List Activation) (numbers : List ℕ) (agree
   -- and only there
   pub active_only : (node instant : ℕ) → IsActive trace node instant → get_or numbers node 0 ≤ instant
   active_only node instant active = omega (arith, agree.number_is node active.0 active.1, active.2)
-
--- what holds of each activation holds of the time of a node
-pub activation_there : (trace : List Activation) (node time : ℕ) → time_of trace node ≡ Some time → Contains trace (record { node = node; time = time })
-activation_there [] node time at = absurd cc
-activation_there (first ∷ others) node time at = by (eqb first.node node) refl at (activation_there others node time)
-  where
-    by : (b : Bool) → eqb first.node node ≡ b → cond b (Some first.time) (time_of others node) ≡ Some time
-        → (time_of others node ≡ Some time → Contains others (record { node = node; time = time }))
-        → Contains (first ∷ others) (record { node = node; time = time })
-    by true same is rest =
-        let own : first.node ≡ node = eqb-true first.node node same in
-        let when : first.time ≡ time = cc in
-        (0, omega arith, λ i. record { node = own i; time = when i })
-    by false other is rest = Contains-tail first others (record { node = node; time = time }) (rest is)
 
 -- The numbers of a trace whose times are up to an instant agree with it.
 pub of_trace : (graph : Tfpg) (now : ℕ) (trace : List Activation) (numbers : List ℕ) → All (λ activation. activation.time ≤ now) trace → AreNumbersOf graph now trace numbers
@@ -128,19 +114,3 @@ of_cut count now numbers many = record {
   by_now = λ node time at. (time_of_cut now numbers node time at).2;
   early = λ node within before. cut_early 0 now numbers node node (omega arith) (omega (arith, many, within)) before;
 }
-
--- the trace gives the node of each activation its time
-pub time_there : (trace : List Activation) → IsRisingByNode trace → (activation : Activation) → Contains trace activation → time_of trace activation.node ≡ Some activation.time
-time_there [] rising activation member = absurd (Contains-nil activation member)
-time_there (first ∷ others) rising activation member =
-    by (Contains-cons_cases first others activation member) (time_there others (AllPairs-tail (λ earlier later. earlier.node < later.node) first others rising) activation)
-  where
-    by : (first ≡ activation) ⊎ Contains others activation → (Contains others activation → time_of others activation.node ≡ Some activation.time)
-        → time_of (first ∷ others) activation.node ≡ Some activation.time
-    by (inl same) rest =
-        let here : eqb first.node activation.node ≡ true = eq-eqb first.node activation.node (ap (λ (a : Activation). a.node) same) in
-        ap (λ (b : Bool). cond b (Some first.time) (time_of others activation.node)) here ∙ ap (λ (a : Activation). Some a.time) same
-    by (inr more) rest =
-        let less = All-contains (λ later. first.node < later.node) others activation (AllPairs-head (λ earlier later. earlier.node < later.node) first others rising) more in
-        let other : eqb first.node activation.node ≡ false = ne_eqb first.node activation.node (λ same. omega (arith, less, same)) in
-        ap (λ (b : Bool). cond b (Some first.time) (time_of others activation.node)) other ∙ rest more

@@ -10,6 +10,7 @@ use Rattle.tfpg_base.specs.Times.{never}
 use Rattle.tfpg_base.specs.declared.activation.Activation.{Activation}
 use Rattle.tfpg_base.specs.declared.constraint.Constraint.{Constraint}
 use Rattle.tfpg_base.specs.Trace.{time_of}
+use Rattle.tfpg_base.proofs.TraceTimes.{activation_there}
 use Rattle.tfpg_base.proofs.lists.Elements.{AllPairs-head, AllPairs-tail}
 use Rattle.tfpg_graph.specs.Graph.{Tfpg, Node, lag_at, lag_of, is_monitored}
 use Rattle.tfpg_graph.specs.Reach.{IsReach, Reaches, is_among}
@@ -28,7 +29,7 @@ use Rattle.tfpg_clause.specs.Facts.{fact, from_alarm, upto_alarm}
 use Rattle.tfpg_clause.specs.Cut.{AreNumbersOf}
 use Rattle.tfpg_clause.proofs.Bounded.{met_at_most, met_at_least, says_at_most, says_at_least}
 use Rattle.tfpg_clause.proofs.Dues.{passed}
-use Rattle.tfpg_clause.proofs.Agreed.{Agree, activation_there, of_trace, active_from, active_only}
+use Rattle.tfpg_clause.proofs.Agreed.{Agree, of_trace, active_from, active_only}
 
 -- ---- the events of an ordered log
 

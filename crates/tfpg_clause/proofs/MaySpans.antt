@@ -7,6 +7,7 @@ use Rattle.tfpg_base.specs.declared.constraint.Constraint.{Constraint}
 use Rattle.tfpg_base.specs.Constraint.{Meets}
 use Rattle.tfpg_base.proofs.lists.Elements.{Contains-cons_cases}
 use Rattle.std.proofs.lemmas.List.Elements.{Contains-append_right, Contains-get_or}
+use Rattle.tfpg_base.proofs.lists.Choices.{option_map-some}
 use Rattle.tfpg_base.proofs.lists.Passing.{Contains-filter_map, Contains-filter_map_only}
 use Rattle.tfpg_graph.specs.Graph.{Tfpg}
 use Rattle.tfpg_log.specs.declared.span.Span.{Span}
@@ -20,10 +21,6 @@ use Rattle.tfpg_clause.specs.inside.FirstSpan.{MeetsIfAny, IsFirstSpan, MeetsEac
 use Rattle.tfpg_clause.proofs.Bounded.{says_at_least, says_before}
 use Rattle.tfpg_clause.proofs.MayClauses.{before_span, after_span, met_outside}
 use Rattle.tfpg_clause.proofs.SpanNumbers.{lies_inside}
-
-mapped_opened : {X Y : Type 0} (f : X → Y) (o : Option X) (y : Y) → option_map f o ≡ Some y → (x : X) × (o ≡ Some x) × (f x ≡ y)
-mapped_opened f None y at = absurd cc
-mapped_opened f (Some x) y at = (x, refl, cc)
 
 pub met_of : {X : Type 0} (P : X → Type 0) (o : Option X) (x : X) → o ≡ Some x → P x → IsSomeAnd o P
 met_of P None x at holds = absurd cc
@@ -55,7 +52,7 @@ module _ (graph : Tfpg) (log : Logbook) (times : List ℕ) (node : ℕ) (edges :
   -- the clause of a span that does not hold the time is met
   met_elsewhere : (number : ℕ) → (get_or times node 0 ≤ now_of log → span_number log (get_or times node 0) ≡ number → ⊥) → MeetsIfAny times (may_over graph log node edges (now_of log) number)
   met_elsewhere number other all at =
-      let parts = mapped_opened (λ (s : Span). outside_span node s ++ arrivals_over graph log number (now_of log) s edges) (span_at log number (now_of log)) all at in
+      let parts = option_map-some (λ (s : Span). outside_span node s ++ arrivals_over graph log number (now_of log) s edges) (span_at log number (now_of log)) all at in
       let span : Span = parts.0 in
       let is = is_span log number (now_of log) span parts.1 in
       subst (MeetsClause times) parts.2
@@ -79,13 +76,13 @@ module _ (graph : Tfpg) (log : Logbook) (times : List ℕ) (node : ℕ) (edges :
 
     -- where there is no such span,
     pub met_without : None ≡ span_at log number (now_of log) → MeetsEach times (may_over graph log node edges (now_of log))
-    met_without none = met_each (λ all at. absurd (let gone = mapped_opened (λ (s : Span). outside_span node s ++ arrivals_over graph log number (now_of log) s edges) (span_at log number (now_of log)) all at in cc (gone.1, none)))
+    met_without none = met_each (λ all at. absurd (let gone = option_map-some (λ (s : Span). outside_span node s ++ arrivals_over graph log number (now_of log) s edges) (span_at log number (now_of log)) all at in cc (gone.1, none)))
 
     module _ (span : Span) (here : span_at log number (now_of log) ≡ Some span) where
       -- where the failure arrives,
       pub met_by_arrival : MeetsClause times (arrivals_over graph log number (now_of log) span edges) → MeetsEach times (may_over graph log node edges (now_of log))
       met_by_arrival met = met_each (λ all at.
-          let parts = mapped_opened (λ (s : Span). outside_span node s ++ arrivals_over graph log number (now_of log) s edges) (span_at log number (now_of log)) all at in
+          let parts = option_map-some (λ (s : Span). outside_span node s ++ arrivals_over graph log number (now_of log) s edges) (span_at log number (now_of log)) all at in
           let same : span ≡ parts.0 = cc (here, parts.1) in
           let whole : (outside_span node span ++ arrivals_over graph log number (now_of log) span edges) ≡ all =
           ap (λ (s : Span). outside_span node s ++ arrivals_over graph log number (now_of log) s edges) same ∙ parts.2 in

@@ -3,6 +3,7 @@ use Rattle.std.proofs.Common.{◌≡◌, ℕ, ◌<◌, List, length, Some}
 use Rattle.std.specs.Prelude.{All, IsTrue}
 use Rattle.tfpg_base.specs.declared.constraint.Constraint.{Constraint}
 use Rattle.tfpg_base.proofs.lists.Elements.{All-from_members}
+use Rattle.tfpg_base.proofs.TraceTimes.{time_there}
 use Rattle.tfpg_graph.specs.Graph.{Tfpg, is_kind_at, is_failure}
 use Rattle.tfpg_graph.specs.Reach.{IsReach}
 use Rattle.tfpg_log.specs.Log.{Logbook, now_of, IsOf, IsOrdered}
@@ -11,7 +12,7 @@ use Rattle.tfpg_evidence.specs.declared.reason.Reason.{Reason}
 use Rattle.tfpg_base.specs.Constraint.{Meets}
 use Rattle.tfpg_clause.specs.Facts.{fact}
 use Rattle.tfpg_clause.specs.Cut.{cut, AreNumbers}
-use Rattle.tfpg_clause.proofs.Agreed.{of_cut, time_there}
+use Rattle.tfpg_clause.proofs.Agreed.{of_cut}
 use Rattle.tfpg_clause.proofs.FactsMet.{active_is_reached}
 use Rattle.tfpg_clause.proofs.GivesTrace.{rising, within, reached_member}
 use Rattle.std.proofs.lemmas.List.Elements.{All-contains}

@@ -5,12 +5,12 @@ use Rattle.std.proofs.lemmas.List.Elements.{All-nil, All-cons, All-contains}
 use Rattle.tfpg_base.specs.Times.{max_time, never}
 use Rattle.tfpg_base.specs.declared.activation.Activation.{Activation}
 use Rattle.tfpg_base.specs.Trace.{time_of}
+use Rattle.tfpg_base.proofs.TraceTimes.{activation_there}
 use Rattle.tfpg_graph.specs.Graph.{Tfpg}
 use Rattle.tfpg_log.specs.Log.{Logbook, IsOrdered, now_of}
 use Rattle.tfpg_log.specs.Explains.{Explains}
 use Rattle.tfpg_clause.specs.Cut.{AreNumbersOf}
 use Rattle.tfpg_clause.proofs.InRange.{now_in_range}
-use Rattle.tfpg_clause.proofs.Agreed.{activation_there}
 
 -- the numbers of so many nodes from this one on
 numbers_of : List Activation → ℕ → ℕ → List ℕ
