@@ -1,11 +1,12 @@
 -- What the statuses of a round say of the sets.
-use Rattle.std.proofs.Common.{◌≡◌, ◌↔◌, ℕ, zero, suc, ◌<◌, List, [], ◌∷◌, ◌++◌, length, Bool, true, false, Some, refl, sym, ap, subst, ◌∙◌, inl, inr, arith}
-use Rattle.std.specs.Prelude.{Contains, IsTrue, ◌||◌, slice_get}
-use Rattle.std.specs.List.{list_any}
-use Rattle.std.proofs.lemmas.Option.{slice_get-get_or, slice_get_within, slice_get_cases, get_or_from_slice_get}
+use Rattle.std.proofs.Common.{◌≡◌, ◌↔◌, ℕ, ◌<◌, List, [], ◌∷◌, ◌++◌, false, Some, refl, sym, ap, subst, ◌∙◌, arith}
+use Rattle.std.specs.Prelude.{Contains, IsTrue, slice_get}
+use Rattle.std.proofs.lemmas.Option.{slice_get-get_or, slice_get_within, get_or_from_slice_get}
 use Rattle.std.proofs.lemmas.List.{append-nil}
 use Rattle.std.proofs.lemmas.List.Elements.{All-weaker, All-contains}
 use Rattle.tfpg_base.specs.Set.{IsPart, IsProperPart}
+use Rattle.tfpg_base.proofs.lists.Elements.{All-at}
+use Rattle.tfpg_base.proofs.lists.Valued.{All-list_any_none}
 use Rattle.tfpg_base.specs.declared.activation.Activation.{Activation}
 use Rattle.tfpg_graph.specs.Graph.{Tfpg, is_kind_at, is_failure}
 use Rattle.tfpg_graph.specs.Valid.{IsValid}
@@ -21,15 +22,8 @@ use Rattle.tfpg_clause.specs.Trees.{Judged, IsRefutation}
 use Rattle.tfpg_hyp.specs.Table.{IsHypothesis}
 use Rattle.tfpg_hyp.specs.Rounds.{IsRound, IsFinding, HasEvidence, IsRankedPart, HasRankedPart, HasNoneOpen, is_covered, is_rejected, is_open, steps_so_far}
 use Rattle.tfpg_hyp.specs.Fitting.{HasFittingPart, AreNoneOpenBelow}
+use Rattle.tfpg_hyp.proofs.FindingsOfRound.{Found, at_place, evidence}
 use Rattle.tfpg_hyp.proofs.Parts.{part_first, once}
-
-or_left : (a b : Bool) → (a || b) ≡ false → a ≡ false
-or_left true b is = cc
-or_left false b is = refl
-
-or_right : (a b : Bool) → (a || b) ≡ false → b ≡ false
-or_right true b is = cc
-or_right false b is = is
 
 -- ---- sets and their supersets
 
@@ -48,14 +42,6 @@ explains_more graph log part whole trace is explains = record {
   shows = explains.shows;
 }
 
--- the item of a place that there is
-pub at_place : {X Y : Type 0} (xs : List X) (ys : List Y) (place : ℕ) (y : Y) → length ys ≡ length xs → slice_get ys place ≡ Some y → (x : X) × (slice_get xs place ≡ Some x)
-at_place xs ys place y same at =
-    elim (slice_get_cases xs place).1 [
-      | inl there ↦ (there.0, there.2)
-      | inr past ↦ absurd (omega (arith, slice_get_within ys place y at, same, past.0))
-    ]
-
 item_of : {X : Type 0} (xs : List X) (x : X) → Contains xs x → (place : ℕ) × (slice_get xs place ≡ Some x)
 item_of xs x has = (has.0, slice_get-get_or xs has.0 x has.1 ∙ ap Some has.2)
 
@@ -69,33 +55,24 @@ LeavesNoTrace =
 
 module _ (leaves_none : LeavesNoTrace) (graph : Tfpg) (k budget line : ℕ) (rounds : List Round) (log : Logbook) (round : Round) (valid : IsValid graph) (of : IsOf graph log) (ordered : IsOrdered log)
     (is_round : IsRound graph k budget rounds log line round) where
-  abbrev Found : ℕ → Finding → Type 0
-  Found number finding = slice_get round.findings number ≡ Some finding
-
-  -- each finding is on a hypothesis of the table
-  evidence : (number : ℕ) (finding : Finding) → Found number finding → (set : List ℕ) × (slice_get is_round.sets number ≡ Some set) × IsFinding graph log budget (rounds ++ round ∷ []) round.findings number set finding
-  evidence number finding at =
-      let own = at_place is_round.sets round.findings number finding is_round.complete at in
-      (own.0, own.1, is_round.findings number own.0 finding own.1 at)
-
   -- ---- what each status says of the set
 
-  module _ (number : ℕ) (finding : Finding) (at : Found number finding) where
+  module _ (number : ℕ) (finding : Finding) (at : Found round number finding) where
     own_set : List ℕ
-    own_set = (evidence number finding at).0
+    own_set = (evidence is_round number finding at).0
 
-    is_finding : IsFinding graph log budget (rounds ++ round ∷ []) round.findings number (evidence number finding at).0 finding
-    is_finding = (evidence number finding at).2
+    is_finding : IsFinding graph log budget (rounds ++ round ∷ []) round.findings number (evidence is_round number finding at).0 finding
+    is_finding = (evidence is_round number finding at).2
 
     -- its set stands in the table
     set_at : slice_get is_round.sets number ≡ Some finding.set
-    set_at = (evidence number finding at).1 ∙ ap Some (sym (evidence number finding at).2.set_is)
+    set_at = (evidence is_round number finding at).1 ∙ ap Some (sym (evidence is_round number finding at).2.set_is)
 
     reach_of : List ℕ
-    reach_of = (evidence number finding at).2.reach
+    reach_of = (evidence is_round number finding at).2.reach
 
-    evidence_of : HasEvidence graph log budget round.findings (evidence number finding at).2.reach (steps_so_far number (rounds ++ round ∷ [])) finding finding.status
-    evidence_of = (evidence number finding at).2.evidence
+    evidence_of : HasEvidence graph log budget round.findings (evidence is_round number finding at).2.reach (steps_so_far number (rounds ++ round ∷ [])) finding finding.status
+    evidence_of = (evidence is_round number finding at).2.evidence
 
     hypothesis_of : IsHypothesis graph k finding.set
     hypothesis_of =
@@ -103,7 +80,7 @@ module _ (leaves_none : LeavesNoTrace) (graph : Tfpg) (k budget line : ℕ) (rou
         (number, slice_get_within is_round.sets number finding.set set_at, get_or_from_slice_get is_round.sets number finding.set finding.set set_at)
 
     abbrev Evidence : Status → Type 0
-    Evidence status = HasEvidence graph log budget round.findings (evidence number finding at).2.reach (steps_so_far number (rounds ++ round ∷ [])) finding status
+    Evidence status = HasEvidence graph log budget round.findings (evidence is_round number finding at).2.reach (steps_so_far number (rounds ++ round ∷ [])) finding status
 
     ranked_fits_by : (status : Status) → Evidence status → IsTrue (is_ranked status) → Fits graph log finding.set
     ranked_fits_by (Ranked trace cost alarmed monitored) own holds = (trace, own.1)
@@ -126,8 +103,8 @@ module _ (leaves_none : LeavesNoTrace) (graph : Tfpg) (k budget line : ℕ) (rou
     -- a rejected set does not fit
     rejected_not_by : (status : Status) → Evidence status → IsTrue (is_rejected status) → Fits graph log finding.set → ⊥
     rejected_not_by Rejected own holds fits =
-        leaves_none graph log log finding.set (evidence number finding at).2.reach (steps_so_far number (rounds ++ round ∷ [])) valid of ordered
-        (subst (λ (set : List ℕ). IsReach graph set (evidence number finding at).2.reach) (sym (evidence number finding at).2.set_is) (evidence number finding at).2.reach_is)
+        leaves_none graph log log finding.set (evidence is_round number finding at).2.reach (steps_so_far number (rounds ++ round ∷ [])) valid of ordered
+        (subst (λ (set : List ℕ). IsReach graph set (evidence is_round number finding at).2.reach) (sym (evidence is_round number finding at).2.set_is) (evidence is_round number finding at).2.reach_is)
         ([], sym (append-nil log.events)) own fits
     rejected_not_by (Ranked trace cost alarmed monitored) own holds fits = cc
     rejected_not_by (Covered by) own holds fits = cc
@@ -149,28 +126,28 @@ module _ (leaves_none : LeavesNoTrace) (graph : Tfpg) (k budget line : ℕ) (rou
   whole_fits : (set : List ℕ) → HasFittingPart graph log k set → Fits graph log set
   whole_fits set part = (part.fits.0, explains_more graph log part.part set part.fits.0 part.proper.0 part.fits.1)
 
-  covered_part : (number : ℕ) (finding : Finding) (at : Found number finding) (status : Status) → Evidence number finding at status → IsTrue (is_covered status)
+  covered_part : (number : ℕ) (finding : Finding) (at : Found round number finding) (status : Status) → Evidence number finding at status → IsTrue (is_covered status)
       → (by : ℕ) × IsRankedPart round.findings finding.set by
   covered_part number finding at (Covered by) own holds = (by, own.2)
   covered_part number finding at (Ranked trace cost alarmed monitored) own holds = cc
   covered_part number finding at Rejected own holds = cc
   covered_part number finding at Open own holds = cc
 
-  covered_has : (number : ℕ) (finding : Finding) → Found number finding → IsTrue (is_covered finding.status) → HasFittingPart graph log k finding.set
+  covered_has : (number : ℕ) (finding : Finding) → Found round number finding → IsTrue (is_covered finding.status) → HasFittingPart graph log k finding.set
   covered_has number finding at holds =
       let part = covered_part number finding at finding.status (evidence_of number finding at) holds in
       part_fits finding.set part.0 part.1
 
   -- ---- a set that is not open is rejected exactly where it does not fit
 
-  rejected_where : (number : ℕ) (finding : Finding) (at : Found number finding) (status : Status) → finding.status ≡ status → is_open status ≡ false → (Fits graph log finding.set → ⊥) → IsTrue (is_rejected status)
+  rejected_where : (number : ℕ) (finding : Finding) (at : Found round number finding) (status : Status) → finding.status ≡ status → is_open status ≡ false → (Fits graph log finding.set → ⊥) → IsTrue (is_rejected status)
   rejected_where number finding at (Ranked trace cost alarmed monitored) is not_open none = absurd (none (ranked_fits number finding at (subst (λ (s : Status). IsTrue (is_ranked s)) (sym is) refl)))
   rejected_where number finding at (Covered by) is not_open none =
       absurd (none (whole_fits finding.set (covered_has number finding at (subst (λ (s : Status). IsTrue (is_covered s)) (sym is) refl))))
   rejected_where number finding at Rejected is not_open none = refl
   rejected_where number finding at Open is not_open none = cc
 
-  pub rejected_exactly : (number : ℕ) (finding : Finding) → Found number finding → is_open finding.status ≡ false → IsTrue (is_rejected finding.status) ↔ (Fits graph log finding.set → ⊥)
+  pub rejected_exactly : (number : ℕ) (finding : Finding) → Found round number finding → is_open finding.status ≡ false → IsTrue (is_rejected finding.status) ↔ (Fits graph log finding.set → ⊥)
   rejected_exactly number finding at not_open = (
     λ holds fits. rejected_not number finding at holds fits,
     λ none. rejected_where number finding at finding.status refl not_open none,
@@ -191,8 +168,8 @@ module _ (leaves_none : LeavesNoTrace) (graph : Tfpg) (k budget line : ℕ) (rou
         ),
   )
 
-  module _ (number : ℕ) (finding : Finding) (at : Found number finding) (ranked : IsTrue (is_ranked finding.status)) (none_open : AreNoneOpenBelow round.findings finding.set) where
-    no_part_by : (other : ℕ) (f : Finding) (there : Found other f) → IsProperPart f.set finding.set → Fits graph log f.set → (status : Status) → f.status ≡ status → ⊥
+  module _ (number : ℕ) (finding : Finding) (at : Found round number finding) (ranked : IsTrue (is_ranked finding.status)) (none_open : AreNoneOpenBelow round.findings finding.set) where
+    no_part_by : (other : ℕ) (f : Finding) (there : Found round other f) → IsProperPart f.set finding.set → Fits graph log f.set → (status : Status) → f.status ≡ status → ⊥
     no_part_by other f there proper fits (Ranked trace cost alarmed monitored) is =
         alone number finding at ranked (other, record { finding = f; numbered = there; ranked = subst (λ (s : Status). IsTrue (is_ranked s)) (sym is) refl; part = proper })
     no_part_by other f there proper fits (Covered by_number) is =
@@ -224,43 +201,39 @@ module _ (leaves_none : LeavesNoTrace) (graph : Tfpg) (k budget line : ℕ) (rou
 
   -- ---- a round without an open set
 
-  none_of : (p : Finding → Bool) (xs : List Finding) → list_any p xs ≡ false → (place : ℕ) (x : Finding) → slice_get xs place ≡ Some x → p x ≡ false
-  none_of p [] none place x there = cc
-  none_of p (y ∷ ys) none zero x there = (let same : y ≡ x = cc in ap p (sym same) ∙ or_left (p y) (list_any p ys) none)
-  none_of p (y ∷ ys) none (suc place) x there = none_of p ys (or_right (p y) (list_any p ys) none) place x there
-
   module _ (none_open : HasNoneOpen round) where
-    not_open : (number : ℕ) (finding : Finding) → Found number finding → is_open finding.status ≡ false
-    not_open number finding at = none_of (λ (f : Finding). is_open f.status) round.findings none_open number finding at
+    not_open : (number : ℕ) (finding : Finding) → Found round number finding → is_open finding.status ≡ false
+    not_open number finding at =
+        All-at (λ (f : Finding). is_open f.status ≡ false) round.findings number finding (All-list_any_none (λ (f : Finding). is_open f.status) round.findings none_open) at
 
-    pub rejected_of : (number : ℕ) (finding : Finding) → Found number finding → IsTrue (is_rejected finding.status) ↔ (Fits graph log finding.set → ⊥)
+    pub rejected_of : (number : ℕ) (finding : Finding) → Found round number finding → IsTrue (is_rejected finding.status) ↔ (Fits graph log finding.set → ⊥)
     rejected_of number finding at = rejected_exactly number finding at (not_open number finding at)
 
-    minimal : (number : ℕ) (finding : Finding) → Found number finding → IsTrue (is_ranked finding.status) → HasFittingPart graph log k finding.set → ⊥
+    minimal : (number : ℕ) (finding : Finding) → Found round number finding → IsTrue (is_ranked finding.status) → HasFittingPart graph log k finding.set → ⊥
     minimal number finding at ranked part = no_fitting_part number finding at ranked (λ other f there proper. not_open other f there) part
 
-    ranked_where : (number : ℕ) (finding : Finding) (at : Found number finding) (status : Status) → finding.status ≡ status → Fits graph log finding.set → (HasFittingPart graph log k finding.set → ⊥)
+    ranked_where : (number : ℕ) (finding : Finding) (at : Found round number finding) (status : Status) → finding.status ≡ status → Fits graph log finding.set → (HasFittingPart graph log k finding.set → ⊥)
         → IsTrue (is_ranked status)
     ranked_where number finding at (Ranked trace cost alarmed monitored) is fits none = refl
     ranked_where number finding at (Covered by) is fits none = absurd (none (covered_has number finding at (subst (λ (s : Status). IsTrue (is_covered s)) (sym is) refl)))
     ranked_where number finding at Rejected is fits none = absurd (rejected_not number finding at (subst (λ (s : Status). IsTrue (is_rejected s)) (sym is) refl) fits)
     ranked_where number finding at Open is fits none = (let is_not : is_open Open ≡ false = sym (ap is_open is) ∙ not_open number finding at in cc)
 
-    pub ranked_of : (number : ℕ) (finding : Finding) → Found number finding
+    pub ranked_of : (number : ℕ) (finding : Finding) → Found round number finding
         → IsTrue (is_ranked finding.status) ↔ (Fits graph log finding.set × (HasFittingPart graph log k finding.set → ⊥))
     ranked_of number finding at = (
       λ ranked. (ranked_fits number finding at ranked, λ part. minimal number finding at ranked part),
       λ both. ranked_where number finding at finding.status refl both.0 both.1,
     )
 
-    covered_where : (number : ℕ) (finding : Finding) (at : Found number finding) (status : Status) → finding.status ≡ status → Fits graph log finding.set → HasFittingPart graph log k finding.set
+    covered_where : (number : ℕ) (finding : Finding) (at : Found round number finding) (status : Status) → finding.status ≡ status → Fits graph log finding.set → HasFittingPart graph log k finding.set
         → IsTrue (is_covered status)
     covered_where number finding at (Ranked trace cost alarmed monitored) is fits part = absurd (minimal number finding at (subst (λ (s : Status). IsTrue (is_ranked s)) (sym is) refl) part)
     covered_where number finding at (Covered by) is fits part = refl
     covered_where number finding at Rejected is fits part = absurd (rejected_not number finding at (subst (λ (s : Status). IsTrue (is_rejected s)) (sym is) refl) fits)
     covered_where number finding at Open is fits part = (let is_not : is_open Open ≡ false = sym (ap is_open is) ∙ not_open number finding at in cc)
 
-    pub covered_of : (number : ℕ) (finding : Finding) → Found number finding → IsTrue (is_covered finding.status) ↔ (Fits graph log finding.set × HasFittingPart graph log k finding.set)
+    pub covered_of : (number : ℕ) (finding : Finding) → Found round number finding → IsTrue (is_covered finding.status) ↔ (Fits graph log finding.set × HasFittingPart graph log k finding.set)
     covered_of number finding at = (
       λ covered. (whole_fits finding.set (covered_has number finding at covered), covered_has number finding at covered),
       λ both. covered_where number finding at finding.status refl both.0 both.1,

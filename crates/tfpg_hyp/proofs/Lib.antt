@@ -5,6 +5,7 @@ mod Listed
 pub mod Tables
 mod Parts
 mod Fractions
+mod FindingsOfRound
 mod FittingSets
 mod Named
 mod NamedSteps

@@ -16,9 +16,9 @@ use Rattle.tfpg_evidence.specs.declared.round.Round.{Round}
 use Rattle.tfpg_evidence.specs.RoundOf.{IsStepOf, IsStatusOf, IsFindingOf, IsRankedIn, IsRoundOf, is_ranked, finding_numbered}
 use Rattle.tfpg_clause.specs.Trees.{Judged}
 use Rattle.tfpg_base.proofs.lists.Elements.{All-back}
-use Rattle.tfpg_hyp.specs.Rounds.{IsRound, IsFinding, HasEvidence, place_at, place_of_status, steps_in, steps_so_far}
+use Rattle.tfpg_hyp.specs.Rounds.{IsRound, HasEvidence, place_at, place_of_status, steps_in, steps_so_far}
 use Rattle.tfpg_hyp.specs.declared.place.Place.{Place}
-use Rattle.tfpg_hyp.proofs.FittingSets.{at_place}
+use Rattle.tfpg_hyp.proofs.FindingsOfRound.{Found, evidence}
 use Rattle.tfpg_hyp.proofs.Named.{sizes}
 use Rattle.tfpg_hyp.proofs.NamedSteps.{AreNamed, All-unmap, evidence_named}
 
@@ -80,24 +80,16 @@ place_ranked number Open place at = absurd cc
 -- ---- the round
 
 module _ (graph : Tfpg) (k budget line : ℕ) (rounds : List Round) (log : Logbook) (round : Round) (of : IsOf graph log) (is_round : IsRound graph k budget rounds log line round) where
-  abbrev Found : ℕ → Finding → Type 0
-  Found number finding = slice_get round.findings number ≡ Some finding
-
-  evidence : (number : ℕ) (finding : Finding) → Found number finding → (set : List ℕ) × (slice_get is_round.sets number ≡ Some set) × IsFinding graph log budget (rounds ++ round ∷ []) round.findings number set finding
-  evidence number finding at =
-      let own = at_place is_round.sets round.findings number finding is_round.complete at in
-      (own.0, own.1, is_round.findings number own.0 finding own.1 at)
-
   -- the number of a finding is its place
-  number_at : (number : ℕ) (finding : Finding) → Found number finding → finding.number ≡ number
-  number_at number finding at = (evidence number finding at).2.number_is
+  number_at : (number : ℕ) (finding : Finding) → Found round number finding → finding.number ≡ number
+  number_at number finding at = (evidence is_round number finding at).2.number_is
 
   members_at : (number : ℕ) (set : List ℕ) → slice_get is_round.sets number ≡ Some set → All (λ place. place < length (failures graph)) set
   members_at number set at = ((is_round.table.exact set).0 (number, slice_get_within is_round.sets number set at, get_or_from_slice_get is_round.sets number set set at)).members
 
-  finding_named : (number : ℕ) (finding : Finding) → Found number finding → IsFindingOf (sizes graph) finding
+  finding_named : (number : ℕ) (finding : Finding) → Found round number finding → IsFindingOf (sizes graph) finding
   finding_named number finding at =
-      let own = evidence number finding at in
+      let own = evidence is_round number finding at in
       record {
         set = All-same (λ (place : ℕ). place < length (failures graph)) finding.set own.0 own.2.set_is (members_at number own.0 own.1);
         steps = last_named graph number rounds round finding at
@@ -106,7 +98,7 @@ module _ (graph : Tfpg) (k budget line : ℕ) (rounds : List Round) (log : Logbo
       }
 
   -- the finding of a number is found by it
-  found_by_number : (number : ℕ) (finding : Finding) → Found number finding → finding_numbered round.findings number ≡ Some finding
+  found_by_number : (number : ℕ) (finding : Finding) → Found round number finding → finding_numbered round.findings number ≡ Some finding
   found_by_number number finding at =
       find_first (λ (f : Finding). eqb f.number number) round.findings number finding at (eq-eqb finding.number number (number_at number finding at))
       (λ other f lt there. (let own : f.number ≡ other = number_at other f there in ne_eqb f.number number (λ same. absurd (omega (arith, own, same, lt)))))
