@@ -9,6 +9,7 @@ ghost use Rattle.tfpg_log.specs.LogOfLines.{new_log};
 ghost use Rattle.tfpg_log.specs.declared.refusal.Refusal.{Refusal};
 ghost use Rattle.tfpg_engine.specs.Engining.{EngineRepresents, Brings};
 
+use crate::asked::Asked;
 use crate::round;
 use crate::slot::Slot;
 use crate::told::{EventFault, Told};
@@ -122,16 +123,12 @@ impl Engine {
                 let _ordered = self.log.len();
                 tree_laws();
                 subsets_stand_before_their_supersets();
-                match round::make(
-                    self.alloc,
-                    &self.graph,
-                    &self.log,
-                    &self.table,
-                    self.budget,
-                    line,
-                    &mut self.slots,
-                    work,
-                ) {
+                let asked = Asked {
+                    graph: &self.graph,
+                    log: &self.log,
+                    budget: self.budget,
+                };
+                match round::make(self.alloc, &asked, &self.table, line, &mut self.slots, work) {
                     Ok(round) => Ok(Told::Round(round)),
                     Err(NoMemory) => {
                         self.ended = true;

@@ -13,9 +13,11 @@
 //! ```
 #![tactic(auto)]
 
+mod asked;
 mod counts;
 mod covering;
 mod engine;
+mod hypothesis;
 mod order;
 mod round;
 mod slot;

@@ -5,6 +5,7 @@ ghost use Rattle.tfpg_log.specs.Log.{IsOf};
 ghost use Rattle.tfpg_engine.specs.inside.Slots.{AllCanGoOn};
 ghost use Rattle.tfpg_engine.specs.inside.Turns.{IsOfGraph, MakesRound};
 
+use crate::asked::Asked;
 use crate::counts::count;
 use crate::order::order;
 use crate::slot::Slot;
@@ -13,38 +14,35 @@ use std::alloc::Global;
 use std::sync::ledger::Ledger;
 use tfpg_base::{NoMemory, Steps};
 use tfpg_evidence::{Findings, Round};
-use tfpg_graph::Graph;
 use tfpg_hyp::Table;
-use tfpg_log::Log;
 
-/// The round of a log whose last event is that of this line.
+/// The round of the log, whose last event is that of this line.
 pub(crate) fn make<L: Ledger>(
     alloc: Global,
-    graph: &Graph,
-    log: &Log,
+    asked: &Asked<'_>,
     table: &Table,
-    budget: u64,
     line: u64,
     slots: &mut [Slot],
     work: &mut Steps<L>,
 ) -> Result<Round, NoMemory>
-    requires of { IsOf graph.now log.now }
-    requires event { 1 ≤ length log.now.events }
-    requires budget { 1 ≤ budget }
-    requires table { IsOfGraph graph.now table.now }
+    requires of { IsOf asked.now.graph.now asked.now.log.now }
+    requires event { 1 ≤ length asked.now.log.now.events }
+    requires budget { 1 ≤ asked.now.budget }
+    requires table { IsOfGraph asked.now.graph.now table.now }
     requires one_each { length slots.old ≡ length table.now.sets }
-    requires go_on { AllCanGoOn graph.now log.now table.now slots.old }
-    ensures round { IfOk result (MakesRound graph.now log.now budget table.now slots.old slots.new line) }
+    requires go_on { AllCanGoOn asked.now.graph.now asked.now.log.now table.now slots.old }
+    ensures round { IfOk result (MakesRound asked.now.graph.now asked.now.log.now asked.now.budget
+        table.now slots.old slots.new line) }
     ensures one_each { length slots.new ≡ length slots.old }
 {
     let _few = table.len();
-    let findings = find_all(alloc, graph, log, table, budget, slots, work)?;
+    let findings = find_all(alloc, asked, table, slots, work)?;
     let order = order(alloc, &findings)?;
     let counts = count(&findings);
     Ok(Round {
-        number: log.len(),
+        number: asked.log.len(),
         line,
-        now: log.now(),
+        now: asked.log.now(),
         findings: Findings::from_vec(findings),
         order,
         counts,

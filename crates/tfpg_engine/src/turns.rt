@@ -5,50 +5,44 @@ ghost use Rattle.tfpg_log.specs.Log.{IsOf};
 ghost use Rattle.tfpg_engine.specs.inside.Slots.{AllCanGoOn};
 ghost use Rattle.tfpg_engine.specs.inside.Turns.{AreTurns, IsOfGraph};
 
+use crate::asked::Asked;
+use crate::hypothesis::Hypothesis;
 use crate::slot::Slot;
 use crate::turn::find;
 use std::alloc::Global;
 use std::sync::ledger::Ledger;
 use tfpg_base::{NoMemory, Steps};
 use tfpg_evidence::Finding;
-use tfpg_graph::Graph;
 use tfpg_hyp::Table;
-use tfpg_log::Log;
 
 /// A finding on each hypothesis of the table, in the order of their numbers.
 pub(crate) fn find_all<L: Ledger>(
     alloc: Global,
-    graph: &Graph,
-    log: &Log,
+    asked: &Asked<'_>,
     table: &Table,
-    budget: u64,
     slots: &mut [Slot],
     work: &mut Steps<L>,
 ) -> Result<Vec<Finding>, NoMemory>
-    requires of { IsOf graph.now log.now }
-    requires event { 1 ≤ length log.now.events }
-    requires budget { 1 ≤ budget }
-    requires table { IsOfGraph graph.now table.now }
+    requires of { IsOf asked.now.graph.now asked.now.log.now }
+    requires event { 1 ≤ length asked.now.log.now.events }
+    requires budget { 1 ≤ asked.now.budget }
+    requires table { IsOfGraph asked.now.graph.now table.now }
     requires one_each { length slots.old ≡ length table.now.sets }
-    requires go_on { AllCanGoOn graph.now log.now table.now slots.old }
+    requires go_on { AllCanGoOn asked.now.graph.now asked.now.log.now table.now slots.old }
     ensures turns { IfOk result (λ findings. (length findings.items ≡ length table.now.sets)
-        × AreTurns graph.now log.now budget table.now slots.old slots.new findings.items) }
+        × AreTurns asked.now.graph.now asked.now.log.now asked.now.budget
+        table.now slots.old slots.new findings.items) }
     ensures one_each { length slots.new ≡ length slots.old }
 {
     let mut findings = Vec::with_capacity(alloc, table.len() as usize)?;
     for number in 0..table.len() {
-        let finding = find(
-            alloc,
-            graph,
-            log,
-            budget,
+        let hypothesis = Hypothesis {
             number,
-            table.set(number),
-            table.reach(number),
-            &findings,
-            &mut slots[number as usize],
-            work,
-        )?;
+            set: table.set(number),
+            reach: table.reach(number),
+        };
+        let slot = &mut slots[number as usize];
+        let finding = find(alloc, asked, &hypothesis, &findings, slot, work)?;
         findings.push(finding)?;
     }
     Ok(findings)

@@ -11,7 +11,7 @@ pub order-requires-clause-fractions : goal.order-requires-clause-fractions
 order-requires-clause-fractions g c =
     let turns = c.in_ok-findings.ensures.turns in
     λ number place placed.
-    fractions_of c.args.graph.now c.args.log.now c.args.budget c.args.table.now c.args.slots.now c.find_all.new.slots c.in_ok-findings.findings.items turns.1 turns.0
+    fractions_of c.args.asked.now.graph.now c.args.asked.now.log.now c.args.asked.now.budget c.args.table.now c.args.slots.now c.find_all.new.slots c.in_ok-findings.findings.items turns.1 turns.0
     c.requires.table.reached.complete c.requires.one_each c.find_all.ensures.one_each number place (sym (ap (λ fs. place_at fs number) c.deref.ensures.value) ∙ placed)
 
 pub count-counts-requires : goal.count-counts-requires
@@ -20,6 +20,6 @@ count-counts-requires g c =
 
 pub returns-clause-round : goal.returns-clause-round
 returns-clause-round g c =
-    makes c.args.graph.now c.args.log.now c.args.budget c.args.table.now c.args.slots.now c.find_all.new.slots c.args.line c.len.result c.now.result c.in_ok-findings.findings.items c.deref.result.now
+    makes c.args.asked.now.graph.now c.args.asked.now.log.now c.args.asked.now.budget c.args.table.now c.args.slots.now c.find_all.new.slots c.args.line c.len.result c.now.result c.in_ok-findings.findings.items c.deref.result.now
     c.from_vec.result c.in_ok-order.order c.count-counts.result c.len.ensures.len c.now.ensures c.in_ok-findings.ensures.turns c.from_vec.ensures c.deref.ensures.value c.in_ok-order.ensures
     (c.count-counts.ensures ∙ ap counts_of c.deref-2.ensures.value)

@@ -5,10 +5,10 @@ use Rattle.tfpg_engine.proofs.turn.find.Goals as goal
 
 pub returns-then-is_rejected : goal.returns-then-is_rejected
 returns-then-is_rejected g c =
-    subst (IsTurn c.args.graph.now c.args.log.now c.args.budget c.args.set c.args.reach.now c.args.number c.args.findings.now c.args.slot.now c.args.slot.now) (sym c.passed_over.ensures)
-    (turn_rejected c.args.graph.now c.args.log.now c.args.budget c.args.set c.args.reach.now c.args.number c.args.findings.now c.len-ordered.ensures.ordered c.args.slot.now (is_by c.is_rejected.ensures c.if-is_rejected.true))
+    subst (IsTurn c.args.asked.now.graph.now c.args.asked.now.log.now c.args.asked.now.budget c.args.hypothesis.now.set c.args.hypothesis.now.reach.now c.args.hypothesis.now.number c.args.findings.now c.args.slot.now c.args.slot.now) (sym c.passed_over.ensures)
+    (turn_rejected c.args.asked.now.graph.now c.args.asked.now.log.now c.args.asked.now.budget c.args.hypothesis.now.set c.args.hypothesis.now.reach.now c.args.hypothesis.now.number c.args.findings.now c.len-ordered.ensures.ordered c.args.slot.now (is_by c.is_rejected.ensures c.if-is_rejected.true))
 
 pub returns-in-Some : goal.returns-in-Some
 returns-in-Some g c =
-    subst (IsTurn c.args.graph.now c.args.log.now c.args.budget c.args.set c.args.reach.now c.args.number c.args.findings.now c.args.slot.now c.args.slot.now) (sym c.passed_over-in-Some.ensures)
-    (turn_covered c.args.graph.now c.args.log.now c.args.budget c.args.set c.args.reach.now c.args.number c.args.findings.now c.len-ordered.ensures.ordered c.tree_laws.ensures c.args.slot.now c.in-Some.by (is_by c.is_rejected.ensures c.if-is_rejected.false) c.in-Some.ensures)
+    subst (IsTurn c.args.asked.now.graph.now c.args.asked.now.log.now c.args.asked.now.budget c.args.hypothesis.now.set c.args.hypothesis.now.reach.now c.args.hypothesis.now.number c.args.findings.now c.args.slot.now c.args.slot.now) (sym c.passed_over-in-Some.ensures)
+    (turn_covered c.args.asked.now.graph.now c.args.asked.now.log.now c.args.asked.now.budget c.args.hypothesis.now.set c.args.hypothesis.now.reach.now c.args.hypothesis.now.number c.args.findings.now c.len-ordered.ensures.ordered c.tree_laws.ensures c.args.slot.now c.in-Some.by (is_by c.is_rejected.ensures c.if-is_rejected.false) c.in-Some.ensures)

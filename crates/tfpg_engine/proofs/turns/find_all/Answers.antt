@@ -8,12 +8,12 @@ use Rattle.tfpg_engine.proofs.turns.find_all.Goals as goal
 
 pub loop-number-init : goal.loop-number-init
 loop-number-init g c =
-    subst (λ fs. AreFirstTurns c.args.graph.now c.args.log.now c.args.budget c.args.table.now c.args.slots.now c.args.slots.now fs 0) (sym c.in_ok-findings.ensures.items)
-    (none_turned c.args.graph.now c.args.log.now c.args.budget c.args.table.now c.args.slots.now)
+    subst (λ fs. AreFirstTurns c.args.asked.now.graph.now c.args.asked.now.log.now c.args.asked.now.budget c.args.table.now c.args.slots.now c.args.slots.now fs 0) (sym c.in_ok-findings.ensures.items)
+    (none_turned c.args.asked.now.graph.now c.args.asked.now.log.now c.args.asked.now.budget c.args.table.now c.args.slots.now)
 
 pub find-requires-clause-members : goal.find-requires-clause-members
 find-requires-clause-members g c =
-    All-at (λ set. All (λ place. place < length (failures c.args.graph.now)) set) c.args.table.now.sets c.loop-number.number c.set.result c.requires.table.members c.set.ensures
+    All-at (λ set. All (λ place. place < length (failures c.args.asked.now.graph.now)) set) c.args.table.now.sets c.loop-number.number c.set.result c.requires.table.members c.set.ensures
 
 pub find-requires-clause-reach : goal.find-requires-clause-reach
 find-requires-clause-reach g c = c.requires.table.reached.exact c.loop-number.number c.set.result c.reach.result.now c.set.ensures c.reach.ensures
@@ -26,13 +26,13 @@ pub find-requires-clause-goes_on : goal.find-requires-clause-goes_on
 find-requires-clause-goes_on g c =
     let within : c.loop-number.number < length c.args.table.now.sets = omega (arith, c.loop-number-test.true, c.len-number-end.ensures.count) in
     c.requires.go_on c.loop-number.number c.set.result c.reach.result.now _ c.set.ensures c.reach.ensures
-    (slot_before c.args.graph.now c.args.log.now c.args.budget c.args.table.now c.args.slots.now c.loop-number.slots c.loop-number.findings.items c.loop-number.number c.loop-number.invariant
+    (slot_before c.args.asked.now.graph.now c.args.asked.now.log.now c.args.asked.now.budget c.args.table.now c.args.slots.now c.loop-number.slots c.loop-number.findings.items c.loop-number.number c.loop-number.invariant
     c.requires.one_each within c.index-slots-number.result)
 
 pub loop-number-preserved : goal.loop-number-preserved
 loop-number-preserved g c =
     let within : c.loop-number.number < length c.args.table.now.sets = omega (arith, c.loop-number-test.true, c.len-number-end.ensures.count) in
-    turned_by c.args.graph.now c.args.log.now c.args.budget c.args.table.now c.args.slots.now c.loop-number.slots c.loop-number.findings.items c.loop-number.number c.loop-number.invariant
+    turned_by c.args.asked.now.graph.now c.args.asked.now.log.now c.args.asked.now.budget c.args.table.now c.args.slots.now c.loop-number.slots c.loop-number.findings.items c.loop-number.number c.loop-number.invariant
     c.requires.one_each within c.set.result c.reach.result.now c.index-slots-number.result c.find.new.slot c.in_ok-finding.finding c.deref.result.now c.push.new.self.items
     c.set.ensures c.reach.ensures c.deref.ensures.value c.in_ok-push.ensures.items c.in_ok-finding.ensures
 
