@@ -1,10 +1,10 @@
 -- What the words of the lines of a map say.
-use Rattle.std.proofs.Common.{◌≡◌, ℕ, ◌+◌, ◌<◌, ◌≤◌, ◌^◌, ◌==◌, Bool, true, false, not, cond, List, [], ◌∷◌, length, map, get_or, leb, All, IsTrue, Option, Some, None, unwrap_or, codes, refl, ap, sym, subst, ◌∙◌, arith}
+use Rattle.std.proofs.Common.{◌≡◌, ℕ, ◌+◌, ◌<◌, ◌≤◌, ◌^◌, ◌==◌, Bool, true, false, cond, List, [], ◌∷◌, length, map, get_or, leb, All, IsTrue, Option, Some, None, unwrap_or, codes, refl, ap, sym, subst, ◌∙◌, arith}
 use Rattle.std.specs.Prelude.{decimal, IfSome}
 use Rattle.std.specs.Option.{option_and_then}
-use Rattle.std.specs.List.{AllByRecursion, list_all, join_with_byte, slice_split}
+use Rattle.std.specs.List.{AllByRecursion, join_with_byte, slice_split}
 use Rattle.std.specs.Str.{bytes_eq}
-use Rattle.std.proofs.lemmas.Bool.{and_parts, not-true, eq-eqb, eqb-true, ne_eqb, lt-ltb, false≢true}
+use Rattle.std.proofs.lemmas.Bool.{eq-eqb, eqb-true, ne_eqb, lt-ltb, false≢true}
 use Rattle.std.proofs.lemmas.Bool.Decides.{nat_tests}
 use Rattle.std.proofs.lemmas.List.Elements.{All-nil, All-cons, All-head, All-tail, All-weaker, All-append}
 use Rattle.std.proofs.lemmas.List.Quantifiers.{position-Some}
@@ -18,7 +18,7 @@ use Rattle.tfpg_base.specs.Times.{max_time}
 use Rattle.tfpg_base.specs.Words.{words_of, line_of, is_name, is_name_byte, number_of, number_up_to}
 use Rattle.tfpg_base.proofs.lists.Elements.{AllPairs-head, AllPairs-tail, AllPairs-cons}
 use Rattle.tfpg_base.proofs.Numbers.{number_of-decimal, decimal-number_of}
-use Rattle.tfpg_base.proofs.Separators.{Lacks, name_lacks, decimal_lacks, join_with_byte-words_of, slice_split-join}
+use Rattle.tfpg_base.proofs.Separators.{Lacks, lacks_checked, name_lacks, decimal_lacks, join_with_byte-words_of, slice_split-join}
 use Rattle.tfpg_graph.specs.Graph.{Tfpg, name_at, node_named, failures, failure_at, place_of_failure, is_failure}
 use Rattle.tfpg_graph.specs.Valid.{IsValid}
 use Rattle.tfpg_graph.proofs.lemmas.declared.Named.{named_found}
@@ -30,12 +30,6 @@ use Rattle.tfpg.specs.Map.{IsSetOf, IsActivationOf, set_line, at_line}
 use Rattle.tfpg.specs.inside.MapLines.{word_after_set, words_after_at, failure_named, failure_name, AreFrom}
 
 -- ---- words and lines
-
-lacks_checked : (byte : ℕ) (word : List ℕ) → list_all (λ other. not (other == byte)) word ≡ true → Lacks byte word
-lacks_checked byte [] all = All-nil (λ other. (other == byte) ≡ false)
-lacks_checked byte (first ∷ others) all =
-    let parts = and_parts (not (first == byte)) (list_all (λ other. not (other == byte)) others) all in
-    All-cons (λ other. (other == byte) ≡ false) first others (not-true (first == byte) parts.0) (lacks_checked byte others parts.1)
 
 same_some : {X : Type 0} (one other : X) → Some one ≡ Some other → one ≡ other
 same_some one other e = cc

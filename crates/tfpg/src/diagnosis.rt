@@ -1,14 +1,14 @@
 //! The diagnosis of a log in memory, all of whose lines are accepted.
 
 ghost use Rattle.std.specs.Prelude.{◌≡◌, ◌<◌, ◌++◌, ◌∷◌, [], ℕ, List, IfOk, OnOk, length, map};
-ghost use Rattle.tfpg_base.specs.Lines.{lines_of, parts_of};
+ghost use Rattle.tfpg_base.specs.Lines.{lines_of};
 ghost use Rattle.tfpg_graph.specs.Graph.{Tfpg, failures};
 ghost use Rattle.tfpg_sim.specs.AcceptedLog.{AreAccepted, IsAccepted};
 ghost use Rattle.tfpg.specs.inside.Diagnosed.{HasDiagnosed};
 
 use std::alloc::Global;
 use std::sync::ledger::Ledger;
-use tfpg_base::{NoMemory, Steps};
+use tfpg_base::{NoMemory, Steps, without_last_line_end};
 use tfpg_engine::{Engine, Told};
 use tfpg_evidence::Round;
 use tfpg_graph::Graph;
@@ -55,17 +55,6 @@ pub(crate) fn lines_in(alloc: Global, text: &[u8]) -> Result<Vec<&[u8]>, NoMemor
         lines.push(line)?;
     }
     Ok(lines)
-}
-
-/// The text before a line end at its end.
-fn without_last_line_end(text: &[u8]) -> &[u8]
-    requires { 0 < length text.now }
-    ensures { lines_of text.now ≡ parts_of result.now }
-{
-    match text.strip_suffix(b"\n".as_slice()) {
-        Some(front) => front,
-        None => text,
-    }
 }
 
 impl Diagnosis {

@@ -7,4 +7,4 @@ pub returns : goal.returns
 returns c =
     let all = YieldsList-from_slice_split _ (λ byte. byte == 10) c.without_last_line_end.result.now (search rules) (search rules) (search rules) (λ x b q k. search (rules, tests)) in
     let end = YieldsList-end all c.loop-line.yielded _ c.loop-line.yielded_by _ _ c.in-None.is c.next.ensures.steps in
-    ap (map (λ line. line.now)) c.loop-line.invariant ∙ end.0 ∙ sym c.without_last_line_end.ensures
+    ap (map (λ line. line.now)) c.loop-line.invariant ∙ end.0 ∙ sym (c.without_last_line_end.ensures.lines c.requires)
