@@ -3,7 +3,6 @@ use Rattle.std.proofs.Common.{◌^◌, ◌≡◌, ℕ, ◌+◌, ◌<◌, ◌≤�
 use Rattle.std.specs.Prelude.{flat_map, IsErrAnd, IfErr, OnErr, slice_get}
 use Rattle.std.specs.List.{AllByRecursion}
 use Rattle.std.proofs.lemmas.Bool.{cases_lt}
-use Rattle.std.proofs.lemmas.List.Sums.{fold-append}
 use Rattle.std.proofs.lemmas.List.{take-append-drop, take-append-le, append-nil, length-append, take_at}
 use Rattle.std.proofs.lemmas.List.Concat.{flat_map-append}
 use Rattle.std.proofs.lemmas.Option.{slice_get_within}
@@ -18,12 +17,9 @@ use Rattle.tfpg_base.proofs.Taking.{Takes-append, Takes-nothing}
 use Rattle.tfpg_base.proofs.ReadingOn.{GaveLine, Continues-turn, Continues-text, Continues-too_long}
 use Rattle.tfpg_graph.specs.Graph.{Tfpg}
 use Rattle.tfpg_base.proofs.lists.Written.{slice_get-push_before, slice_get-push_at as slice_get-push_last}
-use Rattle.tfpg_log.specs.Log.{Logbook}
-use Rattle.tfpg_log.specs.LogOfLines.{new_log, log_after, log_of_lines}
-use Rattle.tfpg_evidence.specs.declared.round.Round.{Round}
 use Rattle.tfpg_report.specs.declared.refused_line.RefusedLine.TheVariants.{TooLong}
 use Rattle.tfpg_report.specs.Blocks.{Block, block_text, head_text, refused_text}
-use Rattle.tfpg_check.specs.Report.{Progress, IsBlock, AreBlocks, report_text, rounds_of, progress_of}
+use Rattle.tfpg_check.specs.Report.{Progress, IsBlock, AreBlocks, report_text, progress_of}
 use Rattle.tfpg_check.specs.Report.{new_progress as start, progress_after as after}
 use Rattle.tfpg_engine.specs.Engining.{Engining}
 use Rattle.tfpg.specs.declared.fault.StreamFault.{StreamFault}
@@ -41,20 +37,13 @@ use Rattle.tfpg.proofs.Putting.{Puts-append, Puts-same_held}
 
 -- ---- one block more
 
-abbrev progress_with : List Round → Logbook → Progress
-progress_with rounds log = record { rounds = rounds; log = log }
-
 same_some : {X : Type 0} {one other : X} → Some one ≡ Some other → one ≡ other
 same_some e = cc
 
--- how far a report has come after one block more
-pub progress_of-push : (graph : Tfpg) (lines : List (List ℕ)) (blocks : List Block) (line : List ℕ) (block : Block)
+-- How far a report has come after one block more is a law of reports.
+abbrev GoesOnByBlocks : Type 0
+GoesOnByBlocks = (graph : Tfpg) (lines : List (List ℕ)) (blocks : List Block) (line : List ℕ) (block : Block)
     → progress_of graph (lines ++ line ∷ []) (blocks ++ block ∷ []) ≡ after graph (progress_of graph lines blocks) line block
-progress_of-push graph lines blocks line block =
-    let rounds : flat_map rounds_of (blocks ++ block ∷ []) ≡ flat_map rounds_of blocks ++ rounds_of block =
-    flat_map-append rounds_of blocks (block ∷ []) ∙ ap (λ (rs : List Round). flat_map rounds_of blocks ++ rs) (append-nil (rounds_of block)) in
-    let log : log_of_lines graph (lines ++ line ∷ []) ≡ log_after graph (log_of_lines graph lines) line = fold-append (log_after graph) new_log lines (line ∷ []) in
-    ap (λ (rs : List Round). progress_with rs (log_of_lines graph (lines ++ line ∷ []))) rounds ∙ ap (progress_with (flat_map rounds_of blocks ++ rounds_of block)) log
 
 -- no line has no block
 AreBlocks-none : (graph : Tfpg) (k b : ℕ) → AreBlocks graph k b [] []
@@ -250,9 +239,9 @@ module _ (graph : Tfpg) (k b : ℕ) (before now : Streams) (lines : Buffered) (e
     rounds_say = RoundsSay-push graph k b under.reading.given under.blocks gave.first block.block under.are_blocks.one_each under.say block.says
 
     -- where the block is written, the diagnosis is under way still
-    pub gave_block : Puts now.output output bytes → output.faults ≡ now.output.faults
+    pub gave_block : GoesOnByBlocks → Puts now.output output bytes → output.faults ≡ now.output.faults
         → IsUnderWay graph k b before (record { input = input; output = output }) reader answered
-    gave_block puts no_fault =
+    gave_block goes_on puts no_fault =
         let reading = under.reading in
         let given = reading.given in
         let taken = reading.taken ++ gave.more in
@@ -269,7 +258,7 @@ module _ (graph : Tfpg) (k b : ℕ) (before now : Streams) (lines : Buffered) (e
           are_blocks = blocks_are;
           no_losses = All-push LosesNone under.blocks block.block under.no_losses block.no_losses;
           say = rounds_say;
-          reports = subst (EngineReports graph k b answered) (sym (progress_of-push graph given under.blocks gave.first block.block)) block.reports;
+          reports = subst (EngineReports graph k b answered) (sym (goes_on graph given under.blocks gave.first block.block)) block.reports;
           no_fault = record { input = gave.no_fault ∙ under.no_fault.input; output = no_fault ∙ under.no_fault.output };
         }
 

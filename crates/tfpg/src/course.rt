@@ -18,6 +18,7 @@ use crate::output::put_all;
 use std::alloc::Global;
 use std::sync::ledger::Ledger;
 use tfpg_base::{Line, Lines, NoMemory, Sink, Source, Steps};
+use tfpg_check::laws::a_report_goes_on_block_by_block;
 use tfpg_engine::Engine;
 use tfpg_report::{RefusedLine, head};
 
@@ -83,6 +84,7 @@ fn take_turn<S: Source, K: Sink, L: Ledger>(
         → IfErr result (λ fault. Diagnoses graph k budget before
         (streams (S.state input.new) (K.state out.new)) (Err fault)) }
 {
+    a_report_goes_on_block_by_block();
     match lines.next(input)? {
         Line::End => Ok(Turn::Ended),
         Line::TooLong => {

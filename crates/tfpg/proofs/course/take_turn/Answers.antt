@@ -28,7 +28,7 @@ returns-in_ok-block-in-TooLong-clause-turn g c graph k b before under =
     c.number.result c.in_ok-block-in-TooLong.block.items c.in-TooLong.is c.in_ok-block-in-TooLong.ensures in
     IfOk-weaker c.put_block.result _ _ (λ turn h. subst (LeadsTo graph k b before _ c.args.lines.now.number c.next.new.self c.args.engine.now) (sym h.0) (
       gave_block graph k b before _ c.args.lines.now c.args.engine.now _ c.next.new.self under answered.gave
-          c.number.result c.in_ok-block-in-TooLong.block.items c.args.engine.now _ c.number.ensures answered.block (Puts-same (g.K.Sink.state c.args.out.now) (g.K.Sink.state c.put_block.new.out) _ _ c.deref.ensures.value h.1) h.2,
+          c.number.result c.in_ok-block-in-TooLong.block.items c.args.engine.now _ c.number.ensures answered.block c.a_report_goes_on_block_by_block.ensures.step (Puts-same (g.K.Sink.state c.args.out.now) (g.K.Sink.state c.put_block.new.out) _ _ c.deref.ensures.value h.1) h.2,
       gave_one_more graph k b before _ c.args.lines.now c.args.engine.now _ c.next.new.self under answered.gave
           c.number.result c.in_ok-block-in-TooLong.block.items c.args.engine.now (g.K.Sink.state c.put_block.new.out) c.number.ensures answered.block,
     )) c.put_block.ensures.put
@@ -53,7 +53,7 @@ returns-in_ok-block-in-Text-clause-turn g c graph k b before under =
     c.number-in-Text.result c.text.result.now c.in_ok-block-in-Text.block.items c.answer.new.engine c.in-Text.is c.text.ensures (c.in_ok-block-in-Text.ensures graph k b) in
     IfOk-weaker c.put_block-in-Text.result _ _ (λ turn h. subst (LeadsTo graph k b before _ c.args.lines.now.number c.next.new.self c.answer.new.engine) (sym h.0) (
       gave_block graph k b before _ c.args.lines.now c.args.engine.now _ c.next.new.self under answered.gave
-          c.number-in-Text.result c.in_ok-block-in-Text.block.items c.answer.new.engine _ c.number-in-Text.ensures answered.block (Puts-same (g.K.Sink.state c.args.out.now) (g.K.Sink.state c.put_block-in-Text.new.out) _ _ c.deref-in-Text.ensures.value h.1) h.2,
+          c.number-in-Text.result c.in_ok-block-in-Text.block.items c.answer.new.engine _ c.number-in-Text.ensures answered.block c.a_report_goes_on_block_by_block.ensures.step (Puts-same (g.K.Sink.state c.args.out.now) (g.K.Sink.state c.put_block-in-Text.new.out) _ _ c.deref-in-Text.ensures.value h.1) h.2,
       gave_one_more graph k b before _ c.args.lines.now c.args.engine.now _ c.next.new.self under answered.gave
           c.number-in-Text.result c.in_ok-block-in-Text.block.items c.answer.new.engine (g.K.Sink.state c.put_block-in-Text.new.out) c.number-in-Text.ensures answered.block,
     )) c.put_block-in-Text.ensures.put
