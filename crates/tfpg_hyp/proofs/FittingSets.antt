@@ -20,7 +20,7 @@ use Rattle.tfpg_evidence.specs.RoundOf.{is_ranked}
 use Rattle.tfpg_graph.specs.Reach.{IsReach}
 use Rattle.tfpg_clause.specs.Trees.{Judged, IsRefutation}
 use Rattle.tfpg_hyp.specs.Table.{IsHypothesis}
-use Rattle.tfpg_hyp.specs.Rounds.{IsRound, IsFinding, HasEvidence, IsRankedPart, HasRankedPart, HasNoneOpen, is_covered, is_rejected, is_open, steps_so_far}
+use Rattle.tfpg_hyp.specs.Rounds.{IsRound, HasEvidence, IsRankedPart, HasRankedPart, HasNoneOpen, is_covered, is_rejected, is_open, steps_so_far}
 use Rattle.tfpg_hyp.specs.Fitting.{HasFittingPart, AreNoneOpenBelow}
 use Rattle.tfpg_hyp.proofs.FindingsOfRound.{Found, at_place, evidence}
 use Rattle.tfpg_hyp.proofs.Parts.{part_first, once}
@@ -58,18 +58,9 @@ module _ (leaves_none : LeavesNoTrace) (graph : Tfpg) (k budget line : ℕ) (rou
   -- ---- what each status says of the set
 
   module _ (number : ℕ) (finding : Finding) (at : Found round number finding) where
-    own_set : List ℕ
-    own_set = (evidence is_round number finding at).0
-
-    is_finding : IsFinding graph log budget (rounds ++ round ∷ []) round.findings number (evidence is_round number finding at).0 finding
-    is_finding = (evidence is_round number finding at).2
-
     -- its set stands in the table
     set_at : slice_get is_round.sets number ≡ Some finding.set
     set_at = (evidence is_round number finding at).1 ∙ ap Some (sym (evidence is_round number finding at).2.set_is)
-
-    reach_of : List ℕ
-    reach_of = (evidence is_round number finding at).2.reach
 
     evidence_of : HasEvidence graph log budget round.findings (evidence is_round number finding at).2.reach (steps_so_far number (rounds ++ round ∷ [])) finding finding.status
     evidence_of = (evidence is_round number finding at).2.evidence
