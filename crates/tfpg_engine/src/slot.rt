@@ -58,8 +58,10 @@ impl Slot {
     ) -> Result<Search, NoMemory>
         requires members { All (λ place. place < length (failures graph.now)) set }
         requires reach { IsReach graph.now set reach.now }
-        ensures represents { IfOk result (λ search. (log : Logbook) (steps : List Judged) → is_rejected_slot self ≡ false →
-            SlotRepresents graph.now log set reach.now self steps → SlotRepresents graph.now log set reach.now (Slot.Searched search) steps) }
+        ensures represents { IfOk result (λ search. (log : Logbook) (steps : List Judged) →
+            is_rejected_slot self ≡ false →
+            SlotRepresents graph.now log set reach.now self steps →
+            SlotRepresents graph.now log set reach.now (Slot.Searched search) steps) }
     {
         match self {
             Slot::Searched(search) => Ok(search),
