@@ -41,7 +41,8 @@ pub(crate) fn diagnose<S: Source, K: Sink, L: Ledger>(
     requires unread { engine.old.log ≡ new_log }
     requires new { EngineRepresents engine.old [] }
     ensures { Diagnoses engine.old.graph engine.old.k engine.old.budget
-        (streams (S.state input.old) (K.state out.old)) (streams (S.state input.new) (K.state out.new)) result }
+        (streams (S.state input.old) (K.state out.old))
+        (streams (S.state input.new) (K.state out.new)) result }
 {
     let mut lines = Lines::new(alloc)?;
     let head = first_line(alloc, engine.k(), engine.budget())?;

@@ -25,7 +25,8 @@ pub(crate) fn judge<S: Source, K: Sink>(
 ) -> Result<(), End>
     requires { IsOf graph.now log.now }
     ensures done { OnOk result (JudgesMap graph.now log.now
-        (streams (S.state input.old) (K.state out.old)) (streams (S.state input.new) (K.state out.new)) End.Done) }
+        (streams (S.state input.old) (K.state out.old))
+        (streams (S.state input.new) (K.state out.new)) End.Done) }
     ensures stopped { IfErr result (JudgesMap graph.now log.now
         (streams (S.state input.old) (K.state out.old)) (streams (S.state input.new) (K.state out.new))) }
 {

@@ -39,7 +39,8 @@ pub fn run<F: Shelf, S: Source, K: Sink, L: Ledger>(
 ) -> End
     // Each end has its cause, and what was written by then is right.
     ensures ends { RunEnds (meaning (map string_bytes words.now)) (F.state shelf.old) (F.state shelf.new)
-        (streams (S.state input.old) (K.state out.old)) (streams (S.state input.new) (K.state out.new)) result }
+        (streams (S.state input.old) (K.state out.old))
+        (streams (S.state input.new) (K.state out.new)) result }
 
     // Where the words are right, the files and the input serve them and nothing fails, it is done, or memory ran out.
     ensures completes { (meant : Meaning) → meaning (map string_bytes words.now) ≡ Ok meant →
@@ -72,7 +73,8 @@ fn perform<F: Shelf, S: Source, K: Sink, L: Ledger>(
     requires { AreWithinLimits (meaning_of command.now) }
     ensures done { OnOk result (CommandEnds (Ok (meaning_of command.now)) (F.state shelf.old)
         (F.state shelf.new)
-        (streams (S.state input.old) (K.state out.old)) (streams (S.state input.new) (K.state out.new)) End.Done) }
+        (streams (S.state input.old) (K.state out.old))
+        (streams (S.state input.new) (K.state out.new)) End.Done) }
     ensures stopped { IfErr result (CommandEnds (Ok (meaning_of command.now)) (F.state shelf.old)
         (F.state shelf.new)
         (streams (S.state input.old) (K.state out.old)) (streams (S.state input.new) (K.state out.new))) }
@@ -127,7 +129,8 @@ fn diagnose_file<F: Shelf, S: Source, K: Sink, L: Ledger>(
 ) -> Result<(), End>
     requires { 1 ≤ budget }
     ensures done { OnOk result (DiagnoseEnds (F.state shelf.old) (F.state shelf.new) k budget name.now
-        (streams (S.state input.old) (K.state out.old)) (streams (S.state input.new) (K.state out.new)) End.Done) }
+        (streams (S.state input.old) (K.state out.old))
+        (streams (S.state input.new) (K.state out.new)) End.Done) }
     ensures stopped { IfErr result (DiagnoseEnds (F.state shelf.old) (F.state shelf.new) k budget name.now
         (streams (S.state input.old) (K.state out.old)) (streams (S.state input.new) (K.state out.new))) }
     ensures asks { AsksFor name.now (F.state shelf.old).asked (F.state shelf.new).asked }
@@ -148,7 +151,8 @@ fn explain_by_files<F: Shelf, S: Source, K: Sink>(
 ) -> Result<(), End>
     ensures done { OnOk result (ExplainEnds (F.state shelf.old) (F.state shelf.new) graph_name.now
         log_name.now
-        (streams (S.state input.old) (K.state out.old)) (streams (S.state input.new) (K.state out.new)) End.Done) }
+        (streams (S.state input.old) (K.state out.old))
+        (streams (S.state input.new) (K.state out.new)) End.Done) }
     ensures stopped { IfErr result (ExplainEnds (F.state shelf.old) (F.state shelf.new) graph_name.now
         log_name.now
         (streams (S.state input.old) (K.state out.old)) (streams (S.state input.new) (K.state out.new))) }

@@ -29,7 +29,8 @@ pub(crate) fn may_alternative(
     requires small { IsSmallSpan span }
     ensures { option_map constraints_in result
         ≡ item_at
-        (outside_span node span ++ arrivals_over graph.now log.now number horizon span edges.now) alternative }
+        (outside_span node span
+        ++ arrivals_over graph.now log.now number horizon span edges.now) alternative }
 {
     match alternative {
         0 => None,

@@ -113,7 +113,8 @@ impl Search {
         ensures same { self.new ≡ record self.old { leaf = self.new.leaf } }
         ensures pushing { Pushing graph.now log.now self.old.reach self.old.path self.old.leaf self.new.leaf }
         ensures ok { IfOk result
-            (PushesOne (framed graph.now log.now self.old.path split place) (Pick split place) self.old.leaf self.new.leaf) }
+            (PushesOne (framed graph.now log.now self.old.path split place) (Pick split place)
+            self.old.leaf self.new.leaf) }
         ensures closes { IfErr result (Closes (stated_by graph.now log.now self.old.reach self.old.path)) }
     {
         clause_laws();
