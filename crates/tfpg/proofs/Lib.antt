@@ -10,6 +10,7 @@ pub mod Whole
 pub mod MapWords
 pub mod MapTexts
 pub mod OneMap
+pub mod WrittenMaps
 pub mod Stops
 pub mod Diagnosing
 pub mod FewHypotheses

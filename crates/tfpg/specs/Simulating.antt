@@ -1,7 +1,10 @@
 -- What `simulate` does: it writes the log that a script makes, or the map of what happened.
-use Rattle.std.specs.Prelude.{◌≡◌, ◌⊎◌, ℕ, List, ◌++◌, Bool, true, false, Err}
+use Rattle.std.specs.Prelude.{◌≡◌, ◌⊎◌, ℕ, List, ◌++◌, Bool, true, false, IsTrue, Err}
+use Rattle.tfpg_base.specs.Lines.{lines_of}
 use Rattle.tfpg_base.specs.Outside.{ShelfState, SinkState, Rose, Puts}
 use Rattle.tfpg_graph.specs.Graph.{Tfpg}
+use Rattle.tfpg_log.specs.Explains.{Explains}
+use Rattle.tfpg_log.specs.LogOfLines.{log_of_lines}
 use Rattle.tfpg_sim.specs.declared.simulated.Simulated.{Simulated}
 use Rattle.tfpg_sim.specs.Script.{script_of}
 use Rattle.tfpg_sim.specs.Simulated.{IsSimulationOf}
@@ -11,6 +14,7 @@ use Rattle.tfpg.specs.declared.end.End.TheVariants.{Done, NotAccepted, Usage, Gr
 use Rattle.tfpg.specs.declared.fault.FetchFault.{FetchFault}
 use Rattle.tfpg.specs.EndsOf.{end_of_fetch_fault}
 use Rattle.tfpg.specs.Fetch.{GivesGraphAndText, IsFilesFault}
+use Rattle.tfpg.specs.Map.{SpellsMap}
 use Rattle.tfpg.specs.MapText.{map_text}
 
 -- what is written of a simulation: the map of its set and its trace where the trace is asked for, else its log
@@ -18,11 +22,14 @@ abbrev pub simulated_text : Tfpg → Bool → Simulated → List ℕ
 simulated_text graph true simulated = map_text graph simulated.set simulated.trace
 simulated_text graph false simulated = simulated.log
 
--- The script is right, and this is the text of its simulation on the graph with the draws of the number.
+-- The script is right, and this is the text of its simulation on the graph with the draws of the number. The trace explains the log
+-- from the set, and the text of the map spells both.
 pub record HasSimulation (graph : Tfpg) (script : List ℕ) (draw : ℕ) (trace : Bool) (text : List ℕ) : Type 0 where
   pub simulated : Simulated
   pub is : IsSimulationOf graph script draw simulated
+  pub explains : Explains graph (log_of_lines graph (lines_of simulated.log)) simulated.set simulated.trace
   pub text_is : text ≡ simulated_text graph trace simulated
+  pub spells : IsTrue trace → SpellsMap graph (lines_of text) simulated.set simulated.trace
 
 -- The whole text was written, and nothing failed.
 pub record WritesSimulation (graph : Tfpg) (script : List ℕ) (draw : ℕ) (trace : Bool) (before now : SinkState) : Type 0 where

@@ -14,6 +14,7 @@ use crate::output::put_all;
 use std::alloc::Global;
 use tfpg_base::{NoMemory, Shelf, Sink};
 use tfpg_graph::Graph;
+use tfpg_log::laws::a_log_of_lines_is_of_its_graph;
 use tfpg_sim::{SimFault, Simulated, simulate};
 
 /// Simulates the script of the one file on the graph of the other, with delays and latenesses drawn by the number, and
@@ -71,6 +72,9 @@ fn simulation_text(
     ensures fault { IfErr result (IsFaultAt (script_of graph.now script.now)) }
 {
     let simulated = simulate(alloc, graph, script, draw)?;
+    let _valid = graph.node_count();
+    let _rising = simulated.set.len();
+    a_log_of_lines_is_of_its_graph();
     Ok(text_of(alloc, graph, simulated, trace)?)
 }
 
