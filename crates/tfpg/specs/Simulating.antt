@@ -5,6 +5,7 @@ use Rattle.tfpg_base.specs.Outside.{ShelfState, SinkState, Rose, Puts}
 use Rattle.tfpg_graph.specs.Graph.{Tfpg}
 use Rattle.tfpg_log.specs.Explains.{Explains}
 use Rattle.tfpg_log.specs.LogOfLines.{log_of_lines}
+use Rattle.tfpg_sim.specs.AcceptedLog.{AreAccepted}
 use Rattle.tfpg_sim.specs.declared.simulated.Simulated.{Simulated}
 use Rattle.tfpg_sim.specs.Script.{script_of}
 use Rattle.tfpg_sim.specs.Simulated.{IsSimulationOf}
@@ -22,11 +23,12 @@ abbrev pub simulated_text : Tfpg → Bool → Simulated → List ℕ
 simulated_text graph true simulated = map_text graph simulated.set simulated.trace
 simulated_text graph false simulated = simulated.log
 
--- The script is right, and this is the text of its simulation on the graph with the draws of the number. The trace explains the log
--- from the set, and the text of the map spells both.
+-- The script is right, and this is the text of its simulation on the graph with the draws of the number. Each line of the log is
+-- accepted, the trace explains it from the set, and the text of the map spells both.
 pub record HasSimulation (graph : Tfpg) (script : List ℕ) (draw : ℕ) (trace : Bool) (text : List ℕ) : Type 0 where
   pub simulated : Simulated
   pub is : IsSimulationOf graph script draw simulated
+  pub accepted : AreAccepted graph (lines_of simulated.log)
   pub explains : Explains graph (log_of_lines graph (lines_of simulated.log)) simulated.set simulated.trace
   pub text_is : text ≡ simulated_text graph trace simulated
   pub spells : IsTrue trace → SpellsMap graph (lines_of text) simulated.set simulated.trace

@@ -16,6 +16,7 @@ returns-clause-text c =
     record {
       simulated = simulated;
       is = says.simulated;
+      accepted = says.accepted;
       explains = says.explained;
       text_is = c.in_ok-text_of.ensures;
       spells = simulation_spells graph (log_of_lines graph (lines_of simulated.log)) simulated c.args.trace c.in_ok-text_of.field-0.items c.node_count-valid.ensures.valid
