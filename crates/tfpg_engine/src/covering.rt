@@ -9,7 +9,7 @@ ghost use Rattle.tfpg_engine.specs.inside.Turns.{IsLeastPart};
 use tfpg_base::Set;
 use tfpg_evidence::{Finding, Status};
 
-/// The least number of a ranked finding on a proper subset of the set.
+/// The least number of a ranked finding on a proper subset of the set. Goes through the findings.
 pub(crate) fn covering(findings: &[Finding], set: Set) -> Option<u32>
     requires { length findings.now < 2 ^ 32 }
     ensures { MatchOption result (HasRankedPart findings.now set → ⊥) (IsLeastPart findings.now set) }

@@ -16,7 +16,8 @@ use tfpg_base::{NoMemory, Steps};
 use tfpg_evidence::{Findings, Round};
 use tfpg_hyp::Table;
 
-/// The round of the log, whose last event is that of this line.
+/// The round of the log, whose last event is that of this line. Where memory runs out, some slots may have lost their searches,
+/// and the engine ends.
 pub(crate) fn make<L: Ledger>(
     alloc: Global,
     asked: &Asked<'_>,
@@ -35,6 +36,7 @@ pub(crate) fn make<L: Ledger>(
         table.now slots.old slots.new line) }
     ensures one_each { length slots.new ≡ length slots.old }
 {
+    // So many hypotheses that their numbers fit.
     let _few = table.len();
     let findings = find_all(alloc, asked, table, slots, work)?;
     let order = order(alloc, &findings)?;

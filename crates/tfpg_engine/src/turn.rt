@@ -44,6 +44,7 @@ pub(crate) fn find<L: Ledger>(
         hypothesis.now.set hypothesis.now.reach.now hypothesis.now.number findings.now slot.old slot.new) }
 {
     tree_laws();
+    // The times of a log never fall.
     let _ordered = asked.log.len();
     if slot.is_rejected() {
         return Ok(passed_over(alloc, hypothesis, Status::Rejected));
@@ -71,7 +72,8 @@ fn passed_over(alloc: Global, hypothesis: &Hypothesis<'_>, status: Status) -> Fi
     }
 }
 
-/// The finding on a hypothesis that is searched on. Where it is rejected now, its search gives its memory back.
+/// The finding on a hypothesis that is searched on. Where it is rejected now, its search gives its memory back. Where memory runs
+/// out, the search is lost with it, and the slot is not asked again.
 fn search_on<L: Ledger>(
     alloc: Global,
     asked: &Asked<'_>,
@@ -92,6 +94,7 @@ fn search_on<L: Ledger>(
     ensures { IfOk result (IsTurn asked.now.graph.now asked.now.log.now asked.now.budget
         hypothesis.now.set hypothesis.now.reach.now hypothesis.now.number findings.now slot.old slot.new) }
 {
+    // The times of a log never fall.
     let _ordered = asked.log.len();
     let mut search = mem::replace(slot, Slot::Rejected).into_search(
         alloc,

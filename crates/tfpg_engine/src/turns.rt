@@ -15,7 +15,8 @@ use tfpg_base::{NoMemory, Steps};
 use tfpg_evidence::Finding;
 use tfpg_hyp::Table;
 
-/// A finding on each hypothesis of the table, in the order of their numbers.
+/// A finding on each hypothesis of the table, in the order of their numbers. It costs the searches, and for each hypothesis a
+/// look at the findings before it.
 pub(crate) fn find_all<L: Ledger>(
     alloc: Global,
     asked: &Asked<'_>,
