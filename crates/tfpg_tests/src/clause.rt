@@ -770,7 +770,7 @@ const FACTS: [(&str, Reason, Result<Constraint, NotAFact>); 18] = [
 fn reasons_state_facts(rt: HostRuntime) -> Result<(), Fail> {
     let graph = read(rt.alloc(), GRAPH)?;
     let log = log_of(rt.alloc(), &graph, &SILENCES)?;
-    let reach = reach_of_first(&graph).ok_or("no failure mode")?;
+    let reach = reach_of_first(&graph)?;
     for (row, reason, expected) in &FACTS {
         assert_eq!(rt; fact(&graph, &log, &reach, *reason), *expected, "{row}");
     }

@@ -115,7 +115,7 @@ const STATED: [(&str, Reason, Option<Constraint>); 9] = [
 fn reasons_state_facts_and_picks(rt: HostRuntime) -> Result<(), Fail> {
     let graph = read(rt.alloc(), GRAPH)?;
     let log = log_of(rt.alloc(), &graph, &LINES)?;
-    let reach = reach_of_first(&graph).ok_or("no failure mode")?;
+    let reach = reach_of_first(&graph)?;
     let path = path_of(rt.alloc(), &[(3, 3), (1, 3)])?;
     for (row, reason, expected) in &STATED {
         assert_eq!(rt;

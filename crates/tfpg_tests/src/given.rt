@@ -7,23 +7,26 @@ use std::alloc::Global;
 use std::test::Fail;
 use tfpg_base::Set;
 use tfpg_graph::{Graph, NodeSet};
-use tfpg_log::Log;
+use tfpg_log::{Log, Offered};
 
-/// The log of the lines.
+/// The log of the lines, all of which are to be accepted.
 pub(crate) fn log_of(alloc: Global, graph: &Graph, lines: &[&[u8]]) -> Result<Log, Fail>
     ensures { IfOk result (IsOf graph.now) }
 {
     let mut log = Log::new(alloc);
     for line in lines {
-        log.offer(graph, *line)?;
+        match log.offer(graph, *line)? {
+            Offered::Accepted(_) => {}
+            Offered::Refused(_) => return Err(Fail::from("a line is refused")),
+        }
     }
     Ok(log)
 }
 
-/// The nodes that the first failure mode reaches, where there is one.
-pub(crate) fn reach_of_first(graph: &Graph) -> Option<NodeSet> {
+/// The nodes that the first failure mode of the graph reaches.
+pub(crate) fn reach_of_first(graph: &Graph) -> Result<NodeSet, Fail> {
     if graph.failure_count() == 0 {
-        return None;
+        return Err(Fail::from("no failure mode"));
     }
-    Some(graph.reach(Set::empty().with(0)))
+    Ok(graph.reach(Set::empty().with(0)))
 }

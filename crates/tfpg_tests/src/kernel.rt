@@ -273,7 +273,7 @@ fn go_through(
 fn a_refutation_closes_at_its_last_step(rt: HostRuntime) -> Result<(), Fail> {
     let graph = read(rt.alloc(), GRAPH)?;
     let log = log_of(rt.alloc(), &graph, &LINES)?;
-    let reach = reach_of_first(&graph).ok_or("no failure mode")?;
+    let reach = reach_of_first(&graph)?;
     let mut checker = Checker::new(rt.alloc(), reach);
     go_through(&rt, rt.alloc(), &mut checker, &graph, &log, &REFUTATION)
 }
@@ -282,7 +282,7 @@ fn a_refutation_closes_at_its_last_step(rt: HostRuntime) -> Result<(), Fail> {
 fn the_first_cause_of_a_bad_step_is_named(rt: HostRuntime) -> Result<(), Fail> {
     let graph = read(rt.alloc(), GRAPH)?;
     let log = log_of(rt.alloc(), &graph, &LINES)?;
-    let reach = reach_of_first(&graph).ok_or("no failure mode")?;
+    let reach = reach_of_first(&graph)?;
     let mut checker = Checker::new(rt.alloc(), reach);
     assert_eq!(rt;
         answer_to(&mut checker, &graph, &log, &Step::Split(MAY))?,
@@ -296,7 +296,7 @@ fn a_log_may_grow_between_steps(rt: HostRuntime) -> Result<(), Fail> {
     let graph = read(rt.alloc(), GRAPH)?;
     let first = log_of(rt.alloc(), &graph, &[LINES[0]])?;
     let whole = log_of(rt.alloc(), &graph, &LINES)?;
-    let reach = reach_of_first(&graph).ok_or("no failure mode")?;
+    let reach = reach_of_first(&graph)?;
     let mut checker = Checker::new(rt.alloc(), reach);
     go_through(
         &rt,
@@ -323,7 +323,7 @@ fn a_log_may_grow_between_steps(rt: HostRuntime) -> Result<(), Fail> {
 fn a_cycle_may_be_long_and_a_path_deep(rt: HostRuntime) -> Result<(), Fail> {
     let graph = read(rt.alloc(), GRAPH)?;
     let log = log_of(rt.alloc(), &graph, &LINES)?;
-    let reach = reach_of_first(&graph).ok_or("no failure mode")?;
+    let reach = reach_of_first(&graph)?;
     let mut checker = Checker::new(rt.alloc(), reach);
     for _ in 0..60 {
         assert_eq!(rt;
