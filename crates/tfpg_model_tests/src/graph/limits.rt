@@ -1,6 +1,6 @@
 //! The limits of a graph, each by a text that reaches it and one that exceeds it.
 
-use super::fault::{Wrong, fault_of};
+use super::fault::{Fault, fault_of};
 use std::alloc::Global;
 use std::test::Fail;
 use tfpg_graph::GraphCause;
@@ -50,7 +50,7 @@ fn full_text(
 
 /// Numbers of modes, failure modes and discrepancies, with the fault of the text that has them. A 513th node that is the
 /// 65th failure mode is one node too many, and a 2,049th edge that is the 33rd into its target is one edge too many.
-const FULL: [(&str, u32, u32, u32, Wrong); 14] = [
+const FULL: [(&str, u32, u32, u32, Fault); 14] = [
     ("64 modes", 64, 1, 1, None),
     ("64 failure modes", 1, 64, 0, None),
     ("512 nodes", 1, 1, 511, None),
@@ -118,11 +118,11 @@ const FULL: [(&str, u32, u32, u32, Wrong); 14] = [
 /// The name of the first row whose text has another fault than it says.
 fn wrong_limit<'a>(
     alloc: Global,
-    rows: &[(&'a str, u32, u32, u32, Wrong)],
+    rows: &[(&'a str, u32, u32, u32, Fault)],
 ) -> Result<Option<&'a str>, Fail> {
-    for (name, modes, failures, discrepancies, wrong) in rows {
+    for (name, modes, failures, discrepancies, expected) in rows {
         let text = full_text(alloc, *modes, *failures, *discrepancies)?;
-        if fault_of(alloc, &text)? != *wrong {
+        if fault_of(alloc, &text)? != *expected {
             return Ok(Some(*name));
         }
     }

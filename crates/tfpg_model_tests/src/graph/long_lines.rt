@@ -1,6 +1,6 @@
 //! The limit of a line, in each kind of line.
 
-use super::fault::{Wrong, fault_of};
+use super::fault::{Fault, fault_of};
 use std::alloc::Global;
 use std::test::Fail;
 use tfpg_base::LONGEST_LINE;
@@ -8,7 +8,7 @@ use tfpg_graph::GraphCause;
 
 /// What stands before a long line, how the line begins, and what stands after it, with the fault of the text where the line
 /// has 4,096 bytes and where it has one more.
-const LONG_LINES: [(&str, &[u8], &[u8], &[u8], Wrong, Wrong); 5] = [
+const LONG_LINES: [(&str, &[u8], &[u8], &[u8], Fault, Fault); 5] = [
     (
         "a header",
         b"",
@@ -71,7 +71,7 @@ fn text_with_long_line(
 /// The name of the first row whose text has another fault than it says, and whether its line is too long there.
 fn wrong_line<'a>(
     alloc: Global,
-    rows: &[(&'a str, &'a [u8], &'a [u8], &'a [u8], Wrong, Wrong)],
+    rows: &[(&'a str, &'a [u8], &'a [u8], &'a [u8], Fault, Fault)],
 ) -> Result<Option<(&'a str, bool)>, Fail> {
     for (name, front, begin, back, long, too_long) in rows {
         let text = text_with_long_line(alloc, *front, *begin, *back, LONGEST_LINE)?;

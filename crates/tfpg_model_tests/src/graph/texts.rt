@@ -7,7 +7,7 @@ mod names;
 mod numbers;
 mod whole;
 
-use super::fault::{Wrong, fault_of};
+use super::fault::{Fault, fault_of};
 use accepted::ACCEPTED;
 use edges::EDGES;
 use lines::LINES;
@@ -18,15 +18,15 @@ use std::test::Fail;
 use whole::WHOLE;
 
 /// A text with its name and its fault.
-type Text = (&'static str, &'static [u8], Wrong);
+type Text = (&'static str, &'static [u8], Fault);
 
 /// All the texts.
 const TEXTS: [&[Text]; 6] = [&ACCEPTED, &LINES, &NAMES, &NUMBERS, &EDGES, &WHOLE];
 
 /// The name of the first text of these that has another fault than its row says.
 fn wrong_text(alloc: Global, texts: &[Text]) -> Result<Option<&'static str>, Fail> {
-    for (name, text, wrong) in texts {
-        if fault_of(alloc, *text)? != *wrong {
+    for (name, text, expected) in texts {
+        if fault_of(alloc, *text)? != *expected {
             return Ok(Some(*name));
         }
     }
