@@ -1,0 +1,80 @@
+#!/usr/bin/env python3
+"""Times the simulator on a graph of 512 nodes and 2,048 edges: seconds, the shortest of three runs each.
+
+    bench/simulate.py
+
+- "no change": one failure mode starts, and the mode stays as it is.
+- "1,024 changes": the same with a change of mode at every 4th millisecond, which cuts the edges of half of the graph and lets
+  their propagations start anew.
+- "64 starts": the same with 64 failure modes, which start one after the other, and 6,000 sweeps and ticks.
+
+Seconds count the start of the program and the reading of the graph.
+"""
+
+import random
+import subprocess
+import sys
+import tempfile
+import time
+from pathlib import Path
+
+TFPG = Path(__file__).resolve().parent.parent / "tfpg"
+
+
+def large_graph(draws, failures, nodes=512, edges=2048):
+    """A graph of so many nodes and edges, in which each edge leads to a later node; half of the edges are active in one mode alone."""
+    name = lambda node: f"F{node}" if node < failures else f"D{node}"
+    lines = ["tfpg 1", "mode N", "mode D", *[f"failure F{node} 1" for node in range(failures)]]
+    for node in range(failures, nodes):
+        kind = "and" if draws.random() < 0.2 else "or"
+        monitor = f"watch {draws.randint(0, 20)}" if draws.random() < 0.6 else "hidden"
+        lines.append(f"{kind} D{node} {monitor}")
+    seen, incoming = set(), dict.fromkeys(range(nodes), 0)
+    for node in [*range(failures, nodes), *[None] * (20 * edges)]:
+        target = node or draws.randint(failures, nodes - 1)
+        source = draws.randint(max(0, target - 40), target - 1)
+        if len(seen) == edges or (source, target) in seen or incoming[target] == 32:
+            continue
+        seen.add((source, target))
+        incoming[target] += 1
+        least = draws.randint(1, 6)
+        modes = "*" if draws.random() < 0.5 else draws.choice("ND")
+        lines.append(f"edge {name(source)} {name(target)} {least} {least + draws.randint(0, 20)} {modes}")
+    assert len(seen) == edges
+    return "\n".join([*lines, "end"]) + "\n"
+
+
+def script(failures, changes, events):
+    """A script with so many starts, changes of mode, and sweeps and ticks, over 4,096 milliseconds."""
+    timed = [(64 * node, f"start F{node}") for node in range(failures)]
+    timed += [(4 * change, f"mode {'DN'[change % 2]}") for change in range(changes)]
+    timed += [(4096 * event // events, "sweep" if event % 10 == 0 else "tick") for event in range(events)]
+    lines = [f"{at} {what}" for at, what in sorted(timed, key=lambda it: it[0])]
+    return "\n".join([*lines, "4200 stop"]) + "\n"
+
+
+def show(name, folder, failures, changes, events):
+    """Simulates the script, and says what it cost."""
+    (folder / "graph").write_text(large_graph(random.Random(7), failures))
+    (folder / "script").write_text(script(failures, changes, events))
+    best = None
+    for _ in range(3):
+        began = time.perf_counter()
+        words = [TFPG, "simulate", str(folder / "graph"), str(folder / "script")]
+        log = subprocess.run(words, stdout=subprocess.PIPE, check=True).stdout
+        took = time.perf_counter() - began
+        best = took if best is None else min(best, took)
+    lines, alarms = log.count(b"\n"), log.count(b" alarm ")
+    print(f"{name:14} {lines:5} lines, {alarms:3} alarms {best:8.3f} s")
+
+
+def main():
+    with tempfile.TemporaryDirectory() as name:
+        folder = Path(name)
+        show("no change", folder, 1, 0, 100)
+        show("1,024 changes", folder, 1, 1024, 100)
+        show("64 starts", folder, 64, 1024, 6000)
+
+
+if __name__ == "__main__":
+    sys.exit(main())
