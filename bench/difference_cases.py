@@ -3,7 +3,7 @@
 
 It shares nothing with the crate `tfpg_diff`: for each system it walks through every list of times up to a
 small ceiling, keeps those that meet all constraints, and takes the greatest time of each variable. It prints
-the table of `crates/tfpg_diff/src/tests.rt`.
+the table of `crates/tfpg_model_tests/src/diff.rt`.
 """
 
 import itertools

@@ -34,7 +34,7 @@ use tfpg_diff::System;
 
 const ROUNDS: u32 = 20;
 
-/// Pushes all picks that can be pushed, and answers how many conflicted.
+/// Pushes all picks that can be pushed, and returns how many conflicted.
 fn conflicts<L: Ledger>(alloc: Global, blank: Blank, count: u32, picks: &[Constraint]) -> u32
     requires name { blank.name ≡ L.name }
     requires parts { blank.parts ≡ L.parts }

@@ -6,7 +6,7 @@
 It writes three texts into the folder, or into a temporary one: the most nodes, edges and modes that a graph may have, with
 names of 32 bytes; 16 MiB of comments; and 16 MiB of empty lines. For each it prints the shortest of five runs of
 
-- the program on that text and an empty log, so that all it does is to start, to read the graph, and to put the head of a
+- the program on that text and an empty log, so that all it does is to start, to read the graph, and to write the head of a
   report,
 - `wc -l`, which only goes through the bytes,
 - Python splitting the same text into lines and words.
@@ -75,7 +75,7 @@ def repeated(line):
 
 
 def shortest(command):
-    """The seconds that the command took in the shortest run, and what it put."""
+    """The seconds that the command took in the shortest run, and what it wrote."""
     best, put = None, b""
     for _ in range(RUNS):
         begin = time.perf_counter()

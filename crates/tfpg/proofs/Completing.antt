@@ -2,6 +2,7 @@
 use Rattle.std.proofs.Common.{◌≡◌, ◌⊎◌, ℕ, ◌+◌, ◌<◌, ◌≤◌, List, ◌++◌, length, Option, Some, None, IfSome, Result, Ok, Err, refl, sym, ap, subst, ◌∙◌, Bool, inl, inr, arith}
 use Rattle.std.specs.Prelude.{OnOk, IfErr}
 use Rattle.std.proofs.lemmas.List.{length-append}
+use Rattle.std.proofs.lemmas.Option.{same_Some}
 use Rattle.tfpg_base.specs.Lines.{max_bytes}
 use Rattle.tfpg_base.specs.Outside.{SourceState, ShelfState, Rose, Gives, PassesLimit, Takes, file_of, longest_file}
 use Rattle.tfpg_graph.specs.declared.cause.GraphFault.{GraphFault}
@@ -20,12 +21,18 @@ use Rattle.tfpg.specs.declared.fault.FetchFault.{FetchFault}
 use Rattle.tfpg.specs.declared.fault.FetchFault.TheVariants.{Failed, TooLong, Graph, NoMemory}
 use Rattle.tfpg.specs.declared.fault.StreamFault.{StreamFault}
 use Rattle.tfpg.specs.declared.fault.StreamFault.TheVariants as faults
+use Rattle.tfpg.specs.declared.fault.JudgeFault.{JudgeFault}
+use Rattle.tfpg.specs.declared.fault.JudgeFault.TheVariants as judge
+use Rattle.tfpg.specs.declared.fault.SimulateFault.{SimulateFault}
+use Rattle.tfpg.specs.declared.fault.SimulateFault.TheVariants as simulate
+use Rattle.tfpg.specs.declared.fault.GenerateFault.{GenerateFault}
+use Rattle.tfpg.specs.declared.fault.GenerateFault.TheVariants as generate
 use Rattle.tfpg.specs.Completeness.{CanDiagnose, CanExplain, CanSimulate, CanBeDone, NothingFails, IsShort, IsCompleted}
-use Rattle.tfpg.specs.EndsOf.{end_of_fetch_fault, end_of_stream_fault}
+use Rattle.tfpg.specs.EndsOf.{end_of_fetch_fault, end_of_stream_fault, end_of_diagnosis, end_of_judging, end_of_simulation, end_of_generation}
 use Rattle.tfpg.specs.Fetch.{HasFile, IsTooLong, GivesGraph, HasFaultyGraph, IsFetchFault, IsFilesFault}
-use Rattle.tfpg.specs.Generating.{GenerateEnds}
+use Rattle.tfpg.specs.Generating.{GenerateEnds, GenerationEnds}
 use Rattle.tfpg.specs.Judging.{JudgesMap, JudgingEnds}
-use Rattle.tfpg.specs.Run.{CommandEnds, RunEnds, end_of_result, DiagnoseEnds, ExplainEnds, IsShown, DiagnosisEnds}
+use Rattle.tfpg.specs.Run.{CommandEnds, RunEnds, DiagnoseEnds, ExplainEnds, IsShown, DiagnosisEnds}
 use Rattle.tfpg.specs.Simulating.{SimulateEnds, SimulationEnds}
 use Rattle.tfpg.specs.Streams.{Streams}
 use Rattle.tfpg.specs.inside.Faults.{end_of_work}
@@ -33,9 +40,6 @@ use Rattle.tfpg.specs.inside.Faults.{end_of_work}
 -- no text of a valid graph has a fault
 abbrev NoFaultOfValid : Type 0
 NoFaultOfValid = (text : List ℕ) (graph : Tfpg) → Spells text graph → IsValid graph → (fault : GraphFault) → IsFirstFault text fault → ⊥
-
-same_some : {X : Type 0} {one other : X} → Some one ≡ Some other → one ≡ other
-same_some e = cc
 
 -- ---- files that are there
 
@@ -49,7 +53,7 @@ module _ (shelf : ShelfState) (files : List (List ℕ × List ℕ)) (known : she
   not_too_long name text gives small long =
       let front = long.0 in
       let there = subst (λ (fs : Option (List (List ℕ × List ℕ))). IfSome fs (λ them. (more : List ℕ) × (0 < length more) × (file_of them name ≡ Some (front ++ more)))) known long.1.1 in
-      let same : text ≡ front ++ there.0 = same_some (sym (gives_is name text gives) ∙ there.2) in
+      let same : text ≡ front ++ there.0 = same_Some _ _ (sym (gives_is name text gives) ∙ there.2) in
       let long_is : length text ≡ length (front ++ there.0) = ap length same in
       omega (arith, long_is, length-append front there.0, long.1.0, there.1, small)
 
@@ -57,7 +61,7 @@ module _ (shelf : ShelfState) (files : List (List ℕ × List ℕ)) (known : she
     -- a graph that is there has no fault
     no_graph_fault : (fault : GraphFault) → HasFaultyGraph shelf name fault → ⊥
     no_graph_fault fault faulty =
-        let same : faulty.text ≡ gives.text = same_some (sym (gives_is name faulty.text faulty.file.gives) ∙ gives_is name gives.text gives.gives) in
+        let same : faulty.text ≡ gives.text = same_Some _ _ (sym (gives_is name faulty.text faulty.file.gives) ∙ gives_is name gives.text gives.gives) in
         law gives.text graph gives.spells gives.valid fault (subst (λ (t : List ℕ). IsFirstFault t fault) same faulty.first)
 
     -- where it is not fetched, memory ran out
@@ -110,22 +114,19 @@ module _ (law : NoFaultOfValid) (shelf_before shelf_now : ShelfState) (before no
   diagnosed short end k budget name can (inr (inr file)) = go file.result file.diagnoses.ends file.end_is
     where
       go : (result : Result (Unit {0}) StreamFault) → DiagnosisEnds file.graph k budget before now file.diagnoses.taken file.diagnoses.blocks file.diagnoses.written result
-          → end ≡ end_of_result result → (end ≡ ends.Done) ⊎ (end ≡ ends.NoMemory)
+          → end ≡ end_of_diagnosis result → (end ≡ ends.Done) ⊎ (end ≡ ends.NoMemory)
       go (Ok done) is e = inl e
       go (Err fault) is e = inr (e ∙ ap end_of_stream_fault (no_stream_fault short file.diagnoses.taken file.diagnoses.takes fault is.0))
 
   -- a map that is judged
-  judged : IsShort before.input → (graph : Tfpg) (log : Logbook) (taken : List ℕ) → Takes before.input now.input taken → (end : End) → JudgingEnds graph log before now taken end
-      → (end ≡ ends.Done) ⊎ ((end ≡ ends.NoMemory) ⊎ ((line : ℕ) × (end ≡ ends.NotAccepted line BadMap)))
-  judged short graph log taken takes ends.Done is = inl refl
-  judged short graph log taken takes (ends.NotAccepted line cause) is = inr (inr (line, ap (ends.NotAccepted line) is.1))
-  judged short graph log taken takes (ends.Usage cause) is = absurd is
-  judged short graph log taken takes (ends.Graph line cause) is = absurd is
-  judged short graph log taken takes (ends.TooManyHypotheses count) is = absurd is
-  judged short graph log taken takes ends.ReadFault is = absurd (calm.input is.0)
-  judged short graph log taken takes ends.WriteFault is = absurd (calm.output is.rose)
-  judged short graph log taken takes ends.TooMuchInput is = absurd (not_more (length taken) (few_taken before.input now.input taken short takes) is.0)
-  judged short graph log taken takes ends.NoMemory is = inr (inl refl)
+  judged : IsShort before.input → (graph : Tfpg) (log : Logbook) (taken : List ℕ) → Takes before.input now.input taken → (result : Result (Unit {0}) JudgeFault) → JudgingEnds graph log before now taken result
+      → (end_of_judging result ≡ ends.Done) ⊎ ((end_of_judging result ≡ ends.NoMemory) ⊎ ((line : ℕ) × (end_of_judging result ≡ ends.NotAccepted line BadMap)))
+  judged short graph log taken takes (Ok done) is = inl refl
+  judged short graph log taken takes (Err (judge.BadMap line)) is = inr (inr (line, refl))
+  judged short graph log taken takes (Err judge.ReadFault) is = absurd (calm.input is.0)
+  judged short graph log taken takes (Err judge.WriteFault) is = absurd (calm.output is.rose)
+  judged short graph log taken takes (Err judge.TooMuchInput) is = absurd (not_more (length taken) (few_taken before.input now.input taken short takes) is.0)
+  judged short graph log taken takes (Err judge.NoMemory) is = inr (inl refl)
 
   explained : IsShort before.input → (end : End) (graph_name log_name : List ℕ) → CanExplain shelf_before graph_name log_name → ExplainEnds shelf_before shelf_now graph_name log_name before now end
       → (end ≡ ends.Done) ⊎ ((end ≡ ends.NoMemory) ⊎ ((line : ℕ) × (end ≡ ends.NotAccepted line BadMap)))
@@ -133,20 +134,17 @@ module _ (law : NoFaultOfValid) (shelf_before shelf_now : ShelfState) (before no
       let file : HasFile shelf_before log_name can.gives.text = can.gives.file in
       inr (inl (without_memory end lacks.fault
       (both_fetched shelf_before can.files can.known law graph_name can.graph can.gives.of_graph shelf_now log_name can.gives.text file lacks.fault calm.shelf lacks.is_fault) lacks.end_is))
-  explained short end graph_name log_name can (inr judges) = judged short judges.graph judges.log judges.judges.taken judges.judges.takes end judges.judges.ends
+  explained short end graph_name log_name can (inr judges) =
+      subst (λ (e : End). (e ≡ ends.Done) ⊎ ((e ≡ ends.NoMemory) ⊎ ((line : ℕ) × (e ≡ ends.NotAccepted line BadMap)))) (sym judges.end_is)
+      (judged short judges.graph judges.log judges.judges.taken judges.judges.takes judges.result judges.judges.ends)
 
   -- a script that is simulated
-  simulated : (graph : Tfpg) (script : List ℕ) (draw : ℕ) (trace : Bool) → ((line : ℕ) → script_of graph script ≡ Err line → ⊥) → (end : End)
-      → SimulationEnds graph script draw trace before.output now.output end → (end ≡ ends.Done) ⊎ (end ≡ ends.NoMemory)
-  simulated graph script draw trace right ends.Done is = inl refl
-  simulated graph script draw trace right (ends.NotAccepted line cause) is = absurd (right line is.0)
-  simulated graph script draw trace right (ends.Usage cause) is = absurd is
-  simulated graph script draw trace right (ends.Graph line cause) is = absurd is
-  simulated graph script draw trace right (ends.TooManyHypotheses count) is = absurd is
-  simulated graph script draw trace right ends.ReadFault is = absurd is
-  simulated graph script draw trace right ends.WriteFault is = absurd (calm.output is.rose)
-  simulated graph script draw trace right ends.TooMuchInput is = absurd is
-  simulated graph script draw trace right ends.NoMemory is = inr refl
+  simulated : (graph : Tfpg) (script : List ℕ) (draw : ℕ) (trace : Bool) → ((line : ℕ) → script_of graph script ≡ Err line → ⊥) → (result : Result (Unit {0}) SimulateFault)
+      → SimulationEnds graph script draw trace before.output now.output result → (end_of_simulation result ≡ ends.Done) ⊎ (end_of_simulation result ≡ ends.NoMemory)
+  simulated graph script draw trace right (Ok done) is = inl refl
+  simulated graph script draw trace right (Err (simulate.BadScript line)) is = absurd (right line is.0)
+  simulated graph script draw trace right (Err simulate.WriteFault) is = absurd (calm.output is.rose)
+  simulated graph script draw trace right (Err simulate.NoMemory) is = inr refl
 
   simulated_files : (end : End) (draw : ℕ) (trace : Bool) (graph_name script_name : List ℕ) → CanSimulate shelf_before graph_name script_name
       → SimulateEnds shelf_before shelf_now graph_name script_name draw trace before.output now.output end → (end ≡ ends.Done) ⊎ (end ≡ ends.NoMemory)
@@ -154,25 +152,22 @@ module _ (law : NoFaultOfValid) (shelf_before shelf_now : ShelfState) (before no
       inr (without_memory end lacks.fault
       (both_fetched shelf_before can.files can.known law graph_name can.graph can.gives.of_graph shelf_now script_name can.script can.gives.file lacks.fault calm.shelf lacks.is_fault) lacks.end_is)
   simulated_files end draw trace graph_name script_name can (inr simulates) =
-      simulated simulates.graph simulates.script draw trace (λ line. can.right simulates.graph simulates.script line simulates.gives) end simulates.ends
+      subst (λ (e : End). (e ≡ ends.Done) ⊎ (e ≡ ends.NoMemory)) (sym simulates.end_is)
+      (simulated simulates.graph simulates.script draw trace (λ line. can.right simulates.graph simulates.script line simulates.gives) simulates.result simulates.ends)
 
   -- what is drawn
-  drawn : (draw size : ℕ) (end : End) → GenerateEnds draw size before.output now.output end → (end ≡ ends.Done) ⊎ (end ≡ ends.NoMemory)
-  drawn draw size ends.Done is = inl refl
-  drawn draw size (ends.NotAccepted line cause) is = absurd is
-  drawn draw size (ends.Usage cause) is = absurd is
-  drawn draw size (ends.Graph line cause) is = absurd is
-  drawn draw size (ends.TooManyHypotheses count) is = absurd is
-  drawn draw size ends.ReadFault is = absurd is
-  drawn draw size ends.WriteFault is = absurd (calm.output is.rose)
-  drawn draw size ends.TooMuchInput is = absurd is
-  drawn draw size ends.NoMemory is = inr refl
+  drawn : (draw size : ℕ) (result : Result (Unit {0}) GenerateFault) → GenerationEnds draw size before.output now.output result
+      → (end_of_generation result ≡ ends.Done) ⊎ (end_of_generation result ≡ ends.NoMemory)
+  drawn draw size (Ok done) is = inl refl
+  drawn draw size (Err generate.WriteFault) is = absurd (calm.output is.rose)
+  drawn draw size (Err generate.NoMemory) is = inr refl
 
   completed : (meant : Meaning) (end : End) → CanBeDone meant shelf_before before.input → CommandEnds (Ok meant) shelf_before shelf_now before now end → IsCompleted meant end
   completed (Diagnose k budget graph) end can is = diagnosed can.1 end k budget graph can.0 is
   completed (Explain graph log) end can is = explained can.1 end graph log can.0 is
   completed (Simulate draw trace graph script) end can is = simulated_files end draw trace graph script can is.0
-  completed (Generate draw size) end can is = drawn draw size end is.0
+  completed (Generate draw size) end can is =
+      subst (λ (e : End). (e ≡ ends.Done) ⊎ (e ≡ ends.NoMemory)) (sym is.0.end_is) (drawn draw size is.0.result is.0.ends)
 
   without_words : (meant : Meaning) (end : End) → end ≡ ends.NoMemory → IsCompleted meant end
   without_words (Diagnose k budget graph) end is = inr is

@@ -1,13 +1,11 @@
 -- How judging a map ends where the verdict cannot be written.
-use Rattle.std.proofs.Common.{◌≡◌, ℕ, List, ◌++◌, Result, Ok, Err, sym, subst, ◌∙◌}
-use Rattle.std.specs.Prelude.{IfErr, IsErrAnd}
+use Rattle.std.proofs.Common.{◌≡◌, ℕ, List, ◌++◌, Err, sym, ◌∙◌}
 use Rattle.tfpg_base.specs.Outside.{SourceState, SinkState, Rose, Puts}
 use Rattle.tfpg_graph.specs.Graph.{Tfpg}
 use Rattle.tfpg_log.specs.Log.{Logbook}
 use Rattle.tfpg_trace.specs.declared.verdict.Verdict.{Verdict}
 use Rattle.tfpg_trace.specs.FirstFault.{IsVerdict}
-use Rattle.tfpg.specs.declared.end.End.{End}
-use Rattle.tfpg.specs.declared.end.End.TheVariants as ends
+use Rattle.tfpg.specs.declared.fault.JudgeFault.TheVariants.{WriteFault}
 use Rattle.tfpg.specs.declared.map.Map.{Map}
 use Rattle.tfpg.specs.Judging.{HasVerdict, JudgesMap}
 use Rattle.tfpg.specs.Streams.{Streams}
@@ -25,15 +23,9 @@ module _ (graph : Tfpg) (log : Logbook) (before : Streams) (input : SourceState)
 
   -- the output fails
   pub judges_badly : (line : List ℕ) (output : SinkState) (front rest : List ℕ) → line ≡ verdict_text graph v → line ≡ front ++ rest → Puts before.output output front
-      → Rose before.output.faults output.faults → JudgesMap graph log before (after_both input output) ends.WriteFault
+      → Rose before.output.faults output.faults → JudgesMap graph log before (after_both input output) (Err WriteFault)
   judges_badly line output front rest line_is parts puts rose = record {
     taken = reads.taken;
     takes = reads.takes;
     ends = record { verdict = v; has = has_verdict; front = front; rest = rest; parts = sym line_is ∙ parts; writes = puts; rose = rose };
   }
-
--- what holds at the exit of a `?`
-pub judges_is : {T : Type 0} (graph : Tfpg) (log : Logbook) (before now : Streams) (result : Result T End) (e : End) → IsErrAnd result (λ x. x ≡ e) → JudgesMap graph log before now e
-    → IfErr result (JudgesMap graph log before now)
-judges_is graph log before now (Ok x) e h judges = absurd h
-judges_is graph log before now (Err x) e h judges = subst (JudgesMap graph log before now) (sym h) judges

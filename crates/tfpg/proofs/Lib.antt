@@ -5,6 +5,7 @@ pub mod AnsweredLines
 pub mod InputLines
 pub mod Turns
 pub mod MapCourse
+pub mod Exits
 pub mod Judged
 pub mod Whole
 pub mod MapWords

@@ -19,20 +19,19 @@ use Rattle.tfpg_base.specs.Words.{words_of, line_of, is_name, is_name_byte, numb
 use Rattle.tfpg_base.proofs.lists.Elements.{AllPairs-head, AllPairs-tail, AllPairs-cons}
 use Rattle.tfpg_base.proofs.Numbers.{number_of-decimal, decimal-number_of}
 use Rattle.tfpg_base.proofs.Separators.{Lacks, lacks_checked, name_lacks, decimal_lacks, join_with_byte-words_of, slice_split-join}
-use Rattle.tfpg_graph.specs.Graph.{Tfpg, name_at, node_named, failures, failure_at, place_of_failure, is_failure}
+use Rattle.tfpg_graph.specs.Graph.{Tfpg, name_at, node_named, failures, failure_at, position_of_failure, is_failure}
 use Rattle.tfpg_graph.specs.Valid.{IsValid}
 use Rattle.tfpg_graph.proofs.lemmas.declared.Named.{named_found}
 use Rattle.tfpg_base.proofs.lists.Positions.{position-at}
 use Rattle.tfpg_graph.proofs.lemmas.reading.SpelledEdges.{is_name-name_of, node_named-name_of}
-use Rattle.tfpg_trace.proofs.NumberedItems.{item_of, one_place}
+use Rattle.tfpg_base.proofs.lists.Numbered.{item_of, one_place}
 use Rattle.tfpg_report.specs.Blocks.{set_word, name_word}
 use Rattle.tfpg.specs.Map.{IsSetOf, IsActivationOf, set_line, at_line}
-use Rattle.tfpg.specs.inside.MapLines.{word_after_set, words_after_at, failure_named, failure_name, AreFrom}
+use Rattle.tfpg.specs.inside.MapLines.{word_after_set, words_after_at, position_named, failure_name, AreFrom}
+use Rattle.std.proofs.lemmas.Option.{same_Some}
+use Rattle.tfpg_graph.proofs.Numbered.{failure_at-below}
 
 -- ---- words and lines
-
-same_some : {X : Type 0} (one other : X) → Some one ≡ Some other → one ≡ other
-same_some one other e = cc
 
 -- the words of a line that is read as that of an activation
 words_are-at : (words : List (List ℕ)) (read : List ℕ × List ℕ) → words_after_at words ≡ Some read → words ≡ codes "at" ∷ read.0 ∷ read.1 ∷ []
@@ -44,7 +43,7 @@ words_are-at (keyword ∷ name ∷ time ∷ []) read e = by (bytes_eq keyword (c
     by : (b : Bool) → bytes_eq keyword (codes "at") ≡ b → cond b (Some (name, time)) None ≡ Some read → keyword ∷ name ∷ time ∷ [] ≡ codes "at" ∷ read.0 ∷ read.1 ∷ []
     by true is same =
         ap (λ (word : List ℕ). word ∷ name ∷ time ∷ []) ((bytes_eq-Decides keyword (codes "at")).0 is)
-        ∙ ap (λ (words : List ℕ × List ℕ). codes "at" ∷ words.0 ∷ words.1 ∷ []) (same_some (name, time) read same)
+        ∙ ap (λ (words : List ℕ × List ℕ). codes "at" ∷ words.0 ∷ words.1 ∷ []) (same_Some (name, time) read same)
     by false is same = absurd cc
 words_are-at (keyword ∷ name ∷ time ∷ more ∷ others) read e = absurd cc
 
@@ -56,7 +55,7 @@ words_are-set (keyword ∷ word ∷ []) read e = by (bytes_eq keyword (codes "se
   where
     by : (b : Bool) → bytes_eq keyword (codes "set") ≡ b → cond b (Some word) None ≡ Some read → keyword ∷ word ∷ [] ≡ codes "set" ∷ read ∷ []
     by true is same =
-        ap (λ (k : List ℕ). k ∷ word ∷ []) ((bytes_eq-Decides keyword (codes "set")).0 is) ∙ ap (λ (w : List ℕ). codes "set" ∷ w ∷ []) (same_some word read same)
+        ap (λ (k : List ℕ). k ∷ word ∷ []) ((bytes_eq-Decides keyword (codes "set")).0 is) ∙ ap (λ (w : List ℕ). codes "set" ∷ w ∷ []) (same_Some word read same)
     by false is same = absurd cc
 words_are-set (keyword ∷ word ∷ more ∷ others) read e = absurd cc
 
@@ -115,8 +114,8 @@ module _ (graph : Tfpg) (valid : IsValid graph) where
   -- two lines of activations that are the same are of one node
   pub one_node : (one other : Activation) → IsActivationOf graph one → IsActivationOf graph other → at_line graph one ≡ at_line graph other → one.node ≡ other.node
   one_node one other of too same =
-      let words = same_some _ _ (sym (at_line-read one of) ∙ ap (λ line. words_after_at (words_of line)) same ∙ at_line-read other too) in
-      same_some one.node other.node (sym (node_of_word one.node of.in_graph) ∙ ap (λ (words : List ℕ × List ℕ). node_named graph words.0) words ∙ node_of_word other.node too.in_graph)
+      let words = same_Some _ _ (sym (at_line-read one of) ∙ ap (λ line. words_after_at (words_of line)) same ∙ at_line-read other too) in
+      same_Some one.node other.node (sym (node_of_word one.node of.in_graph) ∙ ap (λ (words : List ℕ × List ℕ). node_named graph words.0) words ∙ node_of_word other.node too.in_graph)
 
 -- the word of a node that was found by its name
 pub word_of_named : (graph : Tfpg) (name : List ℕ) (node : ℕ) → node_named graph name ≡ Some node → (node < length graph.nodes) × (name ≡ name_word graph node)
@@ -124,22 +123,16 @@ word_of_named graph name node found = let is = named_found graph name node found
 
 -- ---- names of failure modes
 
--- the failure mode at a position is a node
-failure_in_graph : (graph : Tfpg) (place node : ℕ) → failure_at graph place ≡ Some node → node < length graph.nodes
-failure_in_graph graph place node at =
-    let item = item_of (λ n. is_failure n.kind) 0 graph.nodes place node at in
-    omega (arith, item.counted, slice_get_within graph.nodes item.place item.item item.at)
-
 -- its name is that of the node
 failure_name-node : (graph : Tfpg) (place node : ℕ) → failure_at graph place ≡ Some node → failure_name graph place ≡ name_word graph node
 failure_name-node graph place node at = ap (λ o. unwrap_or (option_and_then (name_at graph) o) []) at
 
 -- a failure mode stands at its position, and at no earlier one
-place_of-failure : (graph : Tfpg) (place node : ℕ) → place < length (failures graph) → failure_at graph place ≡ Some node → place_of_failure graph node ≡ Some place
+place_of-failure : (graph : Tfpg) (place node : ℕ) → place < length (failures graph) → failure_at graph place ≡ Some node → position_of_failure graph node ≡ Some place
 place_of-failure graph place node within at =
     let same : (k : ℕ) → k < length (failures graph) → failure_at graph k ≡ Some (get_or (failures graph) k 0) = λ k lt. slice_get-get_or (failures graph) k 0 lt in
     position-at (λ failure. failure == node) (failures graph) place 0 within
-    (eq-eqb _ _ (same_some _ _ (sym (same place within) ∙ at)))
+    (eq-eqb _ _ (same_Some _ _ (sym (same place within) ∙ at)))
     (λ earlier before. ne_eqb (get_or (failures graph) earlier 0) node (λ is. omega (
       arith,
       before,
@@ -148,12 +141,12 @@ place_of-failure graph place node within at =
 
 module _ (graph : Tfpg) (valid : IsValid graph) where
   -- the name of a failure mode names its position
-  pub failure_named-name : (place : ℕ) → place < length (failures graph) → failure_named graph (failure_name graph place) ≡ Some place
-  failure_named-name place within =
+  pub position_named-name : (place : ℕ) → place < length (failures graph) → position_named graph (failure_name graph place) ≡ Some place
+  position_named-name place within =
       let node = get_or (failures graph) place 0 in
       let at : failure_at graph place ≡ Some node = slice_get-get_or (failures graph) place 0 within in
-      ap (failure_named graph) (failure_name-node graph place node at)
-      ∙ ap (λ o. option_and_then (place_of_failure graph) o) (node_of_word graph valid node (failure_in_graph graph place node at))
+      ap (position_named graph) (failure_name-node graph place node at)
+      ∙ ap (λ o. option_and_then (position_of_failure graph) o) (node_of_word graph valid node (failure_at-below graph place node at))
       ∙ place_of-failure graph place node within at
 
   -- and is a name
@@ -161,13 +154,13 @@ module _ (graph : Tfpg) (valid : IsValid graph) where
   failure_name-is_name place within =
       let node = get_or (failures graph) place 0 in
       let at : failure_at graph place ≡ Some node = slice_get-get_or (failures graph) place 0 within in
-      ap is_name (failure_name-node graph place node at) ∙ is_name-name_of graph node (failure_in_graph graph place node at) valid.so_far.node_names
+      ap is_name (failure_name-node graph place node at) ∙ is_name-name_of graph node (failure_at-below graph place node at) valid.so_far.node_names
 
 -- a position that a name names is of a failure mode of that name
-pub place_named : (graph : Tfpg) (name : List ℕ) (place : ℕ) → failure_named graph name ≡ Some place → (place < length (failures graph)) × (failure_name graph place ≡ name)
+pub place_named : (graph : Tfpg) (name : List ℕ) (place : ℕ) → position_named graph name ≡ Some place → (place < length (failures graph)) × (failure_name graph place ≡ name)
 place_named graph name place e = by (node_named graph name) refl e
   where
-    by : (o : Option ℕ) → node_named graph name ≡ o → option_and_then (place_of_failure graph) o ≡ Some place → (place < length (failures graph)) × (failure_name graph place ≡ name)
+    by : (o : Option ℕ) → node_named graph name ≡ o → option_and_then (position_of_failure graph) o ≡ Some place → (place < length (failures graph)) × (failure_name graph place ≡ name)
     by None is same = absurd cc
     by (Some node) is same =
         let found = position-Some (λ failure. failure == node) (failures graph) place 0 same in
@@ -192,7 +185,7 @@ module _ (graph : Tfpg) (least : ℕ) where
     members = All-tail (λ place. place < length (failures graph)) first others are.members;
   }
 
-  -- one more position in front
+  -- one more position before the others
   AreFrom-first : (first : ℕ) (others : List ℕ) → least ≤ first → first < length (failures graph) → AreFrom graph (first + 1) others → AreFrom graph least (first ∷ others)
   AreFrom-first first others from within are = record {
     rising = AllPairs-cons (λ a b. a < b) first others (All-weaker (λ other. first + 1 ≤ other) (λ other. first < other) (λ other le. omega (arith, le)) others are.not_before) are.rising;
@@ -201,39 +194,39 @@ module _ (graph : Tfpg) (least : ℕ) where
   }
 
   -- with a first name of no failure mode, there are no positions of these names
-  pub no_places-unknown : IsValid graph → (name : List ℕ) (names : List (List ℕ)) (places : List ℕ) → failure_named graph name ≡ None → AreFrom graph least places
+  pub no_places-unknown : IsValid graph → (name : List ℕ) (names : List (List ℕ)) (places : List ℕ) → position_named graph name ≡ None → AreFrom graph least places
       → map (failure_name graph) places ≡ name ∷ names → ⊥
   no_places-unknown valid name names [] none are e = absurd cc
   no_places-unknown valid name names (place ∷ places) none are e =
       let head : failure_name graph place ≡ name = cc in
-      let found = failure_named-name graph valid place (All-head (λ p. p < length (failures graph)) place places are.members) in
-      let same = sym found ∙ ap (failure_named graph) head ∙ none in
+      let found = position_named-name graph valid place (All-head (λ p. p < length (failures graph)) place places are.members) in
+      let same = sym found ∙ ap (position_named graph) head ∙ none in
       cc
 
   -- nor with one of a failure mode that is too early
-  pub no_places-early : IsValid graph → (name : List ℕ) (names : List (List ℕ)) (first : ℕ) (places : List ℕ) → failure_named graph name ≡ Some first → first < least → AreFrom graph least places
+  pub no_places-early : IsValid graph → (name : List ℕ) (names : List (List ℕ)) (first : ℕ) (places : List ℕ) → position_named graph name ≡ Some first → first < least → AreFrom graph least places
       → map (failure_name graph) places ≡ name ∷ names → ⊥
   no_places-early valid name names first [] some early are e = absurd cc
   no_places-early valid name names first (place ∷ places) some early are e =
       let head : failure_name graph place ≡ name = cc in
-      let found = failure_named-name graph valid place (All-head (λ p. p < length (failures graph)) place places are.members) in
-      let same = same_some _ _ (sym found ∙ ap (failure_named graph) head ∙ some) in
+      let found = position_named-name graph valid place (All-head (λ p. p < length (failures graph)) place places are.members) in
+      let same = same_Some _ _ (sym found ∙ ap (position_named graph) head ∙ some) in
       omega (arith, same, early, All-head (λ other. least ≤ other) place places are.not_before)
 
   -- nor where there are none of the others
-  pub no_places-others : IsValid graph → (name : List ℕ) (names : List (List ℕ)) (first : ℕ) (places : List ℕ) → failure_named graph name ≡ Some first
+  pub no_places-others : IsValid graph → (name : List ℕ) (names : List (List ℕ)) (first : ℕ) (places : List ℕ) → position_named graph name ≡ Some first
       → ((others : List ℕ) → AreFrom graph (first + 1) others → map (failure_name graph) others ≡ names → ⊥) → AreFrom graph least places
       → map (failure_name graph) places ≡ name ∷ names → ⊥
   no_places-others valid name names first [] some none are e = absurd cc
   no_places-others valid name names first (place ∷ places) some none are e =
       let head : failure_name graph place ≡ name = cc in
       let tail : map (failure_name graph) places ≡ names = cc in
-      let found = failure_named-name graph valid place (All-head (λ p. p < length (failures graph)) place places are.members) in
-      let same = same_some _ _ (sym found ∙ ap (failure_named graph) head ∙ some) in
+      let found = position_named-name graph valid place (All-head (λ p. p < length (failures graph)) place places are.members) in
+      let same = same_Some _ _ (sym found ∙ ap (position_named graph) head ∙ some) in
       none places (subst (λ (p : ℕ). AreFrom graph (p + 1) places) same (AreFrom-others place places are)) tail
 
   -- with one more name, there is one more position
-  pub places-more : (name : List ℕ) (names : List (List ℕ)) (first : ℕ) (others : List ℕ) → failure_named graph name ≡ Some first → least ≤ first → AreFrom graph (first + 1) others
+  pub places-more : (name : List ℕ) (names : List (List ℕ)) (first : ℕ) (others : List ℕ) → position_named graph name ≡ Some first → least ≤ first → AreFrom graph (first + 1) others
       → map (failure_name graph) others ≡ names → AreFrom graph least (with_member first others) × (map (failure_name graph) (with_member first others) ≡ name ∷ names)
   places-more name names first others some from are e =
       let named = place_named graph name first some in
@@ -299,7 +292,7 @@ module _ (graph : Tfpg) (valid : IsValid graph) (line : List ℕ) where
       → ((activation : Activation) → IsActivationOf graph activation → name ≡ name_word graph activation.node → time ≡ decimal activation.time → ⊥)
       → (activation : Activation) → IsActivationOf graph activation → line ≡ at_line graph activation → ⊥
   no_activation-read name time read none activation of e =
-      let words = same_some _ _ (sym read ∙ ap (λ l. words_after_at (words_of l)) e ∙ at_line-read graph valid activation of) in
+      let words = same_Some _ _ (sym read ∙ ap (λ l. words_after_at (words_of l)) e ∙ at_line-read graph valid activation of) in
       none activation of (ap (λ (w : List ℕ × List ℕ). w.0) words) (ap (λ (w : List ℕ × List ℕ). w.1) words)
 
   -- a line that is not read as that of a set spells none
@@ -312,7 +305,7 @@ module _ (graph : Tfpg) (valid : IsValid graph) (line : List ℕ) where
   pub no_set-read : (word : List ℕ) → word_after_set (words_of line) ≡ Some word → ((set : List ℕ) → IsSetOf graph set → word ≡ set_word graph set → ⊥)
       → (set : List ℕ) → IsSetOf graph set → line ≡ set_line graph set → ⊥
   no_set-read word read none set of e =
-      none set of (same_some _ _ (sym read ∙ ap (λ l. word_after_set (words_of l)) e ∙ set_line-read graph valid set of))
+      none set of (same_Some _ _ (sym read ∙ ap (λ l. word_after_set (words_of l)) e ∙ set_line-read graph valid set of))
 
 -- a line whose words are those of an activation spells it
 pub activation_spelled : (graph : Tfpg) (line name time : List ℕ) (result : Option Activation) → words_after_at (words_of line) ≡ Some (name, time)

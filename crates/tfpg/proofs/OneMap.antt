@@ -14,14 +14,13 @@ use Rattle.tfpg_graph.specs.Valid.{IsValid}
 use Rattle.tfpg_base.proofs.Separators.{slice_split-join}
 use Rattle.tfpg_report.specs.Blocks.{set_word}
 use Rattle.tfpg.specs.Map.{IsSetOf, IsActivationOf, SpellsMap, set_line, at_line}
-use Rattle.tfpg.specs.inside.MapLines.{word_after_set, words_after_at, failure_named, failure_name}
-use Rattle.tfpg.proofs.MapWords.{one_node, at_line-read, time_read, failure_named-name, failure_name-is_name, names_lack, set_line-read}
+use Rattle.tfpg.specs.inside.MapLines.{word_after_set, words_after_at, position_named, failure_name}
+use Rattle.tfpg.proofs.MapWords.{one_node, at_line-read, time_read, position_named-name, failure_name-is_name, names_lack, set_line-read}
+use Rattle.std.proofs.lemmas.Option.{same_Some}
+use Rattle.tfpg_base.proofs.lists.Images.{map-injective}
 
 same_value : (one other : ℕ) → Value one ≡ Value other → one ≡ other
 same_value one other e = cc
-
-same_some : {X : Type 0} (one other : X) → Some one ≡ Some other → one ≡ other
-same_some one other e = cc
 
 abbrev activation_of : ℕ → ℕ → Activation
 activation_of node time = record { node = node; time = time }
@@ -36,38 +35,20 @@ module _ (graph : Tfpg) (valid : IsValid graph) where
   one_activation : (one other : Activation) → IsActivationOf graph one → IsActivationOf graph other → at_line graph one ≡ at_line graph other → one ≡ other
   one_activation one other of too same =
       let node : one.node ≡ other.node = one_node graph valid one other of too same in
-      let words = same_some _ _ (sym (at_line-read graph valid one of) ∙ ap (λ (line : List ℕ). words_after_at (words_of line)) same ∙ at_line-read graph valid other too) in
+      let words = same_Some _ _ (sym (at_line-read graph valid one of) ∙ ap (λ (line : List ℕ). words_after_at (words_of line)) same ∙ at_line-read graph valid other too) in
       let time : one.time ≡ other.time = same_value one.time other.time
       (sym (time_read one.time of.in_range) ∙ ap (λ (read : List ℕ × List ℕ). number_up_to max_time (number_of read.1)) words ∙ time_read other.time too.in_range) in
       activations one.node other.node one.time other.time node time
 
   -- and so are lists of them
   same_listed : (one other : List Activation) → All (IsActivationOf graph) one → All (IsActivationOf graph) other → map (at_line graph) one ≡ map (at_line graph) other → one ≡ other
-  same_listed [] [] of too e = refl
-  same_listed [] (second ∷ other) of too e = absurd cc
-  same_listed (first ∷ one) [] of too e = absurd cc
-  same_listed (first ∷ one) (second ∷ other) of too e =
-      let head : at_line graph first ≡ at_line graph second = cc in
-      let tail : map (at_line graph) one ≡ map (at_line graph) other = cc in
-      let firsts : first ≡ second = one_activation first second (All-head (IsActivationOf graph) first one of) (All-head (IsActivationOf graph) second other too) head in
-      let others : one ≡ other = same_listed one other (All-tail (IsActivationOf graph) first one of) (All-tail (IsActivationOf graph) second other too) tail in
-      ap (λ (a : Activation). a ∷ one) firsts ∙ ap (λ (rest_of : List Activation). second ∷ rest_of) others
+  same_listed = map-injective (IsActivationOf graph) (at_line graph) one_activation
 
   -- names that are the same are of the same positions
   same_places : (one other : List ℕ) → All (λ place. place < length (failures graph)) one → All (λ place. place < length (failures graph)) other
       → map (failure_name graph) one ≡ map (failure_name graph) other → one ≡ other
-  same_places [] [] of too e = refl
-  same_places [] (second ∷ other) of too e = absurd cc
-  same_places (first ∷ one) [] of too e = absurd cc
-  same_places (first ∷ one) (second ∷ other) of too e =
-      let head : failure_name graph first ≡ failure_name graph second = cc in
-      let tail : map (failure_name graph) one ≡ map (failure_name graph) other = cc in
-      let firsts : first ≡ second = same_some first second (
-      sym (failure_named-name graph valid first (All-head (λ place. place < length (failures graph)) first one of)) ∙ ap (failure_named graph) head
-      ∙ failure_named-name graph valid second (All-head (λ place. place < length (failures graph)) second other too)
-      ) in
-      let others : one ≡ other = same_places one other (All-tail (λ place. place < length (failures graph)) first one of) (All-tail (λ place. place < length (failures graph)) second other too) tail in
-      ap (λ (p : ℕ). p ∷ one) firsts ∙ ap (λ (ps : List ℕ). second ∷ ps) others
+  same_places = map-injective (λ place. place < length (failures graph)) (failure_name graph)
+      (λ one other of too same. same_Some one other (sym (position_named-name graph valid one of) ∙ ap (position_named graph) same ∙ position_named-name graph valid other too))
 
   -- the parts of a word that is no hyphen
   parts : (place : ℕ) (places : List ℕ) → IsSetOf graph (place ∷ places) → slice_split (λ byte. byte == 44) (set_word graph (place ∷ places)) ≡ map (failure_name graph) (place ∷ places)
@@ -125,7 +106,7 @@ same_trace (first ∷ one) (second ∷ other) rising too same = by (cases_order 
 
     by : (first.node ≡ second.node) ⊎ ((first.node < second.node) ⊎ (second.node < first.node)) → (((node : ℕ) → time_of one node ≡ time_of other node) → one ≡ other) → first ∷ one ≡ second ∷ other
     by (inl e) rest =
-        let time : first.time ≡ second.time = same_some first.time second.time (sym (present first one) ∙ same first.node ∙ ap (time_of (second ∷ other)) e ∙ present second other) in
+        let time : first.time ≡ second.time = same_Some first.time second.time (sym (present first one) ∙ same first.node ∙ ap (time_of (second ∷ other)) e ∙ present second other) in
         let firsts : first ≡ second = activations first.node second.node first.time second.time e time in
         ap (λ (a : Activation). a ∷ one) firsts ∙ ap (λ (rest_of : List Activation). second ∷ rest_of) (rest (λ node. tails e node (first.node == node) refl))
     by (inr (inl lt)) rest = let e : Some first.time ≡ None = sym (present first one) ∙ same first.node ∙ absent (second ∷ other) first.node (before_all second other too first.node lt) in absurd cc
@@ -139,7 +120,7 @@ one_map graph lines set other trace more valid spells too =
     let all : set_line graph set ∷ map (at_line graph) spells.listed ≡ set_line graph other ∷ map (at_line graph) too.listed = sym spells.spelled ∙ too.spelled in
     let head : set_line graph set ≡ set_line graph other = cc in
     let tail : map (at_line graph) spells.listed ≡ map (at_line graph) too.listed = cc in
-    let word = same_some _ _ (sym (set_line-read graph valid set spells.of_graph) ∙ ap (λ (line : List ℕ). word_after_set (words_of line)) head ∙ set_line-read graph valid other too.of_graph) in
+    let word = same_Some _ _ (sym (set_line-read graph valid set spells.of_graph) ∙ ap (λ (line : List ℕ). word_after_set (words_of line)) head ∙ set_line-read graph valid other too.of_graph) in
     let listed : spells.listed ≡ too.listed = same_listed graph valid spells.listed too.listed spells.of_nodes too.of_nodes tail in (
       same_set graph valid set other spells.of_graph too.of_graph word,
       same_trace trace more spells.rising too.rising (λ node. spells.same_times node ∙ ap (λ (listed : List Activation). time_of listed node) listed ∙ sym (too.same_times node)),

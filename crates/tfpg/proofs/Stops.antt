@@ -1,10 +1,9 @@
 -- How a run on a file ends.
 use Rattle.std.proofs.Common.{◌≡◌, ℕ, ◌<◌, ◌≤◌, List, Result, Ok, Err, refl, sym, subst, inl, inr, ⊎_elim}
-use Rattle.std.specs.Prelude.{◌↔◌, IsErrAnd, IfErr, OnOk}
+use Rattle.std.specs.Prelude.{◌↔◌, IsErrAnd, IfErr}
 use Rattle.std.proofs.lemmas.Bool.{cases_lt}
 use Rattle.tfpg_base.specs.Outside.{ShelfState}
 use Rattle.tfpg_graph.specs.Graph.{Tfpg}
-use Rattle.tfpg_log.specs.Log.{Logbook}
 use Rattle.tfpg_hyp.specs.Hypotheses.{max_hypotheses, HasHypotheses}
 use Rattle.tfpg_hyp.specs.declared.table.TableFault.{TableFault}
 use Rattle.tfpg_hyp.specs.declared.table.TableFault.TheVariants.{TooMany, NoMemory}
@@ -15,18 +14,18 @@ use Rattle.tfpg.specs.declared.fault.FetchFault.{FetchFault}
 use Rattle.tfpg.specs.declared.fault.StreamFault.{StreamFault}
 use Rattle.tfpg.specs.declared.fault.StreamFault.TheVariants as faults
 use Rattle.tfpg.specs.inside.Faults.{end_of_table_fault}
+use Rattle.tfpg.proofs.Exits.{err_is}
 use Rattle.tfpg.proofs.Turns.{begins_without_memory}
 use Rattle.tfpg.specs.EndsOf.{end_of_fetch_fault, end_of_stream_fault}
-use Rattle.tfpg.specs.Fetch.{GivesGraph, GivesGraphAndLog, IsFetchFault, IsFilesFault}
-use Rattle.tfpg.specs.Judging.{JudgesMap}
-use Rattle.tfpg.specs.Run.{Diagnoses, DiagnoseEnds, ExplainEnds}
+use Rattle.tfpg.specs.Fetch.{GivesGraph, IsFetchFault}
+use Rattle.tfpg.specs.Run.{Diagnoses, DiagnoseEnds}
 use Rattle.tfpg.specs.Streams.{Streams}
 
 -- a number is at most another where it is not above it
 not_above : (count : ℕ) → (max_hypotheses < count → ⊥) → count ≤ max_hypotheses
 not_above count never = ⊎_elim (λ more. absurd (never more)) (λ le. le) (cases_lt max_hypotheses count)
 
--- what the answer of a new engine says of the number of hypotheses
+-- what the result of `Engine::new` says of the number of hypotheses
 abbrev CountsHypotheses : {X : Type 0} → Tfpg → ℕ → Result X TableFault → Type 0
 CountsHypotheses graph k result = (count : ℕ) → (result ≡ Err (TooMany count)) ↔ ((max_hypotheses < count) × HasHypotheses graph k count)
 
@@ -41,11 +40,7 @@ without_memory graph k exact count counted = not_above count (λ many. let is = 
 module _ {T : Type 0} (shelf_before shelf_now : ShelfState) (k b : ℕ) (name : List ℕ) (before now : Streams) (result : Result T End) where
   -- the end at the exit of a `?`
   ends_by : (end : End) → IsErrAnd result (λ e. e ≡ end) → DiagnoseEnds shelf_before shelf_now k b name before now end → IfErr result (DiagnoseEnds shelf_before shelf_now k b name before now)
-  ends_by end err ends = by result err
-    where
-      by : (r : Result T End) → IsErrAnd r (λ e. e ≡ end) → IfErr r (DiagnoseEnds shelf_before shelf_now k b name before now)
-      by (Ok x) h = absurd h
-      by (Err e) h = subst (DiagnoseEnds shelf_before shelf_now k b name before now) (sym h) ends
+  ends_by end err ends = err_is (DiagnoseEnds shelf_before shelf_now k b name before now) result end err ends
 
   -- there is no graph
   pub stops_without_graph : (fault : FetchFault) → IsFetchFault shelf_before shelf_now name fault → now ≡ before → IsErrAnd result (λ end. end ≡ end_of_fetch_fault fault)
@@ -98,34 +93,3 @@ pub diagnosed_for : (g graph : Tfpg) (k' k b' b : ℕ) (before now : Streams) (r
 diagnosed_for g graph k' k b' b before now result e f h diagnoses =
     subst (λ (y : ℕ). Diagnoses graph k y before now result) h (subst (λ (x : ℕ). Diagnoses graph x b' before now result) f
     (subst (λ (x : Tfpg). Diagnoses x k' b' before now result) e diagnoses))
-
--- ---- a map that is judged by files
-
-module _ {T : Type 0} (shelf_before shelf_now : ShelfState) (graph_name log_name : List ℕ) (before now : Streams) (result : Result T End) where
-  -- there is no graph or no log
-  pub ends_without_files : (fault : FetchFault) → IsFilesFault shelf_before shelf_now graph_name log_name fault → now ≡ before → IsErrAnd result (λ end. end ≡ end_of_fetch_fault fault)
-      → IfErr result (ExplainEnds shelf_before shelf_now graph_name log_name before now)
-  ends_without_files fault is untouched err = by result err
-    where
-      by : (r : Result T End) → IsErrAnd r (λ end. end ≡ end_of_fetch_fault fault) → IfErr r (ExplainEnds shelf_before shelf_now graph_name log_name before now)
-      by (Ok x) h = absurd h
-      by (Err end) h = inl (record { fault = fault; is_fault = is; end_is = h; untouched = untouched })
-
-  -- there are both
-  module _ (graph : Tfpg) (log : Logbook) (gives : GivesGraphAndLog shelf_before graph_name log_name graph log) (no_fault : shelf_now.faults ≡ shelf_before.faults) where
-    pub ends_as_judged : (end : End) → JudgesMap graph log before now end → ExplainEnds shelf_before shelf_now graph_name log_name before now end
-    ends_as_judged end judges = inr (record { graph = graph; log = log; gives = gives; no_fault = no_fault; judges = judges })
-
-    pub ends_in_time : IfErr result (JudgesMap graph log before now) → IfErr result (ExplainEnds shelf_before shelf_now graph_name log_name before now)
-    ends_in_time judges = by result judges
-      where
-        by : (r : Result T End) → IfErr r (JudgesMap graph log before now) → IfErr r (ExplainEnds shelf_before shelf_now graph_name log_name before now)
-        by (Ok x) h = tt
-        by (Err end) h = ends_as_judged end h
-
-    pub ends_well : OnOk result (JudgesMap graph log before now Done) → OnOk result (ExplainEnds shelf_before shelf_now graph_name log_name before now Done)
-    ends_well judges = by result judges
-      where
-        by : (r : Result T End) → OnOk r (JudgesMap graph log before now Done) → OnOk r (ExplainEnds shelf_before shelf_now graph_name log_name before now Done)
-        by (Ok x) h = ends_as_judged Done h
-        by (Err end) h = tt

@@ -18,7 +18,7 @@ use Rattle.tfpg_sim.specs.declared.simulated.Simulated.{Simulated}
 use Rattle.tfpg_sim.specs.Generated.{generated_graph, generated_script}
 use Rattle.tfpg_sim.specs.Simulated.{IsSimulationOf}
 use Rattle.tfpg_sim.proofs.DrawLists.{take-next}
-use Rattle.tfpg_sim.proofs.LoggedEvents.{Contains-read}
+use Rattle.tfpg_base.proofs.lists.Elements.{Contains-at}
 use Rattle.tfpg_sim.proofs.SimulatedSets.{simulated_members}
 use Rattle.tfpg_sim.proofs.GeneratedGraphs.{generated_valid, generated_failures}
 use Rattle.tfpg_sim.proofs.GeneratedScripts.{generated_set, generated_log}
@@ -64,7 +64,7 @@ module _ (graph : Tfpg) (lines : List (List ℕ)) (d : Diagnosis) (has : HasDiag
       elim (slice_get_cases last_there.0.findings member.0).1 [
         | inl there ↦ record {
           finding = there.0;
-          there = Contains-read last_there.0.findings member.0 there.0 there.2;
+          there = Contains-at last_there.0.findings member.0 there.0 there.2;
           on_set = (is.findings member.0 set there.0 at_set there.2).set_is;
         }
         | inr past ↦ absurd (omega (arith, past.0, complete, member.1))

@@ -10,7 +10,7 @@ use Rattle.tfpg_base.specs.declared.line.Line.{Line}
 use Rattle.tfpg_base.specs.declared.line.Line.TheVariants as line
 use Rattle.tfpg_base.specs.declared.line.LineFault.{LineFault}
 use Rattle.tfpg_base.specs.declared.line.LineFault.TheVariants as fault
-use Rattle.tfpg_base.specs.Outside.{SourceState, SinkState, Rose, Puts}
+use Rattle.tfpg_base.specs.Outside.{SourceState, SinkState, Rose, Takes, Puts}
 use Rattle.tfpg_base.specs.Lines.{Buffered, LinesRepresent, Continues, with_bytes, with_line, lines_of, whole_lines, max_bytes, new_reading}
 use Rattle.tfpg_base.proofs.LinesOf.{take-lines_of}
 use Rattle.tfpg_base.proofs.Taking.{Takes-append, Takes-nothing}
@@ -27,18 +27,16 @@ use Rattle.tfpg.specs.declared.fault.StreamFault.TheVariants as faults
 use Rattle.tfpg.specs.inside.Faults.{stream_fault_of_lines}
 use Rattle.tfpg.specs.ForNow.{LosesNone}
 use Rattle.tfpg.specs.Saying.{BlockSays, RoundsSay}
-use Rattle.tfpg.specs.Run.{BeginsReportOfInput, Diagnoses}
+use Rattle.tfpg.specs.Run.{BeginsReportOfInput, DiagnosisEnds, Diagnoses}
 use Rattle.tfpg.specs.Streams.{Streams}
 use Rattle.tfpg.specs.inside.Answering.{EngineReports, HasBlock}
-use Rattle.tfpg.specs.inside.Course.{IsUnderWay}
+use Rattle.tfpg.specs.inside.Course.{IsDiagnosing}
 use Rattle.tfpg.proofs.AnsweredLines.{block_of_long_line}
 use Rattle.tfpg.proofs.InputLines.{rest_of, rest_is_left, front_of_input, front_is_within, came_to_end, front_before, front_with, few_lines}
 use Rattle.tfpg.proofs.Putting.{Puts-append, Puts-same_held}
+use Rattle.std.proofs.lemmas.Option.{same_Some}
 
 -- ---- one block more
-
-same_some : {X : Type 0} {one other : X} → Some one ≡ Some other → one ≡ other
-same_some e = cc
 
 -- How far a report has come after one block more is a law of reports.
 abbrev GoesOnByBlocks : Type 0
@@ -74,8 +72,8 @@ module _ (graph : Tfpg) (P : Progress → ℕ → List ℕ → Block → Type 0)
       (λ late.
       let here : place ≡ length lines = omega (arith, late, slice_get_within (lines ++ last ∷ []) place line at, length-append lines (last ∷ [])) in
       let here_block : place ≡ length blocks = omega (arith, here, one_each) in
-      let line_is : last ≡ line = same_some (sym (slice_get-push_last lines last place here) ∙ at) in
-      let block_is : end ≡ block = same_some (sym (slice_get-push_last blocks end place here_block) ∙ there) in
+      let line_is : last ≡ line = same_Some _ _ (sym (slice_get-push_last lines last place here) ∙ at) in
+      let block_is : end ≡ block = same_Some _ _ (sym (slice_get-push_last blocks end place here_block) ∙ there) in
       block_at place line block lines blocks (take_at lines (last ∷ []) place (sym here)) (take_at blocks (end ∷ []) place (sym here_block))
       (subst (λ (n : ℕ). P (progress_of graph lines blocks) n line block) (sym here)
       (subst (λ (l : List ℕ). P (progress_of graph lines blocks) (length lines) l block) line_is
@@ -135,9 +133,23 @@ begins graph k b input taken given blocks front are say written rest e = record 
 abbrev pub asked : Streams → SourceState → Streams
 asked now input = record { input = input; output = now.output }
 
+-- a diagnosis ends in this way where so much more was taken and nothing more was written
+ended_with : (graph : Tfpg) (k b : ℕ) (before now : Streams) (lines : Buffered) (engine : Engining) (input : SourceState) (under : IsDiagnosing graph k b before now lines engine) (more : List ℕ)
+    → Takes now.input input more → (result : Result (Unit {0}) StreamFault)
+    → DiagnosisEnds graph k b before (asked now input) (under.reading.taken ++ more) under.blocks (report_text graph k b under.blocks) result → Diagnoses graph k b before (asked now input) result
+ended_with graph k b before now lines engine input under more takes result ends = record {
+  taken = under.reading.taken ++ more;
+  takes = Takes-append before.input now.input input under.reading.taken more under.takes takes;
+  written = report_text graph k b under.blocks;
+  writes = under.writes;
+  blocks = under.blocks;
+  no_losses = under.no_losses;
+  ends = ends;
+}
+
 -- a fault of the reader ends the diagnosis
 pub ends_by_fault : (graph : Tfpg) (k b : ℕ) (before now : Streams) (lines lines' : Buffered) (engine : Engining) (input : SourceState) (f : LineFault)
-    → (under : IsUnderWay graph k b before now lines engine) → Continues under.reading under.reading.ended now.input input (Err f) lines'
+    → (under : IsDiagnosing graph k b before now lines engine) → Continues under.reading under.reading.ended now.input input (Err f) lines'
     → Diagnoses graph k b before (asked now input) (Err (stream_fault_of_lines f))
 ends_by_fault graph k b before now lines lines' engine input fault.ReadFault under continues =
     let reading = under.reading in
@@ -145,18 +157,10 @@ ends_by_fault graph k b before now lines lines' engine input fault.ReadFault und
     let taken = reading.taken ++ turn.more in
     let front : take (length reading.given) (lines_of (taken ++ rest_of input)) ≡ reading.given =
     subst (λ (ls : List (List ℕ)). take (length ls) (lines_of (taken ++ rest_of input)) ≡ ls) turn.returns.0 (take-lines_of taken (rest_of input)) in
-    record {
-      taken = taken;
-      takes = Takes-append before.input now.input input reading.taken turn.more under.takes turn.takes;
-      written = report_text graph k b under.blocks;
-      writes = under.writes;
-      blocks = under.blocks;
-      no_losses = under.no_losses;
-      ends = (
-        subst (λ (count : ℕ). Rose count input.faults) under.no_fault.input turn.faults,
-        begins graph k b input taken reading.given under.blocks front under.are_blocks under.say (report_text graph k b under.blocks) [] (sym (append-nil _)),
-      );
-    }
+    ended_with graph k b before now lines engine input under turn.more turn.takes (Err faults.ReadFault) (
+      subst (λ (count : ℕ). Rose count input.faults) under.no_fault.input turn.faults,
+      begins graph k b input taken reading.given under.blocks front under.are_blocks under.say (report_text graph k b under.blocks) [] (sym (append-nil _)),
+    )
 ends_by_fault graph k b before now lines lines' engine input fault.TooMuchInput under continues =
     let reading = under.reading in
     let turn = Continues-turn reading now.input input (Err fault.TooMuchInput) lines' under.goes_on (λ e. cc) continues in
@@ -167,46 +171,30 @@ ends_by_fault graph k b before now lines lines' engine input fault.TooMuchInput 
     let front : take (length reading.given) (lines_of (taken ++ rest_of input)) ≡ reading.given =
     subst (λ (ls : List (List ℕ)). take (length ls) (lines_of (taken ++ rest_of input)) ≡ ls) turn.returns.0
     (subst (λ (t : List ℕ). take (length (whole_lines firsts)) (lines_of t) ≡ whole_lines firsts) same (take-lines_of firsts (drop max_bytes taken ++ rest_of input))) in
-    record {
-      taken = taken;
-      takes = Takes-append before.input now.input input reading.taken turn.more under.takes turn.takes;
-      written = report_text graph k b under.blocks;
-      writes = under.writes;
-      blocks = under.blocks;
-      no_losses = under.no_losses;
-      ends = (
-        turn.returns.1,
-        begins graph k b input taken reading.given under.blocks front under.are_blocks under.say (report_text graph k b under.blocks) [] (sym (append-nil _)),
-      );
-    }
+    ended_with graph k b before now lines engine input under turn.more turn.takes (Err faults.TooMuchInput) (
+      turn.returns.1,
+      begins graph k b input taken reading.given under.blocks front under.are_blocks under.say (report_text graph k b under.blocks) [] (sym (append-nil _)),
+    )
 
 -- the end of the input ends the diagnosis
 pub ends_done : (graph : Tfpg) (k b : ℕ) (before now : Streams) (lines lines' : Buffered) (engine : Engining) (input : SourceState)
-    → (under : IsUnderWay graph k b before now lines engine) → Continues under.reading under.reading.ended now.input input (Ok line.End) lines'
+    → (under : IsDiagnosing graph k b before now lines engine) → Continues under.reading under.reading.ended now.input input (Ok line.End) lines'
     → Diagnoses graph k b before (asked now input) (Ok tt)
 ends_done graph k b before now lines lines' engine input under continues =
     let reading = under.reading in
     let end = came_to_end reading now.input input lines lines' under.few under.goes_on under.represents continues in
-    record {
-      taken = reading.taken ++ end.more;
-      takes = Takes-append before.input now.input input reading.taken end.more under.takes end.takes;
-      written = report_text graph k b under.blocks;
-      writes = under.writes;
-      blocks = under.blocks;
-      no_losses = under.no_losses;
-      ends = record {
-        report = record { are_blocks = subst (λ (ls : List (List ℕ)). AreBlocks graph k b ls under.blocks) (sym end.all) under.are_blocks; text = refl };
-        say = subst (λ (ls : List (List ℕ)). RoundsSay graph k b ls under.blocks) (sym end.all) under.say;
-        few = end.few;
-        at_end = end.end;
-        no_fault = record { input = end.no_fault ∙ under.no_fault.input; output = under.no_fault.output };
-      };
-    }
+    ended_with graph k b before now lines engine input under end.more end.takes (Ok tt) (record {
+      report = record { are_blocks = subst (λ (ls : List (List ℕ)). AreBlocks graph k b ls under.blocks) (sym end.all) under.are_blocks; text = refl };
+      say = subst (λ (ls : List (List ℕ)). RoundsSay graph k b ls under.blocks) (sym end.all) under.say;
+      few = end.few;
+      at_end = end.end;
+      no_fault = record { input = end.no_fault ∙ under.no_fault.input; output = under.no_fault.output };
+    })
 
 -- ---- a line that was read
 
 module _ (graph : Tfpg) (k b : ℕ) (before now : Streams) (lines : Buffered) (engine : Engining) (input : SourceState) (reader : Buffered)
-    (under : IsUnderWay graph k b before now lines engine) (gave : GaveLine under.reading now.input input reader) where
+    (under : IsDiagnosing graph k b before now lines engine) (gave : GaveLine under.reading now.input input reader) where
   -- where memory runs out for the block, what was written before begins the report
   pub gave_without_memory : Diagnoses graph k b before (asked now input) (Err faults.NoMemory)
   gave_without_memory =
@@ -240,7 +228,7 @@ module _ (graph : Tfpg) (k b : ℕ) (before now : Streams) (lines : Buffered) (e
 
     -- where the block is written, the diagnosis is under way still
     pub gave_block : GoesOnByBlocks → Puts now.output output bytes → output.faults ≡ now.output.faults
-        → IsUnderWay graph k b before (record { input = input; output = output }) reader answered
+        → IsDiagnosing graph k b before (record { input = input; output = output }) reader answered
     gave_block goes_on puts no_fault =
         let reading = under.reading in
         let given = reading.given in
@@ -293,14 +281,14 @@ module _ (graph : Tfpg) (k b : ℕ) (before now : Streams) (lines : Buffered) (e
 
 -- ---- as the code comes to it
 
--- A line was read, and it is answered by these bytes.
+-- A line was read, and these bytes are its block.
 pub record IsAnswered (graph : Tfpg) (k b : ℕ) (before now : Streams) (lines : Buffered) (engine : Engining) (input : SourceState) (reader : Buffered)
-    (under : IsUnderWay graph k b before now lines engine) (number : ℕ) (bytes : List ℕ) (answered : Engining) : Type 0 where
+    (under : IsDiagnosing graph k b before now lines engine) (number : ℕ) (bytes : List ℕ) (answered : Engining) : Type 0 where
   pub gave : GaveLine under.reading now.input input reader
   pub block : HasBlock graph k b (progress_of graph under.reading.given under.blocks) number gave.first bytes answered
 
 module _ (graph : Tfpg) (k b : ℕ) (before now : Streams) (lines : Buffered) (engine : Engining) (input : SourceState) (reader : Buffered)
-    (under : IsUnderWay graph k b before now lines engine) (l : Line) (continues : Continues under.reading under.reading.ended now.input input (Ok l) reader) where
+    (under : IsDiagnosing graph k b before now lines engine) (l : Line) (continues : Continues under.reading under.reading.ended now.input input (Ok l) reader) where
   -- the input has ended
   pub met_end : l ≡ line.End → Diagnoses graph k b before (asked now input) (Ok tt)
   met_end e = ends_done graph k b before now lines reader engine input under
@@ -360,7 +348,7 @@ stopped_by (Err x) F R P e f r h = subst P (sym e) (h f r)
 -- ---- the whole course
 
 -- no more lines are read than bytes may be taken, but for a last one
-pub few_given : (graph : Tfpg) (k b : ℕ) (before now : Streams) (lines : Buffered) (engine : Engining) → IsUnderWay graph k b before now lines engine → lines.number ≤ 2 ^ 32 + 1
+pub few_given : (graph : Tfpg) (k b : ℕ) (before now : Streams) (lines : Buffered) (engine : Engining) → IsDiagnosing graph k b before now lines engine → lines.number ≤ 2 ^ 32 + 1
 few_given graph k b before now lines engine under =
     let within = front_is_within (lines_of under.reading.taken) under.reading.given under.front in
     omega (arith, within, few_lines under.reading.taken, under.few, under.represents.number)
@@ -372,7 +360,7 @@ head_as k' k b' b bytes e f is = subst (λ (y : ℕ). bytes ≡ head_text k y) f
 -- a diagnosis begins
 pub begins_under_way : (graph : Tfpg) (k b : ℕ) (before : Streams) (lines : Buffered) (engine : Engining) (output : SinkState)
     → LinesRepresent lines new_reading → EngineReports graph k b engine start → Puts before.output output (head_text k b) → output.faults ≡ before.output.faults
-    → IsUnderWay graph k b before (record { input = before.input; output = output }) lines engine
+    → IsDiagnosing graph k b before (record { input = before.input; output = output }) lines engine
 begins_under_way graph k b before lines engine output unread new puts no_fault = record {
   reading = new_reading;
   takes = Takes-nothing before.input;

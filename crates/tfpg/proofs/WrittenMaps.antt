@@ -27,19 +27,19 @@ use Rattle.tfpg.specs.Simulating.{simulated_text}
 use Rattle.tfpg.proofs.MapWords.{failure_name-is_name}
 
 -- a text without a line end, of at most so many bytes
-record IsPart (most : ℕ) (text : List ℕ) : Type 0 where
+record IsSubset (most : ℕ) (text : List ℕ) : Type 0 where
   lacks : HasNoLineEnd text
   few : length text ≤ most
 
 -- names with commas between
-joined : (names : List (List ℕ)) → All (IsPart 32) names → IsPart (length names * 33) (join_with_byte 44 names)
+joined : (names : List (List ℕ)) → All (IsSubset 32) names → IsSubset (length names * 33) (join_with_byte 44 names)
 joined [] are = record { lacks = All-nil (λ byte. eqb byte 10 ≡ false); few = omega arith }
 joined (name ∷ []) are =
-    let first = All-head (IsPart 32) name [] are in
+    let first = All-head (IsSubset 32) name [] are in
     record { lacks = first.lacks; few = omega (arith, first.few) }
 joined (name ∷ second ∷ others) are =
-    let first = All-head (IsPart 32) name (second ∷ others) are in
-    let rest = joined (second ∷ others) (All-tail (IsPart 32) name (second ∷ others) are) in
+    let first = All-head (IsSubset 32) name (second ∷ others) are in
+    let rest = joined (second ∷ others) (All-tail (IsSubset 32) name (second ∷ others) are) in
     let after = join_with_byte 44 (second ∷ others) in
     record {
       lacks = All-append (λ byte. eqb byte 10 ≡ false) name (44 ∷ after) first.lacks (All-cons (λ byte. eqb byte 10 ≡ false) 44 after refl rest.lacks);
@@ -53,21 +53,21 @@ apart set rising i j d before within same = omega (arith, rising i j d before wi
 module _ (graph : Tfpg) (valid : IsValid graph) where
   -- ---- the line of a set
 
-  names_are : (set : List ℕ) → All (λ place. place < length (failures graph)) set → All (IsPart 32) (map (failure_word graph) set)
-  names_are [] members = All-nil (IsPart 32)
+  names_are : (set : List ℕ) → All (λ place. place < length (failures graph)) set → All (IsSubset 32) (map (failure_word graph) set)
+  names_are [] members = All-nil (IsSubset 32)
   names_are (place ∷ places) members =
       let named = failure_name-is_name graph valid place (All-head (λ p. p < length (failures graph)) place places members) in
-      All-cons (IsPart 32) (failure_word graph place) (map (failure_word graph) places)
+      All-cons (IsSubset 32) (failure_word graph place) (map (failure_word graph) places)
       (record { lacks = name_lacks 10 (failure_word graph place) refl named; few = name_short (failure_word graph place) named })
       (names_are places (All-tail (λ p. p < length (failures graph)) place places members))
 
-  set_word_is : (set : List ℕ) → All (λ place. place < length (failures graph)) set → IsPart (length set * 33 + 1) (set_word graph set)
+  set_word_is : (set : List ℕ) → All (λ place. place < length (failures graph)) set → IsSubset (length set * 33 + 1) (set_word graph set)
   set_word_is [] members = record { lacks = lacks_checked 10 (codes "-") refl; few = omega arith }
   set_word_is (place ∷ places) members =
       let part = joined (map (failure_word graph) (place ∷ places)) (names_are (place ∷ places) members) in
       record { lacks = part.lacks; few = omega (arith, part.few, length-map (place ∷ places) (failure_word graph)) }
 
-  set_line_is : (set : List ℕ) → IsSetOf graph set → IsPart longest_line (set_line graph set)
+  set_line_is : (set : List ℕ) → IsSetOf graph set → IsSubset longest_line (set_line graph set)
   set_line_is set of =
       let word = set_word_is set of.members in
       let count = length-le_distinct set (length (failures graph)) (apart set of.rising) of.members in
@@ -79,7 +79,7 @@ module _ (graph : Tfpg) (valid : IsValid graph) where
 
   -- ---- the lines of activations
 
-  at_line_is : (activation : Activation) → IsActivationOf graph activation → IsPart longest_line (at_line graph activation)
+  at_line_is : (activation : Activation) → IsActivationOf graph activation → IsSubset longest_line (at_line graph activation)
   at_line_is activation of =
       let named = is_name-name_of graph activation.node of.in_graph valid.so_far.node_names in
       let name = name_word graph activation.node in
@@ -93,10 +93,10 @@ module _ (graph : Tfpg) (valid : IsValid graph) where
         few = omega (arith, length-append name (32 ∷ time), name_short name named, time_few);
       }
 
-  at_lines_are : (trace : List Activation) → All (IsActivationOf graph) trace → All (IsPart longest_line) (map (at_line graph) trace)
-  at_lines_are [] of = All-nil (IsPart longest_line)
+  at_lines_are : (trace : List Activation) → All (IsActivationOf graph) trace → All (IsSubset longest_line) (map (at_line graph) trace)
+  at_lines_are [] of = All-nil (IsSubset longest_line)
   at_lines_are (first ∷ others) of =
-      All-cons (IsPart longest_line) (at_line graph first) (map (at_line graph) others) (at_line_is first (All-head (IsActivationOf graph) first others of))
+      All-cons (IsSubset longest_line) (at_line graph first) (map (at_line graph) others) (at_line_is first (All-head (IsActivationOf graph) first others of))
       (at_lines_are others (All-tail (IsActivationOf graph) first others of))
 
   -- ---- the whole text
@@ -105,8 +105,8 @@ module _ (graph : Tfpg) (valid : IsValid graph) where
     abbrev lines : List (List ℕ)
     lines = set_line graph set ∷ map (at_line graph) trace
 
-    lines_are : All (IsPart longest_line) lines
-    lines_are = All-cons (IsPart longest_line) (set_line graph set) (map (at_line graph) trace) (set_line_is set of) (at_lines_are trace of_nodes)
+    lines_are : All (IsSubset longest_line) lines
+    lines_are = All-cons (IsSubset longest_line) (set_line graph set) (map (at_line graph) trace) (set_line_is set of) (at_lines_are trace of_nodes)
 
     text_is : map_text graph set trace ≡ flat_map with_line_end lines
     text_is = ap (λ (text : List ℕ). with_line_end (set_line graph set) ++ text) (sym (flat_map-map with_line_end (at_line graph) trace))
@@ -114,7 +114,7 @@ module _ (graph : Tfpg) (valid : IsValid graph) where
     spelled : lines_of (map_text graph set trace) ≡ lines
     spelled =
         ap lines_of (text_is ∙ sym (append-nil (flat_map with_line_end lines)))
-        ∙ lines_of-after lines [] (All-weaker (IsPart longest_line) HasNoLineEnd (λ line part. part.lacks) lines lines_are)
+        ∙ lines_of-after lines [] (All-weaker (IsSubset longest_line) HasNoLineEnd (λ line part. part.lacks) lines lines_are)
         ∙ append-nil lines
 
     spells : IsRisingByNode trace → SpellsMap graph (lines_of (map_text graph set trace)) set trace
@@ -125,7 +125,7 @@ module _ (graph : Tfpg) (valid : IsValid graph) where
       once = λ i j d before within same. omega (arith, rising i j d before within, same);
       spelled = spelled;
       short = subst (All (λ line. length line ≤ longest_line)) (sym spelled)
-          (All-weaker (IsPart longest_line) (λ line. length line ≤ longest_line) (λ line part. part.few) lines lines_are);
+          (All-weaker (IsSubset longest_line) (λ line. length line ≤ longest_line) (λ line part. part.few) lines lines_are);
       rising = rising;
       same_times = λ node. refl;
     }

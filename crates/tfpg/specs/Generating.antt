@@ -1,5 +1,5 @@
 -- What `generate` does: it draws a graph and a script, simulates the script, diagnoses the log, and writes what became of the truth.
-use Rattle.std.specs.Prelude.{◌≡◌, ℕ, List, [], ◌∷◌, ◌++◌, length, Contains, false}
+use Rattle.std.specs.Prelude.{◌≡◌, ℕ, List, [], ◌∷◌, ◌++◌, length, Contains, false, Result, Ok, Err}
 use Rattle.tfpg_base.specs.Lines.{lines_of}
 use Rattle.tfpg_base.specs.Outside.{SinkState, Rose, Puts}
 use Rattle.tfpg_evidence.specs.declared.finding.Finding.{Finding}
@@ -9,7 +9,9 @@ use Rattle.tfpg_sim.specs.declared.simulated.Simulated.{Simulated}
 use Rattle.tfpg_sim.specs.Generated.{generated_graph, generated_script}
 use Rattle.tfpg_sim.specs.Simulated.{IsSimulationOf}
 use Rattle.tfpg.specs.declared.end.End.{End}
-use Rattle.tfpg.specs.declared.end.End.TheVariants.{Done, NotAccepted, Usage, Graph, TooManyHypotheses, ReadFault, WriteFault, TooMuchInput, NoMemory}
+use Rattle.tfpg.specs.declared.fault.GenerateFault.{GenerateFault}
+use Rattle.tfpg.specs.declared.fault.GenerateFault.TheVariants.{WriteFault, NoMemory}
+use Rattle.tfpg.specs.EndsOf.{end_of_generation}
 use Rattle.tfpg.specs.Diagnosed.{AreRoundsOf}
 use Rattle.tfpg.specs.Summary.{summary_text}
 
@@ -44,14 +46,14 @@ pub record BeginsSummary (number size : ℕ) (before now : SinkState) : Type 0 w
   pub writes : Puts before now front
   pub rose : Rose before.faults now.faults
 
--- How `generate` ends. Before the whole text is known, nothing is written.
-abbrev pub GenerateEnds : ℕ → ℕ → SinkState → SinkState → End → Type 0
-GenerateEnds number size before now Done = WritesSummary number size before now
-GenerateEnds number size before now (NotAccepted line cause) = ⊥
-GenerateEnds number size before now (Usage cause) = ⊥
-GenerateEnds number size before now (Graph line cause) = ⊥
-GenerateEnds number size before now (TooManyHypotheses count) = ⊥
-GenerateEnds number size before now ReadFault = ⊥
-GenerateEnds number size before now WriteFault = BeginsSummary number size before now
-GenerateEnds number size before now TooMuchInput = ⊥
-GenerateEnds number size before now NoMemory = now ≡ before
+-- How drawing and diagnosing ends. Before the whole text is known, nothing is written.
+abbrev pub GenerationEnds : ℕ → ℕ → SinkState → SinkState → Result (Unit {0}) GenerateFault → Type 0
+GenerationEnds number size before now (Ok done) = WritesSummary number size before now
+GenerationEnds number size before now (Err WriteFault) = BeginsSummary number size before now
+GenerationEnds number size before now (Err NoMemory) = now ≡ before
+
+-- How `generate` ends.
+pub record GenerateEnds (number size : ℕ) (before now : SinkState) (end : End) : Type 0 where
+  pub result : Result (Unit {0}) GenerateFault
+  pub ends : GenerationEnds number size before now result
+  pub end_is : end ≡ end_of_generation result

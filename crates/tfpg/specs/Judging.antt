@@ -1,5 +1,5 @@
 -- What `explain` does with the streams, once it has a graph and a log: it reads a map, and writes the verdict on it.
-use Rattle.std.specs.Prelude.{◌≡◌, ℕ, ◌+◌, ◌≤◌, List, [], ◌++◌, length, take}
+use Rattle.std.specs.Prelude.{◌≡◌, ℕ, ◌+◌, ◌≤◌, List, [], ◌++◌, length, take, Result, Ok, Err}
 use Rattle.tfpg_base.specs.declared.activation.Activation.{Activation}
 use Rattle.tfpg_base.specs.Lines.{lines_of, whole_lines, max_bytes}
 use Rattle.tfpg_base.specs.Outside.{SourceState, Rose, Takes, Puts, IsAtEnd}
@@ -7,9 +7,8 @@ use Rattle.tfpg_graph.specs.Graph.{Tfpg}
 use Rattle.tfpg_log.specs.Log.{Logbook}
 use Rattle.tfpg_trace.specs.declared.verdict.Verdict.{Verdict}
 use Rattle.tfpg_trace.specs.FirstFault.{IsVerdict}
-use Rattle.tfpg.specs.declared.end.CheckCause.TheVariants.{BadMap}
-use Rattle.tfpg.specs.declared.end.End.{End}
-use Rattle.tfpg.specs.declared.end.End.TheVariants.{Done, NotAccepted, Usage, Graph, TooManyHypotheses, ReadFault, WriteFault, TooMuchInput, NoMemory}
+use Rattle.tfpg.specs.declared.fault.JudgeFault.{JudgeFault}
+use Rattle.tfpg.specs.declared.fault.JudgeFault.TheVariants.{BadMap, ReadFault, WriteFault, TooMuchInput, NoMemory}
 use Rattle.tfpg.specs.Map.{SpellsMap, BeginsMap, IsMapFault}
 use Rattle.tfpg.specs.Streams.{Streams, HasLeft, HasNoFault}
 use Rattle.tfpg.specs.Verdicts.{verdict_text}
@@ -55,22 +54,18 @@ pub record RefusesMap (graph : Tfpg) (before now : SourceState) (taken : List �
 
 -- How judging a map ends, where these bytes were taken. Before the verdict is known, nothing is written. Where the input
 -- fails or is too long, no line that came whole is faulty.
-abbrev pub JudgingEnds : Tfpg → Logbook → Streams → Streams → List ℕ → End → Type 0
-JudgingEnds graph log before now taken Done = WritesVerdict graph log before now taken
-JudgingEnds graph log before now taken (NotAccepted line cause) =
-    RefusesMap graph before.input now.input taken line × (cause ≡ BadMap) × (now.output ≡ before.output)
-JudgingEnds graph log before now taken (Usage cause) = ⊥
-JudgingEnds graph log before now taken (Graph line cause) = ⊥
-JudgingEnds graph log before now taken (TooManyHypotheses count) = ⊥
-JudgingEnds graph log before now taken ReadFault =
+abbrev pub JudgingEnds : Tfpg → Logbook → Streams → Streams → List ℕ → Result (Unit {0}) JudgeFault → Type 0
+JudgingEnds graph log before now taken (Ok done) = WritesVerdict graph log before now taken
+JudgingEnds graph log before now taken (Err (BadMap line)) = RefusesMap graph before.input now.input taken line × (now.output ≡ before.output)
+JudgingEnds graph log before now taken (Err ReadFault) =
     Rose before.input.faults now.input.faults × BeginsMap graph (whole_lines taken) × (now.output ≡ before.output)
-JudgingEnds graph log before now taken WriteFault = BeginsVerdict graph log before now taken
-JudgingEnds graph log before now taken TooMuchInput =
+JudgingEnds graph log before now taken (Err WriteFault) = BeginsVerdict graph log before now taken
+JudgingEnds graph log before now taken (Err TooMuchInput) =
     (length taken ≡ max_bytes + 1) × BeginsMap graph (whole_lines (take max_bytes taken)) × (now.output ≡ before.output)
-JudgingEnds graph log before now taken NoMemory = now.output ≡ before.output
+JudgingEnds graph log before now taken (Err NoMemory) = now.output ≡ before.output
 
--- A map was read from the input and judged by the graph and the log, and so it ended.
-pub record JudgesMap (graph : Tfpg) (log : Logbook) (before now : Streams) (end : End) : Type 0 where
+-- A map was read from the input and judged by the graph and the log, with this result.
+pub record JudgesMap (graph : Tfpg) (log : Logbook) (before now : Streams) (result : Result (Unit {0}) JudgeFault) : Type 0 where
   pub taken : List ℕ
   pub takes : Takes before.input now.input taken
-  pub ends : JudgingEnds graph log before now taken end
+  pub ends : JudgingEnds graph log before now taken result

@@ -11,9 +11,10 @@ use Rattle.tfpg_check.specs.Report.{IsReport, BeginsReport}
 use Rattle.tfpg.specs.declared.end.End.{End}
 use Rattle.tfpg.specs.declared.end.End.TheVariants as ends
 use Rattle.tfpg.specs.declared.fault.FetchFault.{FetchFault}
+use Rattle.tfpg.specs.declared.fault.JudgeFault.{JudgeFault}
 use Rattle.tfpg.specs.declared.fault.StreamFault.{StreamFault}
 use Rattle.tfpg.specs.declared.fault.StreamFault.TheVariants.{ReadFault, WriteFault, TooMuchInput, NoMemory}
-use Rattle.tfpg.specs.EndsOf.{end_of_fetch_fault, end_of_stream_fault}
+use Rattle.tfpg.specs.EndsOf.{end_of_diagnosis, end_of_judging, end_of_fetch_fault, end_of_stream_fault}
 use Rattle.tfpg_words.specs.declared.usage_cause.UsageCause.{UsageCause}
 use Rattle.tfpg_words.specs.Meaning.{Meaning, Diagnose, Explain, Simulate, Generate}
 use Rattle.tfpg.specs.Fetch.{GivesGraph, GivesGraphAndLog, IsFetchFault, IsFilesFault}
@@ -63,12 +64,7 @@ pub record Diagnoses (graph : Tfpg) (k budget : ℕ) (before now : Streams) (res
   pub no_losses : AllByRecursion LosesNone blocks
   pub ends : DiagnosisEnds graph k budget before now taken blocks written result
 
--- the end of a run whose diagnosis had this result
-abbrev pub end_of_result : Result (Unit {0}) StreamFault → End
-end_of_result (Ok done) = ends.Done
-end_of_result (Err fault) = end_of_stream_fault fault
-
--- There is no graph of the file of this name, for this reason, and input and output are untouched.
+-- There is no graph of the file of this name, with this cause, and input and output are untouched.
 pub record LacksGraph (shelf_before shelf_now : ShelfState) (name : List ℕ) (before now : Streams) (end : End) : Type 0 where
   pub fault : FetchFault
   pub is_fault : IsFetchFault shelf_before shelf_now name fault
@@ -95,7 +91,7 @@ pub record DiagnosesFile (shelf_before shelf_now : ShelfState) (k budget : ℕ) 
   pub not_too_many : (count : ℕ) → HasHypotheses graph k count → count ≤ max_hypotheses
   pub result : Result (Unit {0}) StreamFault
   pub diagnoses : Diagnoses graph k budget before now result
-  pub end_is : end ≡ end_of_result result
+  pub end_is : end ≡ end_of_diagnosis result
 
 -- There is no graph of the file of that name; or it has too many hypotheses; or it was diagnosed.
 abbrev pub DiagnoseEnds : ShelfState → ShelfState → ℕ → ℕ → List ℕ → Streams → Streams → End → Type 0
@@ -103,7 +99,7 @@ DiagnoseEnds shelf_before shelf_now k budget name before now end =
     LacksGraph shelf_before shelf_now name before now end
     ⊎ (HasTooManyHypotheses shelf_before shelf_now k name before now end ⊎ DiagnosesFile shelf_before shelf_now k budget name before now end)
 
--- There is no graph and no log of the files of these names, for this reason, and input and output are untouched.
+-- There is no graph and no log of the files of these names, with this cause, and input and output are untouched.
 pub record LacksFiles (shelf_before shelf_now : ShelfState) (graph_name log_name : List ℕ) (before now : Streams) (end : End) : Type 0 where
   pub fault : FetchFault
   pub is_fault : IsFilesFault shelf_before shelf_now graph_name log_name fault
@@ -116,7 +112,9 @@ pub record JudgesByFiles (shelf_before shelf_now : ShelfState) (graph_name log_n
   pub log : Logbook
   pub gives : GivesGraphAndLog shelf_before graph_name log_name graph log
   pub no_fault : shelf_now.faults ≡ shelf_before.faults
-  pub judges : JudgesMap graph log before now end
+  pub result : Result (Unit {0}) JudgeFault
+  pub judges : JudgesMap graph log before now result
+  pub end_is : end ≡ end_of_judging result
 
 -- There is no graph and no log of the files of those names; or a map was judged by them.
 abbrev pub ExplainEnds : ShelfState → ShelfState → List ℕ → List ℕ → Streams → Streams → End → Type 0

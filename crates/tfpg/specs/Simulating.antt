@@ -1,5 +1,5 @@
 -- What `simulate` does: it writes the log that a script makes, or the map of what happened.
-use Rattle.std.specs.Prelude.{◌≡◌, ◌⊎◌, ℕ, List, ◌++◌, Bool, true, false, IsTrue, Err}
+use Rattle.std.specs.Prelude.{◌≡◌, ◌⊎◌, ℕ, List, ◌++◌, Bool, true, false, IsTrue, Result, Ok, Err}
 use Rattle.tfpg_base.specs.Lines.{lines_of}
 use Rattle.tfpg_base.specs.Outside.{ShelfState, SinkState, Rose, Puts}
 use Rattle.tfpg_graph.specs.Graph.{Tfpg}
@@ -9,11 +9,11 @@ use Rattle.tfpg_sim.specs.AcceptedLog.{AreAccepted}
 use Rattle.tfpg_sim.specs.declared.simulated.Simulated.{Simulated}
 use Rattle.tfpg_sim.specs.Script.{script_of}
 use Rattle.tfpg_sim.specs.Simulated.{IsSimulationOf}
-use Rattle.tfpg.specs.declared.end.CheckCause.TheVariants.{BadScript}
 use Rattle.tfpg.specs.declared.end.End.{End}
-use Rattle.tfpg.specs.declared.end.End.TheVariants.{Done, NotAccepted, Usage, Graph, TooManyHypotheses, ReadFault, WriteFault, TooMuchInput, NoMemory}
 use Rattle.tfpg.specs.declared.fault.FetchFault.{FetchFault}
-use Rattle.tfpg.specs.EndsOf.{end_of_fetch_fault}
+use Rattle.tfpg.specs.declared.fault.SimulateFault.{SimulateFault}
+use Rattle.tfpg.specs.declared.fault.SimulateFault.TheVariants.{BadScript, WriteFault, NoMemory}
+use Rattle.tfpg.specs.EndsOf.{end_of_fetch_fault, end_of_simulation}
 use Rattle.tfpg.specs.Fetch.{GivesGraphAndText, IsFilesFault}
 use Rattle.tfpg.specs.Map.{SpellsMap}
 use Rattle.tfpg.specs.MapText.{map_text}
@@ -49,19 +49,13 @@ pub record BeginsSimulation (graph : Tfpg) (script : List ℕ) (draw : ℕ) (tra
   pub rose : Rose before.faults now.faults
 
 -- How a simulation of the script on the graph ends. Before its whole text is known, nothing is written.
-abbrev pub SimulationEnds : Tfpg → List ℕ → ℕ → Bool → SinkState → SinkState → End → Type 0
-SimulationEnds graph script draw trace before now Done = WritesSimulation graph script draw trace before now
-SimulationEnds graph script draw trace before now (NotAccepted line cause) =
-    (script_of graph script ≡ Err line) × (cause ≡ BadScript) × (now ≡ before)
-SimulationEnds graph script draw trace before now (Usage cause) = ⊥
-SimulationEnds graph script draw trace before now (Graph line cause) = ⊥
-SimulationEnds graph script draw trace before now (TooManyHypotheses count) = ⊥
-SimulationEnds graph script draw trace before now ReadFault = ⊥
-SimulationEnds graph script draw trace before now WriteFault = BeginsSimulation graph script draw trace before now
-SimulationEnds graph script draw trace before now TooMuchInput = ⊥
-SimulationEnds graph script draw trace before now NoMemory = now ≡ before
+abbrev pub SimulationEnds : Tfpg → List ℕ → ℕ → Bool → SinkState → SinkState → Result (Unit {0}) SimulateFault → Type 0
+SimulationEnds graph script draw trace before now (Ok done) = WritesSimulation graph script draw trace before now
+SimulationEnds graph script draw trace before now (Err (BadScript line)) = (script_of graph script ≡ Err line) × (now ≡ before)
+SimulationEnds graph script draw trace before now (Err WriteFault) = BeginsSimulation graph script draw trace before now
+SimulationEnds graph script draw trace before now (Err NoMemory) = now ≡ before
 
--- There is no graph or no script of the files of these names, for this reason, and the output is untouched.
+-- There is no graph or no script of the files of these names, with this cause, and the output is untouched.
 pub record LacksScript (shelf_before shelf_now : ShelfState) (graph_name script_name : List ℕ) (before now : SinkState) (end : End) : Type 0 where
   pub fault : FetchFault
   pub is_fault : IsFilesFault shelf_before shelf_now graph_name script_name fault
@@ -74,7 +68,9 @@ pub record SimulatesByFiles (shelf_before shelf_now : ShelfState) (graph_name sc
   pub script : List ℕ
   pub gives : GivesGraphAndText shelf_before graph_name script_name graph script
   pub no_fault : shelf_now.faults ≡ shelf_before.faults
-  pub ends : SimulationEnds graph script draw trace before now end
+  pub result : Result (Unit {0}) SimulateFault
+  pub ends : SimulationEnds graph script draw trace before now result
+  pub end_is : end ≡ end_of_simulation result
 
 -- There is no graph or no script of the files of those names; or the one was simulated on the other.
 abbrev pub SimulateEnds : ShelfState → ShelfState → List ℕ → List ℕ → ℕ → Bool → SinkState → SinkState → End → Type 0

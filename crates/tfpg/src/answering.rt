@@ -6,7 +6,7 @@ ghost use Rattle.tfpg_evidence.specs.RoundOf.{IsRoundOf};
 ghost use Rattle.tfpg_graph.specs.Graph.{Tfpg};
 ghost use Rattle.tfpg_report.specs.Blocks.{sizes_of, refused_text, round_text};
 ghost use Rattle.tfpg_check.specs.Report.{Progress};
-ghost use Rattle.tfpg.specs.inside.Answering.{EngineReports, HasBlock, IsReady};
+ghost use Rattle.tfpg.specs.inside.Answering.{EngineReports, HasBlock, IsEngineReady};
 
 use std::alloc::Global;
 use std::sync::ledger::Ledger;
@@ -27,7 +27,7 @@ pub(crate) fn answer<L: Ledger>(
     text: &[u8],
     work: &mut Steps<L>,
 ) -> Result<Vec<u8>, NoMemory>
-    requires { IsReady engine.old }
+    requires { IsEngineReady engine.old }
     ensures { (graph : Tfpg) (k budget : ℕ) (before : Progress) →
         EngineReports graph k budget engine.old before
         → length text.now ≤ longest_line → IfOk result

@@ -1,4 +1,4 @@
-//! The course of a diagnosis: one line after another, each answered before the next is taken.
+//! The course of a diagnosis: line by line, each with its block written before the next is taken.
 
 ghost use Rattle.std.specs.Prelude.{◌≡◌, ◌++◌, [], ℕ, List, IfOk, IfErr, OnErr, Err};
 ghost use Rattle.tfpg_base.specs.Outside.{Rose, Puts};
@@ -9,12 +9,12 @@ ghost use Rattle.tfpg_engine.specs.Engining.{EngineRepresents};
 ghost use Rattle.tfpg_report.specs.Blocks.{head_text};
 ghost use Rattle.tfpg.specs.Run.{Diagnoses};
 ghost use Rattle.tfpg.specs.Streams.{Streams, streams};
-ghost use Rattle.tfpg.specs.inside.Answering.{IsReady};
-ghost use Rattle.tfpg.specs.inside.Course.{IsUnderWay, LeadsTo};
+ghost use Rattle.tfpg.specs.inside.Answering.{IsEngineReady};
+ghost use Rattle.tfpg.specs.inside.Course.{IsDiagnosing, ComesTo};
 
 use crate::answering::{answer, refused_block};
 use crate::fault::StreamFault;
-use crate::output::put_all;
+use crate::output::write_all;
 use std::alloc::Global;
 use std::sync::ledger::Ledger;
 use tfpg_base::{Line, Lines, NoMemory, Sink, Source, Steps};
@@ -22,10 +22,10 @@ use tfpg_check::laws::a_report_goes_on_block_by_block;
 use tfpg_engine::Engine;
 use tfpg_report::{RefusedLine, head};
 
-/// Whether a line was answered, or the input has ended.
+/// Whether a line has its block, or the input has ended.
 #[derive(Clone, Copy)]
 pub(crate) enum Turn {
-    Answered,
+    Written,
     Ended,
 }
 
@@ -46,10 +46,10 @@ pub(crate) fn diagnose<S: Source, K: Sink, L: Ledger>(
 {
     let mut lines = Lines::new(alloc)?;
     let head = first_line(alloc, engine.k(), engine.budget())?;
-    put_all(out, &head)?;
+    write_all(out, &head)?;
     loop {
         match take_turn(alloc, engine, &mut lines, input, out, work)? {
-            Turn::Answered => {}
+            Turn::Written => {}
             Turn::Ended => return Ok(()),
         }
     }
@@ -73,14 +73,14 @@ fn take_turn<S: Source, K: Sink, L: Ledger>(
     out: &mut K,
     work: &mut Steps<L>,
 ) -> Result<Turn, StreamFault>
-    requires { IsReady engine.old }
+    requires { IsEngineReady engine.old }
     ensures turn { (graph : Tfpg) (k budget : ℕ) (before : Streams)
-        → IsUnderWay graph k budget before (streams (S.state input.old) (K.state out.old)) lines.old
+        → IsDiagnosing graph k budget before (streams (S.state input.old) (K.state out.old)) lines.old
         engine.old
-        → IfOk result (LeadsTo graph k budget before (streams (S.state input.new) (K.state out.new))
+        → IfOk result (ComesTo graph k budget before (streams (S.state input.new) (K.state out.new))
         lines.old.number lines.new engine.new) }
     ensures stopped { (graph : Tfpg) (k budget : ℕ) (before : Streams)
-        → IsUnderWay graph k budget before (streams (S.state input.old) (K.state out.old)) lines.old
+        → IsDiagnosing graph k budget before (streams (S.state input.old) (K.state out.old)) lines.old
         engine.old
         → IfErr result (λ fault. Diagnoses graph k budget before
         (streams (S.state input.new) (K.state out.new)) (Err fault)) }
@@ -90,18 +90,18 @@ fn take_turn<S: Source, K: Sink, L: Ledger>(
         Line::End => Ok(Turn::Ended),
         Line::TooLong => {
             let block = refused_block(alloc, lines.number(), RefusedLine::TooLong)?;
-            put_block(out, &block)
+            write_block(out, &block)
         }
         Line::Text => {
             let block = answer(alloc, engine, lines.number(), lines.text(), work)?;
-            put_block(out, &block)
+            write_block(out, &block)
         }
     }
 }
 
 /// Writes a whole block.
-fn put_block<K: Sink>(out: &mut K, block: &[u8]) -> Result<Turn, StreamFault>
-    ensures put { IfOk result (λ turn. (turn ≡ Turn.Answered) ×
+fn write_block<K: Sink>(out: &mut K, block: &[u8]) -> Result<Turn, StreamFault>
+    ensures put { IfOk result (λ turn. (turn ≡ Turn.Written) ×
         Puts (K.state out.old) (K.state out.new) block.now
         × ((K.state out.new).faults ≡ (K.state out.old).faults)) }
     ensures cause { IfErr result (λ fault. fault ≡ StreamFault.WriteFault) }
@@ -109,6 +109,6 @@ fn put_block<K: Sink>(out: &mut K, block: &[u8]) -> Result<Turn, StreamFault>
         Puts (K.state out.old) (K.state out.new) front) }
     ensures failed { OnErr result (Rose (K.state out.old).faults (K.state out.new).faults) }
 {
-    put_all(out, block)?;
-    Ok(Turn::Answered)
+    write_all(out, block)?;
+    Ok(Turn::Written)
 }

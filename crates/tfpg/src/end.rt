@@ -5,18 +5,15 @@ ghost use Rattle.std.specs.Process.{exit_status};
 ghost use Rattle.tfpg_base.specs.Append.{Appends};
 ghost use Rattle.tfpg_base.specs.Words.{line_of};
 ghost use Rattle.tfpg.specs.Ends.{check_cause_name, graph_cause_name, line_of_end, status_of, usage_name};
-ghost use Rattle.tfpg.specs.declared.end.End.TheVariants as ends;
-ghost use Rattle.tfpg.specs.EndsOf.{end_of_fetch_fault, end_of_stream_fault};
-ghost use Rattle.tfpg.specs.inside.Faults.{end_of_no_map, end_of_plan_fault, end_of_sim_fault, end_of_table_fault};
+ghost use Rattle.tfpg.specs.EndsOf.{end_of_fetch_fault, end_of_generate_fault, end_of_judge_fault, end_of_simulate_fault, end_of_stream_fault};
+ghost use Rattle.tfpg.specs.inside.Faults.{end_of_plan_fault, end_of_table_fault};
 
-use crate::fault::{FetchFault, StreamFault};
-use crate::map::NoMap;
+use crate::fault::{FetchFault, GenerateFault, JudgeFault, SimulateFault, StreamFault};
 use itoa::Buffer;
 use std::process::ExitCode;
-use tfpg_base::{Failed, NoMemory, put_words};
+use tfpg_base::{NoMemory, append_words};
 use tfpg_graph::GraphCause;
 use tfpg_hyp::TableFault;
-use tfpg_sim::SimFault;
 use tfpg_words::{PlanFault, UsageCause};
 
 /// Why a line of the input or of the script is refused.
@@ -83,10 +80,10 @@ impl End {
     {
         match self {
             End::Done => Ok(()),
-            End::NotAccepted { line, cause } => put_not_accepted(*line, *cause, into),
-            End::Usage { cause } => put_usage(*cause, into),
-            End::Graph { line, cause } => put_graph(*line, *cause, into),
-            End::TooManyHypotheses { count } => put_too_many(*count, into),
+            End::NotAccepted { line, cause } => append_not_accepted(*line, *cause, into),
+            End::Usage { cause } => append_usage(*cause, into),
+            End::Graph { line, cause } => append_graph(*line, *cause, into),
+            End::TooManyHypotheses { count } => append_too_many(*count, into),
             End::ReadFault => put(b"read fault", into),
             End::WriteFault => put(b"write fault", into),
             End::TooMuchInput => put(b"too much input", into),
@@ -146,60 +143,56 @@ impl From<StreamFault> for End {
     }
 }
 
-impl From<NoMap> for End {
-    ghost from_gives = { λ fault e. e ≡ end_of_no_map fault };
+impl From<JudgeFault> for End {
+    ghost from_gives = { λ fault e. e ≡ end_of_judge_fault fault };
 
-    fn from(fault: NoMap) -> End {
+    fn from(fault: JudgeFault) -> End {
         match fault {
-            NoMap::Refused { line } => End::NotAccepted {
+            JudgeFault::BadMap { line } => End::NotAccepted {
                 line,
                 cause: CheckCause::BadMap,
             },
-            NoMap::ReadFault => End::ReadFault,
-            NoMap::TooMuchInput => End::TooMuchInput,
-            NoMap::NoMemory => End::NoMemory,
+            JudgeFault::ReadFault => End::ReadFault,
+            JudgeFault::WriteFault => End::WriteFault,
+            JudgeFault::TooMuchInput => End::TooMuchInput,
+            JudgeFault::NoMemory => End::NoMemory,
         }
     }
 }
 
-impl From<SimFault> for End {
-    ghost from_gives = { λ fault e. e ≡ end_of_sim_fault fault };
+impl From<SimulateFault> for End {
+    ghost from_gives = { λ fault e. e ≡ end_of_simulate_fault fault };
 
-    fn from(fault: SimFault) -> End {
+    fn from(fault: SimulateFault) -> End {
         match fault {
-            SimFault::BadScript { line } => End::NotAccepted {
+            SimulateFault::BadScript { line } => End::NotAccepted {
                 line,
                 cause: CheckCause::BadScript,
             },
-            SimFault::NoMemory => End::NoMemory,
+            SimulateFault::WriteFault => End::WriteFault,
+            SimulateFault::NoMemory => End::NoMemory,
         }
     }
 }
 
-impl From<NoMemory> for End {
-    ghost from_gives = { λ _ e. e ≡ ends.NoMemory };
+impl From<GenerateFault> for End {
+    ghost from_gives = { λ fault e. e ≡ end_of_generate_fault fault };
 
-    fn from(_e: NoMemory) -> End {
-        End::NoMemory
-    }
-}
-
-/// Of the output: the shelf and the input have faults of their own.
-impl From<Failed> for End {
-    ghost from_gives = { λ _ e. e ≡ ends.WriteFault };
-
-    fn from(_e: Failed) -> End {
-        End::WriteFault
+    fn from(fault: GenerateFault) -> End {
+        match fault {
+            GenerateFault::WriteFault => End::WriteFault,
+            GenerateFault::NoMemory => End::NoMemory,
+        }
     }
 }
 
 /// Appends what is said of a line that is refused.
-fn put_not_accepted(line: u64, cause: CheckCause, into: &mut Vec<u8>) -> Result<(), NoMemory>
+fn append_not_accepted(line: u64, cause: CheckCause, into: &mut Vec<u8>) -> Result<(), NoMemory>
     ensures { Appends result into.old.items into.new.items
         (line_of (codes "not" ∷ codes "accepted" ∷ decimal line ∷ check_cause_name cause ∷ [])) }
 {
     let mut digits = Buffer::new();
-    put_words(
+    append_words(
         into,
         &[
             b"not",
@@ -211,19 +204,19 @@ fn put_not_accepted(line: u64, cause: CheckCause, into: &mut Vec<u8>) -> Result<
 }
 
 /// Appends what is said of words that are refused.
-fn put_usage(cause: UsageCause, into: &mut Vec<u8>) -> Result<(), NoMemory>
+fn append_usage(cause: UsageCause, into: &mut Vec<u8>) -> Result<(), NoMemory>
     ensures { Appends result into.old.items into.new.items (line_of (codes "usage" ∷ usage_name cause ∷ [])) }
 {
-    put_words(into, &[b"usage", usage_cause_word(cause)])
+    append_words(into, &[b"usage", usage_cause_word(cause)])
 }
 
 /// Appends what is said of a graph that is refused.
-fn put_graph(line: u64, cause: GraphCause, into: &mut Vec<u8>) -> Result<(), NoMemory>
+fn append_graph(line: u64, cause: GraphCause, into: &mut Vec<u8>) -> Result<(), NoMemory>
     ensures { Appends result into.old.items into.new.items
         (line_of (codes "graph" ∷ decimal line ∷ graph_cause_name cause ∷ [])) }
 {
     let mut digits = Buffer::new();
-    put_words(
+    append_words(
         into,
         &[
             b"graph",
@@ -234,12 +227,12 @@ fn put_graph(line: u64, cause: GraphCause, into: &mut Vec<u8>) -> Result<(), NoM
 }
 
 /// Appends what is said of a graph that has too many hypotheses.
-fn put_too_many(count: u128, into: &mut Vec<u8>) -> Result<(), NoMemory>
+fn append_too_many(count: u128, into: &mut Vec<u8>) -> Result<(), NoMemory>
     ensures { Appends result into.old.items into.new.items
         (line_of (codes "too" ∷ codes "many" ∷ codes "hypotheses" ∷ decimal count ∷ [])) }
 {
     let mut digits = Buffer::new();
-    put_words(
+    append_words(
         into,
         &[
             b"too",

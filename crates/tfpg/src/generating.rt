@@ -1,12 +1,13 @@
 //! Drawing a graph and a script, and diagnosing the log that the script makes.
 
-ghost use Rattle.std.specs.Prelude.{◌≤◌, IfOk, IfErr, OnOk};
-ghost use Rattle.tfpg.specs.Generating.{GenerateEnds, HasSummary};
+ghost use Rattle.std.specs.Prelude.{◌≤◌, IfOk, IfErr, OnOk, Ok, Err};
+ghost use Rattle.tfpg_sim.specs.declared.limits.TheConstants.{MAX_SIZE};
+ghost use Rattle.tfpg.specs.Generating.{GenerationEnds, HasSummary};
 ghost use Rattle.tfpg.specs.inside.Drawn.{IsDrawn};
 
 use crate::diagnosis::{diagnose_lines, lines_in};
-use crate::end::End;
-use crate::output::put_all;
+use crate::fault::GenerateFault;
+use crate::output::write_all;
 use crate::summary::summary_of;
 use std::alloc::Global;
 use std::sync::ledger::Ledger;
@@ -25,20 +26,21 @@ struct Drawn {
 
 /// Draws a graph and a script by the number and the size, simulates the script with the same number, diagnoses the log, and
 /// writes three lines: what was drawn, what the last round says, and what it says of the simulated set.
-pub(crate) fn put_generated<K: Sink, L: Ledger>(
+pub(crate) fn write_generated<K: Sink, L: Ledger>(
     alloc: Global,
     number: u64,
     size: u32,
     out: &mut K,
     work: &mut Steps<L>,
-) -> Result<(), End>
+) -> Result<(), GenerateFault>
     requires some { 1 ≤ size }
-    requires few { size ≤ 100 }
-    ensures done { OnOk result (GenerateEnds number size (K.state out.old) (K.state out.new) End.Done) }
-    ensures stopped { IfErr result (GenerateEnds number size (K.state out.old) (K.state out.new)) }
+    requires few { size ≤ MAX_SIZE }
+    ensures done { OnOk result (GenerationEnds number size (K.state out.old) (K.state out.new) (Ok tt)) }
+    ensures stopped { IfErr result (λ fault. GenerationEnds number size (K.state out.old) (K.state out.new)
+        (Err fault)) }
 {
     let text = summary(alloc, number, size, work)?;
-    put_all(out, &text)?;
+    write_all(out, &text)?;
     Ok(())
 }
 
@@ -50,7 +52,7 @@ fn summary<L: Ledger>(
     work: &mut Steps<L>,
 ) -> Result<Vec<u8>, NoMemory>
     requires some { 1 ≤ size }
-    requires few { size ≤ 100 }
+    requires few { size ≤ MAX_SIZE }
     ensures { IfOk result (λ text. HasSummary number size text.items) }
 {
     rounds_say_which_sets_fit();
@@ -63,7 +65,7 @@ fn summary<L: Ledger>(
 /// Draws a graph and a script, and simulates the script. A drawn script is never at fault.
 fn draw_simulation(alloc: Global, number: u64, size: u32) -> Result<Drawn, NoMemory>
     requires some { 1 ≤ size }
-    requires few { size ≤ 100 }
+    requires few { size ≤ MAX_SIZE }
     ensures { IfOk result (λ drawn. IsDrawn number size drawn.graph drawn.simulated) }
 {
     a_generated_script_is_right();

@@ -1,13 +1,13 @@
 //! Judging the map of the input.
 
-ghost use Rattle.std.specs.Prelude.{IfErr, OnOk};
+ghost use Rattle.std.specs.Prelude.{IfErr, OnOk, Ok, Err};
 ghost use Rattle.tfpg_log.specs.Log.{IsOf};
 ghost use Rattle.tfpg.specs.Judging.{JudgesMap};
 ghost use Rattle.tfpg.specs.Streams.{streams};
 
-use crate::end::End;
+use crate::fault::JudgeFault;
 use crate::map_reading::read_map;
-use crate::output::put_all;
+use crate::output::write_all;
 use crate::verdict_line::verdict_line;
 use std::alloc::Global;
 use tfpg_base::{Sink, Source};
@@ -22,17 +22,18 @@ pub(crate) fn judge<S: Source, K: Sink>(
     log: &Log,
     input: &mut S,
     out: &mut K,
-) -> Result<(), End>
+) -> Result<(), JudgeFault>
     requires { IsOf graph.now log.now }
     ensures done { OnOk result (JudgesMap graph.now log.now
         (streams (S.state input.old) (K.state out.old))
-        (streams (S.state input.new) (K.state out.new)) End.Done) }
-    ensures stopped { IfErr result (JudgesMap graph.now log.now
-        (streams (S.state input.old) (K.state out.old)) (streams (S.state input.new) (K.state out.new))) }
+        (streams (S.state input.new) (K.state out.new)) (Ok tt)) }
+    ensures stopped { IfErr result (λ fault. JudgesMap graph.now log.now
+        (streams (S.state input.old) (K.state out.old))
+        (streams (S.state input.new) (K.state out.new)) (Err fault)) }
 {
     let map = read_map(alloc, graph, input)?;
     let verdict = explains(graph, log, map.set, &map.trace);
     let line = verdict_line(alloc, graph, verdict)?;
-    put_all(out, &line)?;
+    write_all(out, &line)?;
     Ok(())
 }

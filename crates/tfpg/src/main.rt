@@ -1,6 +1,10 @@
 //! The program: a diagnoser for timed failure propagation graphs.
 //!
 //! [`run::run`] is the top call, over any shelf of files, input and output. `main` calls it on the real ones.
+//!
+//! ```text
+//! ./tfpg diagnose examples/pump.tfpg < examples/pump.log
+//! ```
 #![tactic(auto)]
 
 ghost use Rattle.std.specs.Prelude.{◌≡◌, ◌<◌};

@@ -7,7 +7,7 @@ ghost use Rattle.tfpg_base.specs.Words.{words_of};
 ghost use Rattle.tfpg_graph.specs.Valid.{IsValid};
 ghost use Rattle.tfpg_report.specs.Blocks.{set_word, name_word};
 ghost use Rattle.tfpg.specs.Map.{IsSetOf, IsActivationOf, set_line, at_line};
-ghost use Rattle.tfpg.specs.inside.MapLines.{word_after_set, words_after_at, failure_named, failure_name, AreFrom};
+ghost use Rattle.tfpg.specs.inside.MapLines.{word_after_set, words_after_at, position_named, failure_name, AreFrom};
 
 use crate::map::MapFault;
 use std::alloc::Global;
@@ -89,11 +89,11 @@ fn rising_places(graph: &Graph, names: &[&[u8]], least: u32) -> Option<Set>
 
 /// The position of the failure mode of this name.
 fn find_failure(graph: &Graph, name: &[u8]) -> Option<u32>
-    ensures place { result ≡ failure_named graph.now name.now }
+    ensures place { result ≡ position_named graph.now name.now }
     ensures valid { IsValid graph.now }
 {
     let _valid = graph.node_count();
-    graph.place_of(graph.find(name)?)
+    graph.position_of(graph.find(name)?)
 }
 
 /// The activation that the line spells.

@@ -10,7 +10,7 @@ ghost use Rattle.tfpg.specs.MapText.{map_text};
 use std::alloc::Global;
 use tfpg_base::{NoMemory, Set, Trace};
 use tfpg_graph::Graph;
-use tfpg_report::{put_activations, put_set};
+use tfpg_report::{append_activations, append_set};
 
 /// The text of a map: the line of the set, and then the line of each activation, by rising nodes. It has the form that
 /// `explain` reads.
@@ -25,19 +25,19 @@ pub(crate) fn map_text(
     ensures { IfOk result (λ text. text.items ≡ map_text graph.now set trace.now) }
 {
     let mut text = Vec::new(alloc);
-    put_set_line(graph, set, &mut text)?;
-    put_activations(graph, trace.as_slice(), &mut text)?;
+    append_set_line(graph, set, &mut text)?;
+    append_activations(graph, trace.as_slice(), &mut text)?;
     Ok(text)
 }
 
 /// Appends the line of a set.
-fn put_set_line(graph: &Graph, set: Set, into: &mut Vec<u8>) -> Result<(), NoMemory>
+fn append_set_line(graph: &Graph, set: Set, into: &mut Vec<u8>) -> Result<(), NoMemory>
     requires { All (λ place. place < length (failures graph.now)) set }
     ensures { Appends result into.old.items into.new.items
         (text_line (codes "set" ∷ set_word graph.now set ∷ [])) }
 {
     into.extend_from_slice(b"set ")?;
-    put_set(graph, set, into)?;
+    append_set(graph, set, into)?;
     into.push(b'\n')?;
     Ok(())
 }

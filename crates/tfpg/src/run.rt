@@ -2,18 +2,20 @@
 
 ghost use Rattle.std.specs.Prelude.{◌≡◌, ◌≤◌, ◌∷◌, [], map, string_bytes, OnOk, IfErr, Ok};
 ghost use Rattle.tfpg_words.specs.Meaning.{Meaning, meaning};
+ghost use Rattle.tfpg_sim.specs.declared.limits.TheConstants.{MAX_SIZE};
 ghost use Rattle.tfpg.specs.Completeness.{CanBeDone, IsCompleted, NothingFails};
 ghost use Rattle.tfpg_words.specs.Plans.{meaning_of};
 ghost use Rattle.tfpg.specs.inside.Plans.{AreWithinLimits};
 ghost use Rattle.tfpg.specs.inside.Faults.{end_of_work};
 ghost use Rattle.tfpg.specs.Fetch.{AsksOnly, AsksFor, AsksInOrder};
+ghost use Rattle.tfpg.specs.Generating.{GenerateEnds};
 ghost use Rattle.tfpg.specs.Run.{RunEnds, CommandEnds, DiagnoseEnds, ExplainEnds};
 ghost use Rattle.tfpg.specs.Streams.{streams};
 
 use crate::course::diagnose;
 use crate::end::End;
 use crate::fetching::{fetch_graph, fetch_graph_and_log};
-use crate::generating::put_generated;
+use crate::generating::write_generated;
 use crate::judging::judge;
 use crate::simulating::simulate_files;
 use std::alloc::Global;
@@ -49,7 +51,7 @@ pub fn run<F: Shelf, S: Source, K: Sink, L: Ledger>(
         (streams (S.state input.old) (K.state out.old)) (streams (S.state input.new) (K.state out.new)) →
         IsCompleted meant result }
 
-    // No answer comes from a file that the words do not name.
+    // No file is asked for but those that the words name.
     ensures asks { AsksOnly (meaning (map string_bytes words.now)) (F.state shelf.old).asked
         (F.state shelf.new).asked }
 {
@@ -102,7 +104,7 @@ fn perform<F: Shelf, S: Source, K: Sink, L: Ledger>(
             shelf,
             out,
         ),
-        Command::Generate { draw, size } => put_generated(alloc, *draw, *size, out, work),
+        Command::Generate { draw, size } => generate_summary(alloc, *draw, *size, out, work),
     }
 }
 
@@ -140,6 +142,22 @@ fn diagnose_file<F: Shelf, S: Source, K: Sink, L: Ledger>(
     Ok(diagnose(alloc, &mut engine, input, out, work)?)
 }
 
+/// Draws a system by the number and the size, diagnoses it, and writes the summary.
+fn generate_summary<K: Sink, L: Ledger>(
+    alloc: Global,
+    number: u64,
+    size: u32,
+    out: &mut K,
+    work: &mut Steps<L>,
+) -> Result<(), End>
+    requires some { 1 ≤ size }
+    requires few { size ≤ MAX_SIZE }
+    ensures done { OnOk result (GenerateEnds number size (K.state out.old) (K.state out.new) End.Done) }
+    ensures stopped { IfErr result (GenerateEnds number size (K.state out.old) (K.state out.new)) }
+{
+    Ok(write_generated(alloc, number, size, out, work)?)
+}
+
 /// Judges the map of the input by the graph and the log of the files of these names.
 fn explain_by_files<F: Shelf, S: Source, K: Sink>(
     alloc: Global,
@@ -160,5 +178,5 @@ fn explain_by_files<F: Shelf, S: Source, K: Sink>(
         (F.state shelf.new).asked }
 {
     let (graph, log) = fetch_graph_and_log(alloc, shelf, graph_name, log_name)?;
-    judge(alloc, &graph, &log, input, out)
+    Ok(judge(alloc, &graph, &log, input, out)?)
 }

@@ -1,6 +1,6 @@
 //! Simulating the script of a file on the graph of another.
 
-ghost use Rattle.std.specs.Prelude.{◌≡◌, ◌∷◌, ◌<◌, [], All, IfOk, IfErr, OnOk, length};
+ghost use Rattle.std.specs.Prelude.{◌≡◌, ◌∷◌, ◌<◌, [], All, IfOk, IfErr, OnOk, Ok, Err, length};
 ghost use Rattle.tfpg_graph.specs.Graph.{failures};
 ghost use Rattle.tfpg_sim.specs.Script.{script_of};
 ghost use Rattle.tfpg_sim.specs.ScriptAnswers.{IsFaultAt};
@@ -8,9 +8,10 @@ ghost use Rattle.tfpg.specs.Fetch.{AsksInOrder};
 ghost use Rattle.tfpg.specs.Simulating.{HasSimulation, SimulateEnds, SimulationEnds, simulated_text};
 
 use crate::end::End;
+use crate::fault::SimulateFault;
 use crate::fetching::fetch_graph_and_text;
 use crate::map_text::map_text;
-use crate::output::put_all;
+use crate::output::write_all;
 use std::alloc::Global;
 use tfpg_base::{NoMemory, Shelf, Sink};
 use tfpg_graph::Graph;
@@ -38,25 +39,25 @@ pub(crate) fn simulate_files<F: Shelf, K: Sink>(
         (F.state shelf.new).asked }
 {
     let (graph, script) = fetch_graph_and_text(alloc, shelf, graph_name, script_name)?;
-    put_simulation(alloc, &graph, &script, draw, trace, out)
+    Ok(write_simulation(alloc, &graph, &script, draw, trace, out)?)
 }
 
 /// Simulates the script on the graph, and writes its text.
-fn put_simulation<K: Sink>(
+fn write_simulation<K: Sink>(
     alloc: Global,
     graph: &Graph,
     script: &[u8],
     draw: u64,
     trace: bool,
     out: &mut K,
-) -> Result<(), End>
+) -> Result<(), SimulateFault>
     ensures done { OnOk result (SimulationEnds graph.now script.now draw trace (K.state out.old)
-        (K.state out.new) End.Done) }
-    ensures stopped { IfErr result (SimulationEnds graph.now script.now draw trace (K.state out.old)
-        (K.state out.new)) }
+        (K.state out.new) (Ok tt)) }
+    ensures stopped { IfErr result (λ fault. SimulationEnds graph.now script.now draw trace (K.state out.old)
+        (K.state out.new) (Err fault)) }
 {
     let text = simulation_text(alloc, graph, script, draw, trace)?;
-    put_all(out, &text)?;
+    write_all(out, &text)?;
     Ok(())
 }
 

@@ -9,10 +9,10 @@ ghost use Rattle.tfpg.specs.inside.Summary.{HasFindingOn, SaysOfRound};
 use crate::diagnosis::Diagnosis;
 use itoa::Buffer;
 use std::alloc::Global;
-use tfpg_base::{NoMemory, Set, put_line};
+use tfpg_base::{NoMemory, Set, append_line};
 use tfpg_evidence::{Counts, Finding, Round, Status};
 use tfpg_graph::Graph;
-use tfpg_report::put_set;
+use tfpg_report::append_set;
 
 /// The three lines, of a diagnosis whose last round has a finding on the set.
 pub(crate) fn summary_of(
@@ -38,7 +38,7 @@ pub(crate) fn summary_of(
     }
 }
 
-/// The three lines, where this is the last of so many rounds.
+/// The three lines, where this is the last of `rounds` rounds.
 fn summary_text(
     alloc: Global,
     number: u64,
@@ -54,9 +54,9 @@ fn summary_text(
 {
     let finding = finding_on(last.findings.as_slice(), set);
     let mut text = Vec::new(alloc);
-    put_drawn(number, size, graph, rounds, &mut text)?;
-    put_rounds(rounds, last.counts, &mut text)?;
-    put_truth(graph, set, &finding.status, &mut text)?;
+    append_drawn(number, size, graph, rounds, &mut text)?;
+    append_rounds(rounds, last.counts, &mut text)?;
+    append_truth(graph, set, &finding.status, &mut text)?;
     Ok(text)
 }
 
@@ -75,7 +75,7 @@ fn finding_on(findings: &[Finding], set: Set) -> &Finding
 }
 
 /// Appends the line that says what was drawn.
-fn put_drawn(
+fn append_drawn(
     number: u64,
     size: u32,
     graph: &Graph,
@@ -89,7 +89,7 @@ fn put_drawn(
     let mut node_digits = Buffer::new();
     let mut edge_digits = Buffer::new();
     let mut line_digits = Buffer::new();
-    put_line(
+    append_line(
         into,
         &[
             b"generated",
@@ -108,7 +108,7 @@ fn put_drawn(
 }
 
 /// Appends the line that says how many rounds there were, and what the last one counts.
-fn put_rounds(rounds: u32, counts: Counts, into: &mut Vec<u8>) -> Result<(), NoMemory>
+fn append_rounds(rounds: u32, counts: Counts, into: &mut Vec<u8>) -> Result<(), NoMemory>
     ensures { Appends result into.old.items into.new.items (rounds_text rounds counts) }
 {
     let mut round_digits = Buffer::new();
@@ -116,7 +116,7 @@ fn put_rounds(rounds: u32, counts: Counts, into: &mut Vec<u8>) -> Result<(), NoM
     let mut covered_digits = Buffer::new();
     let mut rejected_digits = Buffer::new();
     let mut open_digits = Buffer::new();
-    put_line(
+    append_line(
         into,
         &[
             b"rounds",
@@ -134,12 +134,17 @@ fn put_rounds(rounds: u32, counts: Counts, into: &mut Vec<u8>) -> Result<(), NoM
 }
 
 /// Appends the line that says which set was simulated, and its status.
-fn put_truth(graph: &Graph, set: Set, status: &Status, into: &mut Vec<u8>) -> Result<(), NoMemory>
+fn append_truth(
+    graph: &Graph,
+    set: Set,
+    status: &Status,
+    into: &mut Vec<u8>,
+) -> Result<(), NoMemory>
     requires { All (λ place. place < length (failures graph.now)) set }
     ensures { Appends result into.old.items into.new.items (truth_text graph.now set status.now) }
 {
     into.extend_from_slice(b"truth ")?;
-    put_set(graph, set, into)?;
+    append_set(graph, set, into)?;
     into.push(b' ')?;
     into.extend_from_slice(status_text(status))?;
     into.push(b'\n')?;

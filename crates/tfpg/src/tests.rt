@@ -5,6 +5,7 @@ ghost use Rattle.std.specs.Prelude.{◌<◌};
 mod diagnosing;
 mod explaining;
 mod generating;
+mod satellite;
 mod simulating;
 
 use crate::end::End;
@@ -58,73 +59,144 @@ const LOG: &[u8] = b"5 tick\n10 alarm E\n9 tick\n12 tick\n";
 const REPORT: &[u8] =
     b"report 1 k 0 budget 1000\nround 1 1 5\nranked 0 cost 0 robust 1/1 set -\ncounts ranked 1 covered 0 rejected 0 open 0\nround 2 2 10\nhyp 0\ncycle 2\nwhy upto 2\nwhy unreached E 10\nrejected 0 set -\ncounts ranked 0 covered 0 rejected 1 open 0\nrefused 3 TimeBack 10\nround 3 4 12\ncounts ranked 0 covered 0 rejected 1 open 0\n";
 
-/// Words that are refused, and why.
-const REFUSED_WORDS: [(&[&str], UsageCause); 6] = [
-    (&[], UsageCause::NoCommand),
-    (&["judge", "g", "l"], UsageCause::UnknownCommand),
-    (&["explain", "g"], UsageCause::BadWords),
-    (&["diagnose", "g", "--k", "x"], UsageCause::BadNumber),
-    (&["diagnose", "g", "--k", "65"], UsageCause::OutOfRange),
-    (&["diagnose", "g", "log"], UsageCause::BadPanel),
+/// A name, words that are refused, and why.
+const REFUSED_WORDS: [(&str, &[&str], UsageCause); 6] = [
+    ("no word", &[], UsageCause::NoCommand),
+    (
+        "an unknown command",
+        &["judge", "g", "l"],
+        UsageCause::UnknownCommand,
+    ),
+    ("no name of a log", &["explain", "g"], UsageCause::BadWords),
+    (
+        "a letter for k",
+        &["diagnose", "g", "--k", "x"],
+        UsageCause::BadNumber,
+    ),
+    (
+        "k above its limit",
+        &["diagnose", "g", "--k", "65"],
+        UsageCause::OutOfRange,
+    ),
+    (
+        "a log in place of a panel",
+        &["diagnose", "g", "log"],
+        UsageCause::BadPanel,
+    ),
 ];
 
-/// The words of a command line.
-pub(crate) fn words_of(alloc: Global, texts: &[&str]) -> Result<Vec<String>, AllocError> {
+/// What a run over memory has: the files by name, the input, how many bytes go in or out by one call at most (0 is taken as 1),
+/// and which calls of the shelf, of the input and of the output fail.
+#[derive(Clone, Copy)]
+pub(crate) struct InMemory<'a> {
+    files: &'a [(&'a str, &'a [u8])],
+    input: &'a [u8],
+    most: usize,
+    shelf_fails: &'a [u64],
+    input_fails: &'a [u64],
+    output_fails: &'a [u64],
+}
+
+impl<'a> InMemory<'a> {
+    /// These files and this input, in large pieces and without a failure.
+    fn of(files: &'a [(&'a str, &'a [u8])], input: &'a [u8]) -> InMemory<'a> {
+        InMemory {
+            files,
+            input,
+            most: 4096,
+            shelf_fails: &[],
+            input_fails: &[],
+            output_fails: &[],
+        }
+    }
+}
+
+/// How a run on these words ends, what it writes, and how many files it asks for.
+fn run_in_memory(
+    alloc: Global,
+    words: &[String],
+    memory: &InMemory<'_>,
+) -> Result<(End, Vec<u8>, usize), AllocError> {
+    let mut shelf = MemoryShelf::new(alloc, memory.files, memory.shelf_fails);
+    let most = memory.most.max(1);
+    let mut input = MemorySource::new(memory.input, most, memory.input_fails);
+    let mut out = MemorySink::new(alloc, most, memory.output_fails);
+    let end = run_over(alloc, words, &mut shelf, &mut input, &mut out);
+    Ok((
+        end,
+        Vec::from_slice(alloc, out.bytes())?,
+        shelf.asked().len(),
+    ))
+}
+
+/// The words of a command line: a command with its files, and options.
+pub(crate) fn words_of(
+    alloc: Global,
+    command: &[&str],
+    options: &[&str],
+) -> Result<Vec<String>, AllocError> {
     let mut words = Vec::new(alloc);
-    for text in texts {
+    for text in command {
+        words.push(String::from_str(alloc, text)?)?;
+    }
+    for text in options {
         words.push(String::from_str(alloc, text)?)?;
     }
     Ok(words)
 }
 
-/// How a run on a graph of this text ends.
-fn run_on_text(
+/// How a diagnosis by the empty set alone ends, of a graph of this text and this log, and what it writes.
+fn diagnosed_by_none(
     alloc: Global,
     graph: &[u8],
-    input: &mut MemorySource<'_>,
-    out: &mut MemorySink<'_>,
-) -> Result<End, AllocError> {
-    let words = words_of(alloc, &["diagnose", "--k", "0", "g"])?;
+    log: &[u8],
+) -> Result<(End, Vec<u8>), AllocError> {
+    let words = words_of(alloc, &["diagnose", "g"], &["--k", "0"])?;
     let files = [("g", graph)];
-    let mut shelf = MemoryShelf::new(alloc, &files, &[]);
-    Ok(run_over(alloc, &words, &mut shelf, input, out))
+    let (end, report, _) = run_in_memory(alloc, &words, &InMemory::of(&files, log))?;
+    Ok((end, report))
 }
 
-/// How a run on the graph and the log ends, and what it writes, where input and output go in pieces of at most so many
-/// bytes and fail at these calls.
-fn run_in_pieces(
+/// The same of the graph and the log, where input and output go in pieces of at most so many bytes and fail at these calls.
+fn diagnosed_in_pieces(
     alloc: Global,
     most: usize,
     input_fails: &[u64],
     output_fails: &[u64],
-) -> Result<(End, Vec<u8>), AllocError>
-    requires { 0 < most }
-{
-    let mut input = MemorySource::new(LOG, most, input_fails);
-    let mut out = MemorySink::new(alloc, most, output_fails);
-    let end = run_on_text(alloc, GRAPH, &mut input, &mut out)?;
-    Ok((end, Vec::from_slice(alloc, out.bytes())?))
+) -> Result<(End, Vec<u8>), AllocError> {
+    let words = words_of(alloc, &["diagnose", "g"], &["--k", "0"])?;
+    let files = [("g", GRAPH)];
+    let memory = InMemory {
+        most,
+        input_fails,
+        output_fails,
+        ..InMemory::of(&files, LOG)
+    };
+    let (end, report, _) = run_in_memory(alloc, &words, &memory)?;
+    Ok((end, report))
 }
 
-/// How a run on these words ends, where the file `g` has this text and the shelf fails at these calls.
-fn run_on(
+/// How a run on these words ends, where the file `g` has this text, the input is empty, and the shelf fails at these calls.
+fn end_on_words(
     alloc: Global,
-    texts: &[&str],
+    words: &[&str],
     text: &[u8],
     shelf_fails: &[u64],
 ) -> Result<End, AllocError> {
-    let words = words_of(alloc, texts)?;
+    let words = words_of(alloc, words, &[])?;
     let files = [("g", text)];
-    let mut shelf = MemoryShelf::new(alloc, &files, shelf_fails);
-    let mut input = MemorySource::new(b"", 1, &[]);
-    let mut out = MemorySink::new(alloc, 1, &[]);
-    Ok(run_over(alloc, &words, &mut shelf, &mut input, &mut out))
+    let memory = InMemory {
+        shelf_fails,
+        ..InMemory::of(&files, b"")
+    };
+    let (end, _, _) = run_in_memory(alloc, &words, &memory)?;
+    Ok(end)
 }
 
 #[test]
 fn pieces_change_no_byte(rt: HostRuntime) -> Result<(), Fail> {
     for most in [1, 7, 4096] {
-        let (end, report) = run_in_pieces(rt.alloc(), most, &[], &[])?;
+        let (end, report) = diagnosed_in_pieces(rt.alloc(), most, &[], &[])?;
         assert_eq!(rt; end, End::Done, "in pieces of {most}");
         assert_eq!(rt; report.as_slice(), REPORT, "in pieces of {most}");
     }
@@ -134,13 +206,13 @@ fn pieces_change_no_byte(rt: HostRuntime) -> Result<(), Fail> {
 #[test]
 fn what_is_written_before_a_fault_begins_the_report(rt: HostRuntime) -> Result<(), Fail> {
     for call in 1..=9 {
-        let (end, report) = run_in_pieces(rt.alloc(), 7, &[call], &[])?;
+        let (end, report) = diagnosed_in_pieces(rt.alloc(), 7, &[call], &[])?;
         let wanted = if call <= 6 { End::ReadFault } else { End::Done };
         assert_eq!(rt; end, wanted, "at call {call} of the input");
         assert!(rt; REPORT.starts_with(&report), "at call {call} of the input");
     }
     for call in 1..=48 {
-        let (end, report) = run_in_pieces(rt.alloc(), 7, &[], &[call])?;
+        let (end, report) = diagnosed_in_pieces(rt.alloc(), 7, &[], &[call])?;
         let wanted = if call <= 47 {
             End::WriteFault
         } else {
@@ -148,36 +220,6 @@ fn what_is_written_before_a_fault_begins_the_report(rt: HostRuntime) -> Result<(
         };
         assert_eq!(rt; end, wanted, "at call {call} of the output");
         assert!(rt; REPORT.starts_with(&report), "at call {call} of the output");
-    }
-    Ok(())
-}
-
-/// The satellite of the examples, and the log and the report of each of its two mornings. They have the bytes of the files
-/// in `examples/`; `bench/examples.sh` compares the program's reports on the files themselves.
-const SATELLITE: &[u8] =
-    b"tfpg 1\n# The power of a small satellite: a solar array in sunlight, a battery in the shadow of the Earth.\n# Saving is sunlight with the payload off, so that the battery can fill.\nmode Sun\nmode Eclipse\nmode Saving\n\n# What may fail by itself.\nfailure StringOpen 3\nfailure ChargerOff 5\nfailure CellShort 6\nfailure HeaterOn 4\nfailure RelayStuck 7\nfailure HoldupWorn 2\n\n# What follows. Both sources must be low for SourcesLow, and the radio has a small store of its own.\nor ArrayLow watch 2000\nor ChargeLow hidden\nor BatteryLow watch 60000\nand SourcesLow hidden\nor BusLow watch 1000\nor PayloadOff watch 1000\nand RadioOff watch 1000\n\nedge StringOpen ArrayLow 0 1000 Sun,Saving\nedge ArrayLow ChargeLow 60000 1200000 Sun\nedge ChargerOff ChargeLow 0 60000 Sun,Saving\nedge HeaterOn ChargeLow 600000 inf Sun,Eclipse\nedge ChargeLow BatteryLow 600000 3000000 Eclipse\nedge CellShort BatteryLow 1000 300000 *\nedge ArrayLow SourcesLow 0 10000 Sun\nedge BatteryLow SourcesLow 0 10000 Sun\nedge SourcesLow BusLow 100 5000 Sun\nedge BatteryLow BusLow 60000 900000 Eclipse\nedge RelayStuck BusLow 0 200 Eclipse\nedge BusLow PayloadOff 0 2000 Sun,Eclipse\nedge BusLow RadioOff 1000 60000 *\nedge HoldupWorn RadioOff 0 60000 *\nend\n";
-
-const MORNINGS: [(&str, &[u8], &[u8]); 2] = [
-    (
-        "array",
-        b"60000 sweep\n1200000 tick\n2100000 mode Eclipse\n2160000 silent BusLow\n4200000 mode Sun\n4203000 alarm ArrayLow\n4190000 silent BatteryLow\n4800000 sweep\n7800000 mode Eclipse\n9300000 alarm BatteryLow\n9320000 silent BusLow\n9900000 mode Safe\n9900000 mode Saving\n10800000 sweep\n",
-        b"report 1 k 0 budget 1000\nround 1 1 60000\nranked 0 cost 0 robust 1/1 set -\ncounts ranked 1 covered 0 rejected 0 open 0\nround 2 2 1200000\nranked 0 cost 0 robust 1/1 set -\ncounts ranked 1 covered 0 rejected 0 open 0\nround 3 3 2100000\nranked 0 cost 0 robust 1/1 set -\ncounts ranked 1 covered 0 rejected 0 open 0\nround 4 4 2160000\nranked 0 cost 0 robust 1/1 set -\ncounts ranked 1 covered 0 rejected 0 open 0\nround 5 5 4200000\nranked 0 cost 0 robust 1/1 set -\ncounts ranked 1 covered 0 rejected 0 open 0\nround 6 6 4203000\nhyp 0\ncycle 2\nwhy upto 6\nwhy unreached ArrayLow 4203000\nrejected 0 set -\ncounts ranked 0 covered 0 rejected 1 open 0\nrefused 7 TimeBack 4203000\nround 7 8 4800000\ncounts ranked 0 covered 0 rejected 1 open 0\nround 8 9 7800000\ncounts ranked 0 covered 0 rejected 1 open 0\nround 9 10 9300000\ncounts ranked 0 covered 0 rejected 1 open 0\nround 10 11 9320000\ncounts ranked 0 covered 0 rejected 1 open 0\nrefused 12 NotAMode\nround 11 13 9900000\ncounts ranked 0 covered 0 rejected 1 open 0\nround 12 14 10800000\ncounts ranked 0 covered 0 rejected 1 open 0\n",
-    ),
-    (
-        "relay",
-        b"300000 tick\n1200000 sweep\n2100000 mode Eclipse\n2100150 alarm BusLow\n2101000 alarm PayloadOff\n2110000 silent BatteryLow\n2400000 silent ChargeLow\n2460000 sweep\n4200000 mode Saving\n4200500 alarm BusLow\n5400000 tick\n",
-        b"report 1 k 0 budget 1000\nround 1 1 300000\nranked 0 cost 0 robust 1/1 set -\ncounts ranked 1 covered 0 rejected 0 open 0\nround 2 2 1200000\nranked 0 cost 0 robust 1/1 set -\ncounts ranked 1 covered 0 rejected 0 open 0\nround 3 3 2100000\nranked 0 cost 0 robust 1/1 set -\ncounts ranked 1 covered 0 rejected 0 open 0\nround 4 4 2100150\nhyp 0\ncycle 2\nwhy upto 4\nwhy unreached BusLow 2100150\nrejected 0 set -\ncounts ranked 0 covered 0 rejected 1 open 0\nround 5 5 2101000\ncounts ranked 0 covered 0 rejected 1 open 0\nround 6 6 2110000\ncounts ranked 0 covered 0 rejected 1 open 0\nrefused 7 NotMonitored\nround 7 8 2460000\ncounts ranked 0 covered 0 rejected 1 open 0\nround 8 9 4200000\ncounts ranked 0 covered 0 rejected 1 open 0\nrefused 10 SecondAlarm 2100150\nround 9 11 5400000\ncounts ranked 0 covered 0 rejected 1 open 0\n",
-    ),
-];
-
-#[test]
-fn reports_on_the_satellite(rt: HostRuntime) -> Result<(), Fail> {
-    for (name, log, report) in &MORNINGS {
-        let mut input = MemorySource::new(*log, 4096, &[]);
-        let mut out = MemorySink::new(rt.alloc(), 4096, &[]);
-        let end = run_on_text(rt.alloc(), SATELLITE, &mut input, &mut out)?;
-        assert_eq!(rt; end, End::Done, "{name}");
-        assert_eq!(rt; out.bytes(), *report, "{name}");
     }
     Ok(())
 }
@@ -266,11 +308,13 @@ pub(crate) fn log_of(
 fn answers_each_line_of_a_log(rt: HostRuntime) -> Result<(), Fail> {
     for (name, lengths, after, blocks) in &LOGS {
         let log = log_of(rt.alloc(), *lengths, *after)?;
-        let mut input = MemorySource::new(&log, 4096, &[]);
-        let mut out = MemorySink::new(rt.alloc(), 4096, &[]);
-        let end = run_on_text(rt.alloc(), TWO_MODES, &mut input, &mut out)?;
+        let (end, report) = diagnosed_by_none(rt.alloc(), TWO_MODES, &log)?;
         assert_eq!(rt; end, End::Done, "{name}");
-        assert_eq!(rt; out.bytes().strip_prefix(HEAD), Some(*blocks), "{name}");
+        assert_eq!(rt;
+            report.as_slice().strip_prefix(HEAD),
+            Some(*blocks),
+            "{name}"
+        );
     }
     Ok(())
 }
@@ -298,38 +342,56 @@ fn refuses_what_is_too_much_for_a_log(rt: HostRuntime) -> Result<(), Fail> {
         for _ in 0..=*count {
             log.extend_from_slice(*line)?;
         }
-        let mut input = MemorySource::new(&log, 4096, &[]);
-        let mut out = MemorySink::new(rt.alloc(), 4096, &[]);
-        let end = run_on_text(rt.alloc(), TWO_MODES, &mut input, &mut out)?;
+        let (end, report) = diagnosed_by_none(rt.alloc(), TWO_MODES, &log)?;
         assert_eq!(rt; end, End::Done, "{name}");
-        assert!(rt; out.bytes().ends_with(*last), "{name}");
+        assert!(rt; report.as_slice().ends_with(*last), "{name}");
     }
     Ok(())
 }
 
 #[test]
 fn words_and_files_that_are_refused(rt: HostRuntime) -> Result<(), Fail> {
-    for (words, cause) in REFUSED_WORDS {
-        let usage = End::Usage { cause };
-        assert_eq!(rt; run_on(rt.alloc(), words, GRAPH, &[])?, usage, "{words:?}");
+    for (name, words, cause) in &REFUSED_WORDS {
+        let usage = End::Usage { cause: *cause };
+        assert_eq!(rt;
+            end_on_words(rt.alloc(), words, GRAPH, &[])?,
+            usage,
+            "{name}"
+        );
     }
     let words = ["diagnose", "--k", "0", "g"];
-    assert_eq!(rt; run_on(rt.alloc(), &words, GRAPH, &[])?, End::Done);
-    assert_eq!(rt; run_on(rt.alloc(), &words, TWO_MODES, &[])?, End::Done);
-    assert_eq!(rt; run_on(rt.alloc(), &words, SLOW_CYCLE, &[])?, End::Done);
+    assert_eq!(rt; end_on_words(rt.alloc(), &words, GRAPH, &[])?, End::Done);
+    assert_eq!(rt;
+        end_on_words(rt.alloc(), &words, TWO_MODES, &[])?,
+        End::Done
+    );
+    assert_eq!(rt;
+        end_on_words(rt.alloc(), &words, SLOW_CYCLE, &[])?,
+        End::Done
+    );
     for (name, text, line, cause) in &FAULTY {
         let fault = End::Graph {
             line: *line,
             cause: *cause,
         };
-        assert_eq!(rt; run_on(rt.alloc(), &words, text, &[])?, fault, "{name}");
+        assert_eq!(rt;
+            end_on_words(rt.alloc(), &words, text, &[])?,
+            fault,
+            "{name}"
+        );
     }
-    assert_eq!(rt; run_on(rt.alloc(), &words, GRAPH, &[1])?, End::ReadFault);
     assert_eq!(rt;
-        run_on(rt.alloc(), &["diagnose", "--k", "0", "h"], GRAPH, &[])?,
+        end_on_words(rt.alloc(), &words, GRAPH, &[1])?,
+        End::ReadFault
+    );
+    assert_eq!(rt;
+        end_on_words(rt.alloc(), &["diagnose", "--k", "0", "h"], GRAPH, &[])?,
         End::ReadFault
     );
     let long = vec![in rt.alloc(); b'#'; 16777217]?;
-    assert_eq!(rt; run_on(rt.alloc(), &words, &long, &[])?, End::TooMuchInput);
+    assert_eq!(rt;
+        end_on_words(rt.alloc(), &words, &long, &[])?,
+        End::TooMuchInput
+    );
     Ok(())
 }

@@ -7,7 +7,7 @@ ghost use Rattle.tfpg.specs.inside.MapReading.{NamesNode};
 
 use itoa::Buffer;
 use std::alloc::Global;
-use tfpg_base::{NoMemory, put_line};
+use tfpg_base::{NoMemory, append_line};
 use tfpg_graph::Graph;
 use tfpg_trace::Verdict;
 
@@ -21,28 +21,28 @@ pub(crate) fn verdict_line(
     ensures { IfOk result (λ line. line.items ≡ verdict_text graph.now verdict) }
 {
     let mut line = Vec::new(alloc);
-    put_verdict(graph, verdict, &mut line)?;
+    append_verdict(graph, verdict, &mut line)?;
     Ok(line)
 }
 
 /// Appends the line of a verdict.
-fn put_verdict(graph: &Graph, verdict: Verdict, into: &mut Vec<u8>) -> Result<(), NoMemory>
+fn append_verdict(graph: &Graph, verdict: Verdict, into: &mut Vec<u8>) -> Result<(), NoMemory>
     requires { NamesNode graph.now verdict }
     ensures { Appends result into.old.items into.new.items (verdict_text graph.now verdict) }
 {
     match verdict {
-        Verdict::Yes => put_line(into, &[b"yes"]),
-        Verdict::Late { node, time } => put_no(graph, b"late", node, time, into),
-        Verdict::Stranger { node, time } => put_no(graph, b"stranger", node, time, into),
-        Verdict::May { node, time } => put_no(graph, b"may", node, time, into),
-        Verdict::Must { node, time } => put_no(graph, b"must", node, time, into),
-        Verdict::Alarm { node, time } => put_no(graph, b"alarm", node, time, into),
-        Verdict::Silence { node, time } => put_no(graph, b"silence", node, time, into),
+        Verdict::Yes => append_line(into, &[b"yes"]),
+        Verdict::Late { node, time } => append_no(graph, b"late", node, time, into),
+        Verdict::Stranger { node, time } => append_no(graph, b"stranger", node, time, into),
+        Verdict::May { node, time } => append_no(graph, b"may", node, time, into),
+        Verdict::Must { node, time } => append_no(graph, b"must", node, time, into),
+        Verdict::Alarm { node, time } => append_no(graph, b"alarm", node, time, into),
+        Verdict::Silence { node, time } => append_no(graph, b"silence", node, time, into),
     }
 }
 
 /// Appends the line that says which rule is broken, at which node and time.
-fn put_no(
+fn append_no(
     graph: &Graph,
     rule: &[u8],
     node: u32,
@@ -53,7 +53,7 @@ fn put_no(
     ensures { Appends result into.old.items into.new.items (no_text graph.now rule.now node time) }
 {
     let mut digits = Buffer::new();
-    put_line(
+    append_line(
         into,
         &[
             b"no",

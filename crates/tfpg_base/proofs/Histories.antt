@@ -10,13 +10,9 @@ use Rattle.tfpg_base.specs.declared.line.LineFault.{LineFault}
 use Rattle.tfpg_base.specs.declared.line.LineFault.TheVariants as fault
 use Rattle.tfpg_base.specs.Outside.{SourceState, IsAtEnd}
 use Rattle.tfpg_base.specs.Lines.{Reading, Buffered, HasNoLineEnd, LinesRepresent, IsGoingOn, IsNext, ReturnsNext, ComesInPieces, TakesAsNeeded, CountsReadFault, Continues, with_bytes, with_line, ended_by, ended_after_line, next_whole, whole_lines, lines_of, with_line_end, max_bytes}
-use Rattle.tfpg_base.specs.inside.LineSearch.{BeginsWith, IsLastLine, IsGiven, IsEnded, Found, Took, Pieces, Searched}
+use Rattle.tfpg_base.specs.inside.LineSearch.{BeginsWith, IsLastLine, IsGiven, IsEnded, FoundLine, Took, Pieces, Searched}
 use Rattle.tfpg_base.proofs.LinesOf.{whole_lines-after, lines_of-after, whole_lines-line, lines_of-line, whole_lines-none, lines_of-none}
-
--- the element after a front
-slice_get-after : (front : List (List ℕ)) (x : List ℕ) (xs : List (List ℕ)) → slice_get (front ++ x ∷ xs) (length front) ≡ Some x
-slice_get-after [] x xs = refl
-slice_get-after (y ∷ front) x xs = slice_get-after front x xs
+use Rattle.tfpg_base.proofs.lists.Written.{slice_get-after}
 
 -- the front and one element more
 take-after : (front : List (List ℕ)) (x : List ℕ) (xs : List (List ℕ)) → take (length front + 1) (front ++ x ∷ xs) ≡ front ++ x ∷ []
@@ -150,7 +146,7 @@ module _ (reading : Reading) (bytes : List ℕ) (lines : ℕ) (now : Buffered) (
   LinesRepresent-given : (first : List ℕ) → IsGiven bytes first lines source_ended now → LinesRepresent now (with_line reading first)
   LinesRepresent-given first is = elim is.ends [ inl ends ↦ LinesRepresent-begins first is ends | inr ends ↦ LinesRepresent-last first is ends ]
 
-  -- the reader represents the history that the answer ends
+  -- the reader represents the history that the result ends
   LinesRepresent-ended : (answer : Result Line LineFault) → IsEnded lines answer now → (Some answer ≡ Some (Ok line.End) → lines_of reading.taken ≡ reading.given) → LinesRepresent now (ended_by reading answer)
   LinesRepresent-ended answer is all = record {
     number = is.number ∙ stands.lines_given;
@@ -160,8 +156,8 @@ module _ (reading : Reading) (bytes : List ℕ) (lines : ℕ) (now : Buffered) (
     all_given = all;
   }
 
-  -- what was found is the answer for the history
-  ReturnsNext-found : (result : Result Line LineFault) → Found bytes lines source_ended result now → ReturnsNext reading source_ended result now
+  -- what was found is the result for the history
+  ReturnsNext-found : (result : Result Line LineFault) → FoundLine bytes lines source_ended result now → ReturnsNext reading source_ended result now
   ReturnsNext-found (Ok line.Text) found = (found.0, IsNext-given found.0 found.1, found.2, found.3, LinesRepresent-given found.0 found.1)
   ReturnsNext-found (Ok line.TooLong) found = (found.0, IsNext-given found.0 found.1, found.2, found.3, LinesRepresent-given found.0 found.1)
   ReturnsNext-found (Ok line.End) found =
@@ -212,7 +208,7 @@ ComesInPieces-searched old reading more going stands pieces = record {
 
 module _ (old now : Buffered) (before after : SourceState) (result : Result Line LineFault) (faults : CountsReadFault result before after) where
   -- what a call found is what it returns for each history
-  pub Continues-found : (more : List ℕ) → Took old now before after more → Found (old.waiting ++ more) old.number (IsAtEnd after) result now → old.ended ≡ None → (reading : Reading) → LinesRepresent old reading → TakesAsNeeded reading more → Continues reading reading.ended before after result now
+  pub Continues-found : (more : List ℕ) → Took old now before after more → FoundLine (old.waiting ++ more) old.number (IsAtEnd after) result now → old.ended ≡ None → (reading : Reading) → LinesRepresent old reading → TakesAsNeeded reading more → Continues reading reading.ended before after result now
   Continues-found more took found unended reading stands needed =
       let unended_too : reading.ended ≡ None = sym stands.ended ∙ unended in
       let going : IsGoingOn old reading = stands.going_on unended_too in

@@ -59,14 +59,6 @@ whole_lines-after (line ∷ given) rest h =
     ∙ whole_lines-line line (flat_map with_line_end given ++ rest) (All-head HasNoLineEnd line given h)
     ∙ ap (λ lines. line ∷ lines) (whole_lines-after given rest (All-tail HasNoLineEnd line given h))
 
--- after lines with their line ends come the lines of the rest
-pub lines_of-after : (given : List (List ℕ)) (rest : List ℕ) → All HasNoLineEnd given → lines_of (flat_map with_line_end given ++ rest) ≡ given ++ lines_of rest
-lines_of-after [] rest h = refl
-lines_of-after (line ∷ given) rest h =
-    ap lines_of (regrouped line (flat_map with_line_end given) rest)
-    ∙ lines_of-line line (flat_map with_line_end given ++ rest) (All-head HasNoLineEnd line given h)
-    ∙ ap (λ lines. line ∷ lines) (lines_of-after given rest (All-tail HasNoLineEnd line given h))
-
 -- after lines with their line ends comes the last part of the rest
 pub last_part-after : (given : List (List ℕ)) (rest : List ℕ) → All HasNoLineEnd given → last_part (flat_map with_line_end given ++ rest) ≡ last_part rest
 last_part-after [] rest h = refl
@@ -74,6 +66,10 @@ last_part-after (line ∷ given) rest h =
     ap last_part (regrouped line (flat_map with_line_end given) rest)
     ∙ last_part-line line (flat_map with_line_end given ++ rest) (All-head HasNoLineEnd line given h)
     ∙ last_part-after given rest (All-tail HasNoLineEnd line given h)
+
+-- after lines with their line ends come the lines of the rest
+pub lines_of-after : (given : List (List ℕ)) (rest : List ℕ) → All HasNoLineEnd given → lines_of (flat_map with_line_end given ++ rest) ≡ given ++ lines_of rest
+lines_of-after given rest h = rw (whole_lines-after given rest h, last_part-after given rest h) (append_assoc given (whole_lines rest) (line_of_part (last_part rest)))
 
 -- bytes without a line end are the last part
 pub last_part-none : (bytes : List ℕ) → HasNoLineEnd bytes → last_part bytes ≡ bytes

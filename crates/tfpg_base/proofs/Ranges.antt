@@ -53,6 +53,6 @@ one_element [] h = absurd (omega arith)
 one_element (x ∷ []) h = (x, refl)
 one_element (x ∷ y ∷ xs) h = absurd (omega arith)
 
--- more than the most were taken only where the one byte more was
+-- more than the maximum were taken only where the one byte more was
 pub only_one : (most taken wanted count : ℕ) → taken ≤ most → (taken < most → taken + wanted ≤ most) → (taken ≡ most → wanted ≡ 1) → count ≤ wanted → most < taken + count → count ≡ 1
 only_one most taken wanted count within few one asked above = grind arith

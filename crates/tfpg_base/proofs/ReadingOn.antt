@@ -1,4 +1,4 @@
--- One call after another: what a caller that hands in the same source knows after each answer.
+-- One call after another: what a caller that hands in the same source knows after each result.
 use Rattle.std.proofs.Common.{◌≡◌, ◌⊎◌, inl, inr, ℕ, ◌<◌, ◌≤◌, List, length, [], ◌++◌, Option, Some, None, Result, Ok, refl, ap, ◌∙◌, sym, subst, append-nil}
 use Rattle.tfpg_base.specs.declared.line.Line.{Line}
 use Rattle.tfpg_base.specs.declared.line.Line.TheVariants as line
@@ -11,7 +11,7 @@ use Rattle.tfpg_base.proofs.Taking.{Takes-nothing}
 abbrev pub GoesOn : Reading → SourceState → Type 0
 GoesOn reading source = (reading.ended ≡ None) ⊎ ((reading.ended ≡ Some (Ok line.End)) × IsAtEnd source)
 
--- equal answers in an option are equal
+-- equal results in an option are equal
 some_same : (answer other : Result Line LineFault) → Some answer ≡ Some other → answer ≡ other
 some_same answer other is = cc
 

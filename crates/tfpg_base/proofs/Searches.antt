@@ -10,7 +10,7 @@ use Rattle.tfpg_base.specs.declared.line.LineFault.{LineFault}
 use Rattle.tfpg_base.specs.declared.line.LineFault.TheVariants as fault
 use Rattle.tfpg_base.specs.Outside.{SourceState, Takes, IsAtEnd}
 use Rattle.tfpg_base.specs.Lines.{Buffered, Reading, LinesRepresent, Continues, HasNoLineEnd, ends_line, longest_line, max_bytes, buffer_size}
-use Rattle.tfpg_base.specs.inside.LineSearch.{IsAtLineEnd, kind_of, lent_of, IsGiven, IsEnded, GivesLast, Found, Took, Pieces, Refilled, IsRefilled, Searched}
+use Rattle.tfpg_base.specs.inside.LineSearch.{IsAtLineEnd, kind_of, lent_of, IsGiven, IsEnded, GivesLast, FoundLine, Took, Pieces, Refilled, IsRefilled, Searched}
 use Rattle.tfpg_base.proofs.Taking.{Takes-nothing, Takes-append}
 use Rattle.tfpg_base.proofs.Histories.{Continues-found}
 
@@ -30,10 +30,10 @@ pub record IsReading (old now : Buffered) (before mid : SourceState) : Type 0 wh
   pub number : now.number ≡ old.number
   pub ended : now.ended ≡ None
 
--- a line that was found is answered by its kind
-Found-line : (bytes first : List ℕ) (lines : ℕ) (source_ended : Type 0) (now : Buffered) → IsGiven bytes first lines source_ended now → now.text ≡ lent_of first → Found bytes lines source_ended (Ok (kind_of first)) now
-Found-line bytes first lines source_ended now is text = go (leb (length first) longest_line) refl text where
-  go : (short : Bool) → leb (length first) longest_line ≡ short → now.text ≡ cond short first [] → Found bytes lines source_ended (Ok (cond short line.Text line.TooLong)) now
+-- of a line that was found the kind is returned
+FoundLine-line : (bytes first : List ℕ) (lines : ℕ) (source_ended : Type 0) (now : Buffered) → IsGiven bytes first lines source_ended now → now.text ≡ lent_of first → FoundLine bytes lines source_ended (Ok (kind_of first)) now
+FoundLine-line bytes first lines source_ended now is text = go (leb (length first) longest_line) refl text where
+  go : (short : Bool) → leb (length first) longest_line ≡ short → now.text ≡ cond short first [] → FoundLine bytes lines source_ended (Ok (cond short line.Text line.TooLong)) now
   go true e lent = (first, is, leb-true (length first) longest_line e, lent)
   go false e lent = (first, is, leb-false (length first) longest_line e, lent)
 
@@ -100,7 +100,7 @@ module _ (old : Buffered) (before mid : SourceState) (taken : ℕ) where
             so_far.more ++ more,
             Took-more,
             Pieces-more small,
-            Found-line (old.waiting ++ (so_far.more ++ more)) first old.number (IsAtEnd after) now
+            FoundLine-line (old.waiting ++ (so_far.more ++ more)) first old.number (IsAtEnd after) now
                 record {
                   line = All-append (λ byte. ends_line byte ≡ false) (old.waiting ++ so_far.more) front so_far.part clean;
                   ends = inl (record {
@@ -120,7 +120,7 @@ module _ (old : Buffered) (before mid : SourceState) (taken : ℕ) where
             so_far.more ++ more,
             Took-more,
             Pieces-more small,
-            Found-line (old.waiting ++ (so_far.more ++ more)) first old.number (IsAtEnd after) now
+            FoundLine-line (old.waiting ++ (so_far.more ++ more)) first old.number (IsAtEnd after) now
                 record {
                   line = so_far.part;
                   ends = inr (record {
@@ -183,8 +183,8 @@ Searched-fault old now end before mid after taken so_far count same fault.TooMuc
     )
 
 -- what was found by a later part of the call
-Found-same : (bytes all : List ℕ) (lines number : ℕ) (source_ended : Type 0) (now : Buffered) → bytes ≡ all → lines ≡ number → (result : Result Line LineFault) → Found bytes lines source_ended result now → Found all number source_ended result now
-Found-same bytes all lines number source_ended now same count result found = subst (λ n. Found all n source_ended result now) count (subst (λ b. Found b lines source_ended result now) same found)
+FoundLine-same : (bytes all : List ℕ) (lines number : ℕ) (source_ended : Type 0) (now : Buffered) → bytes ≡ all → lines ≡ number → (result : Result Line LineFault) → FoundLine bytes lines source_ended result now → FoundLine all number source_ended result now
+FoundLine-same bytes all lines number source_ended now same count result found = subst (λ n. FoundLine all n source_ended result now) count (subst (λ b. FoundLine b lines source_ended result now) same found)
 
 -- what a later part of the call found is what the call found
 pub Searched-further : (old now end : Buffered) (before mid after : SourceState) (so_far : SoFar old before mid now.taken) → now.waiting ≡ old.waiting ++ so_far.more → now.number ≡ old.number → (result : Result Line LineFault) → Searched now mid after result end → Searched old before after result end
@@ -205,7 +205,7 @@ Searched-further old now end before mid after so_far waits same result searched 
         few = omega (arith, so_far.count, pieces.few, length-append so_far.more pieces.front);
         small = pieces.small;
       },
-      Found-same (now.waiting ++ more) (old.waiting ++ (so_far.more ++ more)) now.number old.number (IsAtEnd after) end
+      FoundLine-same (now.waiting ++ more) (old.waiting ++ (so_far.more ++ more)) now.number old.number (IsAtEnd after) end
           (ap (λ b. b ++ more) waits ∙ append_assoc old.waiting so_far.more more) same result searched.3,
     )
 
@@ -284,7 +284,7 @@ Continues-at_once old now source kind bytes place is_waiting is unended few kind
     let first : List ℕ = take place old.waiting in
     let whole : old.waiting ++ [] ≡ first ++ 10 ∷ now.waiting =
     append-nil old.waiting ∙ subst (λ b. b ≡ take place b ++ 10 ∷ drop (place + 1) b) is_waiting is.whole ∙ ap (λ rest. first ++ 10 ∷ rest) (sym waits) in
-    let found : Found (old.waiting ++ []) old.number (IsAtEnd source) (Ok (kind_of first)) now = Found-line (old.waiting ++ []) first old.number (IsAtEnd source) now
+    let found : FoundLine (old.waiting ++ []) old.number (IsAtEnd source) (Ok (kind_of first)) now = FoundLine-line (old.waiting ++ []) first old.number (IsAtEnd source) now
     record {
       line = subst (λ b. HasNoLineEnd (take place b)) is_waiting is.line;
       ends = inl (record { whole = whole; ended = ended ∙ unended });
@@ -293,4 +293,4 @@ Continues-at_once old now source kind bytes place is_waiting is unended few kind
     }
     lends in
     Continues-found old now source source (Ok kind) refl [] (record { takes = Takes-nothing source; count = omega (arith, taken) })
-    (subst (λ answer. Found (old.waiting ++ []) old.number (IsAtEnd source) (Ok answer) now) (sym kinds) found) unended reading stands (λ _. refl, inl refl)
+    (subst (λ answer. FoundLine (old.waiting ++ []) old.number (IsAtEnd source) (Ok answer) now) (sym kinds) found) unended reading stands (λ _. refl, inl refl)

@@ -12,7 +12,7 @@ use Rattle.std.proofs.lemmas.Nat.Bits.{bit_at-lt, shr_and_one, bit_at_and, bit_a
 use Rattle.tfpg_base.proofs.lists.Elements.{AllPairs-head, AllPairs-tail, AllPairs-cons, All-from_members, Contains-head, Contains-tail, Contains-cons_cases, Contains-nil}
 pub use Rattle.tfpg_base.proofs.lists.Ordered.{Rises, same_from_members}
 use Rattle.tfpg_base.proofs.lists.Ordered.{least_first}
-use Rattle.tfpg_base.specs.Set.{with_member, IsPart, IsSet}
+use Rattle.tfpg_base.specs.Set.{with_member, IsSubset, IsSet}
 use Rattle.tfpg_base.specs.SetBits.{ones_below, members_of, bits_of}
 pub use Rattle.tfpg_base.specs.inside.BitsOfMembers.{bits_of-members_of}
 
@@ -189,8 +189,8 @@ members_of-set bits place small =
     (with_member-only place (members_of bits) other member)))
 
 -- Each member is one of the other set where no bit is lost by taking the bits of both.
-pub IsPart-from_bits : (a b : ℕ) → bit_and a b ≡ a → IsPart (members_of a) (members_of b)
-IsPart-from_bits a b kept =
+pub IsSubset-from_bits : (a b : ℕ) → bit_and a b ≡ a → IsSubset (members_of a) (members_of b)
+IsSubset-from_bits a b kept =
     All-from_members (Contains (members_of b)) (members_of a)
     (λ place member. let both = (members_of-is a place).0 member in
     (members_of-is b place).1
@@ -202,7 +202,7 @@ one_within bits place small one =
     ⊎_elim (λ within. within) (λ beyond. absurd (omega (arith, one, bit_at_above bits 64 place small beyond))) (cases_lt place 64)
 
 -- No bit is lost by taking the bits of both where each member is one of the other set.
-pub bits_from_IsPart : (a b : ℕ) → a < 2 ^ 64 → IsPart (members_of a) (members_of b) → bit_and a b ≡ a
+pub bits_from_IsPart : (a b : ℕ) → a < 2 ^ 64 → IsSubset (members_of a) (members_of b) → bit_and a b ≡ a
 bits_from_IsPart a b small part =
     same_from_bits (bit_and a b) a
     (λ place. ⊎_elim
@@ -241,10 +241,10 @@ bits_say_equal a b xs ys view_a view_b small_a small_b =
       λ same. eq-eqb a b (same_from_members_of a b small_a small_b same),
     )
 
--- the bits of both say whether one set is a part of the other
-pub bits_say_part : (a b : ℕ) (xs ys : List ℕ) → members_of a ≡ xs → members_of b ≡ ys → a < 2 ^ 64 → IsTrue (nat_eq (bit_and a b) a) ↔ IsPart xs ys
+-- the bits of both say whether one set is a subset of the other
+pub bits_say_part : (a b : ℕ) (xs ys : List ℕ) → members_of a ≡ xs → members_of b ≡ ys → a < 2 ^ 64 → IsTrue (nat_eq (bit_and a b) a) ↔ IsSubset xs ys
 bits_say_part a b xs ys view_a view_b small =
     rw (← view_a, ← view_b) (
-      λ yes. IsPart-from_bits a b (eqb-true (bit_and a b) a yes),
+      λ yes. IsSubset-from_bits a b (eqb-true (bit_and a b) a yes),
       λ part. eq-eqb (bit_and a b) a (bits_from_IsPart a b small part),
     )

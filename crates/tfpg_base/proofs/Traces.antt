@@ -11,23 +11,9 @@ use Rattle.tfpg_base.proofs.lists.Elements.{AllPairs-head, AllPairs-tail, AllPai
 use Rattle.tfpg_base.specs.declared.activation.Activation.{Activation}
 use Rattle.tfpg_base.specs.Trace.{TimesAfter, IsRisingByNode, time_of, with_time}
 use Rattle.tfpg_base.specs.inside.TraceSearch.{StandsAt, IsPlaceFor}
+use Rattle.tfpg_base.proofs.lists.Ordered.{comparisons_rise}
 
 -- ---- a search by node
-
--- two places of which neither is greater are one
-same_place : (i j : ℕ) → i ≤ j → j ≤ i → i ≡ j
-same_place i j le ge = omega arith
-
--- a greater number compares no less
-index_rises : (low high with : ℕ) → low ≤ high → ordering_index (nat_cmp low with) ≤ ordering_index (nat_cmp high with)
-index_rises low high with le = grind (arith, nat_tests)
-
--- the comparisons of the nodes with a node rise along the trace, as a binary search asks
-comparisons_rise : (trace : List Activation) (node : ℕ) → IsRisingByNode trace → IsNonDecreasingBy (λ activation. ordering_index (nat_cmp activation.node node)) trace
-comparisons_rise trace node rising i j d le in_range =
-    index_rises (get_or trace i d).node (get_or trace j d).node node
-    (⊎_elim (λ less. omega (arith, rising i j d less in_range)) (λ no_less. omega (arith, ap (λ k. (get_or trace k d).node) (same_place i j le no_less)))
-    (cases_lt i j))
 
 -- where a binary search by node found something, the node stands
 pub StandsAt-searched : (trace : List Activation) (node : ℕ) (found : Result ℕ ℕ) → IsRisingByNode trace → IsSearchInRange found (length trace) → IsBinarySearchResult (λ activation. nat_cmp activation.node node) trace found → IfOk found (StandsAt trace node)
@@ -44,7 +30,7 @@ StandsAt-searched trace node (Err place) rising in_range parted = tt
 pub IsPlaceFor-searched : (trace : List Activation) (node : ℕ) (found : Result ℕ ℕ) → IsRisingByNode trace → IsSearchInRange found (length trace) → IsBinarySearchResult (λ activation. nat_cmp activation.node node) trace found → IfErr found (IsPlaceFor trace node)
 IsPlaceFor-searched trace node (Ok place) rising in_range equal = tt
 IsPlaceFor-searched trace node (Err place) rising in_range parted =
-    let halves = parted (comparisons_rise trace node rising) in
+    let halves = parted (comparisons_rise (λ (activation : Activation). activation.node) trace node rising) in
     record {
       in_range = in_range;
       before = λ k d from upto. ranked _ node _ (sym (halves.0 k d from upto));

@@ -4,6 +4,7 @@ pub mod Elements
 pub mod Ordered
 pub mod Distinct
 pub mod Below
+pub mod Pigeons
 -- What is at a place, and at which place something is.
 pub mod Written
 pub mod Positions
@@ -11,6 +12,7 @@ pub mod Cuts
 -- Lists made of others: images, those that pass, values that there are.
 pub mod Images
 pub mod Passing
+pub mod Numbered
 pub mod Valued
 pub mod Choices
 -- Bytes and numbers.

@@ -1,5 +1,5 @@
--- Choices among optional values.
-use Rattle.std.specs.Prelude.{List, [], ◌∷◌, Option, Some, None, option_map, Result, Ok, Err}
+-- Choices among optional values, and among the items of a list.
+use Rattle.std.specs.Prelude.{ℕ, ◌+◌, Bool, List, [], ◌∷◌, Option, Some, None, option_map, Result, Ok, Err, if◌then◌else◌}
 
 -- the first value that there is
 abbrev pub first_of : {X : Type 0} → List (Option X) → Option X
@@ -17,3 +17,8 @@ each_of (Some x ∷ others) = option_map (λ xs. x ∷ xs) (each_of others)
 abbrev pub unless_refused : {X E : Type 0} → Option E → X → Result X E
 unless_refused (Some refusal) value = Err refusal
 unless_refused None value = Ok value
+
+-- the numbers of the items that pass, rising, where the first item has this number
+abbrev pub numbers_from : {X : Type 0} → ℕ → (X → Bool) → List X → List ℕ
+numbers_from number passes [] = []
+numbers_from number passes (x ∷ xs) = if passes x then number ∷ numbers_from (number + 1) passes xs else numbers_from (number + 1) passes xs

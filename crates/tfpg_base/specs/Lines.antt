@@ -29,7 +29,7 @@ abbrev pub line_of_part : List ℕ → List (List ℕ)
 line_of_part [] = []
 line_of_part (byte ∷ bytes) = (byte ∷ bytes) ∷ []
 
--- The lines of bytes, without their line ends. A last line without one counts where it has a byte.
+-- The lines of bytes, without their line ends. A last line without one is a line where it has a byte.
 abbrev pub lines_of : List ℕ → List (List ℕ)
 lines_of bytes = whole_lines bytes ++ line_of_part (last_part bytes)
 
@@ -46,7 +46,7 @@ abbrev pub buffer_size : ℕ
 buffer_size = BUFFER_SIZE
 
 -- The history of a reader of lines: all the bytes that it took, all the lines that it
--- returned, and the answer that ended it, if one has.
+-- returned, and the result that ended it, if one has.
 pub record Reading : Type 0 where
   pub taken : List ℕ
   pub given : List (List ℕ)
@@ -73,7 +73,7 @@ ended_after_line None = Some (Ok line.End)
 abbrev pub with_line : Reading → List ℕ → Reading
 with_line reading line = record { taken = reading.taken; given = reading.given ++ line ∷ []; ended = ended_after_line (next_whole reading) }
 
--- the history after an answer that ends it
+-- the history after a result that ends it
 abbrev pub ended_by : Reading → Result Line LineFault → Reading
 ended_by reading answer = record { taken = reading.taken; given = reading.given; ended = Some answer }
 
@@ -139,7 +139,7 @@ pub record ComesInPieces (reading : Reading) (more : List ℕ) : Type 0 where
 abbrev pub TakesAsNeeded : Reading → List ℕ → Type 0
 TakesAsNeeded reading more = (IsSome (next_whole reading) → more ≡ []) × ((more ≡ []) ⊎ ComesInPieces reading more)
 
--- The source's count of faults rose exactly where the answer is that reading failed.
+-- The source's count of faults rose exactly where the result is that reading failed.
 abbrev pub CountsReadFault : {X : Type 0} → Result X LineFault → SourceState → SourceState → Type 0
 CountsReadFault (Err fault.ReadFault) before after = Rose before.faults after.faults
 CountsReadFault (Err fault.TooMuchInput) before after = after.faults ≡ before.faults

@@ -3,34 +3,26 @@ use Rattle.std.specs.Prelude.{◌≡◌, ◌⊎◌, ◌<◌, ◌≤◌, ◌^◌,
 use Rattle.tfpg_base.specs.declared.outside.Failed.{Failed}
 use Rattle.tfpg_base.specs.declared.outside.ShelfFault.{ShelfFault}
 use Rattle.tfpg_base.specs.declared.outside.ShelfFault.TheVariants as faults
-use Rattle.tfpg_base.specs.Outside.{SourceState, SinkState, ShelfState, longest_file}
+use Rattle.tfpg_base.specs.Outside.{longest_file}
 
 -- the count after one more, which stands still at the last value of its type
 abbrev pub count_after : ℕ → ℕ
 count_after count = min (count + 1) (2 ^ 64 - 1)
 
--- The bytes of a source that fails at chosen calls: those that are left, how many one call gives at most, the numbers of
+-- The bytes of a source that fails at chosen calls: those that are left, the limit of one call, the numbers of
 -- the calls that are to fail, how many calls came, how many failed, and whether the end was returned.
 pub record GivesBytes : Type 0 where
   pub left : List ℕ
-  pub most : ℕ
+  pub limit : ℕ
   pub failing : List ℕ
   pub calls : ℕ
   pub faults : ℕ
   pub ended : Bool
 
--- such a source, as contracts see every source
-abbrev pub source_state : GivesBytes → SourceState
-source_state source = record { left = Some source.left; ended = source.ended; faults = source.faults }
-
 -- The bytes of a source that never fails: those that are left, and whether the end was returned.
 pub record SteadyBytes : Type 0 where
   pub left : List ℕ
   pub ended : Bool
-
--- such a source, as contracts see every source: its count of faults is the constant 0
-abbrev pub steady_state : SteadyBytes → SourceState
-steady_state source = record { left = Some source.left; ended = source.ended; faults = 0 }
 
 -- The next call is one of those that are to fail.
 abbrev pub FailsNext : List ℕ → ℕ → Type 0
@@ -38,7 +30,7 @@ FailsNext failing calls = Contains failing (count_after calls)
 
 -- how many bytes a call gives: the least of the places of the room, of the bytes that are left, and of the limit of a call
 abbrev pub count_given : GivesBytes → ℕ → ℕ
-count_given source room = min (min (length source.left) room) source.most
+count_given source room = min (min (length source.left) room) source.limit
 
 -- whether the end was returned after a call that gave so many bytes for a room of this length
 abbrev pub ended_after : Bool → ℕ → ℕ → Bool
@@ -48,7 +40,7 @@ ended_after ended count room = ended || (count == 0 && nat_lt 0 room)
 abbrev pub after_take : GivesBytes → ℕ → Result ℕ Failed → GivesBytes
 after_take old room (Ok count) = record {
   left = drop count old.left;
-  most = old.most;
+  limit = old.limit;
   failing = old.failing;
   calls = count_after old.calls;
   faults = old.faults;
@@ -56,7 +48,7 @@ after_take old room (Ok count) = record {
 }
 after_take old room (Err failed) = record {
   left = old.left;
-  most = old.most;
+  limit = old.limit;
   failing = old.failing;
   calls = count_after old.calls;
   faults = count_after old.faults;
@@ -68,23 +60,19 @@ abbrev pub filled : List ℕ → List ℕ → Result ℕ Failed → List ℕ
 filled left room (Ok count) = take count left ++ drop count room
 filled left room (Err failed) = room
 
--- The bytes of a sink that fails at chosen calls: all of them so far, how many one call takes at most, the numbers of the
+-- The bytes of a sink that fails at chosen calls: all of them so far, the limit of one call, the numbers of the
 -- calls that are to fail, how many calls came, and how many failed.
 pub record HoldsBytes : Type 0 where
   pub holds : List ℕ
-  pub most : ℕ
+  pub limit : ℕ
   pub failing : List ℕ
   pub calls : ℕ
   pub faults : ℕ
 
--- such a sink, as contracts see every sink
-abbrev pub sink_state : HoldsBytes → SinkState
-sink_state sink = record { holds = Some sink.holds; faults = sink.faults }
-
 -- a sink after a call for this piece
 abbrev pub after_put : HoldsBytes → List ℕ → Result ℕ Failed → HoldsBytes
-after_put old piece (Ok count) = record { holds = old.holds ++ take count piece; most = old.most; failing = old.failing; calls = count_after old.calls; faults = old.faults }
-after_put old piece (Err failed) = record { holds = old.holds; most = old.most; failing = old.failing; calls = count_after old.calls; faults = count_after old.faults }
+after_put old piece (Ok count) = record { holds = old.holds ++ take count piece; limit = old.limit; failing = old.failing; calls = count_after old.calls; faults = old.faults }
+after_put old piece (Err failed) = record { holds = old.holds; limit = old.limit; failing = old.failing; calls = count_after old.calls; faults = count_after old.faults }
 
 -- Files by name: the names with the contents, the names asked for so far, the numbers of the calls that are to
 -- fail, how many calls came, and how many failed.
@@ -94,10 +82,6 @@ pub record HasFiles : Type 0 where
   pub failing : List ℕ
   pub calls : ℕ
   pub faults : ℕ
-
--- such a shelf, as contracts see every shelf
-abbrev pub shelf_state : HasFiles → ShelfState
-shelf_state shelf = record { files = Some shelf.files; asked = Some shelf.asked; faults = shelf.faults }
 
 -- What copying a file comes to, where there may be one of this content: the whole content where it is not
 -- longer than a file may be, else as much of its front as a file may have. It fails where there is no file.

@@ -68,7 +68,7 @@ Asks before after name (Err faults.Failed) = NotesName before after name
 Asks before after name (Err faults.TooLong) = NotesName before after name
 Asks before after name (Ok done) = NotesName before after name
 
--- The count of faults rose exactly where the answer is a failure.
+-- The count of faults rose exactly where the result is a failure.
 abbrev pub CountsFailure : Result (Unit {0}) ShelfFault → ShelfState → ShelfState → Type 0
 CountsFailure (Err faults.Failed) before after = Rose before.faults after.faults
 CountsFailure (Err faults.TooLong) before after = after.faults ≡ before.faults

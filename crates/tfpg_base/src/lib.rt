@@ -4,16 +4,18 @@
 //! - [`Source`], [`Sink`] and [`Shelf`] are the outside. Each counts the calls that failed, and contracts may know its
 //!   contents. [`MemorySource`], [`MemorySink`] and [`MemoryShelf`] are each in memory; [`SteadySource`]
 //!   and [`Discard`] never fail.
-//! - [`Lines`] cuts what a source gives into lines. [`without_last_line_end`] leaves of a text that is in memory what
-//!   stands between its line ends.
+//! - [`Lines`] cuts what a source gives into lines. [`without_last_line_end`] returns a text without the line end
+//!   at its end.
+//! - [`append_to_file`] appends a part of a file, as far as a file may go.
 //! - [`Words`] cuts a line into words. [`read_name`] and [`read_number`] know the two forms of words that every
 //!   text format uses.
 //! - [`Set`] is a set of failure modes, [`Trace`] says when which node became active.
 //! - [`Items`] is a list that contracts see as one; [`Bytes`], [`NumberList`] and [`LineList`] are such lists, and a crate
 //!   names one of its own items by `pub type StepList = Items<Step>;`. [`Text`] is a text that is kept.
-//! - [`put_line`] appends a line of words to a text, [`put_words`] its words alone, and [`put_part`] a part of a line with
+//! - [`append_line`] appends a line of words to a text, [`append_words`] its words alone, and [`append_part`] a part of a line with
 //!   its separator.
 //! - [`Steps`] counts the steps of a call, at no cost.
+//! - [`laws`] says what the definitions come to.
 //!
 //! The words of the first line of a text:
 //!
@@ -30,6 +32,7 @@
 
 mod activation;
 mod constraint;
+mod file;
 mod items;
 mod last_line_end;
 pub mod laws;
@@ -49,6 +52,7 @@ mod words;
 
 pub use activation::Activation;
 pub use constraint::Constraint;
+pub use file::append_to_file;
 pub use items::{Bytes, Items, LineList, NumberList};
 pub use last_line_end::without_last_line_end;
 pub use limits::{BUFFER_SIZE, LONGEST_FILE, LONGEST_LINE, MAX_BYTES, MAX_TIME, MAX_WORDS, NEVER};
@@ -60,7 +64,7 @@ pub use outside::{Failed, Shelf, ShelfFault, Sink, Source};
 pub use set::Set;
 pub use steps::Steps;
 pub use text::Text;
-pub use text_line::{put_line, put_part, put_words};
+pub use text_line::{append_line, append_part, append_words};
 pub use trace::Trace;
 pub use word::{Number, read_name, read_number};
 pub use words::{Words, has_empty_word};

@@ -1,8 +1,8 @@
-//! The one answer without a cause: memory was asked for and not found.
+//! The one fault without a cause: memory ran out.
 
 use std::alloc::{AllocError, AllocFailed};
 
-/// Memory was asked for and not found.
+/// Memory ran out.
 #[derive(Clone, Copy, Debug, PartialEq, Eq)]
 pub struct NoMemory;
 

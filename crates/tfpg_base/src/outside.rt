@@ -7,6 +7,7 @@
 ghost use Rattle.std.specs.Prelude.{◌≡◌, ◌⊎◌, ◌<◌, ◌≤◌, ◌^◌, ◌↔◌, ◌++◌, ◌∷◌, [], ℕ, List, length, take, Option, None, Some, IsTrue, IfSome, IfOk, OnOk, OnErr, IsErrOf, Ok};
 ghost use Rattle.tfpg_base.specs.Outside.{longest_file, SourceState, SinkState, ShelfState, Rose, Takes, Puts, IsAtEnd, Asks, Gives, PassesLimit, CountsFailure};
 
+use crate::NoMemory;
 use std::alloc::Global;
 
 /// The outside failed.
@@ -22,6 +23,17 @@ pub enum ShelfFault {
     TooLong,
     /// The call ran out of memory.
     NoMemory,
+}
+
+impl From<NoMemory> for ShelfFault {
+    ghost use Rattle.std.specs.Prelude.{◌≡◌};
+    ghost use Rattle.tfpg_base.specs.declared.outside.ShelfFault.TheVariants as fault;
+
+    ghost from_gives = { λ _ e. e ≡ fault.NoMemory };
+
+    fn from(_e: NoMemory) -> ShelfFault {
+        ShelfFault::NoMemory
+    }
 }
 
 /// Where input bytes come from.

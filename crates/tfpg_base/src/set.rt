@@ -3,7 +3,7 @@
 ghost use Rattle.std.specs.Prelude.{◌≡◌, ◌⊎◌, ◌<◌, ◌^◌, ◌↔◌, [], ℕ, IsTrue, Contains, length, bytes_eq};
 ghost use Rattle.std.specs.Cmp.{partial_equiv_from_equiv};
 ghost use Rattle.std.specs.Cmp.Lexicographic.{nat_list_eq_equiv};
-ghost use Rattle.tfpg_base.specs.Set.{with_member, IsPart, IsProperPart, IsSet};
+ghost use Rattle.tfpg_base.specs.Set.{with_member, IsSubset, IsProperSubset, IsSet};
 ghost use Rattle.tfpg_base.specs.SetBits.{bits_of};
 
 use std::marker::Model;
@@ -64,23 +64,23 @@ impl Set {
     }
 
     /// The set with this member.
-    pub fn with(self, place: u32) -> Set
-        requires { place < 64 }
-        ensures list { result ≡ with_member place self }
-        ensures members { (other : ℕ) → Contains result other ↔ ((place ≡ other) ⊎ Contains self other) }
+    pub fn with(self, position: u32) -> Set
+        requires { position < 64 }
+        ensures list { result ≡ with_member position self }
+        ensures members { (other : ℕ) → Contains result other ↔ ((position ≡ other) ⊎ Contains self other) }
         ensures set { IsSet result }
     {
         Set {
-            bits: self.bits | 1 << place,
+            bits: self.bits | 1 << position,
         }
     }
 
     /// Whether the position is a member.
-    pub fn has(self, place: u32) -> bool
-        ensures member { IsTrue result ↔ Contains self place }
+    pub fn has(self, position: u32) -> bool
+        ensures member { IsTrue result ↔ Contains self position }
         ensures set { IsSet self }
     {
-        place < 64 && self.bits >> place & 1 == 1
+        position < 64 && self.bits >> position & 1 == 1
     }
 
     /// How many members there are.
@@ -100,13 +100,13 @@ impl Set {
 
     /// Whether each member is one of the other set, and the sets are not equal.
     pub fn is_proper_part(self, of: Set) -> bool
-        ensures { IsTrue result ↔ IsProperPart self of }
+        ensures { IsTrue result ↔ IsProperSubset self of }
     {
-        self.is_part(of) && self != of
+        self.is_subset(of) && self != of
     }
 
-    fn is_part(self, of: Set) -> bool
-        ensures { IsTrue result ↔ IsPart self of }
+    fn is_subset(self, of: Set) -> bool
+        ensures { IsTrue result ↔ IsSubset self of }
     {
         self.bits & of.bits == self.bits
     }

@@ -9,26 +9,26 @@ use crate::no_memory::NoMemory;
 
 /// Appends the words with a space between each two, and a line end. Where it runs out of memory, a part of the
 /// line may follow the old bytes.
-pub fn put_line(into: &mut Vec<u8>, words: &[&[u8]]) -> Result<(), NoMemory>
+pub fn append_line(into: &mut Vec<u8>, words: &[&[u8]]) -> Result<(), NoMemory>
     ensures { Appends result into.old.items into.new.items (text_line (map (λ word. word.now) words.now)) }
 {
-    put_words(into, words)?;
+    append_words(into, words)?;
     into.push(b'\n')?;
     Ok(())
 }
 
 /// Appends the words with a space between each two.
-pub fn put_words(into: &mut Vec<u8>, words: &[&[u8]]) -> Result<(), NoMemory>
+pub fn append_words(into: &mut Vec<u8>, words: &[&[u8]]) -> Result<(), NoMemory>
     ensures { Appends result into.old.items into.new.items (line_of (map (λ word. word.now) words.now)) }
 {
     for (place, word) in words.iter().enumerate() {
-        put_part(into, b' ', place == 0, word)?;
+        append_part(into, b' ', place == 0, word)?;
     }
     Ok(())
 }
 
 /// Appends a part, with the separator before it unless it is the first.
-pub fn put_part(
+pub fn append_part(
     into: &mut Vec<u8>,
     separator: u8,
     is_first: bool,

@@ -17,12 +17,13 @@ pub struct Words<'a> {
 
 impl<'a> Model for Words<'a> {
     ghost use Rattle.std.specs.Prelude.{◌≤◌, ℕ, List, map, take};
+    ghost use Rattle.tfpg_base.specs.declared.limits.TheConstants.{MAX_WORDS};
 
     ghost Value = { List (List ℕ) };
 
     ghost view = { λ words. map (λ word. word.now) (take words.count words.items) };
 
-    ghost invariant = { λ words. words.count ≤ 9 };
+    ghost invariant = { λ words. words.count ≤ MAX_WORDS };
 }
 
 impl<'a> Words<'a> {

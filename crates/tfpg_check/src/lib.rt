@@ -3,6 +3,13 @@
 //! So far the crate has the definition alone, in `specs/`. The judge of reports is still to come.
 //!
 //! [`laws`] says how far a report has come after each block.
+//!
+//! A report of one line, which has none of the shapes of a line of a log:
+//!
+//! ```text
+//! report 1 k 2 budget 1000
+//! refused 1 BadLine
+//! ```
 #![tactic(auto)]
 
 pub mod laws;

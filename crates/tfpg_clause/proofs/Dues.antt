@@ -10,13 +10,13 @@ use Rattle.std.proofs.lemmas.List.Sums.{fold_push}
 use Rattle.std.proofs.lemmas.Option.{slice_get-map, slice_get-get_or, slice_get_past}
 use Rattle.tfpg_base.specs.Choice.{each_of}
 use Rattle.tfpg_base.specs.declared.constraint.Constraint.{Constraint}
-use Rattle.tfpg_base.proofs.lists.Choices.{each_of-at, length-each_of, each_of-push, each_of-none}
+use Rattle.tfpg_base.proofs.lists.Choices.{each_of-at, length-each_of, each_of-push, each_of-none, then_some-true}
 use Rattle.tfpg_log.specs.declared.span.Window.{Window}
 use Rattle.tfpg_clause.specs.declared.due.Due.{Due}
 use Rattle.tfpg_clause.specs.Bounds.{at_most}
 use Rattle.tfpg_clause.specs.Clauses.{item_at, starts_late, follows_in_time, latest_of, must_alternatives, must_in}
 use Rattle.tfpg_clause.specs.inside.Alternatives.{latest_within}
-use Rattle.tfpg_clause.proofs.JoinedLists.{slice_get-append_left, slice_get-append_right}
+use Rattle.tfpg_base.proofs.lists.Written.{slice_get-append_left, slice_get-append_right}
 
 -- there is room for the due
 abbrev pub fits : ℕ → Due → Bool
@@ -35,15 +35,11 @@ over hi (d ∷ ds) (suc k) due at late = by (fits hi d) (over hi ds k due at lat
     by true rest = rest
     by false rest = refl
 
-pub passed : {X : Type 0} (b : Bool) (x y : X) → then_some b x ≡ Some y → (b ≡ true) × (x ≡ y)
-passed true x y at = (refl, cc)
-passed false x y at = absurd cc
-
 -- the dues of a window with room for them
 pub within_opened : (hi latest : ℕ) (dues : Option (List Due)) → latest_within hi dues ≡ Some latest
     → (ds : List Due) × (dues ≡ Some ds) × (list_all (fits hi) ds ≡ true) × (latest_of ds ≡ latest)
 within_opened hi latest None at = absurd cc
-within_opened hi latest (Some ds) at = let parts = passed (list_all (fits hi) ds) (latest_of ds) latest at in (ds, refl, parts.0, parts.1)
+within_opened hi latest (Some ds) at = let parts = then_some-true (list_all (fits hi) ds) (latest_of ds) latest at in (ds, refl, parts.0, parts.1)
 
 module _ (f : ℕ → Option Due) (edges : List ℕ) (i hi : ℕ) (within : i < length edges) where
   here : slice_get (map f edges) i ≡ Some (f (get_or edges i 0))
@@ -173,4 +169,4 @@ must_counted f edges target number latest window first within =
 
 -- the latest of the dues of a window with room for them
 pub latest_is : (hi latest : ℕ) (ds : List Due) → latest_within hi (Some ds) ≡ Some latest → latest ≡ latest_of ds
-latest_is hi latest ds at = sym (passed (list_all (fits hi) ds) (latest_of ds) latest at).1
+latest_is hi latest ds at = sym (then_some-true (list_all (fits hi) ds) (latest_of ds) latest at).1

@@ -1,21 +1,22 @@
 -- The facts and the events: numbers of a trace that explains a log from a set meet each fact, and where numbers meet each fact,
 -- their trace shows each event and activates failure modes of the set only.
 use Rattle.std.proofs.Common.{◌≡◌, ℕ, zero, suc, ◌+◌, ◌-◌, ◌<◌, ◌≤◌, Bool, true, false, not, ◌&&◌, cond, eqb, leb, ltb, List, [], ◌∷◌, length, get_or, take, Option, Some, None, refl, sym, ap, subst, ◌∙◌, inl, inr, arith, pos}
-use Rattle.std.specs.Prelude.{All, AllPairs, IsTrue, IsNone, is_none, is_some, slice_get, option_map, option_and_then, unwrap_or, fold}
+use Rattle.std.specs.Prelude.{All, AllPairs, IsNone, is_none, slice_get, option_map, option_and_then, unwrap_or, fold}
 use Rattle.std.specs.Bool.{then_some}
 use Rattle.std.proofs.lemmas.Bool.{cases_lt, leb-true, le-leb, lt-ltb, ltb-true, eqb-true, eq-eqb, false≢true, and_parts, and_from, not-true, both_ways}
 use Rattle.std.proofs.lemmas.List.Elements.{All-contains, All-get_or}
-use Rattle.std.proofs.lemmas.Option.{option_and_then_some, slice_get_within, get_or_from_slice_get}
+use Rattle.std.proofs.lemmas.Option.{option_and_then_some, cond_some}
 use Rattle.tfpg_base.specs.Times.{never}
 use Rattle.tfpg_base.specs.declared.activation.Activation.{Activation}
 use Rattle.tfpg_base.specs.declared.constraint.Constraint.{Constraint}
 use Rattle.tfpg_base.specs.Trace.{time_of}
 use Rattle.tfpg_base.proofs.TraceTimes.{activation_there}
-use Rattle.tfpg_base.proofs.lists.Elements.{AllPairs-head, AllPairs-tail}
-use Rattle.tfpg_graph.specs.Graph.{Tfpg, Node, lag_at, lag_of, is_monitored}
+use Rattle.tfpg_base.proofs.lists.Elements.{AllPairs-head, AllPairs-tail, All-at}
+use Rattle.tfpg_graph.specs.Graph.{Tfpg, lag_at, is_monitored}
 use Rattle.tfpg_graph.specs.Reach.{IsReach, Reaches, is_among}
 use Rattle.tfpg_graph.specs.ZeroCycle.{HasZeroOrder}
 use Rattle.tfpg_graph.proofs.lemmas.reach.Reaches.{among-from_Contains, Contains-from_among}
+use Rattle.tfpg_graph.proofs.NodeAt.{monitored_within}
 use Rattle.tfpg_log.specs.declared.event.Event.{Event}
 use Rattle.tfpg_log.specs.declared.event.Event.TheVariants.{Alarm, Silent, Sweep, Tick, Mode}
 use Rattle.tfpg_log.specs.Log.{Logbook, now_of, time_of_event, alarm_among, quiet_time, quiet_at, IsOf, IsEventOf, IsOrdered}
@@ -25,10 +26,10 @@ use Rattle.tfpg_evidence.specs.declared.reason.Reason.{Reason}
 use Rattle.tfpg_evidence.specs.declared.reason.Reason.TheVariants.{Zero, Top, Unreached, From, Upto, Quiet, Pick}
 use Rattle.tfpg_clause.specs.Bounds.{at_most, at_least}
 use Rattle.tfpg_base.specs.Constraint.{Meets}
+use Rattle.tfpg_base.proofs.lists.Choices.{then_some-true, is_some-there}
 use Rattle.tfpg_clause.specs.Facts.{fact, from_alarm, upto_alarm}
 use Rattle.tfpg_clause.specs.Cut.{AreNumbersOf}
 use Rattle.tfpg_clause.proofs.Bounded.{met_at_most, met_at_least, says_at_most, says_at_least}
-use Rattle.tfpg_clause.proofs.Dues.{passed}
 use Rattle.tfpg_clause.proofs.Agreed.{Agree, of_trace, active_from, active_only}
 
 -- ---- the events of an ordered log
@@ -64,26 +65,6 @@ before_last start (first ∷ events) (suc place) event rising at =
 pub event_by_now : (log : Logbook) (place : ℕ) (event : Event) → IsOrdered log → slice_get log.events place ≡ Some event → time_of_event event ≤ now_of log
 event_by_now log place event ordered at = before_last 0 log.events place event ordered.in_order at
 
--- what holds of each event holds of that of a place
-event_holds : (P : Event → Type 0) (events : List Event) (place : ℕ) (event : Event) → All P events → slice_get events place ≡ Some event → P event
-event_holds P events place event all at =
-    subst P (get_or_from_slice_get events place event event at) (all place event (slice_get_within events place event at))
-
--- ---- monitored nodes
-
--- a monitored node is a node
-pub monitored_within : (graph : Tfpg) (node : ℕ) → IsTrue (is_monitored graph node) → node < length graph.nodes
-monitored_within graph node monitored = by (slice_get graph.nodes node) refl monitored
-  where
-    by : (found : Option Node) → slice_get graph.nodes node ≡ found → is_some (option_and_then lag_of (option_map (λ (n : Node). n.kind) found)) ≡ true → node < length graph.nodes
-    by None none passes = absurd (false≢true passes)
-    by (Some n) at passes = slice_get_within graph.nodes node n at
-
--- and has a lag
-lag_there : (lag : Option ℕ) → is_some lag ≡ true → (l : ℕ) × (lag ≡ Some l)
-lag_there None there = absurd (false≢true there)
-lag_there (Some lag) there = (lag, refl)
-
 -- ---- silences
 
 -- What an event that is a silence of a node says, where it is of the graph and shown.
@@ -91,10 +72,6 @@ pub record IsQuiet (graph : Tfpg) (trace : List Activation) (node time : ℕ) (e
   pub within : node < length graph.nodes
   pub shown : ShowsSilence trace node time
   pub at : time_of_event event ≡ time
-
-chosen : (passes : Bool) (own time : ℕ) → cond passes (Some own) None ≡ Some time → (passes ≡ true) × (own ≡ time)
-chosen true own time is = (refl, cc)
-chosen false own time is = absurd cc
 
 none_there : (alarm : Option ℕ) → is_none alarm ≡ true → IsNone alarm
 none_there None is = refl
@@ -104,7 +81,7 @@ quiet_shown : (graph : Tfpg) (trace : List Activation) (before : List Event) (ev
     → quiet_time graph before event node ≡ Some time → IsQuiet graph trace node time event
 quiet_shown graph trace before (Alarm own alarmed) node time of shows is = absurd cc
 quiet_shown graph trace before (Silent own silent) node time of shows is =
-    let told = chosen (eqb silent node) own time is in
+    let told = cond_some (eqb silent node) own time is in
     let same : silent ≡ node = eqb-true silent node told.0 in
     record {
       within = subst (λ n. n < length graph.nodes) same (monitored_within graph silent of);
@@ -112,7 +89,7 @@ quiet_shown graph trace before (Silent own silent) node time of shows is =
       at = told.1;
     }
 quiet_shown graph trace before (Sweep own) node time of shows is =
-    let told = chosen (is_monitored graph node && is_none (alarm_among before node)) own time is in
+    let told = cond_some (is_monitored graph node && is_none (alarm_among before node)) own time is in
     let both = and_parts (is_monitored graph node) (is_none (alarm_among before node)) told.0 in
     record {
       within = monitored_within graph node both.0;
@@ -177,7 +154,7 @@ module _ (graph : Tfpg) (log : Logbook) (set reach : List ℕ) (is_reach : IsRea
     quiet_met : (place : ℕ) (event : Event) (node time : ℕ) → slice_get log.events place ≡ Some event → quiet_time graph (take place log.events) event node ≡ Some time
         → Meets numbers (at_least node (time + 1))
     quiet_met place event node time at is =
-        let quiet = quiet_shown graph trace (take place log.events) event node time (event_holds (IsEventOf graph) log.events place event of.own at) (explains.shows place event at) is in
+        let quiet = quiet_shown graph trace (take place log.events) event node time (All-at (IsEventOf graph) log.events place event of.own at) (explains.shows place event at) is in
         met_at_least numbers node (time + 1)
         (elim (cases_lt time (get_or numbers node 0)) [
           | inl later ↦ omega (arith, later)
@@ -190,13 +167,13 @@ module _ (graph : Tfpg) (log : Logbook) (set reach : List ℕ) (is_reach : IsRea
     -- The numbers meet each fact.
     pub fact_is_met : (reason : Reason) (stated : Constraint) → fact graph log reach reason ≡ Some stated → Meets numbers stated
     fact_is_met (Zero node) stated is =
-        let parts = passed (ltb node (length graph.nodes)) (at_least node 0) stated is in
+        let parts = then_some-true (ltb node (length graph.nodes)) (at_least node 0) stated is in
         subst (Meets numbers) parts.1 (met_at_least numbers node 0 (omega arith))
     fact_is_met (Top node) stated is =
-        let parts = passed (ltb node (length graph.nodes)) (at_most node (pos never)) stated is in
+        let parts = then_some-true (ltb node (length graph.nodes)) (at_most node (pos never)) stated is in
         subst (Meets numbers) parts.1 (met_at_most numbers node never (at_most_never node (ltb-true node (length graph.nodes) parts.0)))
     fact_is_met (Unreached node horizon) stated is =
-        let parts = passed (ltb node (length graph.nodes) && (leb horizon (now_of log) && not (is_among reach node))) (at_least node (horizon + 1)) stated is in
+        let parts = then_some-true (ltb node (length graph.nodes) && (leb horizon (now_of log) && not (is_among reach node))) (at_least node (horizon + 1)) stated is in
         let both = and_parts (ltb node (length graph.nodes)) (leb horizon (now_of log) && not (is_among reach node)) parts.0 in
         let rest = and_parts (leb horizon (now_of log)) (not (is_among reach node)) both.1 in
         let late = unreached_late node (ltb-true node (length graph.nodes) both.0) (not-true (is_among reach node) rest.1) in
@@ -238,7 +215,7 @@ module _ (graph : Tfpg) (log : Logbook) (set reach : List ℕ) (is_reach : IsRea
 
     event_is_shown : (place : ℕ) (event : Event) → slice_get log.events place ≡ Some event → IsEventOf graph event → Shows graph trace (take place log.events) event
     event_is_shown place (Alarm time node) at own =
-        let lag = lag_there (lag_at graph node) own in
+        let lag = is_some-there (lag_at graph node) own in
         let from : fact graph log reach (From (suc place)) ≡ Some (at_least node (time - unwrap_or (lag_at graph node) 0)) = ap (option_and_then (from_alarm graph)) at in
         let upto : fact graph log reach (Upto (suc place)) ≡ Some (at_most node (pos time)) = ap (option_and_then upto_alarm) at in
         let since = says_at_least numbers node (time - unwrap_or (lag_at graph node) 0) (met (From (suc place)) (at_least node (time - unwrap_or (lag_at graph node) 0)) from) in
@@ -262,7 +239,7 @@ module _ (graph : Tfpg) (log : Logbook) (set reach : List ℕ) (is_reach : IsRea
 
     -- The trace shows each event.
     pub events_are_shown : ShowsAll graph trace log.events
-    events_are_shown place event at = event_is_shown place event at (event_holds (IsEventOf graph) log.events place event of.own at)
+    events_are_shown place event at = event_is_shown place event at (All-at (IsEventOf graph) log.events place event of.own at)
 
     -- and each node that it activates is reached
     pub active_is_reached : (node time : ℕ) → node < length graph.nodes → time_of trace node ≡ Some time → Reaches graph set node

@@ -4,17 +4,19 @@ use Rattle.std.specs.Prelude.{filter_map, option_map, option_and_then, slice_get
 use Rattle.std.specs.Bool.{then_some}
 use Rattle.std.specs.List.{cons_option}
 use Rattle.std.proofs.lemmas.Bool.{both_ways}
+use Rattle.std.proofs.lemmas.Option.{none-some}
 use Rattle.tfpg_base.specs.declared.constraint.Constraint.{Constraint}
 use Rattle.tfpg_graph.specs.declared.edge.Edge.{Edge}
 use Rattle.tfpg_graph.specs.Graph.{Tfpg, is_kind_at, is_or, is_and, incoming, edges_into}
 use Rattle.tfpg_log.specs.declared.span.Span.{Span}
 use Rattle.tfpg_log.specs.Log.{Logbook}
 use Rattle.tfpg_log.specs.Spans.{span_at}
-use Rattle.tfpg_clause.specs.Clauses.{outside_span, arrival, or_may, and_may, MeetsClause}
-use Rattle.tfpg_clause.specs.inside.Alternatives.{arrivals_over}
+use Rattle.tfpg_clause.specs.Clauses.{outside_span, arrival, or_may, and_may}
+use Rattle.tfpg_clause.specs.inside.Alternatives.{arrivals_over, target_of_kind}
 use Rattle.tfpg_clause.specs.inside.FirstSpan.{MeetsEach, FindsFirst, may_over}
-use Rattle.tfpg_clause.proofs.ByNumber.{filtered_by_number}
+use Rattle.tfpg_base.proofs.lists.Numbered.{filtered_by_number}
 use Rattle.tfpg_clause.proofs.RulesMet.{may_holds}
+use Rattle.tfpg_clause.proofs.Found.{no_may_of_edge}
 
 -- what is found among clauses is found among the same clauses
 pub FindsFirst-same : (times : List ℕ) (one other : ℕ → Option (List (List Constraint))) (result : Option ℕ) → ((span : ℕ) → one span ≡ other span)
@@ -73,15 +75,6 @@ module _ (graph : Tfpg) (log : Logbook) (times : List ℕ) (horizon : ℕ) where
         FindsFirst-same times (may_over graph log target (edge ∷ []) horizon) (λ number. option_and_then (λ e. and_may graph log e number horizon) (slice_get graph.edges edge)) result
         (λ number. sym (and_may_over number (slice_get graph.edges edge) own and)) found
 
-    -- another edge has none
-    pub no_and_may : Some target ≡ option_map (λ (e : Edge). e.target) (slice_get graph.edges edge) → is_kind_at is_and graph target ≡ false
-        → MeetsEach times (λ number. option_and_then (λ e. and_may graph log e number horizon) (slice_get graph.edges edge))
-    no_and_may own other number all at = by (slice_get graph.edges edge) own at
-      where
-        by : (o : Option Edge) → Some target ≡ option_map (λ (e : Edge). e.target) o → option_and_then (λ e. and_may graph log e number horizon) o ≡ Some all → MeetsClause times all
-        by None own at = absurd cc
-        by (Some e) own at =
-            let same : target ≡ e.target = cc in
-            absurd
-            (both_ways (is_kind_at is_and graph e.target) (sym (ap (is_kind_at is_and graph) same) ∙ other)
-            (may_holds log (is_kind_at is_and graph e.target) e.target (e ∷ []) number horizon all at))
+  -- an edge that enters no AND node has none
+  pub no_and_may : (edge : Option Edge) → None ≡ target_of_kind is_and graph edge → MeetsEach times (λ number. option_and_then (λ e. and_may graph log e number horizon) edge)
+  no_and_may edge none number all at = absurd (none-some all (sym (no_may_of_edge graph log number horizon edge none) ∙ at))

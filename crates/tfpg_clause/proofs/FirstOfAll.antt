@@ -6,6 +6,7 @@ use Rattle.std.proofs.lemmas.Option.{option_and_then_some, slice_get_within}
 use Rattle.tfpg_base.specs.declared.constraint.Constraint.{Constraint}
 use Rattle.tfpg_graph.specs.Graph.{Tfpg, is_kind_at, is_or, is_and, edges_into}
 use Rattle.tfpg_graph.specs.Valid.{IsValid}
+use Rattle.tfpg_graph.proofs.NodeAt.{kind_within}
 use Rattle.tfpg_log.specs.Log.{Logbook, now_of}
 use Rattle.tfpg_log.specs.Rules.{KeepsRules}
 use Rattle.tfpg_log.specs.Spans.{joint_of}
@@ -18,7 +19,7 @@ use Rattle.tfpg_clause.specs.Cut.{cut, AreNumbers}
 use Rattle.tfpg_clause.specs.Order.{horizon_of, subject_of, span_of, rank_of, ComesBefore, MeetsNamed, IsFirstViolated, MeetAllNow}
 use Rattle.tfpg_clause.specs.inside.FirstSpan.{MeetsIfAny, MeetsEach, IsFirstOfKind, MeetsKind, clauses_of, named, place_of, subject_count}
 use Rattle.tfpg_clause.proofs.Agreed.{of_cut}
-use Rattle.tfpg_clause.proofs.RulesMet.{may_holds, must_holds, kind_within, clause_is_met, rules_are_kept}
+use Rattle.tfpg_clause.proofs.RulesMet.{may_holds, must_holds, clause_is_met, rules_are_kept}
 
 -- the kind of a name
 pub kind_of : ClauseName → ClauseKind

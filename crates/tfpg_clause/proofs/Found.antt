@@ -6,14 +6,16 @@ use Rattle.tfpg_base.specs.Choice.{each_of}
 use Rattle.tfpg_base.specs.declared.constraint.Constraint.{Constraint}
 use Rattle.tfpg_graph.specs.declared.edge.Edge.{Edge}
 use Rattle.tfpg_graph.specs.Graph.{Tfpg, is_kind_at, is_or, is_and, incoming, edges_into}
+use Rattle.tfpg_graph.specs.declared.kind.Kind.{Kind}
 use Rattle.tfpg_log.specs.declared.span.Span.{Span}
 use Rattle.tfpg_log.specs.declared.span.Window.{Window}
 use Rattle.tfpg_log.specs.Log.{Logbook}
 use Rattle.tfpg_log.specs.Spans.{span_at, window_of, joint_of}
 use Rattle.tfpg_clause.specs.declared.due.Due.{Due}
 use Rattle.tfpg_clause.specs.Clauses.{outside_span, arrival, due_over, must_in, may_by, must_by, and_may, or_must, and_must}
-use Rattle.tfpg_clause.specs.inside.Alternatives.{dues_over}
-use Rattle.tfpg_clause.proofs.ByNumber.{mapped_by_number}
+use Rattle.tfpg_clause.specs.inside.Alternatives.{dues_over, target_of_kind}
+use Rattle.tfpg_base.proofs.lists.Numbered.{mapped_by_number}
+use Rattle.tfpg_base.proofs.lists.Choices.{then_some-true}
 
 module _ (log : Logbook) (holds : Bool) (target : ℕ) (edges : List Edge) (number horizon : ℕ) (passes : holds ≡ true) where
   -- a may clause, where there is the span
@@ -46,13 +48,42 @@ no_may log holds target edges number horizon fails = by (span_at log number hori
     by None = refl
     by (Some span) = ap (λ (b : Bool). then_some b (outside_span target span ++ filter_map (arrival log number horizon span) edges)) fails
 
--- nor has an edge into one.
-pub no_may_of_edge : (graph : Tfpg) (log : Logbook) (number horizon target : ℕ) (edge : Option Edge) → Some target ≡ option_map (λ (e : Edge). e.target) edge → is_kind_at is_and graph target ≡ false
+-- nor a must clause.
+no_must : (log : Logbook) (holds : Bool) (target : ℕ) (edges : List Edge) (window : Option Window) (number horizon : ℕ) → holds ≡ false
+    → must_by log holds target edges window number horizon ≡ None
+no_must log true target edges window number horizon fails = absurd cc
+no_must log false target edges window number horizon fails = refl
+
+-- A target of some kind is the target, and of that kind.
+pub target_there : (test : Kind → Bool) (graph : Tfpg) (target : ℕ) (edge : Option Edge) → Some target ≡ target_of_kind test graph edge
+    → (Some target ≡ option_map (λ (e : Edge). e.target) edge) × (is_kind_at test graph target ≡ true)
+target_there test graph target None is = absurd cc
+target_there test graph target (Some e) is =
+    let parts = then_some-true (is_kind_at test graph e.target) e.target target (sym is) in
+    (ap Some (sym parts.1), sym (ap (is_kind_at test graph) parts.1) ∙ parts.0)
+
+-- What an edge has only where its target is of some kind, it has not where there is no target of that kind.
+no_target : {X : Type 0} (test : Kind → Bool) (graph : Tfpg) (f : Edge → Option X) → ((e : Edge) → is_kind_at test graph e.target ≡ false → f e ≡ None) → (edge : Option Edge)
+    → None ≡ target_of_kind test graph edge → option_and_then f edge ≡ None
+no_target test graph f only None is = refl
+no_target test graph f only (Some e) is = only e (by (is_kind_at test graph e.target) is)
+  where
+    by : (b : Bool) → None ≡ then_some b e.target → b ≡ false
+    by true is = absurd cc
+    by false is = refl
+
+-- So an edge that enters no AND node has no may clause,
+pub no_may_of_edge : (graph : Tfpg) (log : Logbook) (number horizon : ℕ) (edge : Option Edge) → None ≡ target_of_kind is_and graph edge
     → option_and_then (λ e. and_may graph log e number horizon) edge ≡ None
-no_may_of_edge graph log number horizon target None own other = refl
-no_may_of_edge graph log number horizon target (Some e) own other =
-    let same : target ≡ e.target = cc in
-    no_may log (is_kind_at is_and graph e.target) e.target (e ∷ []) number horizon (sym (ap (is_kind_at is_and graph) same) ∙ other)
+no_may_of_edge graph log number horizon =
+    no_target is_and graph (λ e. and_may graph log e number horizon) (λ e other. no_may log (is_kind_at is_and graph e.target) e.target (e ∷ []) number horizon other)
+
+-- and one that enters no OR node no must clause.
+pub no_must_of_edge : (graph : Tfpg) (log : Logbook) (number horizon : ℕ) (edge : Option Edge) → None ≡ target_of_kind is_or graph edge
+    → option_and_then (λ e. or_must graph log e number horizon) edge ≡ None
+no_must_of_edge graph log number horizon =
+    no_target is_or graph (λ e. or_must graph log e number horizon)
+    (λ e other. no_must log (is_kind_at is_or graph e.target) e.target (e ∷ []) (window_of log e number horizon) number horizon other)
 
 -- The must of one edge, by what was found of it.
 pub or_must_found : (graph : Tfpg) (log : Logbook) (number horizon target : ℕ) (window : Window) (edge : Option Edge) → Some target ≡ option_map (λ (e : Edge). e.target) edge

@@ -3,11 +3,11 @@ use Rattle.std.proofs.Common.{◌≡◌, ◌⊎◌, ℕ, zero, suc, ◌+◌, ◌
 use Rattle.std.specs.Prelude.{nat_lt, slice_get, slice_set, option_map, option_and_then}
 use Rattle.std.specs.Option.{option_or}
 use Rattle.std.specs.Bool.{then_some}
-use Rattle.std.proofs.Math.Seq.{take-length}
-use Rattle.std.proofs.lemmas.Bool.Decides.{nat_tests}
+use Rattle.std.proofs.lemmas.Bool.{lt-ltb, le-ltb}
 use Rattle.tfpg_base.specs.declared.constraint.Constraint.{Constraint}
 use Rattle.tfpg_graph.specs.Graph.{Tfpg}
 use Rattle.tfpg_log.specs.Log.{Logbook, GoesOn, IsOrdered, first_events}
+use Rattle.tfpg_log.proofs.Events.{whole_log}
 use Rattle.tfpg_evidence.specs.declared.clause_name.ClauseName.{ClauseName}
 use Rattle.tfpg_evidence.specs.declared.reason.Reason.{Reason}
 use Rattle.tfpg_evidence.specs.declared.reason.Reason.TheVariants.{Zero, Top, Unreached, From, Upto, Quiet, Pick}
@@ -19,12 +19,6 @@ use Rattle.tfpg_clause.proofs.TreesKept.{count_stays, first_to_whole}
 use Rattle.tfpg_clause.specs.declared.path.Frame.{Frame}
 use Rattle.tfpg_clause.specs.Paths.{count_at, has_more, advanced, next_leaf, IsFrameOf, AreFramesOf, framed, stated_by, next_alternative, path_after}
 
-less_is : (a b : ℕ) → a < b → nat_lt a b ≡ true
-less_is a b less = grind (arith, nat_tests)
-
-most_is : (a b : ℕ) → b ≤ a → nat_lt a b ≡ false
-most_is a b most = grind (arith, nat_tests)
-
 -- the paths with one more frame before them
 abbrev with_first : Frame → Option (List Frame) → Option (List Frame)
 with_first frame deeper = option_or (option_map (λ (frames : List Frame). frame ∷ frames) deeper) (then_some (nat_lt frame.alternative frame.alternatives) (next_alternative frame ∷ []))
@@ -33,7 +27,7 @@ with_first frame deeper = option_or (option_map (λ (frames : List Frame). frame
 pub shorter : (path : List Frame) (kept : ℕ) (d : Frame) → kept < length path → (get_or path kept d).alternatives ≤ (get_or path kept d).alternative
     → path_after (take (suc kept) path) ≡ path_after (take kept path)
 shorter [] kept d within most = absurd (omega arith)
-shorter (frame ∷ path) zero d within most = ap (λ (b : Bool). then_some b (next_alternative frame ∷ [])) (most_is frame.alternative frame.alternatives most)
+shorter (frame ∷ path) zero d within most = ap (λ (b : Bool). then_some b (next_alternative frame ∷ [])) (le-ltb frame.alternative frame.alternatives most)
 shorter (frame ∷ path) (suc kept) d within most = ap (with_first frame) (shorter path kept d (omega arith) most)
 
 -- A last frame with an alternative left goes on to it.
@@ -43,7 +37,7 @@ moved_on [] before frame at less = cc
 moved_on (first ∷ path) zero frame at less =
     let same : first ≡ frame = cc in
     ap (λ (f : Frame). then_some (nat_lt f.alternative f.alternatives) (next_alternative f ∷ [])) same
-    ∙ ap (λ (b : Bool). then_some b (next_alternative frame ∷ [])) (less_is frame.alternative frame.alternatives less)
+    ∙ ap (λ (b : Bool). then_some b (next_alternative frame ∷ [])) (lt-ltb frame.alternative frame.alternatives less)
 moved_on (first ∷ path) (suc before) frame at less = ap (with_first first) (moved_on path before frame at less)
 
 -- ---- frames and splits
@@ -149,9 +143,6 @@ module _ (graph : Tfpg) (log : Logbook) where
 
   -- ---- what reasons state
 
-  pub whole_log : first_events log (length log.events) ≡ log
-  whole_log = ap (λ (events : List _). record { events = events }) (take-length log.events)
-
   module _ (ordered : IsOrdered log) (reach : List ℕ) (path : List PathSplit) (frames : List Frame) (are : AreFramesOf graph log path frames) where
     allowed_now : (seen : ℕ) (name : ClauseName) (count : ℕ) (clause : Option (List (List Constraint))) → alternatives graph (first_events log seen) name ≡ clause → option_map length clause ≡ Some count
         → alternatives graph log name ≡ alternatives graph (first_events log seen) name
@@ -183,7 +174,7 @@ module _ (graph : Tfpg) (log : Logbook) where
     same_fact reason = fact graph log reach reason ≡ fact graph (first_events log (length log.events)) reach reason
 
     fact_same : (reason : Reason) → same_fact reason
-    fact_same reason = ap (λ (l : Logbook). fact graph l reach reason) (sym whole_log)
+    fact_same reason = ap (λ (l : Logbook). fact graph l reach reason) (sym (whole_log log))
 
     -- a reason states the same by the frames and by the path
     pub states_same : (reason : Reason) → stated_by graph log reach frames reason ≡ stated graph log reach path (length log.events) reason

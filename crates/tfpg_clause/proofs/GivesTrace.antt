@@ -3,7 +3,7 @@ use Rattle.std.proofs.Common.{◌≡◌, ℕ, ◌+◌, ◌<◌, ◌≤◌, Bool,
 use Rattle.std.specs.Prelude.{All, Contains, IsTrue, IfSome}
 use Rattle.std.specs.List.{list_any}
 use Rattle.std.specs.Option.{option_map_or}
-use Rattle.std.proofs.lemmas.Bool.{leb-true, eqb-true, eq-eqb, false≢true, or_cases}
+use Rattle.std.proofs.lemmas.Bool.{leb-true, eqb-true, eq-eqb, false≢true, or_cases, or_left, or_right}
 use Rattle.std.proofs.lemmas.List.Elements.{All-nil, All-cons}
 use Rattle.std.proofs.lemmas.List.Folds.{list_any_at}
 use Rattle.tfpg_base.specs.declared.activation.Activation.{Activation}
@@ -73,14 +73,6 @@ module _ (graph : Tfpg) (set : List ℕ) where
       list_any_at (λ p. is_node (failure_at graph p) node) set member.0 place member.1
       (ap (λ p. is_node (failure_at graph p) node) member.2 ∙ ap (λ f. is_node f node) at ∙ eq-eqb node node refl)
 
-  or_true : (a b : Bool) → b ≡ true → (a || b) ≡ true
-  or_true true b is = refl
-  or_true false b is = is
-
-  or_left : (a b : Bool) → a ≡ true → (a || b) ≡ true
-  or_left true b is = refl
-  or_left false b is = absurd (false≢true is)
-
   no_failure : (test : Kind → Bool) (node : ℕ) → ((kind : Kind) → test kind ≡ true → is_failure kind ≡ false) → is_kind_at test graph node ≡ true → not (is_kind_at is_failure graph node) ≡ true
   no_failure test node apart is = by (kind_at graph node) is
     where
@@ -110,7 +102,7 @@ module _ (graph : Tfpg) (set : List ℕ) where
       by : (place : ℕ) → Contains set place → (failure : Option ℕ) → failure_at graph place ≡ failure → IfSome failure (λ node. IsTrue (is_own node))
       by place member None none = tt
       by place member (Some node) at =
-          or_true (not (is_kind_at is_failure graph node)) (list_any (λ p. is_node (failure_at graph p) node) set) (own_listed place node member at)
+          or_right (not (is_kind_at is_failure graph node)) (list_any (λ p. is_node (failure_at graph p) node) set) (own_listed place node member at)
 
   listed : (places : List ℕ) (node : ℕ) → list_any (λ p. is_node (failure_at graph p) node) places ≡ true → (place : ℕ) × Contains places place × (failure_at graph place ≡ Some node)
   listed [] node is = absurd (false≢true is)

@@ -7,6 +7,7 @@ use Rattle.std.proofs.lemmas.Bool.{leb-true, le-leb, eqb-true, and_parts}
 use Rattle.std.proofs.lemmas.Option.{option_and_then_some, slice_get_within}
 use Rattle.tfpg_base.specs.Choice.{each_of}
 use Rattle.tfpg_base.specs.declared.constraint.Constraint.{Constraint}
+use Rattle.tfpg_base.proofs.lists.Choices.{then_some-true}
 use Rattle.tfpg_graph.specs.declared.edge.Edge.{Edge}
 use Rattle.tfpg_graph.specs.Graph.{Tfpg, is_kind_at, is_or, is_and, edges_into}
 use Rattle.tfpg_log.specs.declared.span.Span.{Span}
@@ -20,7 +21,7 @@ use Rattle.tfpg_evidence.specs.declared.clause_name.ClauseName.TheVariants.{OrMa
 use Rattle.tfpg_clause.specs.Bounds.{at_most, at_least, at_least_after}
 use Rattle.tfpg_clause.specs.Clauses.{outside_span, due_over, must_in, must_alternatives, may_by, must_by, and_may, or_must, alternatives}
 use Rattle.tfpg_clause.specs.declared.due.Due.{Due}
-use Rattle.tfpg_clause.proofs.Dues.{passed, fits}
+use Rattle.tfpg_clause.proofs.Dues.{fits}
 use Rattle.tfpg_clause.specs.Order.{horizon_of}
 use Rattle.tfpg_clause.specs.Facts.{fact, from_alarm, upto_alarm}
 use Rattle.tfpg_evidence.specs.declared.reason.Reason.{Reason}
@@ -102,7 +103,7 @@ must_has_window log true target edges window number horizon clause at =
     begins_so : (w : Window) (dues : List Due) → must_in target number w dues ≡ Some clause → w.first ≡ number
     begins_so w dues at =
         eqb-true w.first number
-        (and_parts (eqb w.first number) (list_all (fits w.hi) dues) (passed (eqb w.first number && list_all (fits w.hi) dues) (must_alternatives target w.hi dues) clause at).0).0
+        (and_parts (eqb w.first number) (list_all (fits w.hi) dues) (then_some-true (eqb w.first number && list_all (fits w.hi) dues) (must_alternatives target w.hi dues) clause at).0).0
 must_has_window log false target edges window number horizon clause at = absurd cc
 
 -- an allowed name has a horizon up to now

@@ -1,9 +1,9 @@
 -- The path of the present leaf, step by step.
-use Rattle.std.proofs.Common.{◌≡◌, ℕ, ◌<◌, ◌≤◌, List, [], ◌∷◌, ◌++◌, Bool, true, false, Option, Some, None, refl, sym, ap, ◌∙◌, arith}
-use Rattle.std.specs.Prelude.{nat_lt, option_map}
+use Rattle.std.proofs.Common.{◌≡◌, ℕ, ◌<◌, ◌≤◌, List, [], ◌∷◌, ◌++◌, Bool, Option, Some, None, refl, sym, ap, ◌∙◌}
+use Rattle.std.specs.Prelude.{option_map}
 use Rattle.std.specs.Option.{option_or}
 use Rattle.std.specs.Bool.{then_some}
-use Rattle.std.proofs.lemmas.Bool.Decides.{nat_tests}
+use Rattle.std.proofs.lemmas.Bool.{le-ltb, lt-ltb}
 use Rattle.tfpg_graph.specs.Graph.{Tfpg}
 use Rattle.tfpg_log.specs.Log.{Logbook}
 use Rattle.tfpg_evidence.specs.declared.step.Step.{Step}
@@ -32,17 +32,11 @@ module _ (graph : Tfpg) (log : Logbook) where
   after_both None (step ∷ one) other = sym (after_none other)
   after_both (Some path) (step ∷ one) other = after_both (leaf_next path step.seen step.step) one other
 
-  more_is : (alternative count : ℕ) → alternative < count → nat_lt alternative count ≡ true
-  more_is alternative count less = grind (arith, nat_tests)
-
-  less_is : (alternative count : ℕ) → count ≤ alternative → nat_lt alternative count ≡ false
-  less_is alternative count most = grind (arith, nat_tests)
-
   -- the deepest split has an alternative left
   pub closed_more : (path : List PathSplit) (split : PathSplit) (count : ℕ) → count_at graph log split ≡ Some count → split.alternative < count
       → next_leaf graph log (path ++ split ∷ []) ≡ Some (path ++ advanced split ∷ [])
   closed_more [] split count is less =
-      ap (λ (c : Option ℕ). then_some (has_more split.alternative c) (advanced split ∷ [])) is ∙ ap (λ (b : Bool). then_some b (advanced split ∷ [])) (more_is split.alternative count less)
+      ap (λ (c : Option ℕ). then_some (has_more split.alternative c) (advanced split ∷ [])) is ∙ ap (λ (b : Bool). then_some b (advanced split ∷ [])) (lt-ltb split.alternative count less)
   closed_more (first ∷ path) split count is less =
       ap (λ (leaf : Option (List PathSplit)). option_or (option_map (λ (p : List PathSplit). first ∷ p) leaf) (then_some (has_more first.alternative (count_at graph log first)) (advanced first ∷ []))) (closed_more path split count is less)
 
@@ -50,6 +44,6 @@ module _ (graph : Tfpg) (log : Logbook) where
   pub closed_last : (path : List PathSplit) (split : PathSplit) (count : ℕ) → count_at graph log split ≡ Some count → count ≤ split.alternative
       → next_leaf graph log (path ++ split ∷ []) ≡ next_leaf graph log path
   closed_last [] split count is most =
-      ap (λ (c : Option ℕ). then_some (has_more split.alternative c) (advanced split ∷ [])) is ∙ ap (λ (b : Bool). then_some b (advanced split ∷ [])) (less_is split.alternative count most)
+      ap (λ (c : Option ℕ). then_some (has_more split.alternative c) (advanced split ∷ [])) is ∙ ap (λ (b : Bool). then_some b (advanced split ∷ [])) (le-ltb split.alternative count most)
   closed_last (first ∷ path) split count is most =
       ap (λ (leaf : Option (List PathSplit)). option_or (option_map (λ (p : List PathSplit). first ∷ p) leaf) (then_some (has_more first.alternative (count_at graph log first)) (advanced first ∷ []))) (closed_last path split count is most)

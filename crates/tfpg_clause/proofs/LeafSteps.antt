@@ -3,6 +3,7 @@ use Rattle.std.proofs.Common.{◌≡◌, ℕ, List, [], ◌∷◌, ◌++◌, len
 use Rattle.tfpg_base.specs.declared.constraint.Constraint.{Constraint}
 use Rattle.tfpg_graph.specs.Graph.{Tfpg}
 use Rattle.tfpg_log.specs.Log.{Logbook, GoesOn, IsOrdered, first_events}
+use Rattle.tfpg_log.proofs.Events.{whole_log}
 use Rattle.tfpg_evidence.specs.declared.clause_name.ClauseName.{ClauseName}
 use Rattle.tfpg_evidence.specs.declared.reason.Reason.{Reason}
 use Rattle.tfpg_evidence.specs.declared.step.Step.TheVariants.{Split, Cycle}
@@ -12,14 +13,14 @@ use Rattle.tfpg_clause.specs.Paths.{with_step, new_split, next_leaf, IsAtLeaf, n
 use Rattle.tfpg_clause.specs.declared.path.Frame.{Frame}
 use Rattle.tfpg_clause.proofs.TreeSteps.{cut_of_leaf, leaf_of_cut, first_cut, split_step, last_cycle, cycle_step}
 use Rattle.tfpg_clause.proofs.TreesKept.{leaf_stays}
-use Rattle.tfpg_clause.proofs.FramePaths.{frames_push, goes_too, ends_too, whole_log, states_same, frames_stay}
+use Rattle.tfpg_clause.proofs.FramePaths.{frames_push, goes_too, ends_too, states_same, frames_stay}
 
 module _ (graph : Tfpg) (log : Logbook) (reach : List ℕ) where
   pub leaf_begins : IsPresentLeaf graph log reach [] []
   leaf_begins = leaf_of_cut graph log reach [] [] (first_cut graph log reach)
 
   count_now : (name : ClauseName) (count : ℕ) → count_of graph log name ≡ Some count → count_of graph (first_events log (length log.events)) name ≡ Some count
-  count_now name count is = ap (λ (l : Logbook). count_of graph l name) (whole_log graph log) ∙ is
+  count_now name count is = ap (λ (l : Logbook). count_of graph l name) (whole_log log) ∙ is
 
   pub leaf_splits : (steps : List Judged) (path : List PathSplit) (name : ClauseName) (count : ℕ) → IsPresentLeaf graph log reach steps path → count_of graph log name ≡ Some count
       → IsPresentLeaf graph log reach (with_step steps log (Split name)) (path ++ new_split log name ∷ [])

@@ -3,8 +3,6 @@ pub mod Cycles
 pub mod InRange
 pub mod KnownWindows
 pub mod Arrivals
-pub mod ByNumber
-pub mod JoinedLists
 pub mod Dues
 pub mod Found
 pub mod Bounded

@@ -7,6 +7,7 @@ use Rattle.std.proofs.lemmas.Option.{option_and_then_some, slice_get_within}
 use Rattle.tfpg_base.specs.Times.{never}
 use Rattle.tfpg_base.specs.declared.constraint.Constraint.{Constraint}
 use Rattle.tfpg_base.proofs.lists.Elements.{Contains-head, Contains-tail, Contains-nil, Contains-cons_cases}
+use Rattle.tfpg_base.proofs.lists.Choices.{then_some-true}
 use Rattle.tfpg_graph.specs.Graph.{Tfpg}
 use Rattle.tfpg_graph.specs.Reach.{is_among}
 use Rattle.tfpg_log.specs.Log.{Logbook, now_of, event_at, quiet_at}
@@ -14,7 +15,6 @@ use Rattle.tfpg_evidence.specs.declared.reason.Reason.{Reason}
 use Rattle.tfpg_evidence.specs.declared.reason.Reason.TheVariants.{Zero, Top, Unreached, From, Upto, Quiet, Pick}
 use Rattle.tfpg_clause.specs.Bounds.{at_most, at_least}
 use Rattle.tfpg_clause.specs.Facts.{fact, from_alarm, upto_alarm, IsLow, IsHigh}
-use Rattle.tfpg_clause.proofs.Dues.{passed}
 use Rattle.tfpg_clause.proofs.Kept.{quiet_within}
 
 -- ---- the best of some bounds
@@ -230,10 +230,10 @@ module _ (graph : Tfpg) (log : Logbook) (reach : List ℕ) (node : ℕ) where
   low_covered : (reason : Reason) (bound : ℕ) → fact graph log reach reason ≡ Some (at_least node bound)
       → (bound ≡ 0) ⊎ ((other : Reason) × (more : ℕ) × Contains all_reasons other
       × (fact graph log reach other ≡ Some (at_least node more)) × (bound ≤ more))
-  low_covered (Zero other) bound at = inl (sym (bound_is other bound 0 (passed (ltb other (length graph.nodes)) (at_least other 0) (at_least node bound) at).1))
-  low_covered (Top other) bound at = absurd (apart other node bound (pos never) (passed (ltb other (length graph.nodes)) (at_most other (pos never)) (at_least node bound) at).1)
+  low_covered (Zero other) bound at = inl (sym (bound_is other bound 0 (then_some-true (ltb other (length graph.nodes)) (at_least other 0) (at_least node bound) at).1))
+  low_covered (Top other) bound at = absurd (apart other node bound (pos never) (then_some-true (ltb other (length graph.nodes)) (at_most other (pos never)) (at_least node bound) at).1)
   low_covered (Unreached other horizon) bound at =
-      let parts = passed (ltb other (length graph.nodes) && (leb horizon (now_of log) && not (is_among reach other))) (at_least other (horizon + 1)) (at_least node bound) at in
+      let parts = then_some-true (ltb other (length graph.nodes) && (leb horizon (now_of log) && not (is_among reach other))) (at_least other (horizon + 1)) (at_least node bound) at in
       let both = and_parts (ltb other (length graph.nodes)) (leb horizon (now_of log) && not (is_among reach other)) parts.0 in
       let rest = and_parts (leb horizon (now_of log)) (not (is_among reach other)) both.1 in
       let same : other ≡ node = same_node other bound (horizon + 1) parts.1 in
@@ -273,14 +273,14 @@ module _ (graph : Tfpg) (log : Logbook) (reach : List ℕ) (node : ℕ) where
   high_covered : (reason : Reason) (bound : ℕ) → fact graph log reach reason ≡ Some (at_most node (pos bound))
       → (other : Reason) × Contains all_reasons other × (fact graph log reach other ≡ Some (at_most node (pos bound)))
   high_covered (Zero other) bound at =
-      absurd (apart node other 0 (pos bound) (sym (passed (ltb other (length graph.nodes)) (at_least other 0) (at_most node (pos bound)) at).1))
+      absurd (apart node other 0 (pos bound) (sym (then_some-true (ltb other (length graph.nodes)) (at_least other 0) (at_most node (pos bound)) at).1))
   high_covered (Top other) bound at =
-      let same : other ≡ node = same_most other bound never (passed (ltb other (length graph.nodes)) (at_most other (pos never)) (at_most node (pos bound)) at).1 in
+      let same : other ≡ node = same_most other bound never (then_some-true (ltb other (length graph.nodes)) (at_most other (pos never)) (at_most node (pos bound)) at).1 in
       (Top node, Contains-head (Top node) (Unreached node (now_of log) ∷ by_events node (length log.events)), ap (λ n. fact graph log reach (Top n)) (sym same) ∙ at)
   high_covered (Unreached other horizon) bound at =
       absurd
       (apart node other (horizon + 1) (pos bound)
-      (sym (passed (ltb other (length graph.nodes) && (leb horizon (now_of log) && not (is_among reach other))) (at_least other (horizon + 1)) (at_most node (pos bound)) at).1))
+      (sym (then_some-true (ltb other (length graph.nodes) && (leb horizon (now_of log) && not (is_among reach other))) (at_least other (horizon + 1)) (at_most node (pos bound)) at).1))
   high_covered (From event) bound at =
       let there = numbered (from_alarm graph) event (at_most node (pos bound)) at in
       (From event, by_event (From event) (event_there node (length log.events) event there.0 there.1).0, at)

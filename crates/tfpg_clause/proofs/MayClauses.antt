@@ -22,11 +22,11 @@ use Rattle.tfpg_log.proofs.WindowAges.{exactly}
 use Rattle.tfpg_clause.specs.Bounds.{at_most, at_least, at_least_after}
 use Rattle.tfpg_base.specs.Constraint.{Meets}
 use Rattle.tfpg_base.proofs.lists.Passing.{Contains-filter_map, Contains-filter_map_only}
+use Rattle.tfpg_base.proofs.lists.Choices.{then_some-true}
 use Rattle.tfpg_clause.specs.Clauses.{outside_span, arrival, may_by, MeetsClause}
 use Rattle.tfpg_clause.proofs.Bounded.{met_at_most, met_before, met_at_least, met_at_least_after, says_at_least, says_at_least_after, says_before}
 use Rattle.tfpg_clause.proofs.Agreed.{Agree}
 use Rattle.tfpg_clause.proofs.Found.{may_found}
-use Rattle.tfpg_clause.proofs.Dues.{passed}
 
 -- the alternatives that the target becomes active before the span, and after it
 abbrev pub before_span : ℕ → Span → List Constraint
@@ -107,7 +107,7 @@ module _ (log : Logbook) (trace : List Activation) (numbers : List ℕ) (count :
         option_and_then_some
         (λ (span : Span). then_some holds (outside_span target span ++ filter_map (arrival log number horizon span) edges)) (span_at log number horizon) clause allowed
         (λ span at rest.
-        let parts = passed holds (outside_span target span ++ filter_map (arrival log number horizon span) edges) clause rest in
+        let parts = then_some-true holds (outside_span target span ++ filter_map (arrival log number horizon span) edges) clause rest in
         subst (MeetsClause numbers) parts.1 (by span at))
       where
         by : (span : Span) → span_at log number horizon ≡ Some span → MeetsClause numbers (outside_span target span ++ filter_map (arrival log number horizon span) edges)
@@ -130,7 +130,7 @@ module _ (log : Logbook) (trace : List Activation) (numbers : List ℕ) (count :
         option_and_then_some
         (λ (w : Window). then_some (leb (w.lo + edge.tmin) span.hi) (bounds span w edge)) (window_of log edge number horizon) alternative found.2
         (λ window there rest.
-        let parts = passed (leb (window.lo + edge.tmin) span.hi) (bounds span window edge) alternative rest in
+        let parts = then_some-true (leb (window.lo + edge.tmin) span.hi) (bounds span window edge) alternative rest in
         let all : All (Meets numbers) (bounds span window edge) = subst (All (Meets numbers)) (sym parts.1) met in
         let own_target : edge.target ≡ target = All-contains (λ (e : Edge). e.target ≡ target) edges edge own found.1 in
         let same : get_or numbers edge.target 0 ≡ get_or numbers target 0 = ap (λ node. get_or numbers node 0) own_target in

@@ -23,12 +23,12 @@ use Rattle.tfpg_log.proofs.WindowAges.{by_window}
 use Rattle.tfpg_clause.specs.declared.due.Due.{Due}
 use Rattle.tfpg_clause.specs.Bounds.{at_most, at_least, at_most_after}
 use Rattle.tfpg_base.specs.Constraint.{Meets}
-use Rattle.tfpg_base.proofs.lists.Choices.{Contains-each_of_only, Contains-each_of, each_of-from_each}
+use Rattle.tfpg_base.proofs.lists.Choices.{Contains-each_of_only, Contains-each_of, each_of-from_each, then_some-true}
 use Rattle.tfpg_clause.specs.Clauses.{due_over, must_in, must_by, must_alternatives, starts_late, follows_in_time, latest_of, MeetsClause}
 use Rattle.tfpg_clause.proofs.Bounded.{met_at_most, met_at_least, met_at_most_after, says_at_most, says_at_least, says_at_most_after}
 use Rattle.tfpg_clause.proofs.Agreed.{Agree, active_from, active_only}
 use Rattle.tfpg_clause.proofs.Found.{must_found}
-use Rattle.tfpg_clause.proofs.Dues.{passed, fits}
+use Rattle.tfpg_clause.proofs.Dues.{fits}
 use Rattle.tfpg_clause.proofs.MustAlternatives.{late_there, follows_there, last_there, alternative_cases}
 use Rattle.tfpg_clause.proofs.LastDue.{since_source, last_due, upto_last, last_within, reached, some_late, by_latest, latest_upto}
 
@@ -216,7 +216,7 @@ module _ (log : Logbook) (trace : List Activation) (numbers : List ℕ) (count :
     must_is_met true clause within sources own upto rule allowed =
         option_and_then_some (λ (ds : List Due). must_in target number window ds) (each_of (map (due_over log number horizon) edges)) clause allowed
         (λ ds are rest.
-        let parts = passed (eqb window.first number && list_all (fits window.hi) ds) (must_alternatives target window.hi ds) clause rest in
+        let parts = then_some-true (eqb window.first number && list_all (fits window.hi) ds) (must_alternatives target window.hi ds) clause rest in
         let all = AllPass-from_list_all (fits window.hi) ds (and_parts (eqb window.first number) (list_all (fits window.hi) ds) parts.0).1 in
         subst (MeetsClause numbers) parts.1
         (met_alternatives ds are own within sources upto (λ due member. leb-true due.by window.hi (All-contains (λ (d : Due). fits window.hi d ≡ true) ds due all member))

@@ -2,6 +2,7 @@
 use Rattle.std.proofs.Common.{◌≡◌, ℕ, ◌<◌, ◌≤◌, true, false, cond, leb, List, [], ◌∷◌, Option, Some, None, sym, ap, subst, ◌∙◌}
 use Rattle.std.specs.Prelude.{◌↔◌, IsSomeAnd, option_map, option_and_then, slice_get}
 use Rattle.std.proofs.lemmas.Bool.{both_ways}
+use Rattle.std.proofs.lemmas.Option.{none-some}
 use Rattle.tfpg_base.specs.declared.constraint.Constraint.{Constraint}
 use Rattle.tfpg_graph.specs.declared.edge.Edge.{Edge}
 use Rattle.tfpg_graph.specs.Graph.{Tfpg, is_kind_at, is_or, is_and, incoming, edges_into}
@@ -10,13 +11,14 @@ use Rattle.tfpg_log.specs.Log.{Logbook, now_of}
 use Rattle.tfpg_log.specs.Spans.{span_number, is_allowed_at, are_allowed_at, window_of, joint_of}
 use Rattle.tfpg_log.specs.Runs.{IsWindowRound}
 use Rattle.tfpg_log.proofs.WindowRuns.{edge_window, node_window}
-use Rattle.tfpg_clause.specs.Clauses.{or_must, and_must, MeetsClause}
+use Rattle.tfpg_clause.specs.Clauses.{or_must, and_must}
 use Rattle.tfpg_clause.specs.inside.FirstSpan.{MeetsIfAny, IsViolated, MeetsEach, MeetsUpTo, must_over}
-use Rattle.tfpg_clause.proofs.Found.{or_must_found, and_must_found}
+use Rattle.tfpg_clause.proofs.Found.{or_must_found, and_must_found, no_must_of_edge}
 use Rattle.tfpg_clause.proofs.Kept.{must_has_window}
 use Rattle.tfpg_clause.proofs.MaySpans.{of_met}
 use Rattle.tfpg_clause.proofs.MustSpans.{violated_from, met_without, met_within, met_all}
 use Rattle.tfpg_clause.proofs.RulesMet.{must_holds}
+use Rattle.tfpg_clause.specs.inside.Alternatives.{target_of_kind}
 
 -- an edge that enters the target is there
 pub entered : (edge : Option Edge) (target : ℕ) → Some target ≡ option_map (λ (e : Edge). e.target) edge → IsSomeAnd edge (λ e. e.target ≡ target)
@@ -25,6 +27,11 @@ entered (Some e) target own = cc
 
 module _ (graph : Tfpg) (log : Logbook) (times : List ℕ) where
   -- ---- an OR node
+
+  -- an edge that enters none has no must clause of an OR node
+  pub no_or_must : (edge : Option Edge) → None ≡ target_of_kind is_or graph edge → MeetsEach times (λ number. option_and_then (λ e. or_must graph log e number (now_of log)) edge)
+  no_or_must edge none number all at = absurd (none-some all (sym (no_must_of_edge graph log number (now_of log) edge none) ∙ at))
+
   module _ (edge target : ℕ) where
     -- the must clauses of the edge
     abbrev pub of_edge : ℕ → Option (List (List Constraint))
@@ -33,19 +40,6 @@ module _ (graph : Tfpg) (log : Logbook) (times : List ℕ) where
     -- the windows of the edge
     abbrev windows_of_edge : ℕ → Option Window
     windows_of_edge number = option_and_then (λ e. window_of log e number (now_of log)) (slice_get graph.edges edge)
-
-    -- an edge into another node has no must clause of an OR node
-    pub no_or_must : Some target ≡ option_map (λ (e : Edge). e.target) (slice_get graph.edges edge) → is_kind_at is_or graph target ≡ false
-        → MeetsEach times (λ number. option_and_then (λ e. or_must graph log e number (now_of log)) (slice_get graph.edges edge))
-    no_or_must own other number all at = by (slice_get graph.edges edge) own at
-      where
-        by : (o : Option Edge) → Some target ≡ option_map (λ (e : Edge). e.target) o → option_and_then (λ e. or_must graph log e number (now_of log)) o ≡ Some all → MeetsClause times all
-        by None own at = absurd cc
-        by (Some e) own at =
-            let same : target ≡ e.target = cc in
-            absurd
-            (both_ways (is_kind_at is_or graph e.target) (sym (ap (is_kind_at is_or graph) same) ∙ other)
-            (must_holds log (is_kind_at is_or graph e.target) e.target (e ∷ []) (window_of log e number (now_of log)) number (now_of log) all at))
 
     module _ (own : IsSomeAnd (slice_get graph.edges edge) (λ e. e.target ≡ target)) where
       edge_found : (number : ℕ) (window : Window)

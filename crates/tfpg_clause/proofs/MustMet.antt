@@ -8,7 +8,7 @@ use Rattle.std.proofs.lemmas.List.Elements.{All-cons, All-nil}
 use Rattle.tfpg_base.specs.Choice.{each_of}
 use Rattle.tfpg_base.specs.declared.constraint.Constraint.{Constraint}
 use Rattle.tfpg_base.specs.Constraint.{Meets}
-use Rattle.tfpg_base.proofs.lists.Choices.{Contains-each_of_only, Contains-each_of}
+use Rattle.tfpg_base.proofs.lists.Choices.{Contains-each_of_only, Contains-each_of, then_some-true}
 use Rattle.tfpg_log.specs.declared.span.Window.{Window}
 use Rattle.tfpg_clause.specs.declared.due.Due.{Due}
 use Rattle.tfpg_clause.specs.Bounds.{at_most}
@@ -16,7 +16,7 @@ use Rattle.tfpg_clause.specs.Clauses.{must_in, must_alternatives, starts_late, f
 use Rattle.tfpg_clause.specs.inside.Alternatives.{latest_within}
 use Rattle.tfpg_clause.specs.inside.FirstSpan.{MeetsIfAny, IsExcused}
 use Rattle.tfpg_clause.proofs.Bounded.{met_at_most, says_at_most}
-use Rattle.tfpg_clause.proofs.Dues.{passed, fits, within_opened}
+use Rattle.tfpg_clause.proofs.Dues.{fits, within_opened}
 use Rattle.tfpg_clause.proofs.MaySpans.{met_of, of_met}
 use Rattle.tfpg_clause.proofs.MustAlternatives.{late_there, follows_there, last_there, alternative_cases}
 
@@ -35,7 +35,7 @@ module _ (f : ℕ → Option Due) (edges : List ℕ) (times : List ℕ) (node nu
           → (ds : List Due) × (each_of (map f edges) ≡ Some ds) × (window.first ≡ number) × (list_all (fits window.hi) ds ≡ true) × (must_alternatives node window.hi ds ≡ all)
       by None are at = absurd cc
       by (Some ds) are at =
-          let parts = passed (eqb window.first number && list_all (fits window.hi) ds) (must_alternatives node window.hi ds) all at in
+          let parts = then_some-true (eqb window.first number && list_all (fits window.hi) ds) (must_alternatives node window.hi ds) all at in
           let both = and_parts (eqb window.first number) (list_all (fits window.hi) ds) parts.0 in
           (ds, are, eqb-true window.first number both.0, both.1, parts.1)
 

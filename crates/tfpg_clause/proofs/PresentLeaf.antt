@@ -7,6 +7,8 @@ use Rattle.std.proofs.Common.{◌≡◌, ℕ, zero, suc, ◌+◌, ◌-◌, ◌<�
 use Rattle.std.specs.Prelude.{All, map, slice_get, option_map, unwrap_or}
 use Rattle.std.proofs.lemmas.Bool.{cases_lt}
 use Rattle.std.proofs.lemmas.List.Elements.{All-head, All-tail}
+use Rattle.std.proofs.Math.Seq.{take-append_seam, take-append-add}
+use Rattle.std.proofs.lemmas.List.{length-map, take-map, map-append, take-append-le}
 use Rattle.tfpg_graph.specs.Graph.{Tfpg}
 use Rattle.tfpg_log.specs.Log.{Logbook, first_events}
 use Rattle.tfpg_evidence.specs.declared.clause_name.ClauseName.{ClauseName}
@@ -14,7 +16,7 @@ use Rattle.tfpg_evidence.specs.declared.step.Step.{Step}
 use Rattle.tfpg_evidence.specs.declared.step.Step.TheVariants.{Split, Cycle}
 use Rattle.tfpg_clause.specs.Trees.{Judged, Tree, Leaf, Branch, Subtrees, NoMore, Next, PathSplit, StepPlace, how_many, places, places_from, places_of, IsRight, IsRightStep, IsPartial, IsPresentLeaf}
 use Rattle.tfpg_clause.specs.Clauses.{count_of}
-use Rattle.tfpg_clause.proofs.JoinedLists.{slice_get-append_left, slice_get-append_right}
+use Rattle.tfpg_base.proofs.lists.Written.{slice_get-append_left, slice_get-append_right}
 
 -- the paths of so many subtrees of a split, from the one of this number on
 abbrev paths_from : List PathSplit → ClauseName → ℕ → ℕ → ℕ → List (List PathSplit)
@@ -49,10 +51,6 @@ after_both : (one other : List Shape) (paths : List (List PathSplit)) → after_
 after_both [] other paths = refl
 after_both (shape ∷ one) other paths = after_both one other (after_step shape.step.seen shape.subtrees shape.step.step paths)
 
-map_both : {X Y : Type 0} (f : X → Y) (xs ys : List X) → map f (xs ++ ys) ≡ map f xs ++ map f ys
-map_both f [] ys = refl
-map_both f (x ∷ xs) ys = ap (λ zs. f x ∷ zs) (map_both f xs ys)
-
 -- After all steps of a tree its path is gone.
 mutual
   after_tree : (path : List PathSplit) (tree : Tree) (paths : List (List PathSplit)) → after_all (map shape_of (places path tree)) (path ∷ paths) ≡ paths
@@ -64,21 +62,10 @@ mutual
   after_trees path name seen number NoMore paths = refl
   after_trees path name seen number (Next tree others) paths =
       let own : List PathSplit = path ++ record { name = name; seen = seen; alternative = number } ∷ [] in
-      ap (λ shapes. after_all shapes (own ∷ (paths_from path name seen (number + 1) (how_many others) ++ paths))) (map_both shape_of (places own tree) (places_from path name seen (number + 1) others))
+      ap (λ shapes. after_all shapes (own ∷ (paths_from path name seen (number + 1) (how_many others) ++ paths))) (map-append shape_of (places own tree) (places_from path name seen (number + 1) others))
       ∙ after_both (map shape_of (places own tree)) (map shape_of (places_from path name seen (number + 1) others)) (own ∷ (paths_from path name seen (number + 1) (how_many others) ++ paths))
       ∙ ap (after_all (map shape_of (places_from path name seen (number + 1) others))) (after_tree own tree (paths_from path name seen (number + 1) (how_many others) ++ paths))
       ∙ after_trees path name seen (number + 1) others paths
-
-take_left : {X : Type 0} (n : ℕ) (xs ys : List X) → n ≤ length xs → take n (xs ++ ys) ≡ take n xs
-take_left zero xs ys within = refl
-take_left (suc n) [] ys within = absurd (omega arith)
-take_left (suc n) (x ∷ xs) ys within = ap (λ zs. x ∷ zs) (take_left n xs ys (omega arith))
-
-take_right : {X : Type 0} (n : ℕ) (xs ys : List X) → take (length xs + n) (xs ++ ys) ≡ xs ++ take n ys
-take_right n [] ys = let same : 0 + n ≡ n = omega arith in ap (λ k. take k ys) same
-take_right n (x ∷ xs) ys =
-    let same : suc (length xs) + n ≡ suc (length xs + n) = omega arith in
-    ap (λ k. take k (x ∷ (xs ++ ys))) same ∙ ap (λ zs. x ∷ zs) (take_right n xs ys)
 
 -- the path of the next place is the first to come
 abbrev IsNextPath : List StepPlace → List (List PathSplit) → ℕ → Type 0
@@ -91,7 +78,7 @@ in_first_or_later firsts laters paths rest n within gone first later = by (cases
     by : (n < length firsts) ⊎ (length firsts ≤ n) → IsNextPath (firsts ++ laters) paths n
     by (inl inside) =
         ap (option_map (λ (place : StepPlace). place.path)) (slice_get-append_left firsts laters n inside) ∙ first n inside
-        ∙ ap (λ (ps : List StepPlace). slice_get (after_all (map shape_of ps) paths) 0) (sym (take_left n firsts laters (omega arith)))
+        ∙ ap (λ (ps : List StepPlace). slice_get (after_all (map shape_of ps) paths) 0) (sym (take-append-le n firsts laters (omega arith)))
     by (inr past) =
         let k : ℕ = n - length firsts in
         let same : n ≡ length firsts + k = omega arith in
@@ -100,8 +87,8 @@ in_first_or_later firsts laters paths rest n within gone first later = by (cases
         ∙ later k (omega (arith, length-append firsts laters, within))
         ∙ ap (λ (ps : List (List PathSplit)). slice_get (after_all (map shape_of (take k laters)) ps) 0) (sym gone)
         ∙ ap (λ (ps : List (List PathSplit)). slice_get ps 0) (sym (after_both (map shape_of firsts) (map shape_of (take k laters)) paths))
-        ∙ ap (λ (ss : List Shape). slice_get (after_all ss paths) 0) (sym (map_both shape_of firsts (take k laters)))
-        ∙ ap (λ (ps : List StepPlace). slice_get (after_all (map shape_of ps) paths) 0) (sym (take_right k firsts laters))
+        ∙ ap (λ (ss : List Shape). slice_get (after_all ss paths) 0) (sym (map-append shape_of firsts (take k laters)))
+        ∙ ap (λ (ps : List StepPlace). slice_get (after_all (map shape_of ps) paths) 0) (sym (take-append-add firsts laters k))
         ∙ ap (λ m. slice_get (after_all (map shape_of (take m (firsts ++ laters))) paths) 0) (sym same)
 
 mutual
@@ -124,19 +111,6 @@ mutual
       (λ k inside. next_in_trees path name seen (number + 1) others paths k inside)
 
 -- ---- by the steps alone
-
-map_length : {X Y : Type 0} (f : X → Y) (xs : List X) → length (map f xs) ≡ length xs
-map_length f [] = refl
-map_length f (x ∷ xs) = ap suc (map_length f xs)
-
-map_take : {X Y : Type 0} (f : X → Y) (n : ℕ) (xs : List X) → map f (take n xs) ≡ take n (map f xs)
-map_take f zero xs = refl
-map_take f (suc n) [] = refl
-map_take f (suc n) (x ∷ xs) = ap (λ zs. f x ∷ zs) (map_take f n xs)
-
-take_whole : {X : Type 0} (xs ys : List X) → take (length xs) (xs ++ ys) ≡ xs
-take_whole [] ys = refl
-take_whole (x ∷ xs) ys = ap (λ zs. x ∷ zs) (take_whole xs ys)
 
 some_there : {X : Type 0} (xs : List X) (n : ℕ) → n < length xs → (x : X) × (slice_get xs n ≡ Some x)
 some_there [] n within = absurd (omega arith)
@@ -168,24 +142,25 @@ module _ (graph : Tfpg) (log : Logbook) (reach : List ℕ) where
       ∙ ap (after_steps (map (λ (p : StepPlace). p.step) all))
       (as_many place.path place.step.seen place.subtrees place.step.step paths (All-head (IsRight graph log reach) place all right))
 
-  longer : (steps : List Judged) (partial : IsPartial graph log reach steps) → length steps < length (places_of partial.tree)
-  longer steps partial =
-      omega (arith, length-append steps partial.more, ap length partial.steps_are, map_length (λ (place : StepPlace). place.step) (places_of partial.tree), partial.unfinished)
+  -- a partial tree has more places than steps
+  pub more_places : (steps : List Judged) (partial : IsPartial graph log reach steps) → length steps < length (places_of partial.tree)
+  more_places steps partial =
+      omega (arith, length-append steps partial.more, ap length partial.steps_are, length-map (places_of partial.tree) (λ (place : StepPlace). place.step), partial.unfinished)
 
   -- the path at the present leaf is the first to come after the steps
   path_is : (steps : List Judged) (path : List PathSplit) → IsPresentLeaf graph log reach steps path → Some path ≡ slice_get (after_steps steps ([] ∷ [])) 0
   path_is steps path leaf =
       let all = places_of leaf.partial.tree in
       let front : map (λ (place : StepPlace). place.step) (take (length steps) all) ≡ steps =
-      map_take (λ (place : StepPlace). place.step) (length steps) all ∙ ap (take (length steps)) (sym leaf.partial.steps_are) ∙ take_whole steps leaf.partial.more in
-      sym leaf.here ∙ next_in_tree [] leaf.partial.tree [] (length steps) (longer steps leaf.partial)
+      sym (take-map (λ (place : StepPlace). place.step) (length steps) all) ∙ ap (take (length steps)) (sym leaf.partial.steps_are) ∙ take-append_seam steps leaf.partial.more in
+      sym leaf.here ∙ next_in_tree [] leaf.partial.tree [] (length steps) (more_places steps leaf.partial)
       ∙ ap (λ (paths : List (List PathSplit)). slice_get paths 0)
       (by_steps (take (length steps) all) ([] ∷ []) leaf.partial.right ∙ ap (λ (js : List Judged). after_steps js ([] ∷ [])) front)
 
   -- A partial tree has a present leaf,
   pub leaf_there : (steps : List Judged) → IsPartial graph log reach steps → (path : List PathSplit) × IsPresentLeaf graph log reach steps path
   leaf_there steps partial =
-      let found = some_there (places_of partial.tree) (length steps) (longer steps partial) in
+      let found = some_there (places_of partial.tree) (length steps) (more_places steps partial) in
       (found.0.path, record { partial = partial; here = ap (option_map (λ (place : StepPlace). place.path)) found.1 })
 
   -- and only one.

@@ -1,23 +1,23 @@
 -- The propagation rules and the clauses: where a trace keeps the rules, its numbers meet each allowed clause, and where numbers
 -- meet each allowed clause with the horizon now, their trace keeps the rules.
-use Rattle.std.proofs.Common.{◌≡◌, ℕ, ◌<◌, ◌≤◌, Bool, true, false, eqb, List, [], ◌∷◌, length, Option, Some, None, refl, sym, ap, subst, ◌∙◌, arith}
-use Rattle.std.specs.Prelude.{All, Contains, filter_map, slice_get, option_map, option_and_then, ◌++◌}
+use Rattle.std.proofs.Common.{◌≡◌, ℕ, ◌<◌, ◌≤◌, Bool, true, false, eqb, List, [], ◌∷◌, length, Option, Some, refl, sym, ap, subst, ◌∙◌, arith}
+use Rattle.std.specs.Prelude.{All, Contains, filter_map, slice_get, option_and_then, ◌++◌}
 use Rattle.std.specs.Bool.{then_some}
-use Rattle.std.specs.Option.{option_map_or}
 use Rattle.std.specs.List.{list_all}
-use Rattle.std.proofs.lemmas.Bool.{eqb-true, eq-eqb, false≢true}
+use Rattle.std.proofs.lemmas.Bool.{eqb-true, eq-eqb}
 use Rattle.std.proofs.lemmas.List.Elements.{All-cons, All-nil, All-head, All-contains, All-filter, All-weaker, filter_passes}
 use Rattle.std.proofs.lemmas.List.Sums.{list_all-from_AllPass}
-use Rattle.std.proofs.lemmas.Option.{option_and_then_some, slice_get_within, get_or_from_slice_get}
+use Rattle.std.proofs.lemmas.Option.{option_and_then_some}
 use Rattle.tfpg_base.specs.declared.activation.Activation.{Activation}
 use Rattle.tfpg_base.specs.declared.constraint.Constraint.{Constraint}
 use Rattle.tfpg_base.specs.Trace.{time_of}
-use Rattle.tfpg_base.proofs.lists.Elements.{All-from_members, Contains-head, Contains-one}
+use Rattle.tfpg_base.proofs.lists.Elements.{All-from_members, Contains-at, Contains-head, Contains-one}
+use Rattle.tfpg_base.proofs.lists.Choices.{then_some-true}
 use Rattle.tfpg_base.proofs.lists.Passing.{Contains-filter, Contains-filter_only}
 use Rattle.tfpg_graph.specs.declared.edge.Edge.{Edge}
-use Rattle.tfpg_graph.specs.declared.kind.Kind.{Kind}
-use Rattle.tfpg_graph.specs.Graph.{Tfpg, Node, is_kind_at, is_or, is_and, edges_into}
+use Rattle.tfpg_graph.specs.Graph.{Tfpg, is_kind_at, is_or, is_and, edges_into}
 use Rattle.tfpg_graph.specs.Valid.{IsValid, IsValidEdge}
+use Rattle.tfpg_graph.proofs.NodeAt.{kind_within}
 use Rattle.tfpg_log.specs.declared.span.Span.{Span}
 use Rattle.tfpg_log.specs.declared.span.Window.{Window}
 use Rattle.tfpg_log.specs.Log.{Logbook, now_of}
@@ -31,7 +31,6 @@ use Rattle.tfpg_evidence.specs.declared.clause_name.ClauseName.TheVariants.{OrMa
 use Rattle.tfpg_clause.specs.Clauses.{outside_span, arrival, may_by, must_by, and_may, or_must, alternatives, MeetsClause}
 use Rattle.tfpg_clause.specs.Order.{horizon_of}
 use Rattle.tfpg_clause.proofs.Kept.{allowed_by_now, must_has_window}
-use Rattle.tfpg_clause.proofs.Dues.{passed}
 use Rattle.tfpg_clause.proofs.Agreed.{Agree}
 use Rattle.tfpg_clause.proofs.MayClauses.{ArrivesBy, may_is_met, may_is_kept}
 use Rattle.tfpg_clause.proofs.MustClauses.{InCommon, must_is_met, must_is_kept}
@@ -65,18 +64,6 @@ joint_common graph log node number horizon window at =
 
 -- ---- nodes and edges of a valid graph
 
--- a node of some kind is a node
-pub kind_within : (graph : Tfpg) (test : Kind → Bool) (node : ℕ) → is_kind_at test graph node ≡ true → node < length graph.nodes
-kind_within graph test node is = by (slice_get graph.nodes node) refl is
-  where
-    by : (found : Option Node) → slice_get graph.nodes node ≡ found → option_map_or test (option_map (λ (n : Node). n.kind) found) false ≡ true → node < length graph.nodes
-    by None none passes = absurd (false≢true passes)
-    by (Some n) at passes = slice_get_within graph.nodes node n at
-
--- an edge of a number stands among the edges
-pub item_there : {X : Type 0} (xs : List X) (k : ℕ) (x : X) → slice_get xs k ≡ Some x → Contains xs x
-item_there xs k x at = (k, slice_get_within xs k x at, get_or_from_slice_get xs k x x at)
-
 module _ (graph : Tfpg) (valid : IsValid graph) where
   pub sources_within : (node : ℕ) → All (λ (edge : Edge). edge.source < length graph.nodes) (edges_into graph node)
   sources_within node =
@@ -86,7 +73,7 @@ module _ (graph : Tfpg) (valid : IsValid graph) where
   pub source_within : (k : ℕ) (edge : Edge) → slice_get graph.edges k ≡ Some edge → All (λ (e : Edge). e.source < length graph.nodes) (edge ∷ [])
   source_within k edge at =
       All-cons (λ (e : Edge). e.source < length graph.nodes) edge []
-      (All-contains (IsValidEdge graph) graph.edges edge valid.so_far.edges (item_there graph.edges k edge at)).source (All-nil _)
+      (All-contains (IsValidEdge graph) graph.edges edge valid.so_far.edges (Contains-at graph.edges k edge at)).source (All-nil _)
 
 -- the edges into a node enter it
 pub targets_are : (graph : Tfpg) (node : ℕ) → All (λ (edge : Edge). edge.target ≡ node) (edges_into graph node)
@@ -107,7 +94,7 @@ pub may_holds : (log : Logbook) (holds : Bool) (target : ℕ) (edges : List Edge
 may_holds log holds target edges number horizon clause allowed =
     option_and_then_some
     (λ (span : Span). then_some holds (outside_span target span ++ filter_map (arrival log number horizon span) edges)) (span_at log number horizon) clause allowed
-    (λ span at rest. (passed holds (outside_span target span ++ filter_map (arrival log number horizon span) edges) clause rest).0)
+    (λ span at rest. (then_some-true holds (outside_span target span ++ filter_map (arrival log number horizon span) edges) clause rest).0)
 
 pub must_holds : (log : Logbook) (holds : Bool) (target : ℕ) (edges : List Edge) (window : Option Window) (number horizon : ℕ) (clause : List (List Constraint))
     → must_by log holds target edges window number horizon ≡ Some clause → holds ≡ true

@@ -1,19 +1,18 @@
 -- Alternatives are small: each has at most three constraints, and they are on the nodes of the graph.
 use Rattle.std.proofs.Common.{◌≡◌, ℕ, ◌+◌, ◌-◌, ◌<◌, List, [], ◌∷◌, ◌++◌, length, Bool, true, false, Option, Some, None, refl, subst, arith}
-use Rattle.std.specs.Prelude.{All, Contains, map, filter_map, max, pos, ℤ, ◌-ℤ◌, nat_le, ◌==◌, ◌&&◌, option_map, option_and_then, slice_get}
-use Rattle.std.specs.Option.{option_map_or}
+use Rattle.std.specs.Prelude.{All, map, filter_map, max, pos, ℤ, ◌-ℤ◌, nat_le, ◌==◌, ◌&&◌, option_map, option_and_then, slice_get}
 use Rattle.std.specs.Bool.{then_some}
 use Rattle.std.specs.List.{list_all}
-use Rattle.std.proofs.lemmas.Option.{slice_get_within, get_or_from_slice_get}
-use Rattle.std.proofs.lemmas.List.Elements.{All-nil, All-cons, All-append, All-map, All-weaker, All-contains, All-contains_itself, All-filter, Contains-get_or}
+use Rattle.std.proofs.lemmas.List.Elements.{All-nil, All-cons, All-append, All-map, All-weaker, All-contains, All-filter}
 use Rattle.tfpg_base.specs.Choice.{each_of}
 use Rattle.tfpg_base.specs.declared.constraint.Constraint.{Constraint}
 use Rattle.tfpg_base.proofs.lists.Passing.{Contains-filter_map_only}
 use Rattle.tfpg_base.proofs.lists.Choices.{Contains-each_of_only}
-use Rattle.tfpg_graph.specs.declared.kind.Kind.{Kind}
+use Rattle.tfpg_base.proofs.lists.Elements.{All-from_members, Contains-at}
 use Rattle.tfpg_graph.specs.declared.edge.Edge.{Edge}
 use Rattle.tfpg_graph.specs.Graph.{Tfpg, is_kind_at, is_or, is_and, edges_into}
 use Rattle.tfpg_graph.specs.Valid.{IsValid, IsValidEdge}
+use Rattle.tfpg_graph.proofs.NodeAt.{kind_within}
 use Rattle.tfpg_log.specs.Log.{Logbook}
 use Rattle.tfpg_log.specs.declared.span.Span.{Span}
 use Rattle.tfpg_log.specs.declared.span.Window.{Window}
@@ -23,16 +22,6 @@ use Rattle.tfpg_evidence.specs.declared.clause_name.ClauseName.TheVariants.{OrMa
 use Rattle.tfpg_clause.specs.declared.due.Due.{Due}
 use Rattle.tfpg_clause.specs.Bounds.{at_most, at_least, at_most_after, at_least_after}
 use Rattle.tfpg_clause.specs.Clauses.{IsOver, IsSmall, outside_span, arrival, due_over, starts_late, follows_in_time, latest_of, must_alternatives, may_by, must_in, must_by, and_may, or_must, alternatives}
-
--- what holds of each item that a list contains holds of all
-all_of : {X : Type 0} (P : X → Type 0) (xs : List X) → ((x : X) → Contains xs x → P x) → All P xs
-all_of {X} P xs each = All-weaker (Contains xs) P each xs (All-contains_itself xs)
-
--- an item that is read is contained
-contains_at : {X : Type 0} (xs : List X) (i : ℕ) (x : X) → slice_get xs i ≡ Some x → Contains xs x
-contains_at {X} xs i x at =
-    let within = slice_get_within xs i x at in
-    subst (Contains xs) (get_or_from_slice_get xs i x x at) (Contains-get_or xs i x within)
 
 -- The edge is between two of so many nodes.
 record Joins (nodes : ℕ) (edge : Edge) : Type 0 where
@@ -92,7 +81,7 @@ module _ (nodes : ℕ) where
 
   small_arrivals : (log : Logbook) (number horizon : ℕ) (span : Span) (edges : List Edge) → All (Joins nodes) edges → All (IsSmall nodes) (filter_map (arrival log number horizon span) edges)
   small_arrivals log number horizon span edges joins =
-      all_of (IsSmall nodes) (filter_map (arrival log number horizon span) edges)
+      All-from_members (IsSmall nodes) (filter_map (arrival log number horizon span) edges)
       (λ alternative there.
       let from = Contains-filter_map_only (arrival log number horizon span) edges alternative there in
       small_arrival log number horizon span from.0 alternative (All-contains (Joins nodes) edges from.0 joins from.1) from.2)
@@ -167,7 +156,7 @@ module _ (nodes : ℕ) where
       by None are is = cc
       by (Some dues) are some =
           inner dues
-          (all_of (JoinsDue nodes) dues
+          (All-from_members (JoinsDue nodes) dues
           (λ due there.
           let from = Contains-each_of_only (due_over log number horizon) edges dues due are there in
           joins_due log number horizon from.0 due (All-contains (Joins nodes) edges from.0 joins from.1) from.2))
@@ -186,25 +175,18 @@ module _ (graph : Tfpg) (valid : IsValid graph) where
   one_joins : (edge : Edge) → own edge → All own (edge ∷ [])
   one_joins edge joins = All-cons own edge [] joins (All-nil own)
 
-  kind_within : (is_kind : Kind → Bool) (node : ℕ) → is_kind_at is_kind graph node ≡ true → node < length graph.nodes
-  kind_within is_kind node holds = by (slice_get graph.nodes node) refl holds
-    where
-      by : (o : Option _) → slice_get graph.nodes node ≡ o → option_map_or is_kind (option_map (λ n. n.kind) o) false ≡ true → node < length graph.nodes
-      by None at is = cc
-      by (Some n) at is = slice_get_within graph.nodes node n at
-
   at_edge : (number : ℕ) (clause : List (List Constraint)) (f : Edge → Option (List (List Constraint))) → ((edge : Edge) → own edge → f edge ≡ Some clause → AreSmall (length graph.nodes) clause)
       → option_and_then f (slice_get graph.edges number) ≡ Some clause → AreSmall (length graph.nodes) clause
   at_edge number clause f each is = by (slice_get graph.edges number) refl is
     where
       by : (o : Option Edge) → slice_get graph.edges number ≡ o → option_and_then f o ≡ Some clause → AreSmall (length graph.nodes) clause
       by None at is = cc
-      by (Some edge) at some = each edge (All-contains own graph.edges edge all_join (contains_at graph.edges number edge at)) some
+      by (Some edge) at some = each edge (All-contains own graph.edges edge all_join (Contains-at graph.edges number edge at)) some
 
   -- The alternatives of an allowed clause are small.
   pub small_clause : (log : Logbook) (name : ClauseName) (clause : List (List Constraint)) → alternatives graph log name ≡ Some clause → AreSmall (length graph.nodes) clause
   small_clause log (OrMay node number horizon) clause is =
-      small_may (length graph.nodes) log (is_kind_at is_or graph node) node (edges_into graph node) number horizon clause (kind_within is_or node) (into_join node) is
+      small_may (length graph.nodes) log (is_kind_at is_or graph node) node (edges_into graph node) number horizon clause (kind_within graph is_or node) (into_join node) is
   small_clause log (AndMay edge number horizon) clause is =
       at_edge edge clause (λ e. and_may graph log e number horizon)
       (λ e joins some. small_may (length graph.nodes) log (is_kind_at is_and graph e.target) e.target (e ∷ []) number horizon clause (λ holds. joins.target) (one_joins e joins) some) is
@@ -214,5 +196,5 @@ module _ (graph : Tfpg) (valid : IsValid graph) where
       small_must (length graph.nodes) log (is_kind_at is_or graph e.target) e.target (e ∷ []) (window_of log e number horizon) number horizon clause (λ holds. joins.target) (one_joins e joins) some)
       is
   small_clause log (AndMust node number horizon) clause is =
-      small_must (length graph.nodes) log (is_kind_at is_and graph node) node (edges_into graph node) (joint_of graph log node number horizon) number horizon clause (kind_within is_and node)
+      small_must (length graph.nodes) log (is_kind_at is_and graph node) node (edges_into graph node) (joint_of graph log node number horizon) number horizon clause (kind_within graph is_and node)
       (into_join node) is

@@ -1,10 +1,12 @@
 -- One more right step makes a refutation or another partial tree of a partial tree.
-use Rattle.std.proofs.Common.{◌≡◌, ℕ, zero, suc, ◌+◌, ◌-◌, ◌<◌, List, [], ◌∷◌, ◌++◌, length, take, Option, Some, None, refl, sym, ap, subst, ◌∙◌, arith, append_assoc, length-append}
+use Rattle.std.proofs.Common.{◌≡◌, ℕ, zero, suc, ◌+◌, ◌-◌, ◌<◌, List, [], ◌∷◌, ◌++◌, length, take, Option, Some, None, refl, sym, ap, subst, ◌∙◌, arith, append_assoc}
 use Rattle.std.specs.Prelude.{All, slice_get, option_map}
 use Rattle.std.proofs.Math.Seq.{take-append_seam}
 use Rattle.std.proofs.lemmas.List.{length-map, take-map, map-append, append-nil}
 use Rattle.std.proofs.lemmas.List.Elements.{All-nil, All-cons, All-append, All-head}
+use Rattle.std.proofs.lemmas.Option.{same_Some}
 use Rattle.tfpg_base.proofs.lists.Elements.{All-front, All-back}
+use Rattle.tfpg_base.proofs.lists.Written.{slice_get-after}
 use Rattle.tfpg_graph.specs.Graph.{Tfpg}
 use Rattle.tfpg_log.specs.Log.{Logbook, first_events}
 use Rattle.tfpg_evidence.specs.declared.clause_name.ClauseName.{ClauseName}
@@ -17,6 +19,7 @@ use Rattle.tfpg_clause.proofs.LeafPaths.{leaf_after, after_both}
 use Rattle.tfpg_clause.proofs.SomeAlternative.{some_alternative}
 use Rattle.tfpg_clause.proofs.TreeWalk.{steps_in, first_path, walk_tree}
 use Rattle.tfpg_clause.proofs.Grafts.{graft}
+use Rattle.tfpg_clause.proofs.PresentLeaf.{more_places, leaf_there}
 
 -- A partial tree with its present leaf: the places of a tree, cut where the leaf is.
 pub record Cut (graph : Tfpg) (log : Logbook) (reach : List ℕ) (steps : List Judged) (path : List PathSplit) : Type 0 where
@@ -43,49 +46,21 @@ cut_before (x ∷ xs) (suc n) within =
     let rest = cut_before xs n (omega arith) in
     record { here = rest.here; back = rest.back; is = ap (λ ys. x ∷ ys) rest.is; got = rest.got }
 
-get_seam : {X : Type 0} (xs : List X) (y : X) (ys : List X) → slice_get (xs ++ y ∷ ys) (length xs) ≡ Some y
-get_seam [] y ys = refl
-get_seam (x ∷ xs) y ys = get_seam xs y ys
-
 module _ (graph : Tfpg) (log : Logbook) (reach : List ℕ) where
   abbrev step_in : StepPlace → Judged
   step_in place = place.step
-
-  all_steps : (steps : List Judged) (partial : IsPartial graph log reach steps) → length steps < length (places_of partial.tree)
-  all_steps steps partial =
-      let all : length steps + length partial.more ≡ length (places_of partial.tree) =
-      sym (length-append steps partial.more) ∙ ap length partial.steps_are ∙ length-map (places_of partial.tree) step_in in
-      omega (arith, all, partial.unfinished)
 
   front_steps : (steps : List Judged) (partial : IsPartial graph log reach steps) → steps_in (take (length steps) (places_of partial.tree)) ≡ steps
   front_steps steps partial =
       sym (take-map step_in (length steps) (places_of partial.tree)) ∙ ap (take (length steps)) (sym partial.steps_are) ∙ take-append_seam steps partial.more
 
-  -- a partial tree has a present leaf
-  pub cut_of_partial : (steps : List Judged) → IsPartial graph log reach steps → (path : List PathSplit) × Cut graph log reach steps path
-  cut_of_partial steps partial =
-      let cut = cut_before (places_of partial.tree) (length steps) (all_steps steps partial) in (
-        cut.here.path,
-        record {
-          tree = partial.tree;
-          front = take (length steps) (places_of partial.tree);
-          here = cut.here;
-          back = cut.back;
-          places_are = cut.is;
-          steps_are = front_steps steps partial;
-          right = partial.right;
-          path_is = refl;
-        },
-      )
-
+  -- The tree is cut where its present leaf is.
   pub cut_of_leaf : (steps : List Judged) (path : List PathSplit) → IsPresentLeaf graph log reach steps path → Cut graph log reach steps path
   cut_of_leaf steps path leaf =
       let partial = leaf.partial in
-      let cut = cut_before (places_of partial.tree) (length steps) (all_steps steps partial) in
+      let cut = cut_before (places_of partial.tree) (length steps) (more_places graph log reach steps partial) in
       let there : option_map (λ (place : StepPlace). place.path) (slice_get (places_of partial.tree) (length steps)) ≡ Some cut.here.path =
       ap (option_map (λ (place : StepPlace). place.path)) cut.got in
-      let same : Some cut.here.path ≡ Some path = sym there ∙ leaf.here in
-      let path_same : cut.here.path ≡ path = cc in
       record {
         tree = partial.tree;
         front = take (length steps) (places_of partial.tree);
@@ -94,8 +69,12 @@ module _ (graph : Tfpg) (log : Logbook) (reach : List ℕ) where
         places_are = cut.is;
         steps_are = front_steps steps partial;
         right = partial.right;
-        path_is = path_same;
+        path_is = same_Some cut.here.path path (sym there ∙ leaf.here);
       }
+
+  -- a partial tree has a present leaf
+  pub cut_of_partial : (steps : List Judged) → IsPartial graph log reach steps → (path : List PathSplit) × Cut graph log reach steps path
+  cut_of_partial steps partial = let leaf = leaf_there graph log reach steps partial in (leaf.0, cut_of_leaf steps leaf.0 leaf.1)
 
   leaf_of_front : (tree : Tree) (front : List StepPlace) (here : StepPlace) (back : List StepPlace) → places_of tree ≡ front ++ here ∷ back → All (IsRight graph log reach) front
       → IsPresentLeaf graph log reach (steps_in front) here.path
@@ -114,7 +93,7 @@ module _ (graph : Tfpg) (log : Logbook) (reach : List ℕ) where
         };
         here =
             ap (option_map (λ (place : StepPlace). place.path))
-            (ap (λ (n : ℕ). slice_get (places_of tree) n) many ∙ ap (λ (ps : List StepPlace). slice_get ps (length front)) are ∙ get_seam front here back);
+            (ap (λ (n : ℕ). slice_get (places_of tree) n) many ∙ ap (λ (ps : List StepPlace). slice_get ps (length front)) are ∙ slice_get-after front here back);
       }
 
   pub leaf_of_cut : (steps : List Judged) (path : List PathSplit) → Cut graph log reach steps path → IsPresentLeaf graph log reach steps path

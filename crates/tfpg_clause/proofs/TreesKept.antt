@@ -1,5 +1,5 @@
 -- Refutations and partial trees at a log are those at each log that goes on from it.
-use Rattle.std.proofs.Common.{◌≡◌, ℕ, zero, suc, ◌<◌, ◌≤◌, List, [], ◌∷◌, ◌++◌, length, take, drop, get_or, Option, Some, None, refl, sym, ap, subst, ◌∙◌, arith}
+use Rattle.std.proofs.Common.{◌≡◌, ℕ, zero, suc, ◌≤◌, List, [], ◌∷◌, ◌++◌, length, take, drop, get_or, Option, Some, None, refl, sym, ap, subst, ◌∙◌, arith}
 use Rattle.std.specs.Prelude.{All, AllPairs, map, option_map, option_and_then}
 use Rattle.std.proofs.lemmas.List.{take-append-drop}
 use Rattle.std.proofs.lemmas.List.Elements.{All-take}
@@ -7,6 +7,7 @@ use Rattle.std.proofs.lemmas.Option.{option_and_then_some}
 use Rattle.tfpg_base.specs.Choice.{each_of}
 use Rattle.tfpg_base.specs.declared.constraint.Constraint.{Constraint}
 use Rattle.tfpg_base.specs.Times.{max_time}
+use Rattle.tfpg_base.proofs.lists.Elements.{AllPairs-front}
 use Rattle.tfpg_graph.specs.Graph.{Tfpg}
 use Rattle.tfpg_log.specs.declared.event.Event.{Event}
 use Rattle.tfpg_log.specs.Log.{Logbook, GoesOn, IsOrdered, first_events, time_of_event}
@@ -20,27 +21,11 @@ use Rattle.tfpg_clause.specs.Clauses.{alternatives, count_of, item_at, constrain
 use Rattle.tfpg_clause.specs.Trees.{Judged, PathSplit, StepPlace, picked, stated, IsClosedLeaf, IsRight, IsRightStep, IsRefutation, IsPartial, IsPresentLeaf}
 use Rattle.tfpg_clause.proofs.Kept.{clause_stays, fact_stays}
 
-get_front : {X : Type 0} (xs ys : List X) (i : ℕ) (d : X) → i < length xs → get_or (xs ++ ys) i d ≡ get_or xs i d
-get_front [] ys i d within = absurd (omega arith)
-get_front (x ∷ xs) ys zero d within = refl
-get_front (x ∷ xs) ys (suc i) d within = get_front xs ys i d (omega arith)
-
-longer : {X : Type 0} (xs ys : List X) (i : ℕ) → i < length xs → i < length (xs ++ ys)
-longer [] ys i within = absurd (omega arith)
-longer (x ∷ xs) ys zero within = omega arith
-longer (x ∷ xs) ys (suc i) within = let rest : i < length (xs ++ ys) = longer xs ys i (omega arith) in omega arith
-
-pairs_front : {X : Type 0} (R : X → X → Type 0) (xs ys : List X) → AllPairs R (xs ++ ys) → AllPairs R xs
-pairs_front R xs ys all i j d less within =
-    let first : R (get_or (xs ++ ys) i d) (get_or (xs ++ ys) j d) = all i j d less (longer xs ys j within) in
-    let second : R (get_or xs i d) (get_or (xs ++ ys) j d) = subst (λ x. R x (get_or (xs ++ ys) j d)) (get_front xs ys i d (omega arith)) first in
-    subst (λ y. R (get_or xs i d) y) (get_front xs ys j d within) second
-
 -- The first events of a log are in order.
 pub ordered_first : (log : Logbook) (seen : ℕ) → IsOrdered log → IsOrdered (first_events log seen)
 ordered_first log seen ordered = record {
   in_order =
-      pairs_front (λ (earlier later : Event). time_of_event earlier ≤ time_of_event later) (take seen log.events) (drop seen log.events)
+      AllPairs-front (λ (earlier later : Event). time_of_event earlier ≤ time_of_event later) (take seen log.events) (drop seen log.events)
       (subst (AllPairs (λ (earlier later : Event). time_of_event earlier ≤ time_of_event later)) (sym (take-append-drop seen log.events)) ordered.in_order);
   in_range = All-take (λ (event : Event). time_of_event event ≤ max_time) seen log.events ordered.in_range;
 }

@@ -13,6 +13,7 @@ use Rattle.tfpg_log.specs.Spans.{span_at, window_of, joint_of}
 use Rattle.tfpg_evidence.specs.declared.clause_name.ClauseName.{ClauseName}
 use Rattle.tfpg_evidence.specs.declared.clause_name.ClauseName.TheVariants.{OrMay, AndMay, OrMust, AndMust}
 use Rattle.tfpg_clause.specs.declared.due.Due.{Due}
+use Rattle.tfpg_clause.specs.declared.limits.TheConstants.{MAX_CONSTRAINTS}
 use Rattle.tfpg_clause.specs.Bounds.{at_most, at_least, at_most_after, at_least_after}
 use Rattle.tfpg_base.specs.Constraint.{Meets}
 
@@ -116,7 +117,7 @@ pub record IsOver (nodes : ℕ) (constraint : Constraint) : Type 0 where
 
 -- The alternative has at most three constraints, each on so many nodes.
 pub record IsSmall (nodes : ℕ) (alternative : List Constraint) : Type 0 where
-  pub few : length alternative ≤ 3
+  pub few : length alternative ≤ MAX_CONSTRAINTS
   pub over : All (IsOver nodes) alternative
 
 -- The name is allowed at the log, and the times violate its clause: they do not meet it.

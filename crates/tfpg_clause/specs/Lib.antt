@@ -9,5 +9,6 @@ pub mod Order
 pub mod Cut
 pub mod Trees
 pub mod Paths
+pub mod Laws
 -- what proofs alone need
 pub mod inside

@@ -1,13 +1,14 @@
 //! Constraints on the times of nodes.
 
 ghost use Rattle.std.specs.Prelude.{◌≡◌, ◌<◌, ◌^◌, pos, ◌-ℤ◌};
+ghost use Rattle.tfpg_graph.specs.declared.limits.TheConstants.{MAX_NODES};
 ghost use Rattle.tfpg_clause.specs.Bounds.{at_least, at_most, at_least_after, at_most_after};
 
 use tfpg_base::Constraint;
 
 /// The time of the node is at least this.
 pub(crate) fn at_least(node: u32, least: u64) -> Constraint
-    requires node { node < 512 }
+    requires node { node < MAX_NODES }
     requires least { least < 2 ^ 63 }
     ensures { result ≡ at_least node least }
 {
@@ -20,7 +21,7 @@ pub(crate) fn at_least(node: u32, least: u64) -> Constraint
 
 /// The time of the node is at most this.
 pub(crate) fn at_most(node: u32, most: u64) -> Constraint
-    requires node { node < 512 }
+    requires node { node < MAX_NODES }
     requires most { most < 2 ^ 63 }
     ensures { result ≡ at_most node (pos most) }
 {
@@ -33,8 +34,8 @@ pub(crate) fn at_most(node: u32, most: u64) -> Constraint
 
 /// The one node's time is at most so much after the other's.
 pub(crate) fn at_most_after(node: u32, source: u32, most: u64) -> Constraint
-    requires node { node < 512 }
-    requires source { source < 512 }
+    requires node { node < MAX_NODES }
+    requires source { source < MAX_NODES }
     requires most { most < 2 ^ 63 }
     ensures { result ≡ at_most_after node source most }
 {
@@ -47,8 +48,8 @@ pub(crate) fn at_most_after(node: u32, source: u32, most: u64) -> Constraint
 
 /// The one node's time is at least so much after the other's.
 pub(crate) fn at_least_after(node: u32, source: u32, least: u64) -> Constraint
-    requires node { node < 512 }
-    requires source { source < 512 }
+    requires node { node < MAX_NODES }
+    requires source { source < MAX_NODES }
     requires least { least < 2 ^ 63 }
     ensures { result ≡ at_least_after node source least }
 {
@@ -61,7 +62,7 @@ pub(crate) fn at_least_after(node: u32, source: u32, least: u64) -> Constraint
 
 /// The node's time is before this.
 pub(crate) fn before(node: u32, time: u64) -> Constraint
-    requires node { node < 512 }
+    requires node { node < MAX_NODES }
     requires time { time < 2 ^ 63 }
     ensures { result ≡ at_most node (pos time -ℤ pos 1) }
 {

@@ -2,9 +2,10 @@
 
 ghost use Rattle.std.specs.Prelude.{◌≡◌, ◌<◌, ◌≤◌, length, All, IsTrue, IfSome, option_map, option_and_then, slice_get};
 ghost use Rattle.std.specs.Result.{result_ok};
+ghost use Rattle.tfpg_graph.specs.declared.limits.TheConstants.{MAX_INCOMING, MAX_NODES};
 ghost use Rattle.tfpg_graph.specs.Graph.{is_kind_at, is_or, is_and, incoming};
 ghost use Rattle.tfpg_clause.specs.Clauses.{alternatives, or_may, and_may, or_must, and_must, must_in, count_of, item_at, constraint_at};
-ghost use Rattle.tfpg_clause.specs.inside.Alternatives.{constraints_in, dues_over};
+ghost use Rattle.tfpg_clause.specs.inside.Alternatives.{constraints_in, dues_over, target_of_kind};
 ghost use Rattle.tfpg_clause.specs.inside.FirstSpan.{may_over};
 ghost use Rattle.tfpg_clause.specs.inside.Ranges.{IsSmallWindow};
 
@@ -118,10 +119,7 @@ fn count_and_may(graph: &Graph, log: &Log, edge: u32, number: u32, horizon: u64)
     ensures { result ≡ option_map length
         (option_and_then (λ e. and_may graph.now log.now e number horizon) (slice_get graph.now.edges edge)) }
 {
-    let target = target_of(graph, edge)?;
-    if !is_and(graph, target) {
-        return None;
-    }
+    let target = and_target(graph, edge)?;
     may_count(graph, log, &[edge], number, horizon)
 }
 
@@ -129,10 +127,7 @@ fn count_or_must(graph: &Graph, log: &Log, edge: u32, number: u32, horizon: u64)
     ensures { result ≡ option_map length
         (option_and_then (λ e. or_must graph.now log.now e number horizon) (slice_get graph.now.edges edge)) }
 {
-    let target = target_of(graph, edge)?;
-    if !is_or(graph, target) {
-        return None;
-    }
+    let target = or_target(graph, edge)?;
     let window = find_window(graph, log, edge, number, horizon)?;
     must_count(graph, log, &[edge], window, number, horizon)
 }
@@ -177,10 +172,7 @@ fn and_may_alternative(
         ≡ option_map (λ clause. item_at clause alternative)
         (option_and_then (λ e. and_may graph.now log.now e number horizon) (slice_get graph.now.edges edge)) }
 {
-    let target = target_of(graph, edge).ok_or(NotAClause)?;
-    if !is_and(graph, target) {
-        return Err(NotAClause);
-    }
+    let target = and_target(graph, edge).ok_or(NotAClause)?;
     may_alternative_in(graph, log, target, &[edge], number, horizon, alternative)
 }
 
@@ -196,10 +188,7 @@ fn or_must_alternative(
         ≡ option_map (λ clause. item_at clause alternative)
         (option_and_then (λ e. or_must graph.now log.now e number horizon) (slice_get graph.now.edges edge)) }
 {
-    let target = target_of(graph, edge).ok_or(NotAClause)?;
-    if !is_or(graph, target) {
-        return Err(NotAClause);
-    }
+    let target = or_target(graph, edge).ok_or(NotAClause)?;
     let window = find_window(graph, log, edge, number, horizon).ok_or(NotAClause)?;
     must_alternative_in(
         graph,
@@ -251,7 +240,7 @@ fn may_alternative_in(
     horizon: u64,
     alternative: u32,
 ) -> Result<Option<Alternative>, NotAClause>
-    requires node { node < 512 }
+    requires node { node < MAX_NODES }
     requires edges { All (λ edge. edge < length graph.now.edges) edges.now }
     ensures { option_map (option_map constraints_in) (result_ok result)
         ≡ option_map (λ clause. item_at clause alternative)
@@ -272,9 +261,9 @@ fn must_alternative_in(
     horizon: u64,
     alternative: u32,
 ) -> Result<Option<Alternative>, NotAClause>
-    requires node { node < 512 }
+    requires node { node < MAX_NODES }
     requires edges { All (λ edge. edge < length graph.now.edges) edges.now }
-    requires few { length edges.now ≤ 32 }
+    requires few { length edges.now ≤ MAX_INCOMING }
     requires small { IsSmallWindow window }
     ensures { option_map (option_map constraints_in) (result_ok result)
         ≡ option_map (λ clause. item_at clause alternative)
@@ -298,10 +287,38 @@ fn must_alternative_in(
     ))
 }
 
+/// The target of the edge, where it is an AND node.
+pub(crate) fn and_target(graph: &Graph, edge: u32) -> Option<u32>
+    ensures value { result ≡ target_of_kind is_and graph.now (slice_get graph.now.edges edge) }
+    ensures within { IfSome result (λ target. target < length graph.now.nodes) }
+    ensures small { IfSome result (λ target. (target < MAX_NODES) × (edge < length graph.now.edges)) }
+{
+    let target = target_of(graph, edge)?;
+    if is_and(graph, target) {
+        Some(target)
+    } else {
+        None
+    }
+}
+
+/// The target of the edge, where it is an OR node.
+pub(crate) fn or_target(graph: &Graph, edge: u32) -> Option<u32>
+    ensures value { result ≡ target_of_kind is_or graph.now (slice_get graph.now.edges edge) }
+    ensures within { IfSome result (λ target. target < length graph.now.nodes) }
+    ensures small { IfSome result (λ target. (target < MAX_NODES) × (edge < length graph.now.edges)) }
+{
+    let target = target_of(graph, edge)?;
+    if is_or(graph, target) {
+        Some(target)
+    } else {
+        None
+    }
+}
+
 /// The target of the edge, where it is an edge of the graph.
-pub(crate) fn target_of(graph: &Graph, edge: u32) -> Option<u32>
+fn target_of(graph: &Graph, edge: u32) -> Option<u32>
     ensures value { result ≡ option_map (λ e. e.target) (slice_get graph.now.edges edge) }
-    ensures small { IfSome result (λ target. (target < 512) × (edge < length graph.now.edges)) }
+    ensures small { IfSome result (λ target. (target < MAX_NODES) × (edge < length graph.now.edges)) }
 {
     if edge >= graph.edge_count() {
         return None;
@@ -314,7 +331,7 @@ pub(crate) fn edges_into(graph: &Graph, node: u32) -> &[u32]
     requires { node < length graph.now.nodes }
     ensures value { result.now ≡ incoming graph.now node }
     ensures edges { All (λ edge. edge < length graph.now.edges) result.now }
-    ensures few { length result.now ≤ 32 }
+    ensures few { length result.now ≤ MAX_INCOMING }
 {
     let _few = graph.node_count();
     graph.incoming(node)
@@ -323,7 +340,7 @@ pub(crate) fn edges_into(graph: &Graph, node: u32) -> &[u32]
 /// Whether it is an OR node of the graph.
 pub(crate) fn is_or(graph: &Graph, node: u32) -> bool
     ensures value { result ≡ is_kind_at is_or graph.now node }
-    ensures within { IsTrue result → (node < length graph.now.nodes) × (node < 512) }
+    ensures within { IsTrue result → (node < length graph.now.nodes) × (node < MAX_NODES) }
 {
     node < graph.node_count() && matches!(graph.kind(node), Kind::Or { lag: _ })
 }
@@ -331,7 +348,7 @@ pub(crate) fn is_or(graph: &Graph, node: u32) -> bool
 /// Whether it is an AND node of the graph.
 pub(crate) fn is_and(graph: &Graph, node: u32) -> bool
     ensures value { result ≡ is_kind_at is_and graph.now node }
-    ensures within { IsTrue result → (node < length graph.now.nodes) × (node < 512) }
+    ensures within { IsTrue result → (node < length graph.now.nodes) × (node < MAX_NODES) }
 {
     node < graph.node_count() && matches!(graph.kind(node), Kind::And { lag: _ })
 }

@@ -4,6 +4,7 @@ ghost use Rattle.std.specs.Prelude.{◌≡◌, ◌<◌, ◌≤◌, ◌+◌, pos,
 ghost use Rattle.std.specs.Result.{result_ok};
 ghost use Rattle.std.specs.Bool.{then_some};
 ghost use Rattle.tfpg_base.specs.Times.{max_time, never};
+ghost use Rattle.tfpg_graph.specs.declared.limits.TheConstants.{MAX_NODES};
 ghost use Rattle.tfpg_graph.specs.Graph.{lag_at};
 ghost use Rattle.tfpg_log.specs.Log.{IsOf, now_of, event_at, quiet_at};
 ghost use Rattle.tfpg_graph.specs.Reach.{is_among};
@@ -14,7 +15,7 @@ ghost use Rattle.tfpg_clause.specs.Facts.{fact, from_alarm, upto_alarm};
 use crate::bounds::{at_least, at_most};
 use tfpg_base::{Constraint, NEVER};
 use tfpg_evidence::Reason;
-use tfpg_graph::{Graph, Kind, NodeSet};
+use tfpg_graph::{Graph, NodeSet};
 use tfpg_log::{Event, Log};
 
 /// The reason states no fact.
@@ -132,7 +133,7 @@ fn quiet(graph: &Graph, log: &Log, event: u32, node: u32) -> Option<Constraint>
 fn quiet_time(graph: &Graph, log: &Log, event: u32, node: u32) -> Option<u64>
     requires { IsOf graph.now log.now }
     ensures value { result ≡ quiet_at graph.now log.now event node }
-    ensures small { IfSome result (λ time. (time ≤ max_time) × (node < 512)) }
+    ensures small { IfSome result (λ time. (time ≤ max_time) × (node < MAX_NODES)) }
 {
     let _few = graph.node_count();
     let _ordered = log.len();
@@ -173,9 +174,5 @@ fn lag_of(graph: &Graph, node: u32) -> u64
     requires { node < length graph.now.nodes }
     ensures { result ≡ unwrap_or (lag_at graph.now node) 0 }
 {
-    match graph.kind(node) {
-        Kind::Failure { rarity: _ } => 0,
-        Kind::Or { lag } => lag.unwrap_or(0),
-        Kind::And { lag } => lag.unwrap_or(0),
-    }
+    graph.kind(node).lag().unwrap_or(0)
 }

@@ -1,23 +1,24 @@
 //! What facts, clauses and refutations come to, as functions that do nothing: each says its law in its clauses.
 
-ghost use Rattle.std.specs.Prelude.{◌≡◌, ℕ, pos, ◌≤ℤ◌, ◌↔◌, ◌⊎◌, ◌<◌, ◌≤◌, ◌+◌, ◌*◌, length, List, All, IsTrue, Some, slice_index};
+ghost use Rattle.std.specs.Prelude.{◌≡◌, ℕ, pos, ◌≤ℤ◌, ◌↔◌, ◌⊎◌, ◌<◌, ◌≤◌, ◌+◌, length, List, All, IsTrue, Some, slice_index};
 ghost use Rattle.tfpg_base.specs.declared.activation.Activation.{Activation};
 ghost use Rattle.tfpg_base.specs.declared.constraint.Constraint.{Constraint};
-ghost use Rattle.tfpg_graph.specs.Graph.{Tfpg, is_kind_at, is_failure, edges_into};
+ghost use Rattle.tfpg_graph.specs.Graph.{Tfpg, is_kind_at, is_failure};
 ghost use Rattle.tfpg_graph.specs.Reach.{IsReach};
 ghost use Rattle.tfpg_graph.specs.Valid.{IsValid};
-ghost use Rattle.tfpg_log.specs.Log.{Logbook, GoesOn, IsOf, IsOrdered, now_of, first_events};
+ghost use Rattle.tfpg_log.specs.Log.{Logbook, GoesOn, IsOf, IsOrdered, now_of};
 ghost use Rattle.tfpg_log.specs.Rules.{KeepsRules};
 ghost use Rattle.tfpg_log.specs.Explains.{Explains, Fits, ShowsAll, IsMember};
 ghost use Rattle.tfpg_evidence.specs.declared.clause_name.ClauseName.{ClauseName};
 ghost use Rattle.tfpg_evidence.specs.declared.reason.Reason.{Reason};
 ghost use Rattle.tfpg_base.specs.Constraint.{Meets};
-ghost use Rattle.tfpg_clause.specs.Bounds.{at_least, at_most, at_least_after, at_most_after};
+ghost use Rattle.tfpg_clause.specs.Laws.{LeastBoundsHold, MostBoundsHold, AllowedClausesHaveAlternatives, AllowedClausesAreShort, AllowedClausesAreSmall, LogsGoOnFromTheirFirstEvents, AllowedClausesStay, FactsStay, PartialTreesHaveAPresentLeaf, PresentLeavesAreAlone};
+ghost use Rattle.tfpg_clause.specs.Bounds.{at_least_after, at_most_after};
 ghost use Rattle.tfpg_clause.specs.Facts.{fact, IsLow, IsHigh};
-ghost use Rattle.tfpg_clause.specs.Clauses.{alternatives, count_of, MeetsClause, IsSmall};
+ghost use Rattle.tfpg_clause.specs.Clauses.{alternatives, MeetsClause};
 ghost use Rattle.tfpg_clause.specs.Order.{horizon_of, ComesBefore};
 ghost use Rattle.tfpg_clause.specs.Cut.{cut, AreNumbers, AreNumbersOf};
-ghost use Rattle.tfpg_clause.specs.Trees.{Judged, PathSplit, picked, IsClosedLeaf, IsRefutation, IsPartial, IsPresentLeaf};
+ghost use Rattle.tfpg_clause.specs.Trees.{Judged, PathSplit, picked, IsClosedLeaf, IsRefutation};
 ghost use Rattle.tfpg_base.specs.ConstraintCycle.{IsCycle, sum_of};
 
 mod tree_laws;
@@ -31,33 +32,24 @@ pub use tree_laws::{
 /// What is allowed at a log stays allowed at each log that goes on from it, with the same constraints: `clause` says it of
 /// clauses, and `fact` of facts.
 pub fn what_is_allowed_stays_allowed()
-    ensures clause { (graph : Tfpg) (earlier later : Logbook)
-        (name : ClauseName) (clause : List (List Constraint)) → IsOrdered later → GoesOn earlier later →
-        alternatives graph earlier name ≡ Some clause → alternatives graph later name ≡ Some clause }
-    ensures fact { (graph : Tfpg) (earlier later : Logbook) (reach : List ℕ)
-        (reason : Reason) (stated : Constraint) → IsOrdered later → GoesOn earlier later →
-        fact graph earlier reach reason ≡ Some stated → fact graph later reach reason ≡ Some stated }
+    ensures clause { AllowedClausesStay }
+    ensures fact { FactsStay }
 {}
 
 /// A clause that is allowed has an alternative, and not many, and each is small.
 ///
 /// - `some`: it has an alternative.
-/// - `few`: it has fewer alternatives than twice the greatest number of edges into a node, and three.
+/// - `few`: it has fewer than `2 * most + 3` alternatives, where at most `most` edges enter any node.
 /// - `small`: each has at most three constraints, and these are on nodes of the graph.
 pub fn a_clause_has_few_small_alternatives()
-    ensures some { (graph : Tfpg) (log : Logbook) (name : ClauseName) (count : ℕ) →
-        count_of graph log name ≡ Some count → 0 < count }
-    ensures few { (graph : Tfpg) (log : Logbook) (most : ℕ) →
-        ((node : ℕ) → length (edges_into graph node) ≤ most) → (name : ClauseName) (count : ℕ) →
-        count_of graph log name ≡ Some count → count < 2 * most + 3 }
-    ensures small { (graph : Tfpg) (log : Logbook) (name : ClauseName) (clause : List (List Constraint)) →
-        IsValid graph → alternatives graph log name ≡ Some clause →
-        All (IsSmall (length graph.nodes)) clause }
+    ensures some { AllowedClausesHaveAlternatives }
+    ensures few { AllowedClausesAreShort }
+    ensures small { AllowedClausesAreSmall }
 {}
 
 /// A log goes on from its first events. So what was allowed at them is allowed at the log.
 pub fn a_log_goes_on_from_its_first_events()
-    ensures { (log : Logbook) (seen : ℕ) → GoesOn (first_events log seen) log }
+    ensures { LogsGoOnFromTheirFirstEvents }
 {}
 
 /// The clauses of one horizon are in a strict and total order: `not_itself` says that none comes before itself, `through` that
@@ -91,10 +83,8 @@ pub fn facts_give_a_node_one_low_and_one_high()
 /// - `least_after`: it is at least so much after the other's.
 /// - `most_after`: it is at most so much after the other's.
 pub fn bounds_hold_of_the_times_of_nodes()
-    ensures least { (times : List ℕ) (node bound : ℕ) →
-        Meets times (at_least node bound) ↔ (bound ≤ slice_index times node) }
-    ensures most { (times : List ℕ) (node bound : ℕ) →
-        Meets times (at_most node (pos bound)) ↔ (slice_index times node ≤ bound) }
+    ensures least { LeastBoundsHold }
+    ensures most { MostBoundsHold }
     ensures least_after { (times : List ℕ) (node source bound : ℕ) →
         Meets times (at_least_after node source bound)
         ↔ (slice_index times source + bound ≤ slice_index times node) }
@@ -165,11 +155,8 @@ pub fn numbers_that_meet_all_give_a_trace()
 /// The next step of a partial tree stands at one leaf, whichever tree is chosen that begins with its steps: `there` says
 /// that it has a present leaf, and `only_one` that it has no other.
 pub fn a_partial_tree_has_one_present_leaf()
-    ensures there { (graph : Tfpg) (log : Logbook) (reach : List ℕ) (steps : List Judged) →
-        IsPartial graph log reach steps → (path : List PathSplit) × IsPresentLeaf graph log reach steps path }
-    ensures only_one { (graph : Tfpg) (log : Logbook) (reach : List ℕ)
-        (steps : List Judged) (one other : List PathSplit) →
-        IsPresentLeaf graph log reach steps one → IsPresentLeaf graph log reach steps other → one ≡ other }
+    ensures there { PartialTreesHaveAPresentLeaf }
+    ensures only_one { PresentLeavesAreAlone }
 {}
 
 /// A closed leaf is sound: no numbers meet all facts of the log and the constraints that are picked on the path of the leaf.

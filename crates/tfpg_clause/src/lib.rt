@@ -3,6 +3,7 @@
 //! - [`fact`] is the constraint that a reason states, where it is a fact of the log and of a set with this reach.
 //! - [`NotAFact`] says that it is none.
 //! - [`count`] and [`constraint`] are the alternatives of a clause and their constraints, where the clause is allowed.
+//! - [`MAX_CONSTRAINTS`] says how many constraints an alternative has at most.
 //! - [`violated`] is the first clause with the horizon now that some times violate.
 //! - [`Frame`] is a split on the path to the present leaf of a partial tree, as a program keeps it; [`advance`] moves the path
 //!   on once the leaf is closed, and [`stated`] and [`picked`] look up what a reason states there.
@@ -31,6 +32,7 @@ mod facts;
 mod first_clause;
 mod known_windows;
 pub mod laws;
+mod limits;
 mod may;
 mod may_violated;
 mod meets;
@@ -41,4 +43,5 @@ mod path;
 pub use clauses::{NotAClause, constraint, count};
 pub use facts::{NotAFact, fact};
 pub use first_clause::violated;
+pub use limits::MAX_CONSTRAINTS;
 pub use path::{Frame, advance, picked, stated};

@@ -1,6 +1,7 @@
 //! May clauses: a node becomes active in a span only where the failure arrives by one of some edges.
 
 ghost use Rattle.std.specs.Prelude.{◌≡◌, ◌<◌, ◌≤◌, ◌++◌, ℕ, length, All, Some, IfSome, option_map, slice_get};
+ghost use Rattle.tfpg_graph.specs.declared.limits.TheConstants.{MAX_INCOMING, MAX_NODES};
 ghost use Rattle.tfpg_log.specs.Spans.{span_at};
 ghost use Rattle.tfpg_clause.specs.Clauses.{outside_span, item_at};
 ghost use Rattle.tfpg_clause.specs.inside.Ranges.{IsSmallEdge, IsSmallSpan};
@@ -24,7 +25,7 @@ pub(crate) fn may_alternative(
     span: Span,
     alternative: u32,
 ) -> Option<Alternative>
-    requires node { node < 512 }
+    requires node { node < MAX_NODES }
     requires edges { All (λ edge. edge < length graph.now.edges) edges.now }
     requires small { IsSmallSpan span }
     ensures { option_map constraints_in result
@@ -50,7 +51,7 @@ pub(crate) fn may_count(
     horizon: u64,
 ) -> Option<u32>
     requires edges { All (λ edge. edge < length graph.now.edges) edges.now }
-    requires few { length edges.now ≤ 32 }
+    requires few { length edges.now ≤ MAX_INCOMING }
     ensures { (node : ℕ) → result
         ≡ option_map length (may_over graph.now log.now node edges.now horizon number) }
 {
@@ -68,10 +69,10 @@ fn arrival_count(
     span: Span,
 ) -> u32
     requires edges { All (λ edge. edge < length graph.now.edges) edges.now }
-    requires few { length edges.now ≤ 32 }
+    requires few { length edges.now ≤ MAX_INCOMING }
     requires small { IsSmallSpan span }
     ensures count { result ≡ length (arrivals_over graph.now log.now number horizon span edges.now) }
-    ensures few { result ≤ 32 }
+    ensures few { result ≤ MAX_INCOMING }
 {
     let mut count = 0;
     for edge in edges {

@@ -3,7 +3,7 @@
 //! A clause that a node becomes active only where the failure arrives is met by its first two alternatives in each span but
 //! the one that holds the node's time. So that span alone is looked at.
 
-ghost use Rattle.std.specs.Prelude.{◌≡◌, ◌<◌, ◌≤◌, ◌↔◌, length, All, IsTrue, IsSomeAnd};
+ghost use Rattle.std.specs.Prelude.{◌<◌, ◌≤◌, ◌↔◌, length, All, IsTrue, IsSomeAnd};
 ghost use Rattle.tfpg_base.specs.Times.{never};
 ghost use Rattle.tfpg_base.specs.Constraint.{Meets};
 ghost use Rattle.tfpg_log.specs.Log.{now_of};
@@ -14,7 +14,7 @@ ghost use Rattle.tfpg_clause.specs.inside.Alternatives.{arrival_over, arrivals_o
 ghost use Rattle.tfpg_clause.specs.inside.FirstSpan.{FindsFirst, clauses_of, may_over};
 ghost use Rattle.tfpg_clause.specs.inside.Ranges.{IsSmallSpan};
 
-use crate::clauses::{edges_into, is_and, is_or, target_of};
+use crate::clauses::{and_target, edges_into, is_or};
 use crate::facts::now;
 use crate::may::{arrival, find_span};
 use crate::meets::meets;
@@ -38,10 +38,7 @@ pub(crate) fn and_may_violated(graph: &Graph, log: &Log, times: &[u64], edge: u3
     requires { AreNumbers graph.now times.now }
     ensures { FindsFirst times.now (clauses_of graph.now log.now AndMay edge) result }
 {
-    let target = target_of(graph, edge)?;
-    if !is_and(graph, target) {
-        return None;
-    }
+    let target = and_target(graph, edge)?;
     may_violated(graph, log, times, target, &[edge])
 }
 

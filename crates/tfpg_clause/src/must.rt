@@ -2,6 +2,7 @@
 
 ghost use Rattle.std.specs.Prelude.{◌≡◌, ◌<◌, ◌≤◌, ℕ, List, length, All, Some, IfSome, option_map, option_and_then, slice_get};
 ghost use Rattle.tfpg_base.specs.Times.{max_time};
+ghost use Rattle.tfpg_graph.specs.declared.limits.TheConstants.{MAX_INCOMING, MAX_NODES};
 ghost use Rattle.tfpg_log.specs.Spans.{window_of, joint_of};
 ghost use Rattle.tfpg_clause.specs.declared.due.Due.{Due};
 ghost use Rattle.tfpg_clause.specs.Clauses.{must_in, must_alternatives, starts_late, follows_in_time, item_at};
@@ -28,7 +29,7 @@ pub(crate) fn must_count(
     horizon: u64,
 ) -> Option<u32>
     requires edges { All (λ edge. edge < length graph.now.edges) edges.now }
-    requires few { length edges.now ≤ 32 }
+    requires few { length edges.now ≤ MAX_INCOMING }
     ensures { (target : ℕ) → result ≡ option_map length
         (option_and_then (λ dues. must_in target number window dues)
         (dues_over graph.now log.now number horizon edges.now)) }
@@ -53,9 +54,9 @@ pub(crate) fn must_alternative(
     horizon: u64,
     alternative: u32,
 ) -> Option<Alternative>
-    requires node { node < 512 }
+    requires node { node < MAX_NODES }
     requires edges { All (λ edge. edge < length graph.now.edges) edges.now }
-    requires few { length edges.now ≤ 32 }
+    requires few { length edges.now ≤ MAX_INCOMING }
     requires hi { hi ≤ max_time }
     requires latest { latest ≤ hi }
     requires dues { latest_within hi (dues_over graph.now log.now number horizon edges.now) ≡ Some latest }

@@ -13,7 +13,7 @@ ghost use Rattle.tfpg_clause.specs.inside.FirstSpan.{FindsFirst, clauses_of, Mee
 ghost use Rattle.tfpg_clause.specs.inside.KnownWindows.{IsWindowOver, AreKnown};
 ghost use Rattle.tfpg_clause.specs.inside.Ranges.{IsSmallWindow};
 
-use crate::clauses::{edges_into, is_and, is_or, target_of};
+use crate::clauses::{edges_into, is_and, or_target};
 use crate::facts::now;
 use crate::known_windows::{known_at, take_windows};
 use crate::meets::meets;
@@ -26,10 +26,7 @@ pub(crate) fn or_must_violated(graph: &Graph, log: &Log, times: &[u64], edge: u3
     requires { AreNumbers graph.now times.now }
     ensures { FindsFirst times.now (clauses_of graph.now log.now OrMust edge) result }
 {
-    let target = target_of(graph, edge)?;
-    if !is_or(graph, target) {
-        return None;
-    }
+    let target = or_target(graph, edge)?;
     let last = log.span_of(now(log))?;
     let mut number = 0;
     while let Some(until) = or_must_met_up_to(graph, log, times, edge, target, number) {

@@ -1,6 +1,6 @@
 //! The path to the present leaf of a partial tree, as a program keeps it.
 
-ghost use Rattle.std.specs.Prelude.{◌≡◌, ◌≤◌, ◌<◌, ◌-◌, take, length, vec_len, vec_capacity, slice_get, Some, None};
+ghost use Rattle.std.specs.Prelude.{◌≡◌, ◌≤◌, ◌<◌, ◌-◌, take, length, vec_len, vec_capacity, Some, None};
 ghost use Rattle.std.specs.Bool.{MatchBool};
 ghost use Rattle.tfpg_log.specs.Log.{IsOf};
 ghost use Rattle.tfpg_clause.specs.Paths.{path_after, framed, stated_by};

@@ -12,7 +12,7 @@ use Rattle.tfpg_diff.specs.declared.why.Why.TheVariants.{Given}
 use Rattle.tfpg_diff.specs.declared.bounds.Bounds.{Bounds}
 use Rattle.tfpg_diff.specs.declared.pick.Pick.{Pick}
 use Rattle.tfpg_base.specs.Constraint.{Meets}
-use Rattle.tfpg_diff.specs.Demands.{Demands, Demanded, Bounded, floor_of, ceiling_of, picked, demands_of}
+use Rattle.tfpg_diff.specs.Demands.{Demands, Demanded, Bounded, floor_of, ceiling_of, demand_of_pick, demands_of}
 use Rattle.tfpg_diff.specs.Solution.{IsBetween, IsSolution}
 use Rattle.tfpg_diff.specs.Cycle.{NamesNegativeCycle}
 use Rattle.tfpg_diff.specs.inside.Kept.{IsMetBy, IsRooted, Walked, IsLink, IsKept, IsStart}
@@ -129,7 +129,7 @@ module _ (bounds : List Bounds) (picks : List Pick) (v : ℕ) (old : Bounds) (at
       (λ (is : e ≡ floor_of v old).
       let left : x ≡ 0 = sym link.left ∙ ap (λ (f : Demand). f.constraint.left) is in
       absurd (omega arith)))
-      (λ (is : e ≡ picked (ceiling_pick v most tag)). inl (v, lower, Bounded-set_same bounds picks v old lower at_v, is))
+      (λ (is : e ≡ demand_of_pick (ceiling_pick v most tag)). inl (v, lower, Bounded-set_same bounds picks v old lower at_v, is))
       (Demanded-pick_cases bounds picks (ceiling_pick v most tag) e link.demanded))
       (IsBetween-changed bounds picks v old lower at_v values (λ u b at. kept.within u b at) (record { above = above; below = low }))
 

@@ -9,7 +9,7 @@ use Rattle.tfpg_diff.specs.declared.demand.Demand.{Demand}
 use Rattle.tfpg_diff.specs.declared.bounds.Bounds.{Bounds}
 use Rattle.tfpg_diff.specs.declared.pick.Pick.{Pick}
 use Rattle.tfpg_base.specs.Constraint.{Meets}
-use Rattle.tfpg_diff.specs.Demands.{Demands, Demanded, Bounded, picked, demands_of}
+use Rattle.tfpg_diff.specs.Demands.{Demands, Demanded, Bounded, demand_of_pick, demands_of}
 use Rattle.tfpg_diff.specs.Solution.{IsBetween, IsSolution}
 use Rattle.tfpg_base.specs.Times.{never}
 use Rattle.tfpg_diff.specs.inside.Kept.{IsLink, IsKept, IsSound}
@@ -69,14 +69,14 @@ Demanded-pick bounds picks pick e demanded = elim demanded [
 
 -- a constraint of the demands with one more pick is one without it, or the pick
 pub Demanded-pick_cases : (bounds : List Bounds) (picks : List Pick) (pick : Pick) (e : Demand) →
-    Demanded (demands_of bounds (picks ++ pick ∷ [])) e → Demanded (demands_of bounds picks) e ⊎ (e ≡ picked pick)
+    Demanded (demands_of bounds (picks ++ pick ∷ [])) e → Demanded (demands_of bounds picks) e ⊎ (e ≡ demand_of_pick pick)
 Demanded-pick_cases bounds picks pick e demanded = elim demanded [
   | inl is ↦ inl (inl is)
   | inr others ↦ elim others [
     | inl is ↦ inl (inr (inl is))
     | inr is ↦ ⊎_elim
         (λ (among : Contains picks is.0). inl (inr (inr (is.0, among, is.2))))
-        (λ (last : pick ≡ is.0). inr (is.2 ∙ ap picked (sym last)))
+        (λ (last : pick ≡ is.0). inr (is.2 ∙ ap demand_of_pick (sym last)))
         (Contains-push_cases picks pick is.0 is.1)
   ]
 ]

@@ -7,7 +7,7 @@ use Rattle.tfpg_diff.specs.declared.demand.Demand.{Demand}
 use Rattle.tfpg_diff.specs.declared.why.Why.{Why}
 use Rattle.tfpg_diff.specs.declared.bounds.Bounds.{Bounds}
 use Rattle.tfpg_diff.specs.declared.pick.Pick.{Pick}
-use Rattle.tfpg_diff.specs.Demands.{picked, demands_of}
+use Rattle.tfpg_diff.specs.Demands.{demand_of_pick, demands_of}
 use Rattle.tfpg_diff.specs.Cycle.{NamesNegativeCycle}
 use Rattle.tfpg_base.specs.Times.{never}
 use Rattle.tfpg_diff.specs.State.{widest, unbounded_from}
@@ -58,7 +58,7 @@ IsReady-new bounds now picks count values links backup_values backup_links capac
         rights = All-nil (λ (pick : Pick). pick.constraint.right ≤ length bounds);
       };
       kept = IsKept-start bounds [] values links begun (λ v b at. (let w = widths v b at in omega (arith, w.0)));
-      met = All-nil (λ (pick : Pick). IsMetBy values (picked pick));
+      met = All-nil (λ (pick : Pick). IsMetBy values (demand_of_pick pick));
       backup_values_len = omega arith;
       backup_links_len = omega arith;
       room = omega arith;

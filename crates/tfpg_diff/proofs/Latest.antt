@@ -6,12 +6,12 @@ use Rattle.std.proofs.lemmas.List.{length-drop}
 use Rattle.std.proofs.lemmas.List.Elements.{All-contains}
 use Rattle.tfpg_diff.specs.declared.demand.Demand.{Demand}
 use Rattle.tfpg_diff.specs.declared.pick.Pick.{Pick}
-use Rattle.tfpg_diff.specs.Demands.{Demands, Demanded, floor_of, ceiling_of, picked}
+use Rattle.tfpg_diff.specs.Demands.{Demands, Demanded, floor_of, ceiling_of, demand_of_pick}
 use Rattle.tfpg_diff.specs.Solution.{IsBetween, IsLatest}
 use Rattle.tfpg_diff.proofs.Solutions.{IsSolution-met}
 use Rattle.tfpg_diff.specs.inside.Kept.{IsMetBy, IsKept, MeetsPicks}
 
--- values are zero in front of the others
+-- values are zero and then the others
 pub zero_in_front : (values : List ℕ) → 0 < length values → slice_index values 0 ≡ 0 → 0 ∷ drop 1 values ≡ values
 zero_in_front [] some here = absurd (omega arith)
 zero_in_front (x ∷ xs) some here = ap (λ (y : ℕ). y ∷ xs) (sym here)
@@ -31,7 +31,7 @@ IsMetBy-kept demands values links kept met demand demanded =
             let here : IsMetBy values (floor_of is.0 is.1) = (let z = kept.zero_stays in let b = within.above in omega (arith, ints)) in
             subst (λ (e : Demand). IsMetBy values e) (sym is.3) here
         | inr is ↦
-            subst (λ (e : Demand). IsMetBy values e) (sym is.2) (All-contains (λ (pick : Pick). IsMetBy values (picked pick)) demands.picks is.0 met is.1)
+            subst (λ (e : Demand). IsMetBy values e) (sym is.2) (All-contains (λ (pick : Pick). IsMetBy values (demand_of_pick pick)) demands.picks is.0 met is.1)
       ]
     ]
 

@@ -11,7 +11,7 @@ use Rattle.tfpg_diff.specs.declared.why.Why.TheVariants.{Floor, Ceiling, Given}
 use Rattle.tfpg_diff.specs.declared.bounds.Bounds.{Bounds}
 use Rattle.tfpg_diff.specs.declared.pick.Pick.{Pick}
 use Rattle.tfpg_diff.specs.declared.demand.Demand.{Demand}
-use Rattle.tfpg_diff.specs.Demands.{Demands, Bounded, ceiling_of, floor_of, picked}
+use Rattle.tfpg_diff.specs.Demands.{Demands, Bounded, ceiling_of, floor_of, demand_of_pick}
 use Rattle.tfpg_diff.specs.Cycle.{constraints_of, IsNegativeCycle, NamesNegativeCycle}
 use Rattle.tfpg_diff.specs.Named.{AreDemandsNamed, IsCycleOf}
 use Rattle.tfpg_diff.proofs.Fresh.{widest_from}
@@ -29,7 +29,7 @@ AreBoundsNamed named variable bounds = IsNamed named (ceiling_of variable bounds
 -- where all bounds and all picks are named, all demands are
 pub AreDemandsNamed-parts : (demands : Demands) (named : Why → Option Constraint) →
     ((v : ℕ) (b : Bounds) → Bounded demands v b → AreBoundsNamed named v b) →
-    ((pick : Pick) → Contains demands.picks pick → IsNamed named (picked pick)) → AreDemandsNamed demands named
+    ((pick : Pick) → Contains demands.picks pick → IsNamed named (demand_of_pick pick)) → AreDemandsNamed demands named
 AreDemandsNamed-parts demands named bounds picks e demanded = elim demanded [
   | inl is ↦ subst (λ (f : Demand). IsNamed named f) (sym is.3) (bounds is.0 is.1 is.2).0
   | inr others ↦ elim others [
@@ -46,8 +46,8 @@ AreBoundsNamed-demands demands named names v b at =
 
 -- and back
 pub IsNamed-pick : (demands : Demands) (named : Why → Option Constraint) → AreDemandsNamed demands named →
-    (pick : Pick) → Contains demands.picks pick → IsNamed named (picked pick)
-IsNamed-pick demands named names pick among = names (picked pick) (inr (inr (pick, among, refl)))
+    (pick : Pick) → Contains demands.picks pick → IsNamed named (demand_of_pick pick)
+IsNamed-pick demands named names pick among = names (demand_of_pick pick) (inr (inr (pick, among, refl)))
 
 -- a new system's tags name its demands, where those of its variables do
 pub AreDemandsNamed-new : (named : Why → Option Constraint) (count : ℕ) →
@@ -113,15 +113,15 @@ AreDemandsNamed-ceiling demands named variable most tag names new =
     (IsNamed-pick demands named names)
 
 -- a pick was added
-pub AreDemandsNamed-picked : (demands : Demands) (named : Why → Option Constraint) (constraint : Constraint) (tag : ℕ) →
+pub AreDemandsNamed-demand_of_pick : (demands : Demands) (named : Why → Option Constraint) (constraint : Constraint) (tag : ℕ) →
     AreDemandsNamed demands named → named (Given tag) ≡ Some constraint → AreDemandsNamed (with_pick demands constraint tag) named
-AreDemandsNamed-picked demands named constraint tag names new =
+AreDemandsNamed-demand_of_pick demands named constraint tag names new =
     let pick : Pick = record { constraint = constraint; tag = tag } in
     AreDemandsNamed-parts (with_pick demands constraint tag) named
     (AreBoundsNamed-demands demands named names)
     (λ p among. ⊎_elim
     (λ (old : Contains demands.picks p). IsNamed-pick demands named names p old)
-    (λ (last : pick ≡ p). subst (λ (q : Pick). IsNamed named (picked q)) last new)
+    (λ (last : pick ≡ p). subst (λ (q : Pick). IsNamed named (demand_of_pick q)) last new)
     (Contains-push_cases demands.picks pick p among))
 
 -- picks were popped

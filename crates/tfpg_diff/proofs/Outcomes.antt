@@ -10,7 +10,7 @@ use Rattle.tfpg_diff.specs.declared.why.Why.{Why}
 use Rattle.tfpg_diff.specs.declared.why.Why.TheVariants.{Given}
 use Rattle.tfpg_diff.specs.declared.bounds.Bounds.{Bounds}
 use Rattle.tfpg_diff.specs.declared.pick.Pick.{Pick}
-use Rattle.tfpg_diff.specs.Demands.{Demands, ceiling_of, picked, demands_of}
+use Rattle.tfpg_diff.specs.Demands.{Demands, ceiling_of, demand_of_pick, demands_of}
 use Rattle.tfpg_diff.specs.Solution.{IsBetween, HasSolution, HasNoSolution}
 use Rattle.tfpg_diff.specs.Cycle.{NamesNegativeCycle}
 use Rattle.tfpg_diff.specs.State.{with_floor, with_ceiling, with_pick}
@@ -234,11 +234,11 @@ module _ (bounds : List Bounds) (picks : List Pick) (values : List ℕ) (links :
 
   -- a system stays ready with one more pick that the values meet
   pub IsReady-pick : (pick : Pick) → pick.constraint.left ≤ length demands.bounds → pick.constraint.right ≤ length demands.bounds →
-      IsMetBy values (picked pick) → IsReady bounds (picks ++ pick ∷ []) values links backup_values backup_links capacity
+      IsMetBy values (demand_of_pick pick) → IsReady bounds (picks ++ pick ∷ []) values links backup_values backup_links capacity
   IsReady-pick pick left right met = record {
     sound = IsSound-more pick left right;
     kept = IsKept-pick bounds picks pick values links settled.kept;
-    met = All-push (λ (p : Pick). IsMetBy values (picked p)) picks pick settled.met met;
+    met = All-push (λ (p : Pick). IsMetBy values (demand_of_pick p)) picks pick settled.met met;
     backup_values_len = settled.backup_values_len;
     backup_links_len = settled.backup_links_len;
     room = settled.room;
@@ -246,7 +246,7 @@ module _ (bounds : List Bounds) (picks : List Pick) (values : List ℕ) (links :
 
   -- and has the lengthened demands
   pub adds_pick : (pick : Pick) → pick.constraint.left ≤ length demands.bounds → pick.constraint.right ≤ length demands.bounds →
-      IsMetBy values (picked pick) →
+      IsMetBy values (demand_of_pick pick) →
       (demands_of bounds (picks ++ pick ∷ []) ≡ with_pick demands pick.constraint pick.tag) × HasSolution (with_pick demands pick.constraint pick.tag)
   adds_pick pick left right met =
       let s = IsReady-pick pick left right met in

@@ -2,7 +2,7 @@
 use Rattle.std.proofs.Common.{◌≡◌, ℕ, ◌+◌, ◌<◌, ◌≤◌, Bool, true, false, List, length, take, sum, sym, ◌∙◌, ap, subst, arith, ⊎_elim, ◌⊎◌}
 use Rattle.std.proofs.lemmas.List.Elements.{All-more}
 use Rattle.tfpg_diff.specs.declared.pick.Pick.{Pick}
-use Rattle.tfpg_diff.specs.Demands.{picked}
+use Rattle.tfpg_diff.specs.Demands.{demand_of_pick}
 use Rattle.tfpg_diff.specs.inside.Kept.{IsMetBy, Passes, Relaxes, MeetsPicks}
 use Rattle.tfpg_diff.proofs.Relaxing.{no_pick}
 
@@ -23,7 +23,7 @@ pub Passes-met : (picks : List Pick) (place : ℕ) (before middle after : List �
 Passes-met picks place before middle after true inside passed relaxed = let e = ap sum relaxed.0 in omega arith
 Passes-met picks place before middle after false inside passed relaxed = (
   relaxed.0 ∙ passed.0,
-  All-more (λ (pick : Pick). IsMetBy after (picked pick)) picks place no_pick inside
+  All-more (λ (pick : Pick). IsMetBy after (demand_of_pick pick)) picks place no_pick inside
       (subst (λ (xs : List ℕ). MeetsPicks xs (take place picks)) (sym relaxed.0) passed.1) (relaxed.1 no_pick),
 )
 

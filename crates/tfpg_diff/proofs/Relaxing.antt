@@ -9,7 +9,7 @@ use Rattle.tfpg_diff.specs.declared.pick.Pick.{Pick}
 use Rattle.tfpg_diff.specs.declared.bounds.Bounds.{Bounds}
 use Rattle.tfpg_diff.specs.declared.why.Why.{Why}
 use Rattle.tfpg_diff.specs.declared.why.Why.TheVariants.{Floor}
-use Rattle.tfpg_diff.specs.Demands.{Demands, Bounded, picked}
+use Rattle.tfpg_diff.specs.Demands.{Demands, Bounded, demand_of_pick}
 use Rattle.std.specs.List.{HoldsAt}
 use Rattle.tfpg_base.specs.Times.{never}
 use Rattle.tfpg_diff.specs.Solution.{IsBetween}
@@ -39,7 +39,7 @@ small-kept demands sound values links kept (suc v) d inside =
 
 -- a pick that the values break, as the code reads both
 pub IsBroken-pick : (demands : Demands) (sound : IsSound demands) (values : List ℕ) (place : ℕ) (d : Pick) (demand : Demand) (now : List ℕ) →
-    place < length demands.picks → demand ≡ picked (get_or demands.picks place d) → now ≡ values →
+    place < length demands.picks → demand ≡ demand_of_pick (get_or demands.picks place d) → now ≡ values →
     (pos (slice_index now demand.constraint.right) +ℤ demand.constraint.most) <ℤ pos (slice_index now demand.constraint.left) → IsBroken demands values demand
 IsBroken-pick demands sound values place d demand now inside is same broken =
     let left : demand.constraint.left ≡ (get_or demands.picks place d).constraint.left = ap (λ (e : Demand). e.constraint.left) is in
@@ -55,11 +55,11 @@ IsBroken-pick demands sound values place d demand now inside is same broken =
 
 -- a pick that the values meet, as the code reads both
 pub IsMetBy-pick : (picks : List Pick) (values : List ℕ) (place : ℕ) (d : Pick) (demand : Demand) (now : List ℕ) →
-    place < length picks → demand ≡ picked (get_or picks place d) → now ≡ values → IsMetBy now demand →
-    HoldsAt (λ (pick : Pick). IsMetBy values (picked pick)) picks place
+    place < length picks → demand ≡ demand_of_pick (get_or picks place d) → now ≡ values → IsMetBy now demand →
+    HoldsAt (λ (pick : Pick). IsMetBy values (demand_of_pick pick)) picks place
 IsMetBy-pick picks values place d demand now inside is same met e =
     let here : IsMetBy values demand = subst (λ (xs : List ℕ). IsMetBy xs demand) same met in
-    subst (λ (pick : Pick). IsMetBy values (picked pick)) (get_or_default picks place d e inside) (subst (λ (x : Demand). IsMetBy values x) is here)
+    subst (λ (pick : Pick). IsMetBy values (demand_of_pick pick)) (get_or_default picks place d e inside) (subst (λ (x : Demand). IsMetBy values x) is here)
 
 -- the bounds of the left side, as the code reads them
 pub Bounded-read : (demands : Demands) (left : ℕ) → 0 < left → left ≤ length demands.bounds →

@@ -5,7 +5,7 @@ use Rattle.std.proofs.lemmas.Int.{ints}
 use Rattle.std.proofs.lemmas.List.Elements.{All-contains, Contains-get_or}
 use Rattle.tfpg_base.specs.Constraint.{value_of, Meets}
 use Rattle.tfpg_diff.specs.declared.demand.Demand.{Demand}
-use Rattle.tfpg_diff.specs.Demands.{Demands, Demanded, ceiling_of, floor_of, picked}
+use Rattle.tfpg_diff.specs.Demands.{Demands, Demanded, ceiling_of, floor_of, demand_of_pick}
 use Rattle.tfpg_diff.specs.Solution.{IsBetween, IsSolution}
 use Rattle.tfpg_diff.specs.inside.Kept.{IsMetBy}
 
@@ -46,7 +46,7 @@ IsMetBy-solution demands times solution e demanded = elim demanded [
         subst (λ (f : Demand). IsMetBy (0 ∷ times) f) (sym is.3) here
     | inr is ↦
         subst (λ (f : Demand). IsMetBy (0 ∷ times) f) (sym is.2)
-        (IsMetBy-Meets times (picked is.0) (All-contains (λ pick. Meets times pick.constraint) demands.picks is.0 solution.met is.1))
+        (IsMetBy-Meets times (demand_of_pick is.0) (All-contains (λ pick. Meets times pick.constraint) demands.picks is.0 solution.met is.1))
   ]
 ]
 
@@ -62,5 +62,5 @@ IsSolution-met demands times complete met = record {
       record { above = omega (arith, ints); below = omega (arith, ints) };
   met = λ place none inside.
       let pick = get_or demands.picks place none in
-      Meets-IsMetBy times (picked pick) (met (picked pick) (inr (inr (pick, Contains-get_or demands.picks place none inside, refl))));
+      Meets-IsMetBy times (demand_of_pick pick) (met (demand_of_pick pick) (inr (inr (pick, Contains-get_or demands.picks place none inside, refl))));
 }

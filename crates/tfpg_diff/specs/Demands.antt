@@ -30,8 +30,8 @@ floor_of variable bounds = record {
 }
 
 -- A pick: its constraint, with its tag.
-abbrev pub picked : Pick → Demand
-picked pick = record { constraint = pick.constraint; why = Given pick.tag }
+abbrev pub demand_of_pick : Pick → Demand
+demand_of_pick pick = record { constraint = pick.constraint; why = Given pick.tag }
 
 -- These are the bounds of that variable.
 abbrev pub Bounded : Demands → ℕ → Bounds → Type 0
@@ -42,4 +42,4 @@ abbrev pub Demanded : Demands → Demand → Type 0
 Demanded demands demand =
     ((variable : ℕ) × (bounds : Bounds) × Bounded demands variable bounds × (demand ≡ ceiling_of variable bounds))
     ⊎ (((variable : ℕ) × (bounds : Bounds) × Bounded demands variable bounds × (demand ≡ floor_of variable bounds))
-    ⊎ ((pick : Pick) × Contains demands.picks pick × (demand ≡ picked pick)))
+    ⊎ ((pick : Pick) × Contains demands.picks pick × (demand ≡ demand_of_pick pick)))

@@ -9,8 +9,8 @@
 //! - [`Bounds`], [`Pick`] and [`Demand`] are what contracts see of a system; [`laws`] says what its tags name.
 //!
 //! In [`tfpg_base::Constraint`] number 0 is the constant zero and the variable `v` is number `v + 1`; `raise` and `lower`
-//! take the variable itself. Here variable 1 is to be at least 4 after variable 0. That would put it at 9 at the earliest,
-//! which it may not be:
+//! take the variable itself. Here variable 0 is at least 5 and variable 1 at least 4 more. So variable 1 is at least 9,
+//! which its upper bound does not allow:
 //!
 //! ```
 //! let mut system = System::new(alloc, 2)?;

@@ -1,7 +1,7 @@
 //! One test of one constraint, and what follows where the values break it.
 
 ghost use Rattle.std.specs.Prelude.{◌≡◌, ◌^◌, ◌+◌, ◌<◌, ◌≤◌, pos, ◌+ℤ◌, ◌≤ℤ◌, ◌<ℤ◌, [], ◌∷◌, ◌++◌, length, vec_len, vec_capacity, IsTrue, IfOk, OnOk, OnErr, IfSome, IsNone, if◌then◌else◌, slice_index, slice_get, All, Some, false, true};
-ghost use Rattle.tfpg_diff.specs.Demands.{picked, demands_of};
+ghost use Rattle.tfpg_diff.specs.Demands.{demand_of_pick, demands_of};
 ghost use Rattle.tfpg_diff.specs.Cycle.{NamesNegativeCycle};
 ghost use Rattle.tfpg_base.specs.Times.{never};
 ghost use Rattle.tfpg_diff.specs.inside.Kept.{IsMetBy, IsRooted, IsLabelled, Walked, IsSound, IsKept, IsBrokenBy, Relaxes, allowed_by};
@@ -14,8 +14,8 @@ use crate::walk::{note, walk};
 use crate::why::{Conflict, Why};
 
 /// The pick in the form that it shares with bounds.
-pub(crate) fn picked(pick: &Pick) -> Demand
-    ensures { result ≡ picked pick.now }
+pub(crate) fn demand_of_pick(pick: &Pick) -> Demand
+    ensures { result ≡ demand_of_pick pick.now }
 {
     Demand {
         constraint: pick.constraint,
@@ -97,7 +97,7 @@ pub(crate) fn relax(
     ensures cycle { OnErr result (NamesNegativeCycle (demands_of bounds.now picks.now) cycle.new.items) }
     ensures capacity { vec_capacity cycle.old ≤ vec_capacity cycle.new }
 {
-    let demand = picked(&picks[place]);
+    let demand = demand_of_pick(&picks[place]);
     if !is_broken(&labels.values, demand) {
         return Ok(false);
     }

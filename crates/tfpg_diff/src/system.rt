@@ -10,7 +10,7 @@ use crate::bounds::{Bounds, unbounded};
 use crate::demand::Demand;
 use crate::labels::Labels;
 use crate::pick::Pick;
-use crate::relax::{begin_cycle, is_broken, picked};
+use crate::relax::{begin_cycle, demand_of_pick, is_broken};
 use crate::settle::{ceiling_of, save, settle, settle_or_restore, start};
 use crate::walk::note;
 use crate::why::{Conflict, Why};
@@ -291,7 +291,7 @@ impl System {
         ensures spare { self.old.spare ≤ self.new.spare + 1 }
     {
         let _ = self.picks.push(pick);
-        if !is_broken(&self.labels.values, picked(&pick)) {
+        if !is_broken(&self.labels.values, demand_of_pick(&pick)) {
             return Ok(());
         }
         save(&self.labels, &mut self.backup);

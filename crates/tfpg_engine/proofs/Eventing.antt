@@ -33,7 +33,7 @@ written_back items new len same is =
 -- the sets of a table are of failure modes
 pub of_graph : (graph : Tfpg) (k : ℕ) (table : Hypotheses) → IsTableOf graph k table → IsOfGraph graph table
 of_graph graph k table is = record {
-  members = All-from_members (λ set. All (λ place. place < length (failures graph)) set) table.sets (λ set has. ((is.hypotheses.exact set).0 has).members);
+  members = All-from_members (λ set. All (λ position. position < length (failures graph)) set) table.sets (λ set has. ((is.hypotheses.exact set).0 has).members);
   reached = is.reached;
 }
 

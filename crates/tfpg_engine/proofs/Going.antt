@@ -1,7 +1,7 @@
 -- What is kept of a hypothesis stays right at a log that goes on.
 use Rattle.std.proofs.Common.{◌≡◌, ℕ, ◌≤◌, List, [], ◌∷◌, ◌++◌, length, take, sym, ap, subst, ◌∙◌, arith, length-take}
 use Rattle.std.specs.Prelude.{false}
-use Rattle.std.proofs.lemmas.List.{take-append-le, append-nil, take_all}
+use Rattle.std.proofs.lemmas.List.{take-append-le, append-nil}
 use Rattle.tfpg_graph.specs.Graph.{Tfpg}
 use Rattle.tfpg_log.specs.Log.{Logbook, GoesOn, IsOrdered, first_events}
 use Rattle.tfpg_clause.specs.Trees.{Judged, PathSplit, IsPartial, IsPresentLeaf, IsRefutation}
@@ -58,10 +58,6 @@ module _ (laws : TreeLaws) (graph : Tfpg) (earlier later : Logbook) (ordered : I
   slot_stays set Rejected steps is = (laws.refutation_stays graph earlier later reach steps ordered goes_on is.0, names_of_refutation steps is.0 is.1)
 
 -- ---- what is kept of a hypothesis that is not rejected
-
--- the whole log is its first events, as many as it has
-pub whole_log : (log : Logbook) → first_events log (length log.events) ≡ log
-whole_log log = λ i. record { events = take_all (length log.events) log.events (omega arith) i }
 
 -- a partial tree, on no path of which a name stands twice
 pub record IsGoodPartial (graph : Tfpg) (log : Logbook) (reach : List ℕ) (steps : List Judged) : Type 0 where

@@ -1,11 +1,13 @@
 -- The findings of a round, whatever the earlier rounds were, are a round for all rounds that the engine represents.
-use Rattle.std.proofs.Common.{◌≡◌, ℕ, ◌<◌, List, [], ◌∷◌, ◌++◌, length, map, take, Option, Some, None, refl, sym, ap, subst, ◌∙◌, inl, inr, arith, suc, ◌||◌, false, Bool}
+use Rattle.std.proofs.Common.{◌≡◌, ℕ, ◌<◌, List, [], ◌∷◌, ◌++◌, length, map, take, Option, Some, None, refl, sym, ap, subst, ◌∙◌, false}
 use Rattle.std.specs.Prelude.{slice_get, option_map, option_and_then, unwrap_or}
-use Rattle.std.specs.List.{list_any}
 use Rattle.std.proofs.lemmas.List.{append-nil}
 use Rattle.std.proofs.lemmas.List.Concat.{flat_map-append}
-use Rattle.std.proofs.lemmas.Option.{slice_get_cases, slice_get_within, same_Some}
-use Rattle.tfpg_base.specs.Set.{IsProperPart}
+use Rattle.std.proofs.lemmas.List.Folds.{list_any_none}
+use Rattle.std.proofs.lemmas.Option.{same_Some}
+use Rattle.tfpg_base.proofs.lists.Cuts.{slice_get-take, slice_get-taken}
+use Rattle.tfpg_base.proofs.lists.Elements.{All-from_places}
+use Rattle.tfpg_base.specs.Set.{IsProperSubset}
 use Rattle.tfpg_graph.specs.Graph.{Tfpg}
 use Rattle.tfpg_graph.specs.Reach.{IsReach}
 use Rattle.tfpg_log.specs.Log.{Logbook, IsOrdered, GoesOn, now_of}
@@ -18,7 +20,8 @@ use Rattle.tfpg_clause.specs.Trees.{Judged}
 use Rattle.tfpg_hyp.specs.Table.{IsTable}
 use Rattle.tfpg_hyp.specs.Hypotheses.{Hypotheses, IsTableOf}
 use Rattle.tfpg_hyp.specs.declared.place.Place.{Place}
-use Rattle.tfpg_hyp.specs.Rounds.{IsRound, IsFinding, IsOrder, HasNoneOpen, is_open, counts_of, HasEvidence, IsRankedPart, steps_in, steps_so_far, place_at, place_of_status}
+use Rattle.tfpg_hyp.specs.Rounds.{IsRound, IsFinding, IsOrder, HasNoneOpen, is_open, counts_of, HasEvidence, IsRankedSubset, steps_in, steps_so_far, place_at, place_of_status}
+use Rattle.tfpg_hyp.proofs.FindingsOfRound.{at_place}
 use Rattle.tfpg_search.specs.Enough.{IsEnough}
 use Rattle.tfpg_search.specs.Searched.{with_steps}
 use Rattle.tfpg_engine.specs.declared.slot.Slot.{Slot}
@@ -29,20 +32,6 @@ use Rattle.tfpg_engine.specs.inside.Placed.{HasFraction}
 use Rattle.tfpg_engine.specs.inside.TreeLaws.{TreeLaws}
 use Rattle.tfpg_engine.specs.inside.Turns.{GoesOnFrom, IsTurn, AreTurns, MakesRound}
 use Rattle.tfpg_engine.proofs.Going.{slot_stays}
-use Rattle.tfpg_engine.proofs.Placing.{get_take, get_take_some}
-
--- the item of a place that there is
-at_place : {X Y : Type 0} (xs : List X) (ys : List Y) (place : ℕ) (y : Y) → length xs ≡ length ys → slice_get ys place ≡ Some y → (x : X) × (slice_get xs place ≡ Some x)
-at_place xs ys place y same at =
-    elim (slice_get_cases xs place).1 [
-      | inl there ↦ (there.0, there.2)
-      | inr past ↦ absurd (omega (arith, slice_get_within ys place y at, same, past.0))
-    ]
-
--- a test that holds of no item
-none_by : {X : Type 0} (p : X → Bool) (xs : List X) → ((number : ℕ) (x : X) → slice_get xs number ≡ Some x → p x ≡ false) → list_any p xs ≡ false
-none_by p [] each = refl
-none_by p (y ∷ ys) each = ap (λ (b : Bool). b || list_any p ys) (each 0 y refl) ∙ none_by p ys (λ number x at. each (suc number) x at)
 
 -- ---- one turn
 
@@ -62,10 +51,10 @@ module _ (graph : Tfpg) (log : Logbook) (budget : ℕ) (table : Hypotheses) (old
 
   turn_at : (number : ℕ) (finding : Finding) → slice_get findings number ≡ Some finding → TurnAt number finding
   turn_at number finding at =
-      let set = at_place table.sets findings number finding (sym complete) at in
-      let reach = at_place table.reaches findings number finding (reached ∙ sym complete) at in
-      let before = at_place old findings number finding (old_each ∙ sym complete) at in
-      let now = at_place new findings number finding (new_each ∙ old_each ∙ sym complete) at in
+      let set = at_place table.sets findings number finding complete at in
+      let reach = at_place table.reaches findings number finding (complete ∙ sym reached) at in
+      let before = at_place old findings number finding (complete ∙ sym old_each) at in
+      let now = at_place new findings number finding (complete ∙ sym old_each ∙ sym new_each) at in
       record {
         set = set.0;
         reach = reach.0;
@@ -89,8 +78,8 @@ module _ (graph : Tfpg) (log : Logbook) (budget : ℕ) (table : Hypotheses) (old
   -- what is kept now can go on
   pub still_go_on : AllCanGoOn graph log table old → AllCanGoOn graph log table new
   still_go_on can number set reach slot at_set at_reach at_slot =
-      let finding = at_place findings new number slot (complete ∙ sym old_each ∙ sym new_each) at_slot in
-      let before = at_place old new number slot (sym new_each) at_slot in
+      let finding = at_place findings new number slot (new_each ∙ old_each ∙ sym complete) at_slot in
+      let before = at_place old new number slot new_each at_slot in
       let earlier = can number set reach before.0 at_set at_reach before.1 in
       let goes = (turns number set reach before.0 slot finding.0 at_set at_reach before.1 at_slot finding.1).goes_on earlier.0 earlier.1 in
       (with_steps earlier.0 log finding.0.steps, goes.represents)
@@ -118,7 +107,7 @@ steps_more number rounds round log finding numbered at =
 abbrev pub StandBefore : Type 0
 StandBefore =
     (graph : Tfpg) (k : ℕ) (sets : List (List ℕ)) → IsTable graph k sets → (number other : ℕ) (part whole : List ℕ) → slice_get sets number ≡ Some part → slice_get sets other ≡ Some whole
-    → IsProperPart part whole → number < other
+    → IsProperSubset part whole → number < other
 
 module _ (laws : TreeLaws) (stand_before : StandBefore) (graph : Tfpg) (k : ℕ) (budget line : ℕ) (rounds : List Round) (old_log log : Logbook) (table : Hypotheses) (old new : List Slot) (round : Round)
     (is_table : IsTableOf graph k table) (ordered : IsOrdered log) (goes_on : GoesOn old_log log) (made : MakesRound graph log budget table old new line round)
@@ -132,20 +121,20 @@ module _ (laws : TreeLaws) (stand_before : StandBefore) (graph : Tfpg) (k : ℕ)
   Turn number finding at = turn_at graph log budget table old new findings made.turns made.complete is_table.reached.complete old_each new_each number finding at
 
   -- a ranked proper subset stands before
-  below : (number : ℕ) (finding : Finding) → slice_get findings number ≡ Some finding → (other : ℕ) → IsRankedPart findings finding.set other → other < number
+  below : (number : ℕ) (finding : Finding) → slice_get findings number ≡ Some finding → (other : ℕ) → IsRankedSubset findings finding.set other → other < number
   below number finding at other part =
       let own = Turn number finding at in
       let there = Turn other part.finding part.numbered in
       stand_before graph k table.sets is_table.hypotheses other number part.finding.set finding.set (there.at_set ∙ ap Some (sym there.turn.set_is)) (own.at_set ∙ ap Some (sym own.turn.set_is)) part.part
 
   -- a ranked proper subset among all is one among those before
-  among_first : (number : ℕ) (finding : Finding) → slice_get findings number ≡ Some finding → (other : ℕ) → IsRankedPart findings finding.set other → IsRankedPart (take number findings) finding.set other
+  among_first : (number : ℕ) (finding : Finding) → slice_get findings number ≡ Some finding → (other : ℕ) → IsRankedSubset findings finding.set other → IsRankedSubset (take number findings) finding.set other
   among_first number finding at other part =
-      record { finding = part.finding; numbered = get_take number findings other (below number finding at other part) ∙ part.numbered; ranked = part.ranked; part = part.part }
+      record { finding = part.finding; numbered = slice_get-take number findings other (below number finding at other part) ∙ part.numbered; ranked = part.ranked; part = part.part }
 
-  among_all : (number : ℕ) (set : List ℕ) (other : ℕ) → IsRankedPart (take number findings) set other → IsRankedPart findings set other
+  among_all : (number : ℕ) (set : List ℕ) (other : ℕ) → IsRankedSubset (take number findings) set other → IsRankedSubset findings set other
   among_all number set other part =
-      record { finding = part.finding; numbered = (get_take_some number findings other part.finding part.numbered).1; ranked = part.ranked; part = part.part }
+      record { finding = part.finding; numbered = (slice_get-taken number findings other part.finding part.numbered).1; ranked = part.ranked; part = part.part }
 
   evidence_by : (number : ℕ) (finding : Finding) → slice_get findings number ≡ Some finding → (reach : List ℕ) (steps : List Judged) (s : Status)
       → HasEvidence graph log budget (take number findings) reach steps finding s → HasEvidence graph log budget findings reach steps finding s
@@ -194,7 +183,7 @@ module _ (laws : TreeLaws) (stand_before : StandBefore) (graph : Tfpg) (k : ℕ)
 
   -- with a budget that is enough no set is open
   pub settled : IsEnough graph log budget → HasNoneOpen round
-  settled enough = none_by (λ (f : Finding). is_open f.status) findings (λ number finding at. (Turn number finding at).turn.settled enough)
+  settled enough = list_any_none (λ (f : Finding). is_open f.status) findings (All-from_places (λ (f : Finding). is_open f.status ≡ false) findings (λ number finding at. (Turn number finding at).turn.settled enough))
 
   pub earned : AreEarned graph log budget rounds round
   earned number finding at =
@@ -205,8 +194,8 @@ module _ (laws : TreeLaws) (stand_before : StandBefore) (graph : Tfpg) (k : ℕ)
   pub represents : (number : ℕ) (set reach : List ℕ) (slot : Slot) → slice_get table.sets number ≡ Some set → slice_get table.reaches number ≡ Some reach → slice_get new number ≡ Some slot
       → SlotRepresents graph log set reach slot (steps_so_far number (rounds ++ round ∷ []))
   represents number set reach slot at_set at_reach at_slot =
-      let finding = at_place findings new number slot (made.complete ∙ sym old_each ∙ sym new_each) at_slot in
-      let before = at_place old new number slot (sym new_each) at_slot in
+      let finding = at_place findings new number slot (new_each ∙ old_each ∙ sym made.complete) at_slot in
+      let before = at_place old new number slot new_each at_slot in
       subst (SlotRepresents graph log set reach slot) (sym (steps_more number rounds round log finding.0 made.number finding.1))
       (goes_at number set reach before.0 slot finding.0 at_set at_reach before.1 at_slot finding.1).represents
 

@@ -4,11 +4,12 @@ use Rattle.std.specs.Prelude.{IsTrue, ◌==◌, Ok, Some, slice_get}
 use Rattle.std.proofs.lemmas.List.{append-nil, length-append, length-set, take-append-le, take_at}
 use Rattle.std.proofs.lemmas.Option.{slice_get-get_or, slice_get_within, get_or_from_slice_get, same_Some}
 use Rattle.tfpg_base.proofs.lists.Written.{slice_get-set_same, slice_get-set_other, slice_get-push_before, slice_get-push_at}
-use Rattle.tfpg_base.specs.Set.{IsProperPart}
+use Rattle.tfpg_base.specs.Set.{IsProperSubset}
 use Rattle.std.proofs.lemmas.Bool.Decides.{nat_tests}
 use Rattle.tfpg_base.proofs.lists.Cuts.{append_cons-not_nil}
 use Rattle.tfpg_graph.specs.Graph.{Tfpg}
 use Rattle.tfpg_log.specs.Log.{Logbook, IsOrdered, first_events}
+use Rattle.tfpg_log.proofs.Events.{whole_log}
 use Rattle.tfpg_evidence.specs.declared.finding.Finding.{Finding}
 use Rattle.tfpg_evidence.specs.declared.finding.Status.{Status}
 use Rattle.tfpg_evidence.specs.declared.finding.Status.TheVariants as status
@@ -18,7 +19,7 @@ use Rattle.tfpg_clause.specs.Trees.{Judged, IsPartial, IsRefutation}
 use Rattle.tfpg_hyp.specs.Hypotheses.{Hypotheses}
 use Rattle.tfpg_hyp.specs.declared.place.Fraction.{Fraction}
 use Rattle.tfpg_hyp.specs.Ranking.{cost_of, robustness_of, monitored_in, alarmed_in}
-use Rattle.tfpg_hyp.specs.Rounds.{IsRankedPart, HasRankedPart, is_open}
+use Rattle.tfpg_hyp.specs.Rounds.{IsRankedSubset, HasRankedSubset, is_open}
 use Rattle.tfpg_log.specs.Explains.{Explains}
 use Rattle.tfpg_search.specs.Enough.{IsEnough}
 use Rattle.tfpg_search.specs.Live.{HasNoNameTwice, IsUnsettled}
@@ -31,8 +32,8 @@ use Rattle.tfpg_engine.specs.declared.slot.Slot.TheVariants.{Untouched, Searched
 use Rattle.tfpg_engine.specs.Earned.{IsEarned}
 use Rattle.tfpg_engine.specs.Engining.{SlotRepresents}
 use Rattle.tfpg_engine.specs.inside.TreeLaws.{TreeLaws}
-use Rattle.tfpg_engine.specs.inside.Turns.{is_rejected_slot, IsLeastPart, kept, status_by, IsWhole, GoesOnFrom, IsTurn, AreFirstTurns}
-use Rattle.tfpg_engine.proofs.Going.{slot_partial, whole_log}
+use Rattle.tfpg_engine.specs.inside.Turns.{is_rejected_slot, IsLeastSubset, kept, status_by, RanksByFraction, GoesOnFrom, IsTurn, AreFirstTurns}
+use Rattle.tfpg_engine.proofs.Going.{slot_partial}
 
 -- ---- the robustness of a set is a fraction
 
@@ -77,7 +78,7 @@ module _ (graph : Tfpg) (log : Logbook) (budget : ℕ) (set reach : List ℕ) (n
   turn_rejected slot is = record { number_is = refl; set_is = refl; whole = λ place placed. cc; settled = λ enough. refl; goes_on = rejected_goes slot is }
 
   -- So is one with a ranked proper subset.
-  pub turn_covered : TreeLaws → (slot : Slot) (by : ℕ) → is_rejected_slot slot ≡ false → IsLeastPart findings set by → IsTurn graph log budget set reach number findings slot slot (passed (status.Covered by))
+  pub turn_covered : TreeLaws → (slot : Slot) (by : ℕ) → is_rejected_slot slot ≡ false → IsLeastSubset findings set by → IsTurn graph log budget set reach number findings slot slot (passed (status.Covered by))
   turn_covered laws slot by open_yet least = record {
     number_is = refl;
     set_is = refl;
@@ -94,7 +95,7 @@ module _ (graph : Tfpg) (log : Logbook) (budget : ℕ) (set reach : List ℕ) (n
 
   -- ---- a hypothesis that is searched
 
-  module _ (old : Slot) (before new : Searching) (steps : List Step) (none : HasRankedPart findings set → ⊥)
+  module _ (old : Slot) (before new : Searching) (steps : List Step) (none : HasRankedSubset findings set → ⊥)
       (begins : (earlier : List Judged) → SlotRepresents graph log set reach old earlier → SlotRepresents graph log set reach (Searched before) earlier)
       (same_set : new.set ≡ before.set) (same_reach : new.reach ≡ before.reach) (seen : new.seen ≡ length log.events) where
     abbrev searched_finding : Status → Finding
@@ -103,7 +104,7 @@ module _ (graph : Tfpg) (log : Logbook) (budget : ℕ) (set reach : List ℕ) (n
     abbrev status_of : Found → Status
     status_of found = status_by (cost_of graph set) (robustness_of graph log reach) found
 
-    whole_of : (found : Found) → IsWhole number (status_of found)
+    whole_of : (found : Found) → RanksByFraction number (status_of found)
     whole_of (Shown trace) place is =
         let robust : (robustness_of graph log reach).monitored ≡ place.robust.monitored = cc in
         subst (λ (n : ℕ). 1 ≤ n) robust (fraction_of graph log reach)
@@ -172,21 +173,21 @@ is_by read is = sym read ∙ is
 
 module _ (findings : List Finding) (set : List ℕ) (number : ℕ) where
   -- the finding of this number is not a ranked part
-  pub not_yet : (read : Finding) (covers : Bool) → read ≡ get_or findings number read → ((other : ℕ) → IsRankedPart findings set other → number ≤ other)
-      → IsTrue covers ↔ (IsTrue (is_ranked read.status) × IsProperPart read.set set) → covers ≡ false → (other : ℕ) → IsRankedPart findings set other → number + 1 ≤ other
+  pub not_yet : (read : Finding) (covers : Bool) → read ≡ get_or findings number read → ((other : ℕ) → IsRankedSubset findings set other → number ≤ other)
+      → IsTrue covers ↔ (IsTrue (is_ranked read.status) × IsProperSubset read.set set) → covers ≡ false → (other : ℕ) → IsRankedSubset findings set other → number + 1 ≤ other
   not_yet read covers is so_far test not_covering other part = later other (so_far other part) (differs other part)
     where
       later : (other : ℕ) → number ≤ other → (number ≡ other → ⊥) → number + 1 ≤ other
       later other least differ = grind arith
 
-      differs : (other : ℕ) → IsRankedPart findings set other → number ≡ other → ⊥
+      differs : (other : ℕ) → IsRankedSubset findings set other → number ≡ other → ⊥
       differs other part same =
           let here : read ≡ part.finding = is ∙ get_or_from_slice_get findings number part.finding read (ap (slice_get findings) same ∙ part.numbered) in
-          let holds : IsTrue covers = test.1 (subst (λ (f : Finding). IsTrue (is_ranked f.status)) (sym here) part.ranked, subst (λ (f : Finding). IsProperPart f.set set) (sym here) part.part) in
+          let holds : IsTrue covers = test.1 (subst (λ (f : Finding). IsTrue (is_ranked f.status)) (sym here) part.ranked, subst (λ (f : Finding). IsProperSubset f.set set) (sym here) part.part) in
           let clash : true ≡ false = sym holds ∙ not_covering in
           cc
 
-  pub none_at_all : length findings ≤ number → ((other : ℕ) → IsRankedPart findings set other → number ≤ other) → HasRankedPart findings set → ⊥
+  pub none_at_all : length findings ≤ number → ((other : ℕ) → IsRankedSubset findings set other → number ≤ other) → HasRankedSubset findings set → ⊥
   none_at_all long so_far has = absurd (omega (arith, long, so_far has.0 has.1, slice_get_within findings has.0 has.1.finding has.1.numbered))
 
 -- ---- one hypothesis after the other

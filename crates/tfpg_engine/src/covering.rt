@@ -1,10 +1,10 @@
 //! Which ranked hypothesis covers a set.
 
 ghost use Rattle.std.specs.Prelude.{◌≡◌, ℕ, MatchOption, IsTrue, length, ◌<◌, ◌^◌, ◌↔◌};
-ghost use Rattle.tfpg_base.specs.Set.{IsProperPart};
+ghost use Rattle.tfpg_base.specs.Set.{IsProperSubset};
 ghost use Rattle.tfpg_evidence.specs.RoundOf.{is_ranked};
-ghost use Rattle.tfpg_hyp.specs.Rounds.{HasRankedPart};
-ghost use Rattle.tfpg_engine.specs.inside.Turns.{IsLeastPart};
+ghost use Rattle.tfpg_hyp.specs.Rounds.{HasRankedSubset};
+ghost use Rattle.tfpg_engine.specs.inside.Turns.{IsLeastSubset};
 
 use tfpg_base::Set;
 use tfpg_evidence::{Finding, Status};
@@ -12,7 +12,7 @@ use tfpg_evidence::{Finding, Status};
 /// The least number of a ranked finding on a proper subset of the set. Goes through the findings.
 pub(crate) fn covering(findings: &[Finding], set: Set) -> Option<u32>
     requires { length findings.now < 2 ^ 32 }
-    ensures { MatchOption result (HasRankedPart findings.now set → ⊥) (IsLeastPart findings.now set) }
+    ensures { MatchOption result (HasRankedSubset findings.now set → ⊥) (IsLeastSubset findings.now set) }
 {
     for number in 0..findings.len() {
         if covers(&findings[number], set) {
@@ -24,7 +24,7 @@ pub(crate) fn covering(findings: &[Finding], set: Set) -> Option<u32>
 
 /// Whether the finding ranks a proper subset of the set.
 fn covers(finding: &Finding, set: Set) -> bool
-    ensures { IsTrue result ↔ (IsTrue (is_ranked finding.now.status) × IsProperPart finding.now.set set) }
+    ensures { IsTrue result ↔ (IsTrue (is_ranked finding.now.status) × IsProperSubset finding.now.set set) }
 {
     is_ranked(&finding.status) && finding.set.is_proper_part(set)
 }

@@ -38,33 +38,17 @@ pub struct Engine {
 
 impl Model for Engine {
     ghost use Rattle.tfpg_engine.specs.Engining.{Engining};
-    ghost use Rattle.tfpg_engine.specs.inside.Slots.{IsEngine};
+    ghost use Rattle.tfpg_engine.specs.inside.Slots.{IsEngine, engining_of};
 
     ghost Value = { Engining };
 
-    ghost view = { λ e. record {
-      graph = e.graph;
-      log = e.log;
-      k = e.k;
-      table = e.table;
-      budget = e.budget;
-      slots = e.slots.items;
-      ended = e.ended;
-    } };
+    ghost view = { engining_of };
 
-    ghost invariant = { λ e. IsEngine (record {
-      graph = e.graph;
-      log = e.log;
-      k = e.k;
-      table = e.table;
-      budget = e.budget;
-      slots = e.slots.items;
-      ended = e.ended;
-    }) };
+    ghost invariant = { λ e. IsEngine (engining_of e) };
 }
 
 impl Engine {
-    /// The engine of a graph, for all sets of at most `k` failure modes, with at most so many splits of each in a round.
+    /// The engine of a graph, for all sets of at most `k` failure modes, with at most `budget` splits of each in a round.
     /// Where there are more than 4,096 such sets, the fault says how many.
     pub fn new(alloc: Global, graph: Graph, k: u32, budget: u64) -> Result<Engine, TableFault>
         requires { 1 ≤ budget }

@@ -1,7 +1,7 @@
 //! The round of an accepted line.
 
-ghost use Rattle.std.specs.Prelude.{◌≡◌, ◌≤◌, length, IfOk};
-ghost use Rattle.tfpg_log.specs.Log.{IsOf};
+ghost use Rattle.std.specs.Prelude.{◌≡◌, length, IfOk};
+ghost use Rattle.tfpg_engine.specs.inside.Asking.{CanBeAsked};
 ghost use Rattle.tfpg_engine.specs.inside.Slots.{AllCanGoOn};
 ghost use Rattle.tfpg_engine.specs.inside.Turns.{IsOfGraph, MakesRound};
 
@@ -26,9 +26,7 @@ pub(crate) fn make<L: Ledger>(
     slots: &mut [Slot],
     work: &mut Steps<L>,
 ) -> Result<Round, NoMemory>
-    requires of { IsOf asked.now.graph.now asked.now.log.now }
-    requires event { 1 ≤ length asked.now.log.now.events }
-    requires budget { 1 ≤ asked.now.budget }
+    requires asked { CanBeAsked asked.now }
     requires table { IsOfGraph asked.now.graph.now table.now }
     requires one_each { length slots.old ≡ length table.now.sets }
     requires go_on { AllCanGoOn asked.now.graph.now asked.now.log.now table.now slots.old }

@@ -1,17 +1,17 @@
 //! What the engine keeps of a hypothesis.
 
-ghost use Rattle.std.specs.Prelude.{◌≡◌, ℕ, List, false, IfOk, All, ◌<◌, length};
-ghost use Rattle.tfpg_graph.specs.Graph.{failures};
-ghost use Rattle.tfpg_graph.specs.Reach.{IsReach};
+ghost use Rattle.std.specs.Prelude.{◌≡◌, List, false, IfOk};
 ghost use Rattle.tfpg_log.specs.Log.{Logbook, first_events};
 ghost use Rattle.tfpg_clause.specs.Trees.{Judged};
 ghost use Rattle.tfpg_search.specs.Searching.{SearchRepresents};
 ghost use Rattle.tfpg_engine.specs.Engining.{SlotRepresents};
+ghost use Rattle.tfpg_engine.specs.inside.Asking.{IsHypothesisOf};
 ghost use Rattle.tfpg_engine.specs.inside.Turns.{is_rejected_slot, kept};
 
+use crate::hypothesis::Hypothesis;
 use std::alloc::Global;
-use tfpg_base::{NoMemory, Set};
-use tfpg_graph::{Graph, NodeSet};
+use tfpg_base::NoMemory;
+use tfpg_graph::Graph;
 use tfpg_search::{Found, Search};
 
 /// What the engine keeps of a hypothesis.
@@ -53,20 +53,19 @@ impl Slot {
         self,
         alloc: Global,
         graph: &Graph,
-        set: Set,
-        reach: &NodeSet,
+        hypothesis: &Hypothesis<'_>,
     ) -> Result<Search, NoMemory>
-        requires members { All (λ place. place < length (failures graph.now)) set }
-        requires reach { IsReach graph.now set reach.now }
+        requires { IsHypothesisOf graph.now hypothesis.now }
         ensures represents { IfOk result (λ search. (log : Logbook) (steps : List Judged) →
             is_rejected_slot self ≡ false →
-            SlotRepresents graph.now log set reach.now self steps →
-            SlotRepresents graph.now log set reach.now (Slot.Searched search) steps) }
+            SlotRepresents graph.now log hypothesis.now.set hypothesis.now.reach.now self steps →
+            SlotRepresents graph.now log hypothesis.now.set hypothesis.now.reach.now
+            (Slot.Searched search) steps) }
     {
         match self {
             Slot::Searched(search) => Ok(search),
-            Slot::Untouched => Search::new(alloc, graph, set, *reach),
-            Slot::Rejected => Search::new(alloc, graph, set, *reach),
+            Slot::Untouched => Search::new(alloc, graph, hypothesis.set, *hypothesis.reach),
+            Slot::Rejected => Search::new(alloc, graph, hypothesis.set, *hypothesis.reach),
         }
     }
 }

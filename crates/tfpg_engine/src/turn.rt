@@ -1,13 +1,12 @@
 //! What a round finds of one hypothesis.
 
-ghost use Rattle.std.specs.Prelude.{◌≡◌, ◌<◌, ◌≤◌, ◌^◌, [], length, false, All, IfOk};
-ghost use Rattle.tfpg_graph.specs.Graph.{failures};
-ghost use Rattle.tfpg_graph.specs.Reach.{IsReach};
-ghost use Rattle.tfpg_log.specs.Log.{IsOf};
+ghost use Rattle.std.specs.Prelude.{◌≡◌, ◌<◌, ◌^◌, List, [], length, false, IfOk};
+ghost use Rattle.tfpg_evidence.specs.declared.finding.Finding.{Finding};
 ghost use Rattle.tfpg_hyp.specs.Ranking.{cost_of, robustness_of};
-ghost use Rattle.tfpg_hyp.specs.Rounds.{HasRankedPart};
+ghost use Rattle.tfpg_hyp.specs.Rounds.{HasRankedSubset};
+ghost use Rattle.tfpg_engine.specs.inside.Asking.{CanBeAsked, IsHypothesisOf};
 ghost use Rattle.tfpg_engine.specs.inside.Slots.{CanGoOn};
-ghost use Rattle.tfpg_engine.specs.inside.Turns.{IsTurn, IsLeastPart, is_rejected_slot, status_by};
+ghost use Rattle.tfpg_engine.specs.inside.Turns.{IsTurn, IsLeastSubset, is_rejected_slot, status_by};
 
 use crate::asked::Asked;
 use crate::covering::covering;
@@ -32,11 +31,8 @@ pub(crate) fn find<L: Ledger>(
     slot: &mut Slot,
     work: &mut Steps<L>,
 ) -> Result<Finding, NoMemory>
-    requires of { IsOf asked.now.graph.now asked.now.log.now }
-    requires event { 1 ≤ length asked.now.log.now.events }
-    requires budget { 1 ≤ asked.now.budget }
-    requires members { All (λ place. place < length (failures asked.now.graph.now)) hypothesis.now.set }
-    requires reach { IsReach asked.now.graph.now hypothesis.now.set hypothesis.now.reach.now }
+    requires asked { CanBeAsked asked.now }
+    requires hypothesis { IsHypothesisOf asked.now.graph.now hypothesis.now }
     requires few { length findings.now < 2 ^ 32 }
     requires goes_on { CanGoOn asked.now.graph.now asked.now.log.now
         hypothesis.now.set hypothesis.now.reach.now slot.old }
@@ -51,7 +47,7 @@ pub(crate) fn find<L: Ledger>(
     }
     match covering(findings, hypothesis.set) {
         Some(by) => Ok(passed_over(alloc, hypothesis, Status::Covered { by })),
-        None => search_on(alloc, asked, hypothesis, findings, slot, work),
+        None => search_on(alloc, asked, hypothesis, slot, work),
     }
 }
 
@@ -78,29 +74,26 @@ fn search_on<L: Ledger>(
     alloc: Global,
     asked: &Asked<'_>,
     hypothesis: &Hypothesis<'_>,
-    findings: &[Finding],
     slot: &mut Slot,
     work: &mut Steps<L>,
 ) -> Result<Finding, NoMemory>
-    requires of { IsOf asked.now.graph.now asked.now.log.now }
-    requires event { 1 ≤ length asked.now.log.now.events }
-    requires budget { 1 ≤ asked.now.budget }
-    requires members { All (λ place. place < length (failures asked.now.graph.now)) hypothesis.now.set }
-    requires reach { IsReach asked.now.graph.now hypothesis.now.set hypothesis.now.reach.now }
-    requires not_covered { HasRankedPart findings.now hypothesis.now.set → ⊥ }
+    requires asked { CanBeAsked asked.now }
+    requires hypothesis { IsHypothesisOf asked.now.graph.now hypothesis.now }
     requires not_rejected { is_rejected_slot slot.old ≡ false }
     requires goes_on { CanGoOn asked.now.graph.now asked.now.log.now
         hypothesis.now.set hypothesis.now.reach.now slot.old }
-    ensures { IfOk result (IsTurn asked.now.graph.now asked.now.log.now asked.now.budget
-        hypothesis.now.set hypothesis.now.reach.now hypothesis.now.number findings.now slot.old slot.new) }
+    ensures { IfOk result (λ finding. (findings : List Finding) →
+        (HasRankedSubset findings hypothesis.now.set → ⊥) →
+        IsTurn asked.now.graph.now asked.now.log.now asked.now.budget
+        hypothesis.now.set hypothesis.now.reach.now hypothesis.now.number
+        findings slot.old slot.new finding) }
 {
     // The times of a log never fall.
     let _ordered = asked.log.len();
     let mut search = mem::replace(slot, Slot::Rejected).into_search(
         alloc,
         asked.graph,
-        hypothesis.set,
-        hypothesis.reach,
+        hypothesis,
     )?;
     let mut steps = StepList::new(alloc);
     let found = search.round(asked.graph, asked.log, asked.budget, &mut steps, work)?;
@@ -115,7 +108,7 @@ fn search_on<L: Ledger>(
 
 /// The status of a set by what its search found.
 fn status(asked: &Asked<'_>, hypothesis: &Hypothesis<'_>, found: Found) -> Status
-    requires { All (λ place. place < length (failures asked.now.graph.now)) hypothesis.now.set }
+    requires { IsHypothesisOf asked.now.graph.now hypothesis.now }
     ensures { result ≡ status_by (cost_of asked.now.graph.now hypothesis.now.set)
         (robustness_of asked.now.graph.now asked.now.log.now hypothesis.now.reach.now) found }
 {

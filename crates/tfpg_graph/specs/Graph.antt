@@ -1,7 +1,8 @@
 -- What a timed failure propagation graph is.
-use Rattle.std.specs.Prelude.{ℕ, ◌+◌, List, [], ◌∷◌, filter, slice_get, Bool, true, false, ◌&&◌, ◌==◌, if◌then◌else◌, Option, None, is_some, option_map, option_and_then, bytes_eq, position}
+use Rattle.std.specs.Prelude.{ℕ, List, filter, slice_get, Bool, true, false, ◌&&◌, ◌==◌, Option, None, is_some, option_map, option_and_then, bytes_eq, position}
 use Rattle.std.specs.Int.{bit_at}
 use Rattle.std.specs.Option.{option_map_or}
+use Rattle.tfpg_base.specs.Choice.{numbers_from}
 use Rattle.tfpg_graph.specs.declared.kind.Kind.{Kind}
 use Rattle.tfpg_graph.specs.declared.kind.Kind.TheVariants.{Failure, Or, And}
 use Rattle.tfpg_graph.specs.declared.edge.Edge.{Edge}
@@ -17,11 +18,6 @@ pub record Tfpg : Type 0 where
   pub nodes : List Node
   pub edges : List Edge
   pub modes : List (List ℕ)
-
--- the numbers of the items that pass, rising, where the first item has this number
-abbrev pub numbers_from : {X : Type 0} → ℕ → (X → Bool) → List X → List ℕ
-numbers_from number passes [] = []
-numbers_from number passes (x ∷ xs) = if passes x then number ∷ numbers_from (number + 1) passes xs else numbers_from (number + 1) passes xs
 
 -- a failure mode
 abbrev pub is_failure : Kind → Bool
@@ -69,7 +65,7 @@ failures graph = numbers_from 0 (λ node. is_failure node.kind) graph.nodes
 
 -- the node of the failure mode at a position
 abbrev pub failure_at : Tfpg → ℕ → Option ℕ
-failure_at graph place = slice_get (failures graph) place
+failure_at graph position = slice_get (failures graph) position
 
 -- the numbers of the edges into a node, rising
 abbrev pub incoming : Tfpg → ℕ → List ℕ
@@ -100,5 +96,5 @@ abbrev pub edge_from_to : Tfpg → ℕ → ℕ → Option ℕ
 edge_from_to graph source target = position (λ edge. (edge.source == source) && (edge.target == target)) graph.edges
 
 -- the position of a failure mode
-abbrev pub place_of_failure : Tfpg → ℕ → Option ℕ
-place_of_failure graph node = position (λ failure. failure == node) (failures graph)
+abbrev pub position_of_failure : Tfpg → ℕ → Option ℕ
+position_of_failure graph node = position (λ failure. failure == node) (failures graph)

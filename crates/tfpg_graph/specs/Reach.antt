@@ -8,7 +8,7 @@ use Rattle.tfpg_graph.specs.Graph.{Tfpg, is_kind_at, is_or, is_and, failure_at, 
 -- A test on nodes is closed where it passes the failure modes of the set, given by their positions, each OR
 -- node with a source that it passes, and each AND node all of whose sources it passes.
 pub record IsClosed (graph : Tfpg) (set : List ℕ) (test : ℕ → Bool) : Type 0 where
-  pub members : All (λ place. IfSome (failure_at graph place) (λ node. IsTrue (test node))) set
+  pub members : All (λ position. IfSome (failure_at graph position) (λ node. IsTrue (test node))) set
   pub or_nodes : (node : ℕ) → IsTrue (is_kind_at is_or graph node) → (edge : Edge) → Contains (edges_into graph node) edge → IsTrue (test edge.source) → IsTrue (test node)
   pub and_nodes : (node : ℕ) → IsTrue (is_kind_at is_and graph node) → All (λ edge. IsTrue (test edge.source)) (edges_into graph node) → IsTrue (test node)
 

@@ -2,7 +2,7 @@
 
 ghost use Rattle.std.specs.Prelude.{◌≡◌, ◌↔◌, ◌<◌, ◌≤◌, ◌^◌, [], ◌∷◌, ◌++◌, length, Some, None, slice_get, IsTrue, IfOk, IfSome, IfNone, if◌then◌else◌, is_some};
 ghost use Rattle.tfpg_base.specs.Words.{is_name};
-ghost use Rattle.tfpg_graph.specs.Graph.{is_failure, kind_at, name_at, node_named, mode_named, edge_from_to, incoming, failures, failure_at, place_of_failure};
+ghost use Rattle.tfpg_graph.specs.Graph.{is_failure, kind_at, name_at, node_named, mode_named, edge_from_to, incoming, failures, failure_at, position_of_failure};
 ghost use Rattle.tfpg_graph.specs.Valid.{HasValidNumber, IsValidEdge};
 
 use crate::edge::Edge;
@@ -23,8 +23,8 @@ pub(crate) struct Declared {
     incoming: Vec<Vec<u32>>,
     /// The nodes that are failure modes, rising.
     failures: Vec<u32>,
-    /// For each node its place among these, where it is one.
-    places: Vec<Option<u32>>,
+    /// For each node its position among these, where it is one.
+    positions: Vec<Option<u32>>,
 }
 
 impl Model for Declared {
@@ -54,7 +54,7 @@ impl Declared {
             modes: IndexSet::new(alloc),
             incoming: Vec::new(alloc),
             failures: Vec::new(alloc),
-            places: Vec::new(alloc),
+            positions: Vec::new(alloc),
         }
     }
 
@@ -93,20 +93,20 @@ impl Declared {
             modes,
             mut incoming,
             mut failures,
-            mut places,
+            mut positions,
         } = self;
-        let place = give_place(&mut failures, nodes.len() as u32, kind)?;
+        let position = give_position(&mut failures, nodes.len() as u32, kind)?;
         let name = Vec::from_slice(alloc, name)?;
         nodes.insert(name, kind)?;
         incoming.push(Vec::new(alloc))?;
-        places.push(place)?;
+        positions.push(position)?;
         Ok(Declared {
             nodes,
             edges,
             modes,
             incoming,
             failures,
-            places,
+            positions,
         })
     }
 
@@ -134,14 +134,14 @@ impl Declared {
         let modes = self.modes.clone()?;
         let incoming = self.incoming.clone()?;
         let failures = self.failures.clone()?;
-        let places = self.places.clone()?;
+        let positions = self.positions.clone()?;
         Ok(Declared {
             nodes,
             edges,
             modes,
             incoming,
             failures,
-            places,
+            positions,
         })
     }
 
@@ -257,34 +257,34 @@ impl Declared {
         !self.kind(node).is_failure() && self.incoming(node).is_empty()
     }
 
-    pub(crate) fn failure_node(&self, place: u32) -> u32
-        requires { place < length (failures self.now) }
-        ensures { failure_at self.now place ≡ Some result }
+    pub(crate) fn failure_node(&self, position: u32) -> u32
+        requires { position < length (failures self.now) }
+        ensures { failure_at self.now position ≡ Some result }
     {
-        self.failures[place as usize]
+        self.failures[position as usize]
     }
 
-    pub(crate) fn place_of(&self, node: u32) -> Option<u32>
+    pub(crate) fn position_of(&self, node: u32) -> Option<u32>
         requires { node < length self.now.nodes }
-        ensures { result ≡ place_of_failure self.now node }
+        ensures { result ≡ position_of_failure self.now node }
     {
-        self.places[node as usize]
+        self.positions[node as usize]
     }
 }
 
-/// Gives the next place to a node that is a failure mode.
-fn give_place(failures: &mut Vec<u32>, node: u32, kind: Kind) -> Result<Option<u32>, NoMemory>
+/// Gives the next position to a node that is a failure mode.
+fn give_position(failures: &mut Vec<u32>, node: u32, kind: Kind) -> Result<Option<u32>, NoMemory>
     requires { length failures.old.items < 2 ^ 32 }
     ensures failures { IfOk result (λ _. failures.new.items ≡ failures.old.items ++
         (if is_failure kind then node ∷ [] else [])) }
-    ensures place { IfOk result (λ place. place ≡
+    ensures position { IfOk result (λ position. position ≡
         (if is_failure kind then Some (length failures.old.items) else None)) }
 {
     match kind {
         Kind::Failure { rarity: _ } => {
-            let place = failures.len() as u32;
+            let position = failures.len() as u32;
             failures.push(node)?;
-            Ok(Some(place))
+            Ok(Some(position))
         }
         _ => Ok(None),
     }

@@ -1,7 +1,7 @@
 //! A valid graph with its look-ups.
 
 ghost use Rattle.std.specs.Prelude.{◌≡◌, ◌<◌, ◌≤◌, length, slice_get, Some, IfOk, All};
-ghost use Rattle.tfpg_graph.specs.Graph.{kind_at, name_at, node_named, mode_named, edge_from_to, incoming, failures, failure_at, place_of_failure};
+ghost use Rattle.tfpg_graph.specs.Graph.{kind_at, name_at, node_named, mode_named, edge_from_to, incoming, failures, failure_at, position_of_failure};
 ghost use Rattle.tfpg_graph.specs.Valid.{IsValid};
 ghost use Rattle.tfpg_graph.specs.ZeroCycle.{HasZeroOrder};
 
@@ -148,19 +148,19 @@ impl Graph {
     }
 
     /// The node of the failure mode at this position.
-    pub fn failure_node(&self, place: u32) -> u32
-        requires { place < length (failures self.now) }
-        ensures node { failure_at self.now place ≡ Some result }
+    pub fn failure_node(&self, position: u32) -> u32
+        requires { position < length (failures self.now) }
+        ensures node { failure_at self.now position ≡ Some result }
         ensures within { result < length self.now.nodes }
     {
-        self.declared.failure_node(place)
+        self.declared.failure_node(position)
     }
 
     /// The position of the node among the failure modes, where it is one.
-    pub fn place_of(&self, node: u32) -> Option<u32>
+    pub fn position_of(&self, node: u32) -> Option<u32>
         requires { node < length self.now.nodes }
-        ensures { result ≡ place_of_failure self.now node }
+        ensures { result ≡ position_of_failure self.now node }
     {
-        self.declared.place_of(node)
+        self.declared.position_of(node)
     }
 }

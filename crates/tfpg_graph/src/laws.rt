@@ -31,8 +31,8 @@ pub fn being_among_nodes_is_being_contained()
 pub fn numbers_are_those_of_the_graph()
     ensures incoming { (graph : Tfpg) (node : ℕ) →
         All (λ edge. edge < length graph.edges) (incoming graph node) }
-    ensures failure { (graph : Tfpg) (place node : ℕ) →
-        failure_at graph place ≡ Some node → node < length graph.nodes }
+    ensures failure { (graph : Tfpg) (position node : ℕ) →
+        failure_at graph position ≡ Some node → node < length graph.nodes }
 {}
 
 /// In a valid graph each node has a name, by which it is found; and what is found by a name has it.

@@ -1,7 +1,7 @@
 //! Timed failure propagation graphs: failure modes and discrepancies as nodes, propagations with their delays and
 //! system modes as edges.
 //!
-//! - [`read`] reads the text of a graph, and [`write`] writes it. [`put_node`] writes the line of one node.
+//! - [`read`] reads the text of a graph, and [`write`] writes it. [`append_node`] writes the line of one node.
 //! - [`Graph`] is a valid graph with its look-ups. [`Kind`] and [`Edge`] are its parts.
 //! - [`NodeSet`] is a set of its nodes. [`Graph::reach`] returns the nodes that a set of failure modes reaches.
 //! - [`GraphCause`] says what is wrong with a text that spells no valid graph, and [`GraphFault`] in which line.
@@ -37,4 +37,4 @@ pub use kind::Kind;
 pub use limits::{MAX_EDGES, MAX_FAILURES, MAX_INCOMING, MAX_MODES, MAX_NODES, MAX_RARITY};
 pub use reach::NodeSet;
 pub use reading::read;
-pub use writing::{put_node, write};
+pub use writing::{append_node, write};

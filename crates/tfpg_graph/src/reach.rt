@@ -9,6 +9,7 @@ mod node_set;
 
 use crate::graph::Graph;
 use crate::kind::Kind;
+use crate::limits::MAX_NODES;
 pub use node_set::NodeSet;
 use tfpg_base::Set;
 
@@ -20,7 +21,7 @@ impl Graph {
     /// nothing. A sweep takes time in the number of nodes and edges. Where the numbers of the nodes rise or fall along
     /// the edges, three sweeps are enough; at worst each sweep adds one node. Takes no memory.
     pub fn reach(&self, set: Set) -> NodeSet
-        requires members { All (λ place. place < length (failures self.now)) set }
+        requires members { All (λ position. position < length (failures self.now)) set }
         ensures { IsReach self.now set result }
     {
         let mut reached = self.own_nodes(set);
@@ -34,12 +35,12 @@ impl Graph {
     fn own_nodes(&self, set: Set) -> NodeSet
         ensures { AreReached self.now set result }
     {
-        // The count says that the graph is valid, and so the numbers of its nodes are below 512.
+        // The count says that the graph is valid, and so the numbers of its nodes are below `MAX_NODES`.
         let _count = self.node_count();
         let mut nodes = NodeSet::empty();
-        for place in 0..self.failure_count() {
-            if set.has(place) {
-                nodes = nodes.with(self.failure_node(place));
+        for position in 0..self.failure_count() {
+            if set.has(position) {
+                nodes = nodes.with(self.failure_node(position));
             }
         }
         nodes
@@ -72,7 +73,7 @@ impl Graph {
     /// Adds the node where the set feeds it. Says whether it added it.
     fn settle(&self, reached: &mut NodeSet, node: u32) -> bool
         requires within { node < length self.now.nodes }
-        requires small { node < 512 }
+        requires small { node < MAX_NODES }
         ensures widens { Widens self.now reached.old reached.new }
         ensures added { IsTrue result → length reached.old < length reached.new }
         ensures same { result ≡ false → reached.new ≡ reached.old }

@@ -11,9 +11,9 @@ mod write_modes;
 mod write_node;
 
 use crate::graph::Graph;
-use crate::writing::write_edge::put_edge;
-use tfpg_base::{NoMemory, put_line};
-pub use write_node::put_node;
+use crate::writing::write_edge::append_edge;
+use tfpg_base::{NoMemory, append_line};
+pub use write_node::append_node;
 
 /// Appends the canonical text of the graph: a line for each mode, node and edge in their order, no comment, and a star
 /// for the modes of an edge that is active in all. Where memory runs out, the old bytes may be followed by a part of the
@@ -26,41 +26,41 @@ pub fn write(graph: &Graph, into: &mut Vec<u8>) -> Result<(), NoMemory>
     ensures valid { IsValid graph.now }
 {
     let nodes = graph.node_count();
-    put_line(into, &[b"tfpg", b"1"])?;
-    put_modes(graph, into)?;
-    put_nodes(graph, nodes, into)?;
-    put_edges(graph, into)?;
-    put_line(into, &[b"end"])
+    append_line(into, &[b"tfpg", b"1"])?;
+    append_modes(graph, into)?;
+    append_nodes(graph, nodes, into)?;
+    append_edges(graph, into)?;
+    append_line(into, &[b"end"])
 }
 
 /// Appends the lines of the modes.
-fn put_modes(graph: &Graph, into: &mut Vec<u8>) -> Result<(), NoMemory>
+fn append_modes(graph: &Graph, into: &mut Vec<u8>) -> Result<(), NoMemory>
     ensures { Appends result into.old.items into.new.items (flat_map mode_text graph.now.modes) }
 {
     for mode in 0..graph.mode_count() {
-        put_line(into, &[b"mode", graph.mode_name(mode)])?;
+        append_line(into, &[b"mode", graph.mode_name(mode)])?;
     }
     Ok(())
 }
 
 /// Appends the lines of the nodes, of which there are `count`.
-fn put_nodes(graph: &Graph, count: u32, into: &mut Vec<u8>) -> Result<(), NoMemory>
+fn append_nodes(graph: &Graph, count: u32, into: &mut Vec<u8>) -> Result<(), NoMemory>
     requires { count ≡ length graph.now.nodes }
     ensures { Appends result into.old.items into.new.items (flat_map node_text graph.now.nodes) }
 {
     for node in 0..count {
-        put_node(graph.name(node), graph.kind(node), into)?;
+        append_node(graph.name(node), graph.kind(node), into)?;
     }
     Ok(())
 }
 
 /// Appends the lines of the edges.
-fn put_edges(graph: &Graph, into: &mut Vec<u8>) -> Result<(), NoMemory>
+fn append_edges(graph: &Graph, into: &mut Vec<u8>) -> Result<(), NoMemory>
     requires { IsValid graph.now }
     ensures { Appends result into.old.items into.new.items (flat_map (edge_text graph.now) graph.now.edges) }
 {
     for number in 0..graph.edge_count() {
-        put_edge(graph, graph.edge(number), into)?;
+        append_edge(graph, graph.edge(number), into)?;
     }
     Ok(())
 }

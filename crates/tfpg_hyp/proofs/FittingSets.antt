@@ -1,11 +1,10 @@
 -- What the statuses of a round say of the sets.
 use Rattle.std.proofs.Common.{◌≡◌, ◌↔◌, ℕ, ◌<◌, List, [], ◌∷◌, ◌++◌, false, Some, refl, sym, ap, subst, ◌∙◌, arith}
 use Rattle.std.specs.Prelude.{Contains, IsTrue, slice_get}
-use Rattle.std.proofs.lemmas.Option.{slice_get-get_or, slice_get_within, get_or_from_slice_get}
 use Rattle.std.proofs.lemmas.List.{append-nil}
 use Rattle.std.proofs.lemmas.List.Elements.{All-weaker, All-contains}
-use Rattle.tfpg_base.specs.Set.{IsPart, IsProperPart}
-use Rattle.tfpg_base.proofs.lists.Elements.{All-at}
+use Rattle.tfpg_base.specs.Set.{IsSubset, IsProperSubset}
+use Rattle.tfpg_base.proofs.lists.Elements.{All-at, Contains-at, slice_get-contains}
 use Rattle.tfpg_base.proofs.lists.Valued.{All-list_any_none}
 use Rattle.tfpg_base.specs.declared.activation.Activation.{Activation}
 use Rattle.tfpg_graph.specs.Graph.{Tfpg, is_kind_at, is_failure}
@@ -20,18 +19,18 @@ use Rattle.tfpg_evidence.specs.RoundOf.{is_ranked}
 use Rattle.tfpg_graph.specs.Reach.{IsReach}
 use Rattle.tfpg_clause.specs.Trees.{Judged, IsRefutation}
 use Rattle.tfpg_hyp.specs.Table.{IsHypothesis}
-use Rattle.tfpg_hyp.specs.Rounds.{IsRound, HasEvidence, IsRankedPart, HasRankedPart, HasNoneOpen, is_covered, is_rejected, is_open, steps_so_far}
-use Rattle.tfpg_hyp.specs.Fitting.{HasFittingPart, AreNoneOpenBelow}
+use Rattle.tfpg_hyp.specs.Rounds.{IsRound, HasEvidence, IsRankedSubset, HasRankedSubset, HasNoneOpen, is_covered, is_rejected, is_open, steps_so_far}
+use Rattle.tfpg_hyp.specs.Fitting.{HasFittingSubset, AreNoneOpenBelow}
 use Rattle.tfpg_hyp.proofs.FindingsOfRound.{Found, at_place, evidence}
 use Rattle.tfpg_hyp.proofs.Parts.{part_first, once}
 
 -- ---- sets and their supersets
 
-in_whole : (part whole : List ℕ) → IsPart part whole → (place : ℕ) → Contains part place → Contains whole place
+in_whole : (part whole : List ℕ) → IsSubset part whole → (place : ℕ) → Contains part place → Contains whole place
 in_whole part whole is place has = All-contains (Contains whole) part place is has
 
 -- A trace that explains a log from a set explains it from each set that has its members.
-explains_more : (graph : Tfpg) (log : Logbook) (part whole : List ℕ) (trace : List Activation) → IsPart part whole → Explains graph log part trace → Explains graph log whole trace
+explains_more : (graph : Tfpg) (log : Logbook) (part whole : List ℕ) (trace : List Activation) → IsSubset part whole → Explains graph log part trace → Explains graph log whole trace
 explains_more graph log part whole trace is explains = record {
   trace_of = explains.trace_of;
   by_now = explains.by_now;
@@ -41,9 +40,6 @@ explains_more graph log part whole trace is explains = record {
   rules = explains.rules;
   shows = explains.shows;
 }
-
-item_of : {X : Type 0} (xs : List X) (x : X) → Contains xs x → (place : ℕ) × (slice_get xs place ≡ Some x)
-item_of xs x has = (has.0, slice_get-get_or xs has.0 x has.1 ∙ ap Some has.2)
 
 -- ---- the findings of a round
 
@@ -68,7 +64,7 @@ module _ (leaves_none : LeavesNoTrace) (graph : Tfpg) (k budget line : ℕ) (rou
     hypothesis_of : IsHypothesis graph k finding.set
     hypothesis_of =
         (is_round.table.exact finding.set).0
-        (number, slice_get_within is_round.sets number finding.set set_at, get_or_from_slice_get is_round.sets number finding.set finding.set set_at)
+        (Contains-at is_round.sets number finding.set set_at)
 
     abbrev Evidence : Status → Type 0
     Evidence status = HasEvidence graph log budget round.findings (evidence is_round number finding at).2.reach (steps_so_far number (rounds ++ round ∷ [])) finding status
@@ -82,13 +78,13 @@ module _ (leaves_none : LeavesNoTrace) (graph : Tfpg) (k budget line : ℕ) (rou
     ranked_fits : IsTrue (is_ranked finding.status) → Fits graph log finding.set
     ranked_fits holds = ranked_fits_by finding.status evidence_of holds
 
-    alone_by : (status : Status) → Evidence status → IsTrue (is_ranked status) → HasRankedPart round.findings finding.set → ⊥
+    alone_by : (status : Status) → Evidence status → IsTrue (is_ranked status) → HasRankedSubset round.findings finding.set → ⊥
     alone_by (Ranked trace cost alarmed monitored) own holds part = own.2 part
     alone_by (Covered by) own holds part = cc
     alone_by Rejected own holds part = cc
     alone_by Open own holds part = cc
 
-    alone : IsTrue (is_ranked finding.status) → HasRankedPart round.findings finding.set → ⊥
+    alone : IsTrue (is_ranked finding.status) → HasRankedSubset round.findings finding.set → ⊥
     alone holds part = alone_by finding.status evidence_of holds part
 
     -- a rejected set does not fit
@@ -106,7 +102,7 @@ module _ (leaves_none : LeavesNoTrace) (graph : Tfpg) (k budget line : ℕ) (rou
 
   -- ---- ranked parts
 
-  part_fits : (set : List ℕ) (number : ℕ) → IsRankedPart round.findings set number → HasFittingPart graph log k set
+  part_fits : (set : List ℕ) (number : ℕ) → IsRankedSubset round.findings set number → HasFittingSubset graph log k set
   part_fits set number part = record {
     part = part.finding.set;
     hypothesis = hypothesis_of number part.finding part.numbered;
@@ -114,17 +110,17 @@ module _ (leaves_none : LeavesNoTrace) (graph : Tfpg) (k budget line : ℕ) (rou
     fits = ranked_fits number part.finding part.numbered part.ranked;
   }
 
-  whole_fits : (set : List ℕ) → HasFittingPart graph log k set → Fits graph log set
+  whole_fits : (set : List ℕ) → HasFittingSubset graph log k set → Fits graph log set
   whole_fits set part = (part.fits.0, explains_more graph log part.part set part.fits.0 part.proper.0 part.fits.1)
 
   covered_part : (number : ℕ) (finding : Finding) (at : Found round number finding) (status : Status) → Evidence number finding at status → IsTrue (is_covered status)
-      → (by : ℕ) × IsRankedPart round.findings finding.set by
+      → (by : ℕ) × IsRankedSubset round.findings finding.set by
   covered_part number finding at (Covered by) own holds = (by, own.2)
   covered_part number finding at (Ranked trace cost alarmed monitored) own holds = cc
   covered_part number finding at Rejected own holds = cc
   covered_part number finding at Open own holds = cc
 
-  covered_has : (number : ℕ) (finding : Finding) → Found round number finding → IsTrue (is_covered finding.status) → HasFittingPart graph log k finding.set
+  covered_has : (number : ℕ) (finding : Finding) → Found round number finding → IsTrue (is_covered finding.status) → HasFittingSubset graph log k finding.set
   covered_has number finding at holds =
       let part = covered_part number finding at finding.status (evidence_of number finding at) holds in
       part_fits finding.set part.0 part.1
@@ -146,9 +142,9 @@ module _ (leaves_none : LeavesNoTrace) (graph : Tfpg) (k budget line : ℕ) (rou
 
   -- ---- a ranked set is minimal
 
-  -- a part of a proper subset is a proper subset, since the sets stand in the table in order
+  -- a subset of a proper subset is a proper subset, since the sets stand in the table in order
   deeper : (least middle most : ℕ) (a b c : List ℕ) → slice_get is_round.sets least ≡ Some a → slice_get is_round.sets middle ≡ Some b → slice_get is_round.sets most ≡ Some c
-      → IsProperPart a b → IsProperPart b c → IsProperPart a c
+      → IsProperSubset a b → IsProperSubset b c → IsProperSubset a c
   deeper least middle most a b c at_a at_b at_c first second = (
     All-weaker (Contains b) (Contains c) (λ place has. in_whole b c second.0 place has) a first.0,
     λ same. (
@@ -160,7 +156,7 @@ module _ (leaves_none : LeavesNoTrace) (graph : Tfpg) (k budget line : ℕ) (rou
   )
 
   module _ (number : ℕ) (finding : Finding) (at : Found round number finding) (ranked : IsTrue (is_ranked finding.status)) (none_open : AreNoneOpenBelow round.findings finding.set) where
-    no_part_by : (other : ℕ) (f : Finding) (there : Found round other f) → IsProperPart f.set finding.set → Fits graph log f.set → (status : Status) → f.status ≡ status → ⊥
+    no_part_by : (other : ℕ) (f : Finding) (there : Found round other f) → IsProperSubset f.set finding.set → Fits graph log f.set → (status : Status) → f.status ≡ status → ⊥
     no_part_by other f there proper fits (Ranked trace cost alarmed monitored) is =
         alone number finding at ranked (other, record { finding = f; numbered = there; ranked = subst (λ (s : Status). IsTrue (is_ranked s)) (sym is) refl; part = proper })
     no_part_by other f there proper fits (Covered by_number) is =
@@ -181,13 +177,13 @@ module _ (leaves_none : LeavesNoTrace) (graph : Tfpg) (k budget line : ℕ) (rou
         let is_not : is_open Open ≡ false = sym (ap is_open is) ∙ not_open in
         cc
 
-    pub no_fitting_part : HasFittingPart graph log k finding.set → ⊥
+    pub no_fitting_part : HasFittingSubset graph log k finding.set → ⊥
     no_fitting_part part =
-        let place = item_of is_round.sets part.part ((is_round.table.exact part.part).1 part.hypothesis) in
-        let there = at_place round.findings is_round.sets place.0 part.part (sym is_round.complete) place.1 in
-        let both : Some there.0.set ≡ Some part.part = sym (set_at place.0 there.0 there.1) ∙ place.1 in
+        let place = (is_round.table.exact part.part).1 part.hypothesis in
+        let there = at_place round.findings is_round.sets place.0 part.part (sym is_round.complete) (slice_get-contains is_round.sets part.part place) in
+        let both : Some there.0.set ≡ Some part.part = sym (set_at place.0 there.0 there.1) ∙ slice_get-contains is_round.sets part.part place in
         let same : there.0.set ≡ part.part = cc in
-        no_part_by place.0 there.0 there.1 (subst (λ (set : List ℕ). IsProperPart set finding.set) (sym same) part.proper)
+        no_part_by place.0 there.0 there.1 (subst (λ (set : List ℕ). IsProperSubset set finding.set) (sym same) part.proper)
         (subst (λ (set : List ℕ). Fits graph log set) (sym same) part.fits) there.0.status refl
 
   -- ---- a round without an open set
@@ -200,10 +196,10 @@ module _ (leaves_none : LeavesNoTrace) (graph : Tfpg) (k budget line : ℕ) (rou
     pub rejected_of : (number : ℕ) (finding : Finding) → Found round number finding → IsTrue (is_rejected finding.status) ↔ (Fits graph log finding.set → ⊥)
     rejected_of number finding at = rejected_exactly number finding at (not_open number finding at)
 
-    minimal : (number : ℕ) (finding : Finding) → Found round number finding → IsTrue (is_ranked finding.status) → HasFittingPart graph log k finding.set → ⊥
+    minimal : (number : ℕ) (finding : Finding) → Found round number finding → IsTrue (is_ranked finding.status) → HasFittingSubset graph log k finding.set → ⊥
     minimal number finding at ranked part = no_fitting_part number finding at ranked (λ other f there proper. not_open other f there) part
 
-    ranked_where : (number : ℕ) (finding : Finding) (at : Found round number finding) (status : Status) → finding.status ≡ status → Fits graph log finding.set → (HasFittingPart graph log k finding.set → ⊥)
+    ranked_where : (number : ℕ) (finding : Finding) (at : Found round number finding) (status : Status) → finding.status ≡ status → Fits graph log finding.set → (HasFittingSubset graph log k finding.set → ⊥)
         → IsTrue (is_ranked status)
     ranked_where number finding at (Ranked trace cost alarmed monitored) is fits none = refl
     ranked_where number finding at (Covered by) is fits none = absurd (none (covered_has number finding at (subst (λ (s : Status). IsTrue (is_covered s)) (sym is) refl)))
@@ -211,20 +207,20 @@ module _ (leaves_none : LeavesNoTrace) (graph : Tfpg) (k budget line : ℕ) (rou
     ranked_where number finding at Open is fits none = (let is_not : is_open Open ≡ false = sym (ap is_open is) ∙ not_open number finding at in cc)
 
     pub ranked_of : (number : ℕ) (finding : Finding) → Found round number finding
-        → IsTrue (is_ranked finding.status) ↔ (Fits graph log finding.set × (HasFittingPart graph log k finding.set → ⊥))
+        → IsTrue (is_ranked finding.status) ↔ (Fits graph log finding.set × (HasFittingSubset graph log k finding.set → ⊥))
     ranked_of number finding at = (
       λ ranked. (ranked_fits number finding at ranked, λ part. minimal number finding at ranked part),
       λ both. ranked_where number finding at finding.status refl both.0 both.1,
     )
 
-    covered_where : (number : ℕ) (finding : Finding) (at : Found round number finding) (status : Status) → finding.status ≡ status → Fits graph log finding.set → HasFittingPart graph log k finding.set
+    covered_where : (number : ℕ) (finding : Finding) (at : Found round number finding) (status : Status) → finding.status ≡ status → Fits graph log finding.set → HasFittingSubset graph log k finding.set
         → IsTrue (is_covered status)
     covered_where number finding at (Ranked trace cost alarmed monitored) is fits part = absurd (minimal number finding at (subst (λ (s : Status). IsTrue (is_ranked s)) (sym is) refl) part)
     covered_where number finding at (Covered by) is fits part = refl
     covered_where number finding at Rejected is fits part = absurd (rejected_not number finding at (subst (λ (s : Status). IsTrue (is_rejected s)) (sym is) refl) fits)
     covered_where number finding at Open is fits part = (let is_not : is_open Open ≡ false = sym (ap is_open is) ∙ not_open number finding at in cc)
 
-    pub covered_of : (number : ℕ) (finding : Finding) → Found round number finding → IsTrue (is_covered finding.status) ↔ (Fits graph log finding.set × HasFittingPart graph log k finding.set)
+    pub covered_of : (number : ℕ) (finding : Finding) → Found round number finding → IsTrue (is_covered finding.status) ↔ (Fits graph log finding.set × HasFittingSubset graph log k finding.set)
     covered_of number finding at = (
       λ covered. (whole_fits finding.set (covered_has number finding at covered), covered_has number finding at covered),
       λ both. covered_where number finding at finding.status refl both.0 both.1,

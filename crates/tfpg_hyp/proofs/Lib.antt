@@ -5,7 +5,7 @@ mod Listed
 pub mod Tables
 mod Parts
 mod Fractions
-mod FindingsOfRound
+pub mod FindingsOfRound
 mod FittingSets
 mod Named
 mod NamedSteps

@@ -1,22 +1,20 @@
 -- What is right at a log of a graph names only nodes and edges of the graph.
-use Rattle.std.proofs.Common.{◌≡◌, ℕ, zero, suc, ◌-◌, ◌<◌, Bool, true, false, ltb, eqb, List, [], ◌∷◌, ◌++◌, length, take, Option, Some, None, refl, ap, subst, inl, inr}
-use Rattle.std.specs.Prelude.{All, IsTrue, map, filter_map, is_some, slice_get, option_map, option_and_then}
-use Rattle.std.specs.Bool.{then_some}
-use Rattle.std.specs.Option.{option_map_or}
+use Rattle.std.proofs.Common.{◌≡◌, ℕ, zero, suc, ◌-◌, ◌<◌, ltb, eqb, List, [], ◌∷◌, length, take, Option, Some, None, refl, subst}
+use Rattle.std.specs.Prelude.{All, IsTrue, map, slice_get}
 use Rattle.std.proofs.lemmas.Bool.{ltb-true, eqb-true, and_parts}
-use Rattle.std.proofs.lemmas.Option.{slice_get_within, slice_get_cases, get_or_from_slice_get, option_and_then_some, cond_some}
+use Rattle.std.proofs.lemmas.Option.{slice_get_within, option_and_then_some, cond_some}
 use Rattle.std.proofs.lemmas.List.Elements.{All-nil, All-cons, All-take}
 use Rattle.tfpg_base.specs.Choice.{each_of}
+use Rattle.tfpg_base.proofs.lists.Choices.{option_map-some, then_some-true}
+use Rattle.tfpg_base.proofs.lists.Elements.{All-at}
 use Rattle.tfpg_base.specs.declared.constraint.Constraint.{Constraint}
-use Rattle.tfpg_graph.specs.declared.kind.Kind.{Kind}
 use Rattle.tfpg_graph.specs.declared.edge.Edge.{Edge}
-use Rattle.tfpg_graph.specs.Graph.{Tfpg, Node, failures, is_kind_at, is_monitored, is_or, is_and, lag_of, edges_into}
+use Rattle.tfpg_graph.specs.Graph.{Tfpg, failures, is_kind_at, is_monitored, is_or, is_and, edges_into}
+use Rattle.tfpg_graph.proofs.NodeAt.{kind_within, monitored_within}
 use Rattle.tfpg_log.specs.declared.event.Event.{Event}
 use Rattle.tfpg_log.specs.declared.event.Event.TheVariants.{Alarm, Silent, Sweep, Tick, Mode}
-use Rattle.tfpg_log.specs.declared.span.Span.{Span}
-use Rattle.tfpg_log.specs.declared.span.Window.{Window}
 use Rattle.tfpg_log.specs.Log.{Logbook, IsOf, IsEventOf, first_events, event_at, quiet_at, quiet_time}
-use Rattle.tfpg_log.specs.Spans.{span_at, joint_of}
+use Rattle.tfpg_log.specs.Spans.{joint_of}
 use Rattle.tfpg_evidence.specs.declared.clause_name.ClauseName.{ClauseName}
 use Rattle.tfpg_evidence.specs.declared.clause_name.ClauseName.TheVariants.{OrMay, AndMay, OrMust, AndMust}
 use Rattle.tfpg_evidence.specs.declared.reason.Reason.{Reason}
@@ -24,56 +22,20 @@ use Rattle.tfpg_evidence.specs.declared.reason.Reason.TheVariants.{Zero, Top, Un
 use Rattle.tfpg_evidence.specs.declared.step.Step.{Step}
 use Rattle.tfpg_evidence.specs.declared.step.Step.TheVariants.{Split, Cycle}
 use Rattle.tfpg_evidence.specs.RoundOf.{Sizes, IsReasonOf, IsClauseOf, IsStepOf}
-use Rattle.tfpg_clause.specs.Clauses.{alternatives, may_by, must_by, and_may, or_must, outside_span, arrival}
+use Rattle.tfpg_clause.specs.Clauses.{alternatives, and_may, or_must}
+use Rattle.tfpg_clause.proofs.RulesMet.{may_holds, must_holds}
 use Rattle.tfpg_clause.specs.Trees.{PathSplit, stated, IsRightStep}
 
 -- how many nodes, edges and failure modes the graph has
 abbrev pub sizes : Tfpg → Sizes
 sizes graph = record { nodes = length graph.nodes; edges = length graph.edges; failures = length (failures graph) }
 
--- ---- nodes of the graph
-
--- a place with an item is within the list
-there_within : {X : Type 0} (xs : List X) (k : ℕ) → (slice_get xs k ≡ None → ⊥) → k < length xs
-there_within xs k some = elim (slice_get_cases xs k).1 [ inl there ↦ there.1 | inr past ↦ absurd (some past.1) ]
-
--- a node of a kind is in the graph
-kind_within : (is_kind : Kind → Bool) (graph : Tfpg) (node : ℕ) → is_kind_at is_kind graph node ≡ true → node < length graph.nodes
-kind_within is_kind graph node is =
-    there_within graph.nodes node
-    (λ none. (
-    let not : is_kind_at is_kind graph node ≡ false = ap (λ (o : Option Node). option_map_or is_kind (option_map (λ (n : Node). n.kind) o) false) none in
-    cc
-    ))
-
--- a monitored node is in the graph
-monitored_within : (graph : Tfpg) (node : ℕ) → IsTrue (is_monitored graph node) → node < length graph.nodes
-monitored_within graph node is =
-    there_within graph.nodes node
-    (λ none. (
-    let not : is_monitored graph node ≡ false = ap (λ (o : Option Node). is_some (option_and_then lag_of (option_map (λ (n : Node). n.kind) o))) none in
-    let yes_it_is : is_monitored graph node ≡ true = is in
-    cc
-    ))
-
 -- ---- values that are there
-
-tested : {X : Type 0} (b : Bool) (x y : X) → then_some b x ≡ Some y → b ≡ true
-tested true x y is = refl
-tested false x y is = absurd cc
-
-mapped : {X Y : Type 0} (f : X → Y) (o : Option X) (y : Y) → option_map f o ≡ Some y → (x : X) × (o ≡ Some x)
-mapped f None y is = absurd cc
-mapped f (Some x) y is = (x, refl)
-
--- what holds of each item holds of the item of a place
-item_holds : {X : Type 0} (P : X → Type 0) (xs : List X) (k : ℕ) (x : X) → All P xs → slice_get xs k ≡ Some x → P x
-item_holds P xs k x all at = subst P (get_or_from_slice_get xs k x x at) (all k x (slice_get_within xs k x at))
 
 -- where all are there, each of the options is
 first_there : {Y : Type 0} (o : Option Y) (others : List (Option Y)) (ys : List Y) → each_of (o ∷ others) ≡ Some ys → ((y : Y) × (o ≡ Some y)) × ((rest : List Y) × (each_of others ≡ Some rest))
 first_there None others ys is = absurd cc
-first_there {Y} (Some y) others ys is = ((y, refl), mapped (λ (xs : List Y). y ∷ xs) (each_of others) ys is)
+first_there {Y} (Some y) others ys is = (let rest = option_map-some (λ (xs : List Y). y ∷ xs) (each_of others) ys is in ((y, refl), (rest.0, rest.1)))
 
 each_there : {X Y : Type 0} (f : X → Option Y) (P : X → Type 0) → ((x : X) (y : Y) → f x ≡ Some y → P x) → (xs : List X) (ys : List Y) → each_of (map f xs) ≡ Some ys → All P xs
 each_there f P each [] ys is = All-nil P
@@ -83,28 +45,17 @@ each_there f P each (x ∷ xs) ys is =
 
 -- ---- clauses
 
-may_tested : (log : Logbook) (holds : Bool) (target : ℕ) (edges : List Edge) (number horizon : ℕ) (clause : List (List Constraint))
-    → may_by log holds target edges number horizon ≡ Some clause → holds ≡ true
-may_tested log holds target edges number horizon clause is =
-    option_and_then_some (λ (span : Span). then_some holds (outside_span target span ++ filter_map (arrival log number horizon span) edges)) (span_at log number horizon) clause is
-    (λ span at rest. tested holds (outside_span target span ++ filter_map (arrival log number horizon span) edges) clause rest)
-
-must_tested : (log : Logbook) (holds : Bool) (target : ℕ) (edges : List Edge) (window : Option Window) (number horizon : ℕ) (clause : List (List Constraint))
-    → must_by log holds target edges window number horizon ≡ Some clause → holds ≡ true
-must_tested log true target edges window number horizon clause is = refl
-must_tested log false target edges window number horizon clause is = absurd cc
-
 -- a clause that is allowed names a node or an edge of the graph
 allowed_named : (graph : Tfpg) (log : Logbook) (name : ClauseName) (clause : List (List Constraint)) → alternatives graph log name ≡ Some clause → IsClauseOf (sizes graph) name
 allowed_named graph log (OrMay node number horizon) clause is =
-    kind_within is_or graph node (may_tested log (is_kind_at is_or graph node) node (edges_into graph node) number horizon clause is)
+    kind_within graph is_or node (may_holds log (is_kind_at is_or graph node) node (edges_into graph node) number horizon clause is)
 allowed_named graph log (AndMay edge number horizon) clause is =
     option_and_then_some (λ (e : Edge). and_may graph log e number horizon) (slice_get graph.edges edge) clause is (λ e at rest. slice_get_within graph.edges edge e at)
 allowed_named graph log (OrMust edge number horizon) clause is =
     option_and_then_some (λ (e : Edge). or_must graph log e number horizon) (slice_get graph.edges edge) clause is (λ e at rest. slice_get_within graph.edges edge e at)
 allowed_named graph log (AndMust node number horizon) clause is =
-    kind_within is_and graph node
-    (must_tested log (is_kind_at is_and graph node) node (edges_into graph node) (joint_of graph log node number horizon) number horizon clause is)
+    kind_within graph is_and node
+    (must_holds log (is_kind_at is_and graph node) node (edges_into graph node) (joint_of graph log node number horizon) number horizon clause is)
 
 -- ---- silences
 
@@ -113,7 +64,7 @@ first_events_of graph log seen of = record { own = All-take (IsEventOf graph) se
 
 event_own : (graph : Tfpg) (log : Logbook) (number : ℕ) (event : Event) → IsOf graph log → event_at log number ≡ Some event → IsEventOf graph event
 event_own graph log zero event of at = absurd cc
-event_own graph log (suc before) event of at = item_holds (IsEventOf graph) log.events before event of.own at
+event_own graph log (suc before) event of at = All-at (IsEventOf graph) log.events before event of.own at
 
 silence_monitored : (graph : Tfpg) (before : List Event) (event : Event) (node time : ℕ) → IsEventOf graph event → quiet_time graph before event node ≡ Some time → IsTrue (is_monitored graph node)
 silence_monitored graph before (Alarm at alarmed) node time own is = absurd cc
@@ -134,13 +85,13 @@ quiet_within graph log number node time of is =
 -- a reason that states a constraint names no node but those of the graph
 stated_named : (graph : Tfpg) (log : Logbook) (reach : List ℕ) (path : List PathSplit) (seen : ℕ) → IsOf graph log → (reason : Reason) (constraint : Constraint)
     → stated graph log reach path seen reason ≡ Some constraint → IsReasonOf (sizes graph) reason
-stated_named graph log reach path seen of (Zero node) constraint is = ltb-true node (length graph.nodes) (tested (ltb node (length graph.nodes)) _ constraint is)
-stated_named graph log reach path seen of (Top node) constraint is = ltb-true node (length graph.nodes) (tested (ltb node (length graph.nodes)) _ constraint is)
-stated_named graph log reach path seen of (Unreached node horizon) constraint is = ltb-true node (length graph.nodes) (and_parts (ltb node (length graph.nodes)) _ (tested _ _ constraint is)).0
+stated_named graph log reach path seen of (Zero node) constraint is = ltb-true node (length graph.nodes) (then_some-true (ltb node (length graph.nodes)) _ constraint is).0
+stated_named graph log reach path seen of (Top node) constraint is = ltb-true node (length graph.nodes) (then_some-true (ltb node (length graph.nodes)) _ constraint is).0
+stated_named graph log reach path seen of (Unreached node horizon) constraint is = ltb-true node (length graph.nodes) (and_parts (ltb node (length graph.nodes)) _ (then_some-true _ _ constraint is).0).0
 stated_named graph log reach path seen of (From event) constraint is = tt
 stated_named graph log reach path seen of (Upto event) constraint is = tt
 stated_named graph log reach path seen of (Quiet event node) constraint is =
-    let silence = mapped _ (quiet_at graph (first_events log seen) event node) constraint is in
+    let silence = option_map-some _ (quiet_at graph (first_events log seen) event node) constraint is in
     quiet_within graph (first_events log seen) event node silence.0 (first_events_of graph log seen of) silence.1
 stated_named graph log reach path seen of (Pick split place) constraint is = tt
 
@@ -148,7 +99,7 @@ stated_named graph log reach path seen of (Pick split place) constraint is = tt
 pub right_named : (graph : Tfpg) (log : Logbook) (reach : List ℕ) (path : List PathSplit) (seen subtrees : ℕ) → IsOf graph log → (step : Step) → IsRightStep graph log reach path seen subtrees step
     → IsStepOf (sizes graph) step
 right_named graph log reach path seen subtrees of (Split name) right =
-    let clause = mapped length (alternatives graph (first_events log seen) name) subtrees right in
+    let clause = option_map-some length (alternatives graph (first_events log seen) name) subtrees right in
     allowed_named graph (first_events log seen) name clause.0 clause.1
 right_named graph log reach path seen subtrees of (Cycle reasons) right =
     each_there (stated graph log reach path seen) (IsReasonOf (sizes graph)) (λ reason constraint is. stated_named graph log reach path seen of reason constraint is) reasons right.constraints right.hold

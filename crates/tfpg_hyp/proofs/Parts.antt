@@ -1,12 +1,12 @@
 -- Subsets in a table.
-use Rattle.std.proofs.Common.{◌≡◌, ℕ, suc, ◌<◌, List, [], ◌∷◌, length, get_or, Some, slice_get, ◌⊎◌, inl, inr, ⊎_elim, refl, arith, sym, ◌∙◌, ap, subst}
-use Rattle.std.specs.List.{All, AllPairs, Contains}
+use Rattle.std.proofs.Common.{◌≡◌, ℕ, suc, ◌<◌, List, [], ◌∷◌, length, Some, slice_get, ◌⊎◌, inl, inr, ⊎_elim, refl, arith, sym, ◌∙◌, ap}
+use Rattle.std.specs.List.{All, Contains}
 use Rattle.std.proofs.lemmas.Bool.{cases_order}
 use Rattle.std.proofs.lemmas.List.Elements.{All-contains}
 use Rattle.std.proofs.lemmas.List.Kept.{AllPairs-from_increasing}
-use Rattle.std.proofs.lemmas.Option.{slice_get_within, get_or_from_slice_get, same_Some}
-use Rattle.tfpg_base.specs.Set.{IsPart, IsProperPart, IsSet}
-use Rattle.tfpg_base.proofs.lists.Elements.{AllPairs-head, AllPairs-tail, All-from_members, Contains-head, Contains-cons_cases, Contains-nil}
+use Rattle.std.proofs.lemmas.Option.{same_Some}
+use Rattle.tfpg_base.specs.Set.{IsSubset, IsProperSubset, IsSet}
+use Rattle.tfpg_base.proofs.lists.Elements.{AllPairs-at, AllPairs-head, AllPairs-tail, All-from_members, Contains-at, Contains-head, Contains-cons_cases, Contains-nil}
 use Rattle.tfpg_base.proofs.lists.Ordered.{Rises}
 use Rattle.tfpg_graph.specs.Graph.{Tfpg, failures}
 use Rattle.tfpg_hyp.specs.Table.{IsHypothesis, IsBefore, IsTable}
@@ -22,7 +22,7 @@ later_members low part ws within above =
     (λ x member. ⊎_elim (λ is. absurd (omega (arith, is, above x member))) (λ rest. rest) (Contains-cons_cases low ws x (All-contains (Contains (low ∷ ws)) part x within member)))
 
 -- A subset is the whole or shorter.
-pub part_cases : (whole part : List ℕ) → Rises part → Rises whole → IsPart part whole → (part ≡ whole) ⊎ (length part < length whole)
+pub part_cases : (whole part : List ℕ) → Rises part → Rises whole → IsSubset part whole → (part ≡ whole) ⊎ (length part < length whole)
 part_cases [] [] rises_part rises_whole within = inl refl
 part_cases [] (p ∷ ps) rises_part rises_whole within = absurd (Contains-nil p (All-contains (Contains []) (p ∷ ps) p within (Contains-head p ps)))
 part_cases (w ∷ ws) [] rises_part rises_whole within = inr (omega arith)
@@ -45,39 +45,29 @@ part_cases (w ∷ ws) (p ∷ ps) rises_part rises_whole within =
     above_all x member above_p after_p = ⊎_elim (λ is. omega (arith, is, above_p)) (λ rest. omega (arith, above_p, after_p x rest)) (Contains-cons_cases p ps x member)
 
 -- a subset of a hypothesis is one
-pub hypothesis_part : (graph : Tfpg) (k : ℕ) (part whole : List ℕ) → IsSet part → IsPart part whole → IsHypothesis graph k whole → IsHypothesis graph k part
+pub hypothesis_part : (graph : Tfpg) (k : ℕ) (part whole : List ℕ) → IsSet part → IsSubset part whole → IsHypothesis graph k whole → IsHypothesis graph k part
 hypothesis_part graph k part whole is_set within is = record {
   rising = increasing_from_rises part is_set.rising;
-  members = All-from_members (λ place. place < length (failures graph)) part (λ x member. All-contains (λ place. place < length (failures graph)) whole x is.members (All-contains (Contains whole) part x within member));
+  members = All-from_members (λ position. position < length (failures graph)) part (λ x member. All-contains (λ position. position < length (failures graph)) whole x is.members (All-contains (Contains whole) part x within member));
   size = ⊎_elim (λ equal. omega (arith, ap length equal, is.size)) (λ shorter. omega (arith, shorter, is.size)) (part_cases whole part is_set.rising (AllPairs-from_increasing whole is.rising) within);
 }
 
 -- ---- at numbers
-
--- what is at a number of a list stands in it
-pub Contains-at : {X : Type 0} (xs : List X) (number : ℕ) (x : X) → slice_get xs number ≡ Some x → Contains xs x
-Contains-at xs number x at = (number, slice_get_within xs number x at, get_or_from_slice_get xs number x x at)
-
--- what relates each two relates those at two numbers
-pub related_at : {X : Type 0} (R : X → X → Type 0) (xs : List X) (i j : ℕ) (x y : X) → AllPairs R xs → slice_get xs i ≡ Some x → slice_get xs j ≡ Some y → i < j → R x y
-related_at R xs i j x y pairs at_i at_j before =
-    let related = pairs i j x before (slice_get_within xs j y at_j) in
-    subst (λ z. R z y) (get_or_from_slice_get xs i x x at_i) (subst (λ z. R (get_or xs i x) z) (get_or_from_slice_get xs j y x at_j) related)
 
 module _ (graph : Tfpg) (k : ℕ) (sets : List (List ℕ)) (table : IsTable graph k sets) (number other : ℕ) where
   -- no set stands twice
   pub once : (set : List ℕ) → slice_get sets number ≡ Some set → slice_get sets other ≡ Some set → number ≡ other
   once set at also =
       ⊎_elim (λ same. same)
-      (λ differ. ⊎_elim (λ less. absurd (twice (related_at IsBefore sets number other set set table.in_order at also less)))
-      (λ greater. absurd (twice (related_at IsBefore sets other number set set table.in_order also at greater))) differ)
+      (λ differ. ⊎_elim (λ less. absurd (twice (AllPairs-at IsBefore sets number other set set table.in_order at also less)))
+      (λ greater. absurd (twice (AllPairs-at IsBefore sets other number set set table.in_order also at greater))) differ)
       (cases_order number other)
     where
       twice : IsBefore set set → ⊥
       twice before = IsBefore-asymmetric set set before before
 
   -- a proper subset has the lesser number
-  pub part_first : (part whole : List ℕ) → slice_get sets number ≡ Some part → slice_get sets other ≡ Some whole → IsProperPart part whole → number < other
+  pub part_first : (part whole : List ℕ) → slice_get sets number ≡ Some part → slice_get sets other ≡ Some whole → IsProperSubset part whole → number < other
   part_first part whole at at_whole proper =
       let small = (table.exact part).0 (Contains-at sets number part at) in
       let large = (table.exact whole).0 (Contains-at sets other whole at_whole) in
@@ -86,5 +76,5 @@ module _ (graph : Tfpg) (k : ℕ) (sets : List (List ℕ)) (table : IsTable grap
       ⊎_elim
       (λ same. absurd (proper.1 (same_Some part whole (sym at ∙ ap (slice_get sets) same ∙ at_whole))))
       (λ differ. ⊎_elim (λ less. less)
-      (λ greater. absurd (⊎_elim (λ less. omega (arith, less, shorter)) (λ equal. omega (arith, equal.0, shorter)) (related_at IsBefore sets other number whole part table.in_order at_whole at greater))) differ)
+      (λ greater. absurd (⊎_elim (λ less. omega (arith, less, shorter)) (λ equal. omega (arith, equal.0, shorter)) (AllPairs-at IsBefore sets other number whole part table.in_order at_whole at greater))) differ)
       (cases_order number other)

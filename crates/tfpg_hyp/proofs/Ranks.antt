@@ -1,12 +1,12 @@
 -- What the loops over failure modes and nodes have counted so far.
 use Rattle.std.proofs.Common.{◌≡◌, ℕ, ◌+◌, ◌<◌, ◌≤◌, Bool, true, false, cond, eqb, ltb, List, [], ◌∷◌, ◌++◌, length, Option, Some, None, refl, arith, sym, ◌∙◌, ap, subst}
-use Rattle.std.specs.List.{All, Contains, sum_by, count_by, filter, slice_get}
+use Rattle.std.specs.List.{All, Contains, count_by, filter, slice_get}
 use Rattle.std.specs.List.Sorted.{IsStrictlyIncreasing}
 use Rattle.std.proofs.lemmas.List.Kept.{AllPairs-from_increasing}
 use Rattle.std.specs.Option.{option_map, option_and_then, is_some}
 use Rattle.std.proofs.lemmas.Bool.{cond-true, cond-false, cond_both, ltb-false, ne_eqb, eq-eqb}
 use Rattle.std.proofs.lemmas.List.{length-append, append-nil}
-use Rattle.std.proofs.lemmas.List.Sums.{sum_by-append, sum_by-cons, length-filter}
+use Rattle.std.proofs.lemmas.List.Sums.{sum_by_push, length-filter}
 use Rattle.std.proofs.lemmas.List.Elements.{All-contains, filter-append}
 use Rattle.std.proofs.lemmas.Option.{slice_get_past, same_Some}
 use Rattle.tfpg_graph.specs.declared.kind.Kind.TheVariants.{Failure}
@@ -30,28 +30,24 @@ rarity_small graph node rarity valid is = by (slice_get graph.nodes node) refl i
     by (Some found) at kind =
         subst HasValidNumber (same_Some found.kind (Failure rarity) kind) (All-at (λ n. HasValidNumber n.kind) graph.nodes node found valid.so_far.node_numbers at)
 
--- one value more in a sum
-pub sum_by-push : (f : ℕ → ℕ) (xs : List ℕ) (x : ℕ) → sum_by f (xs ++ x ∷ []) ≡ sum_by f xs + f x
-sum_by-push f xs x = sum_by-append f xs (x ∷ []) ∙ ap (λ n. sum_by f xs + n) (sum_by-cons f x [] ∙ omega arith)
-
 module _ (graph : Tfpg) (set : List ℕ) where
   -- nothing is summed at first
   pub cost-none : 0 ≡ cost_of graph (below 0 set)
   cost-none = sym (ap (cost_of graph) (below-zero set))
 
   -- a member adds its rarity
-  pub cost-with : (place cost rarity : ℕ) → IsSet set → Contains set place → cost ≡ cost_of graph (below place set) → rarity ≡ rarity_at graph place
-      → cost + rarity ≡ cost_of graph (below (place + 1) set)
-  cost-with place cost rarity is_set member so_far worth =
-      (λ i. so_far i + worth i) ∙ sym (ap (cost_of graph) (below-member place set is_set.rising member) ∙ sum_by-push (rarity_at graph) (below place set) place)
+  pub cost-with : (position cost rarity : ℕ) → IsSet set → Contains set position → cost ≡ cost_of graph (below position set) → rarity ≡ rarity_at graph position
+      → cost + rarity ≡ cost_of graph (below (position + 1) set)
+  cost-with position cost rarity is_set member so_far worth =
+      (λ i. so_far i + worth i) ∙ sym (ap (cost_of graph) (below-member position set is_set.rising member) ∙ sum_by_push (rarity_at graph) (below position set) position)
 
   -- another position adds nothing
-  pub cost-without : (place cost : ℕ) → (Contains set place → ⊥) → cost ≡ cost_of graph (below place set) → cost ≡ cost_of graph (below (place + 1) set)
-  cost-without place cost absent so_far = so_far ∙ sym (ap (cost_of graph) (below-absent place set absent))
+  pub cost-without : (position cost : ℕ) → (Contains set position → ⊥) → cost ≡ cost_of graph (below position set) → cost ≡ cost_of graph (below (position + 1) set)
+  cost-without position cost absent so_far = so_far ∙ sym (ap (cost_of graph) (below-absent position set absent))
 
   -- past the last member all are summed
-  pub cost-all : (end cost : ℕ) → All (λ place. place < end) set → cost ≡ cost_of graph (below end set) → cost ≡ cost_of graph set
-  cost-all end cost within so_far = so_far ∙ ap (cost_of graph) (below-all end set (λ place member. All-contains (λ p. p < end) set place within member))
+  pub cost-all : (end cost : ℕ) → All (λ position. position < end) set → cost ≡ cost_of graph (below end set) → cost ≡ cost_of graph set
+  cost-all end cost within so_far = so_far ∙ ap (cost_of graph) (below-all end set (λ position member. All-contains (λ p. p < end) set position within member))
 
 -- ---- nodes
 

@@ -2,7 +2,7 @@
 use Rattle.std.proofs.Common.{◌≡◌, ℕ, zero, suc, ◌<◌, Bool, true, false, cond, eqb, List, [], ◌∷◌, ◌++◌, length, get_or, map, Option, Some, refl, ap, subst, ◌∙◌, arith}
 use Rattle.std.specs.Prelude.{All, IsTrue, find, slice_get, option_map, unwrap_or}
 use Rattle.std.proofs.lemmas.Bool.{eq-eqb, ne_eqb}
-use Rattle.std.proofs.lemmas.Option.{slice_get-get_or, slice_get_within, get_or_from_slice_get, option_and_then_some}
+use Rattle.std.proofs.lemmas.Option.{slice_get-get_or, option_and_then_some}
 use Rattle.std.proofs.lemmas.List.{append-nil}
 use Rattle.std.proofs.lemmas.Grind.{flat_map-append}
 use Rattle.std.proofs.lemmas.List.Elements.{All-nil, All-cons, All-same}
@@ -15,7 +15,7 @@ use Rattle.tfpg_evidence.specs.declared.finding.Status.TheVariants.{Ranked, Cove
 use Rattle.tfpg_evidence.specs.declared.round.Round.{Round}
 use Rattle.tfpg_evidence.specs.RoundOf.{IsStepOf, IsStatusOf, IsFindingOf, IsRankedIn, IsRoundOf, is_ranked, finding_numbered}
 use Rattle.tfpg_clause.specs.Trees.{Judged}
-use Rattle.tfpg_base.proofs.lists.Elements.{All-back}
+use Rattle.tfpg_base.proofs.lists.Elements.{All-back, Contains-at}
 use Rattle.tfpg_hyp.specs.Rounds.{IsRound, HasEvidence, place_at, place_of_status, steps_in, steps_so_far}
 use Rattle.tfpg_hyp.specs.declared.place.Place.{Place}
 use Rattle.tfpg_hyp.proofs.FindingsOfRound.{Found, evidence}
@@ -84,14 +84,14 @@ module _ (graph : Tfpg) (k budget line : ℕ) (rounds : List Round) (log : Logbo
   number_at : (number : ℕ) (finding : Finding) → Found round number finding → finding.number ≡ number
   number_at number finding at = (evidence is_round number finding at).2.number_is
 
-  members_at : (number : ℕ) (set : List ℕ) → slice_get is_round.sets number ≡ Some set → All (λ place. place < length (failures graph)) set
-  members_at number set at = ((is_round.table.exact set).0 (number, slice_get_within is_round.sets number set at, get_or_from_slice_get is_round.sets number set set at)).members
+  members_at : (number : ℕ) (set : List ℕ) → slice_get is_round.sets number ≡ Some set → All (λ position. position < length (failures graph)) set
+  members_at number set at = ((is_round.table.exact set).0 (Contains-at is_round.sets number set at)).members
 
   finding_named : (number : ℕ) (finding : Finding) → Found round number finding → IsFindingOf (sizes graph) finding
   finding_named number finding at =
       let own = evidence is_round number finding at in
       record {
-        set = All-same (λ (place : ℕ). place < length (failures graph)) finding.set own.0 own.2.set_is (members_at number own.0 own.1);
+        set = All-same (λ (position : ℕ). position < length (failures graph)) finding.set own.0 own.2.set_is (members_at number own.0 own.1);
         steps = last_named graph number rounds round finding at
             (evidence_named graph log own.2.reach of budget round.findings (steps_so_far number (rounds ++ round ∷ [])) finding finding.status own.2.evidence);
         status = status_named graph log budget round.findings own.2.reach (steps_so_far number (rounds ++ round ∷ [])) finding finding.status own.2.evidence;

@@ -1,7 +1,7 @@
 -- What a round is: a finding for each hypothesis, each with its evidence, in order and counted.
 use Rattle.std.specs.Prelude.{◌≡◌, ℕ, ◌≤◌, List, [], ◌∷◌, ◌++◌, length, map, count_by, flat_map, AllPairs, Contains, Bool, true, false, IsTrue, Option, Some, None, slice_get, option_map, option_and_then, unwrap_or}
 use Rattle.std.specs.List.{list_any}
-use Rattle.tfpg_base.specs.Set.{IsProperPart}
+use Rattle.tfpg_base.specs.Set.{IsProperSubset}
 use Rattle.tfpg_graph.specs.Graph.{Tfpg}
 use Rattle.tfpg_graph.specs.Reach.{IsReach}
 use Rattle.tfpg_log.specs.Log.{Logbook, now_of}
@@ -48,15 +48,15 @@ abbrev pub steps_so_far : ℕ → List Round → List Judged
 steps_so_far number rounds = flat_map (steps_in number) rounds
 
 -- the hypothesis of this number is ranked, and its set is a proper subset of the set
-pub record IsRankedPart (findings : List Finding) (set : List ℕ) (number : ℕ) : Type 0 where
+pub record IsRankedSubset (findings : List Finding) (set : List ℕ) (number : ℕ) : Type 0 where
   pub finding : Finding
   pub numbered : slice_get findings number ≡ Some finding
   pub ranked : IsTrue (is_ranked finding.status)
-  pub part : IsProperPart finding.set set
+  pub part : IsProperSubset finding.set set
 
 -- Some hypothesis is ranked whose set is a proper subset of the set.
-abbrev pub HasRankedPart : List Finding → List ℕ → Type 0
-HasRankedPart findings set = (number : ℕ) × IsRankedPart findings set number
+abbrev pub HasRankedSubset : List Finding → List ℕ → Type 0
+HasRankedSubset findings set = (number : ℕ) × IsRankedSubset findings set number
 
 -- What each status says of a set with this reach, whose steps of all rounds so far are these.
 abbrev pub HasEvidence : Tfpg → Logbook → ℕ → List Finding → List ℕ → List Judged → Finding → Status → Type 0
@@ -64,15 +64,15 @@ abbrev pub HasEvidence : Tfpg → Logbook → ℕ → List Finding → List ℕ 
 HasEvidence graph log budget findings reach steps finding Rejected = IsRefutation graph log reach steps
 -- A proper subset is ranked, and the least number of one is named. There is no step in this round.
 HasEvidence graph log budget findings reach steps finding (Covered by) =
-    IsPartial graph log reach steps × (finding.steps ≡ []) × IsRankedPart findings finding.set by
-    × ((other : ℕ) → IsRankedPart findings finding.set other → by ≤ other)
+    IsPartial graph log reach steps × (finding.steps ≡ []) × IsRankedSubset findings finding.set by
+    × ((other : ℕ) → IsRankedSubset findings finding.set other → by ≤ other)
 -- A trace explains the log from the set, and no proper subset is ranked.
 HasEvidence graph log budget findings reach steps finding (Ranked trace c alarmed monitored) =
-    IsPartial graph log reach steps × Explains graph log finding.set trace × (HasRankedPart findings finding.set → ⊥) × (c ≡ cost_of graph finding.set)
+    IsPartial graph log reach steps × Explains graph log finding.set trace × (HasRankedSubset findings finding.set → ⊥) × (c ≡ cost_of graph finding.set)
     × (robustness_of graph log reach ≡ record { alarmed = alarmed; monitored = monitored })
 -- This round spent its whole budget on splits, the tree is not closed, and no proper subset is ranked.
 HasEvidence graph log budget findings reach steps finding Open =
-    IsPartial graph log reach steps × (HasRankedPart findings finding.set → ⊥) × (count_by is_split finding.steps ≡ budget)
+    IsPartial graph log reach steps × (HasRankedSubset findings finding.set → ⊥) × (count_by is_split finding.steps ≡ budget)
 
 -- The finding on the hypothesis of this number.
 pub record IsFinding (graph : Tfpg) (log : Logbook) (budget : ℕ) (rounds : List Round) (findings : List Finding) (number : ℕ) (set : List ℕ) (finding : Finding) : Type 0 where

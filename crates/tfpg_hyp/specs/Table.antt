@@ -6,7 +6,7 @@ use Rattle.tfpg_graph.specs.Graph.{Tfpg, failures}
 -- a set of at most k failure modes of the graph, as the rising list of their positions
 pub record IsHypothesis (graph : Tfpg) (k : ℕ) (set : List ℕ) : Type 0 where
   pub rising : IsStrictlyIncreasing set
-  pub members : All (λ place. place < length (failures graph)) set
+  pub members : All (λ position. position < length (failures graph)) set
   pub size : length set ≤ k
 
 -- the one list comes before the other at the first place where they differ

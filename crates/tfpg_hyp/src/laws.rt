@@ -1,7 +1,7 @@
 //! What the definitions of this crate come to, as functions that do nothing: each says its law in its clauses.
 
 ghost use Rattle.std.specs.Prelude.{◌≡◌, ◌≢◌, ◌<◌, ◌≤◌, ◌⊎◌, ℕ, List, Some, slice_get};
-ghost use Rattle.tfpg_base.specs.Set.{IsPart, IsProperPart, IsSet};
+ghost use Rattle.tfpg_base.specs.Set.{IsSubset, IsProperSubset, IsSet};
 ghost use Rattle.tfpg_graph.specs.Graph.{Tfpg};
 ghost use Rattle.tfpg_hyp.specs.Hypotheses.{HasHypotheses};
 ghost use Rattle.tfpg_hyp.specs.Ranking.{IsRankedBefore};
@@ -28,10 +28,10 @@ pub fn the_table_is_one()
 /// Each subset of a hypothesis is a hypothesis, and a proper one has the lesser number.
 pub fn subsets_stand_before_their_supersets()
     ensures hypothesis { (graph : Tfpg) (k : ℕ) (part whole : List ℕ) →
-        IsSet part → IsPart part whole → IsHypothesis graph k whole → IsHypothesis graph k part }
+        IsSet part → IsSubset part whole → IsHypothesis graph k whole → IsHypothesis graph k part }
     ensures before { (graph : Tfpg) (k : ℕ) (sets : List (List ℕ)) → IsTable graph k sets →
         (number other : ℕ) (part whole : List ℕ) → slice_get sets number ≡ Some part →
-        slice_get sets other ≡ Some whole → IsProperPart part whole → number < other }
+        slice_get sets other ≡ Some whole → IsProperSubset part whole → number < other }
 {}
 
 /// The ranking order is a strict total order of places with different numbers whose robustness is a fraction.

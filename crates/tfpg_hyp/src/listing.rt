@@ -1,4 +1,4 @@
-//! How the sets of at most so many failure modes are counted, and listed in order.
+//! How the sets of at most `k` failure modes are counted, and listed in order.
 
 ghost use Rattle.std.specs.Prelude.{◌≡◌, ◌+◌, ◌<◌, ◌≤◌, ◌++◌, map, All, IfOk, OnOk};
 ghost use Rattle.tfpg_hyp.specs.inside.Choices.{chosen, chosen_below, choices_below};
@@ -44,7 +44,7 @@ fn append_sets(
     size: u32,
 ) -> Result<(), NoMemory>
     requires room { least + count ≤ 64 }
-    requires below { All (λ place. place < least) members }
+    requires below { All (λ position. position < least) members }
     ensures { OnOk result
         (sets.new.items ≡ sets.old.items ++ map (λ more. members ++ more) (chosen count size least)) }
 {

@@ -13,19 +13,19 @@ use tfpg_log::Log;
 /// The cost of a set of failure modes: the sum of their rarities, at most 64,000,000.
 /// Goes once over the failure modes of the graph.
 pub fn cost(graph: &Graph, set: Set) -> u64
-    requires { All (λ place. place < length (failures graph.now)) set }
+    requires { All (λ position. position < length (failures graph.now)) set }
     ensures { result ≡ cost_of graph.now set }
 {
     let mut cost = 0;
-    for place in 0..graph.failure_count() {
-        if set.has(place) {
-            cost += rarity(graph, place);
+    for position in 0..graph.failure_count() {
+        if set.has(position) {
+            cost += rarity(graph, position);
         }
     }
     cost
 }
 
-/// The robustness of a set with this reach: the part of the monitored nodes in it that have an alarm in the log, and 1/1
+/// The robustness of a set with this reach: the share of the monitored nodes in it that have an alarm in the log, and 1/1
 /// where there is no monitored node in it. Goes once over the nodes of the graph.
 pub fn robust(graph: &Graph, log: &Log, reach: &NodeSet) -> Fraction
     ensures fraction { result ≡ robustness_of graph.now log.now reach.now }
@@ -69,14 +69,14 @@ pub fn before(a: &Place, b: &Place) -> bool
 }
 
 /// The rarity of the failure mode at a position.
-fn rarity(graph: &Graph, place: u32) -> u64
-    requires { place < length (failures graph.now) }
-    ensures worth { result ≡ rarity_at graph.now place }
+fn rarity(graph: &Graph, position: u32) -> u64
+    requires { position < length (failures graph.now) }
+    ensures worth { result ≡ rarity_at graph.now position }
     ensures small { result ≤ MAX_RARITY }
 {
     // The count says that the graph is valid, and so the node is one of its nodes and its rarity is within the limit.
     let _count = graph.node_count();
-    match graph.kind(graph.failure_node(place)) {
+    match graph.kind(graph.failure_node(position)) {
         Kind::Failure { rarity } => rarity,
         Kind::Or { lag: _ } => 0,
         Kind::And { lag: _ } => 0,

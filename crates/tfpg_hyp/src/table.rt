@@ -31,7 +31,7 @@ impl From<NoMemory> for TableFault {
     }
 }
 
-/// All sets of at most so many failure modes of a graph, with what each reaches. They have numbers from 0: smaller sets
+/// All sets of at most `k` failure modes of a graph, with what each reaches. They have numbers from 0: smaller sets
 /// come first, and sets of one size stand by their rising lists of positions.
 ///
 /// Contracts see the list of the sets and that of their reaches. No look-up allocates; each takes constant time.
@@ -109,7 +109,7 @@ impl Table {
 
 /// What each of the sets reaches.
 fn reaches_of(alloc: Global, graph: &Graph, sets: &[Set]) -> Result<Vec<NodeSet>, NoMemory>
-    requires { All (λ set. All (λ place. place < length (failures graph.now)) set) sets.now }
+    requires { All (λ set. All (λ position. position < length (failures graph.now)) set) sets.now }
     ensures { IfOk result (λ reaches. AreReaches graph.now sets.now reaches.items) }
 {
     let mut reaches = Vec::new(alloc);

@@ -1,16 +1,17 @@
--- The answers of a checker are those of the definitions, by the laws of trees.
+-- The results of a checker are those of the definitions, by the laws of trees.
 use Rattle.std.proofs.Common.{◌≡◌, ℕ, List, [], ◌∷◌, ◌++◌, length, Bool, true, false, Option, Some, None, refl, sym, ap, subst, ◌∙◌, inl, inr}
-use Rattle.std.proofs.Math.Seq.{take-length}
 use Rattle.tfpg_base.specs.declared.constraint.Constraint.{Constraint}
 use Rattle.tfpg_graph.specs.Graph.{Tfpg}
 use Rattle.tfpg_log.specs.Log.{Logbook, GoesOn, IsOrdered, first_events}
+use Rattle.tfpg_log.proofs.Events.{whole_log}
 use Rattle.tfpg_evidence.specs.declared.clause_name.ClauseName.{ClauseName}
 use Rattle.tfpg_evidence.specs.declared.reason.Reason.{Reason}
 use Rattle.tfpg_evidence.specs.declared.step.Step.{Step}
 use Rattle.tfpg_evidence.specs.declared.step.Step.TheVariants.{Split, Cycle}
 use Rattle.tfpg_clause.specs.Clauses.{count_of}
-use Rattle.tfpg_clause.specs.Trees.{Judged, PathSplit, stated, IsClosedBy, IsRefutation, IsPartial, IsPresentLeaf}
-use Rattle.tfpg_clause.specs.Paths.{judged_by, with_step, IsRightNext, AreFramesOf, IsAtLeaf, new_frame, path_after, stated_by}
+use Rattle.tfpg_clause.specs.Trees.{Judged, PathSplit, stated, IsRefutation, IsPartial}
+use Rattle.tfpg_clause.specs.Laws.{PresentLeavesAreAlone, RefutationsAreNotPartial, LastStepsOfRefutationsAreRight, LastStepsOfPartialTreesAreRight, RefutationsStay, FramesStayAtTheLeaf, FramesFollowSplits, FramesFollowCycles, FramesEndInRefutations, FramesStateWhatPathsState}
+use Rattle.tfpg_clause.specs.Paths.{judged_by, with_step, IsRightNext, IsAtLeaf, new_frame, stated_by}
 use Rattle.tfpg_clause.specs.declared.path.Frame.{Frame}
 use Rattle.tfpg_kernel.specs.declared.taken.Taken.{Taken}
 use Rattle.tfpg_kernel.specs.declared.taken.Taken.TheVariants.{Open, Closed, Bad}
@@ -24,34 +25,19 @@ use Rattle.tfpg_kernel.specs.inside.Paths.{GoesTo, BreaksBy, Moves}
 use Rattle.tfpg_kernel.proofs.FirstBroken.{breaks_unique, breaks_wrong}
 
 -- what the laws say of all trees
-pub record TreeLaws : Type 0 where
-  pub only_one : (graph : Tfpg) (log : Logbook) (reach : List ℕ) (steps : List Judged) (one other : List PathSplit)
-      → IsPresentLeaf graph log reach steps one → IsPresentLeaf graph log reach steps other → one ≡ other
-  pub finished : (graph : Tfpg) (log : Logbook) (reach : List ℕ) (steps : List Judged) → IsRefutation graph log reach steps → IsPartial graph log reach steps → ⊥
-  pub last_of_refutation : (graph : Tfpg) (log : Logbook) (reach : List ℕ) (steps : List Judged) (last : Judged)
-      → IsRefutation graph log reach (steps ++ last ∷ []) → IsRightNext graph log reach steps last
-  pub last_of_partial : (graph : Tfpg) (log : Logbook) (reach : List ℕ) (steps : List Judged) (last : Judged)
-      → IsPartial graph log reach (steps ++ last ∷ []) → IsRightNext graph log reach steps last
-  pub refutation_stays : (graph : Tfpg) (earlier later : Logbook) (reach : List ℕ) (steps : List Judged) → IsOrdered later → GoesOn earlier later
-      → IsRefutation graph earlier reach steps → IsRefutation graph later reach steps
-  pub frames_stay : (graph : Tfpg) (earlier later : Logbook) (reach : List ℕ) (frames : List Frame) (steps : List Judged) → IsOrdered later → GoesOn earlier later
-      → IsAtLeaf graph earlier reach frames steps → IsAtLeaf graph later reach frames steps
-  pub split : (graph : Tfpg) (log : Logbook) (reach : List ℕ) (frames : List Frame) (steps : List Judged) (name : ClauseName) (count : ℕ)
-      → IsAtLeaf graph log reach frames steps → count_of graph log name ≡ Some count
-      → IsAtLeaf graph log reach (frames ++ new_frame name count ∷ []) (with_step steps log (Split name))
-  pub next : (graph : Tfpg) (log : Logbook) (reach : List ℕ) (frames after : List Frame) (steps : List Judged) (reasons : List Reason)
-      → IsOrdered log → IsAtLeaf graph log reach frames steps → IsClosedBy (stated_by graph log reach frames) reasons → path_after frames ≡ Some after
-      → IsAtLeaf graph log reach after (with_step steps log (Cycle reasons))
-  pub closed : (graph : Tfpg) (log : Logbook) (reach : List ℕ) (frames : List Frame) (steps : List Judged) (reasons : List Reason)
-      → IsOrdered log → IsAtLeaf graph log reach frames steps → IsClosedBy (stated_by graph log reach frames) reasons → path_after frames ≡ None
-      → IsRefutation graph log reach (with_step steps log (Cycle reasons))
-  pub states_same : (graph : Tfpg) (log : Logbook) (reach : List ℕ) (path : List PathSplit) (frames : List Frame) (reason : Reason)
-      → IsOrdered log → AreFramesOf graph log path frames → stated_by graph log reach frames reason ≡ stated graph log reach path (length log.events) reason
+pub record AnswerLaws : Type 0 where
+  pub only_one : PresentLeavesAreAlone
+  pub finished : RefutationsAreNotPartial
+  pub last_of_refutation : LastStepsOfRefutationsAreRight
+  pub last_of_partial : LastStepsOfPartialTreesAreRight
+  pub refutation_stays : RefutationsStay
+  pub frames_stay : FramesStayAtTheLeaf
+  pub split : FramesFollowSplits
+  pub next : FramesFollowCycles
+  pub closed : FramesEndInRefutations
+  pub states_same : FramesStateWhatPathsState
 
-whole_log : (log : Logbook) → first_events log (length log.events) ≡ log
-whole_log log = ap (λ (events : List _). record { events = events }) (take-length log.events)
-
-module _ (laws : TreeLaws) (graph : Tfpg) (log : Logbook) (reach : List ℕ) where
+module _ (laws : AnswerLaws) (graph : Tfpg) (log : Logbook) (reach : List ℕ) where
   broken_unique : (steps : List Judged) (next : Judged) (one other : BadStep) → IsFirstBroken graph log reach steps next one → IsFirstBroken graph log reach steps next other → one ≡ other
   broken_unique steps next one other (inl a) (inl b) = a.0 ∙ sym b.0
   broken_unique steps next one other (inl a) (inr b) = absurd (laws.finished graph log reach steps a.1 b.1.partial)
@@ -66,7 +52,7 @@ module _ (laws : TreeLaws) (graph : Tfpg) (log : Logbook) (reach : List ℕ) whe
       let same : a.0 ≡ last.path = laws.only_one graph log reach steps a.0 last.path a.1 last.leaf in
       breaks_wrong graph log reach last.path next.seen last.subtrees next.step bad (subst (λ (p : List PathSplit). BreaksAt graph log reach p next.seen next.step bad) same a.2) last.right
 
-  -- ---- the three answers
+  -- ---- the three results
 
   module _ (steps : List Judged) (step : Step) (after : Checking) where
     answers_open : IsPartial graph log reach (with_step steps log step) → CheckerRepresents graph log after (with_step steps log step) → IsAnswer graph log reach steps step Open after
@@ -131,7 +117,7 @@ represents_by graph log reach after steps closed same_reach same_closed is = rec
       (subst (λ (b : Bool). Represented graph log reach after.path steps b) (sym same_closed) is);
 }
 
-module _ (laws : TreeLaws) (graph : Tfpg) (earlier log : Logbook) (old : Checking) (steps : List Judged) (ordered : IsOrdered log) (goes_on : GoesOn earlier log)
+module _ (laws : AnswerLaws) (graph : Tfpg) (earlier log : Logbook) (old : Checking) (steps : List Judged) (ordered : IsOrdered log) (goes_on : GoesOn earlier log)
     (represents : CheckerRepresents graph earlier old steps) where
   -- the steps are those that it represents at this log too
   stays : (closed : Bool) → Represented graph earlier old.reach old.path steps closed → Represented graph log old.reach old.path steps closed

@@ -1,19 +1,20 @@
 -- What the chain of the constraints of a cycle says of them.
-use Rattle.std.proofs.Common.{◌≡◌, ℕ, ◌+◌, ◌*◌, ◌^◌, ◌<◌, List, [], ◌∷◌, ◌++◌, Bool, true, false, cond, Option, Some, None, refl, sym, ap, subst, ◌∙◌, arith, ◌-◌}
+use Rattle.std.proofs.Common.{◌≡◌, ℕ, ◌+◌, ◌*◌, ◌^◌, ◌<◌, List, [], ◌∷◌, ◌++◌, Bool, true, false, cond, Option, Some, None, refl, sym, ap, subst, ◌∙◌, arith, ◌-◌, inl, inr}
 use Rattle.std.specs.Prelude.{ℤ, pos, negsuc, ◌+ℤ◌, ◌<ℤ◌, ◌≤ℤ◌, neg_ℤ, fold, map, is_none, option_map, ◌&&◌, ◌==◌}
 use Rattle.std.specs.Bool.{then_some}
 use Rattle.std.proofs.lemmas.Int.{ints}
 use Rattle.std.proofs.lemmas.List.{map-append}
-use Rattle.std.proofs.lemmas.Bool.Decides.{nat_tests}
+use Rattle.std.proofs.lemmas.Bool.{eqb-true, eq-eqb, and_parts}
 use Rattle.tfpg_base.specs.Choice.{first_of, each_of}
 use Rattle.tfpg_base.specs.declared.constraint.Constraint.{Constraint}
 use Rattle.tfpg_evidence.specs.declared.reason.Reason.{Reason}
 use Rattle.tfpg_base.specs.ConstraintCycle.{IsChainTo, IsCycle, sum_of}
+use Rattle.tfpg_base.proofs.lists.Choices.{each_of-push}
 use Rattle.tfpg_kernel.specs.declared.chain.Chain.{Chain}
-use Rattle.tfpg_kernel.specs.declared.taken.BadStep.{BadStep}
-use Rattle.tfpg_kernel.specs.declared.taken.BadStep.TheVariants.{Unchained, NotNegative}
+use Rattle.tfpg_kernel.specs.declared.chain.ClosingFault.{ClosingFault}
+use Rattle.tfpg_kernel.specs.declared.chain.ClosingFault.TheVariants.{Unchained, NotNegative}
 use Rattle.tfpg_kernel.specs.Breaks.{fault_of, reasons_fault, ClosingBreaks}
-use Rattle.tfpg_kernel.specs.inside.Chains.{IsWithin, new_chain, with_constraint, chain_of, is_round, is_negative, closing_fault}
+use Rattle.tfpg_kernel.specs.inside.Chains.{IsWithin, new_chain, with_constraint, chain_of, is_round, is_negative, closing_fault, bad_of}
 
 -- the chain from a state on
 abbrev chain_from : Chain → List Constraint → Chain
@@ -33,12 +34,6 @@ sum_from chain (c ∷ constraints) = sum_from (with_constraint chain c) constrai
 sum_is : (constraints : List Constraint) → (chain_of constraints).sum ≡ sum_of constraints
 sum_is constraints = sum_from new_chain constraints
 
-same_of : (a b : ℕ) → (a == b) ≡ true → a ≡ b
-same_of a b test = grind (arith, nat_tests)
-
-test_of : (a b : ℕ) → a ≡ b → (a == b) ≡ true
-test_of a b same = grind (arith, nat_tests)
-
 -- whether the constraints go on from one number and end at another
 abbrev chains : ℕ → ℕ → List Constraint → Bool
 chains at end [] = end == at
@@ -57,20 +52,16 @@ round_from first last unbroken sum [] = refl
 round_from first last unbroken sum (c ∷ constraints) =
     round_from first c.right (unbroken && (last == c.left)) (sum +ℤ c.most) constraints ∙ and_assoc unbroken (last == c.left) (chains c.right first constraints)
 
-and_true : (a b : Bool) → (a && b) ≡ true → (a ≡ true) × (b ≡ true)
-and_true true b both = (refl, both)
-and_true false b both = cc
-
 chained : (end : ℕ) (c : Constraint) (constraints : List Constraint) → chains c.right end constraints ≡ true → IsChainTo end (c ∷ constraints)
-chained end c [] test = sym (same_of end c.right test)
+chained end c [] test = sym (eqb-true end c.right test)
 chained end c (d ∷ constraints) test =
-    let both = and_true (c.right == d.left) (chains d.right end constraints) test in
-    (same_of c.right d.left both.0, chained end d constraints both.1)
+    let both = and_parts (c.right == d.left) (chains d.right end constraints) test in
+    (eqb-true c.right d.left both.0, chained end d constraints both.1)
 
 unchained : (end : ℕ) (c : Constraint) (constraints : List Constraint) → IsChainTo end (c ∷ constraints) → chains c.right end constraints ≡ true
-unchained end c [] chain = test_of end c.right (sym chain)
+unchained end c [] chain = eq-eqb end c.right (sym chain)
 unchained end c (d ∷ constraints) chain =
-    ap (λ (b : Bool). b && chains d.right end constraints) (test_of c.right d.left chain.0) ∙ unchained end d constraints chain.1
+    ap (λ (b : Bool). b && chains d.right end constraints) (eq-eqb c.right d.left chain.0) ∙ unchained end d constraints chain.1
 
 cycle_of : (constraints : List Constraint) → round_test (chain_of constraints) ≡ true → IsCycle constraints
 cycle_of [] test = cc
@@ -99,18 +90,18 @@ closes constraints none = by (round_test (chain_of constraints)) refl (is_negati
     by false round negative is none = cc
 
 -- A fault that is left is the first that they break.
-pub breaks : (constraints : List Constraint) (bad : BadStep) → closing_fault (chain_of constraints) ≡ Some bad → ClosingBreaks constraints bad
-breaks constraints bad some = by (round_test (chain_of constraints)) refl (is_negative (chain_of constraints).sum) refl some
+pub breaks : (constraints : List Constraint) (fault : ClosingFault) → closing_fault (chain_of constraints) ≡ Some fault → ClosingBreaks constraints (bad_of fault)
+breaks constraints fault some = by (round_test (chain_of constraints)) refl (is_negative (chain_of constraints).sum) refl some
   where
     by : (round : Bool) → round_test (chain_of constraints) ≡ round → (negative : Bool) → is_negative (chain_of constraints).sum ≡ negative
-        → cond round (cond negative None (Some NotNegative)) (Some Unchained) ≡ Some bad → ClosingBreaks constraints bad
+        → cond round (cond negative None (Some NotNegative)) (Some Unchained) ≡ Some fault → ClosingBreaks constraints (bad_of fault)
     by true round true negative some = cc
     by true round false negative some =
-        let same : NotNegative ≡ bad = cc in
-        subst (ClosingBreaks constraints) same (cycle_of constraints round, subst (λ (s : ℤ). pos 0 ≤ℤ s) (sum_is constraints) (not_below_zero (chain_of constraints).sum negative))
+        let same : NotNegative ≡ fault = cc in
+        subst (λ (f : ClosingFault). ClosingBreaks constraints (bad_of f)) same (inr (refl, cycle_of constraints round, subst (λ (s : ℤ). pos 0 ≤ℤ s) (sum_is constraints) (not_below_zero (chain_of constraints).sum negative)))
     by false round negative is some =
-        let same : Unchained ≡ bad = cc in
-        subst (ClosingBreaks constraints) same (λ (cycle : IsCycle constraints). let both : true ≡ false = sym (round_of constraints cycle) ∙ round in cc)
+        let same : Unchained ≡ fault = cc in
+        subst (λ (f : ClosingFault). ClosingBreaks constraints (bad_of f)) same (inl (refl, λ (cycle : IsCycle constraints). let both : true ≡ false = sym (round_of constraints cycle) ∙ round in cc))
 
 -- One more bound of 64 bits.
 pub within_more : (n : ℕ) (sum most : ℤ) → IsWithin (n * 2 ^ 63) sum → neg_ℤ (pos (2 ^ 63)) ≤ℤ most → most <ℤ pos (2 ^ 63) → IsWithin ((n + 1) * 2 ^ 63) (sum +ℤ most)
@@ -140,21 +131,7 @@ first_fault stated (r ∷ front) reason rest constraints hold none = by (λ cs k
     by next (Some c) is (Some cs) are whole =
         ap (λ (o : Option Constraint). first_of (then_some (is_none o) (fault_of r) ∷ map (λ (x : Reason). then_some (is_none (stated x)) (fault_of x)) (front ++ reason ∷ rest))) is ∙ next cs are
 
--- one more value that is there
-each_push : {X : Type 0} (options : List (Option X)) (xs : List X) (x : X) → each_of options ≡ Some xs → each_of (options ++ Some x ∷ []) ≡ Some (xs ++ x ∷ [])
-each_push [] [] x at = refl
-each_push [] (y ∷ ys) x at = absurd cc
-each_push (None ∷ options) xs x at = absurd cc
-each_push (Some y ∷ options) xs x at = by (λ ys are. each_push options ys x are) (each_of options) refl at
-  where
-    by : ((ys : List _) → each_of options ≡ Some ys → each_of (options ++ Some x ∷ []) ≡ Some (ys ++ x ∷ []))
-        → (others : Option (List _)) → each_of options ≡ others → option_map (λ (ys : List _). y ∷ ys) others ≡ Some xs → each_of (Some y ∷ (options ++ Some x ∷ [])) ≡ Some (xs ++ x ∷ [])
-    by rest None are whole = absurd cc
-    by rest (Some ys) are whole =
-        let same : y ∷ ys ≡ xs = cc in
-        ap (option_map (λ (zs : List _). y ∷ zs)) (rest ys are) ∙ ap (λ (zs : List _). Some (zs ++ x ∷ [])) same
-
 pub each_more : (stated : Reason → Option Constraint) (front : List Reason) (reason : Reason) (constraints : List Constraint) (c : Constraint)
     → each_of (map stated front) ≡ Some constraints → stated reason ≡ Some c → each_of (map stated (front ++ reason ∷ [])) ≡ Some (constraints ++ c ∷ [])
 each_more stated front reason constraints c hold is =
-    ap each_of (map-append stated front (reason ∷ [])) ∙ ap (λ (o : Option Constraint). each_of (map stated front ++ o ∷ [])) is ∙ each_push (map stated front) constraints c hold
+    ap each_of (map-append stated front (reason ∷ [])) ∙ ap (λ (o : Option Constraint). each_of (map stated front ++ o ∷ [])) is ∙ each_of-push (map stated front) constraints c hold

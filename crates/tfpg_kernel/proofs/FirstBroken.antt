@@ -13,34 +13,17 @@ use Rattle.tfpg_evidence.specs.declared.step.Step.{Step}
 use Rattle.tfpg_evidence.specs.declared.step.Step.TheVariants.{Split, Cycle}
 use Rattle.tfpg_clause.specs.Trees.{PathSplit, stated, IsRightStep}
 use Rattle.tfpg_kernel.specs.declared.taken.BadStep.{BadStep}
-use Rattle.tfpg_kernel.specs.declared.taken.BadStep.TheVariants.{AfterClosed, NotAClause, NotAFact, NotOnPath, Unchained, NotNegative}
 use Rattle.tfpg_kernel.specs.Breaks.{fault_of, reasons_fault, ClosingBreaks, CycleBreaks, BreaksAt}
 
 closing_unique : (constraints : List Constraint) (one other : BadStep) → ClosingBreaks constraints one → ClosingBreaks constraints other → one ≡ other
-closing_unique constraints Unchained Unchained a b = refl
-closing_unique constraints Unchained NotNegative a b = absurd (a b.0)
-closing_unique constraints NotNegative Unchained a b = absurd (b a.0)
-closing_unique constraints NotNegative NotNegative a b = refl
-closing_unique constraints Unchained AfterClosed a b = absurd b
-closing_unique constraints Unchained NotAClause a b = absurd b
-closing_unique constraints Unchained NotAFact a b = absurd b
-closing_unique constraints Unchained NotOnPath a b = absurd b
-closing_unique constraints NotNegative AfterClosed a b = absurd b
-closing_unique constraints NotNegative NotAClause a b = absurd b
-closing_unique constraints NotNegative NotAFact a b = absurd b
-closing_unique constraints NotNegative NotOnPath a b = absurd b
-closing_unique constraints AfterClosed other a b = absurd a
-closing_unique constraints NotAClause other a b = absurd a
-closing_unique constraints NotAFact other a b = absurd a
-closing_unique constraints NotOnPath other a b = absurd a
+closing_unique constraints one other (inl a) (inl b) = a.0 ∙ sym b.0
+closing_unique constraints one other (inl a) (inr b) = absurd (a.1 b.1)
+closing_unique constraints one other (inr a) (inl b) = absurd (b.1 a.1)
+closing_unique constraints one other (inr a) (inr b) = a.0 ∙ sym b.0
 
 closing_wrong : (constraints : List Constraint) (bad : BadStep) → ClosingBreaks constraints bad → IsCycle constraints → sum_of constraints <ℤ pos 0 → ⊥
-closing_wrong constraints Unchained breaks cycle negative = breaks cycle
-closing_wrong constraints NotNegative breaks cycle negative = let not = breaks.1 in omega (arith, ints)
-closing_wrong constraints AfterClosed breaks cycle negative = breaks
-closing_wrong constraints NotAClause breaks cycle negative = breaks
-closing_wrong constraints NotAFact breaks cycle negative = breaks
-closing_wrong constraints NotOnPath breaks cycle negative = breaks
+closing_wrong constraints bad (inl a) cycle negative = a.1 cycle
+closing_wrong constraints bad (inr a) cycle negative = let not = a.2 in omega (arith, ints)
 
 -- where each reason states a constraint, none is at fault
 no_fault : (states : Reason → Option Constraint) (reasons : List Reason) (constraints : List Constraint) → each_of (map states reasons) ≡ Some constraints → reasons_fault states reasons ≡ None

@@ -32,12 +32,8 @@ reasons_fault stated reasons = first_of (map (λ reason. then_some (is_none (sta
 -- The constraints of a cycle break this condition, and none before it: they do not chain into a cycle; or their sum is not
 -- negative.
 abbrev pub ClosingBreaks : List Constraint → BadStep → Type 0
-ClosingBreaks constraints Unchained = IsCycle constraints → ⊥
-ClosingBreaks constraints NotNegative = IsCycle constraints × (pos 0 ≤ℤ sum_of constraints)
-ClosingBreaks constraints AfterClosed = ⊥
-ClosingBreaks constraints NotAClause = ⊥
-ClosingBreaks constraints NotAFact = ⊥
-ClosingBreaks constraints NotOnPath = ⊥
+ClosingBreaks constraints bad =
+    ((bad ≡ Unchained) × (IsCycle constraints → ⊥)) ⊎ ((bad ≡ NotNegative) × IsCycle constraints × (pos 0 ≤ℤ sum_of constraints))
 
 -- The reasons of a cycle break this condition, and none before it: some reason states no constraint; or the constraints of all
 -- break it.

@@ -19,7 +19,7 @@ Represented graph log reach frames steps false = IsAtLeaf graph log reach frames
 pub record CheckerRepresents (graph : Tfpg) (log : Logbook) (checker : Checking) (steps : List Judged) : Type 0 where
   pub steps_are : Represented graph log checker.reach checker.path steps checker.closed
 
--- the steps taken after an answer: a bad one is not among them
+-- the steps taken after a step with this result: a bad one is not among them
 abbrev pub steps_after : Taken → List Judged → Logbook → Step → List Judged
 steps_after Open steps log step = with_step steps log step
 steps_after Closed steps log step = with_step steps log step

@@ -18,7 +18,7 @@ use tfpg_clause::laws::{
     frames_are_at_the_present_leaf, frames_follow_the_path, the_last_step_of_a_tree_is_right,
 };
 
-/// Each move of a checker is the answer to its step: `refused` says it of a checker that is closed, and `moved` of one that
+/// Each move of a checker is the result for its step: `refused` says it of a checker that is closed, and `moved` of one that
 /// is not. It does nothing.
 pub(crate) fn moves_are_answers()
     ensures refused { (graph : Tfpg) (earlier log : Logbook) (old : Checking) (steps : List Judged)

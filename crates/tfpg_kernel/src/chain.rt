@@ -1,7 +1,7 @@
 //! The constraints of a cycle, as far as its reasons were looked at.
 
 ghost use Rattle.std.specs.Prelude.{◌≡◌, ℕ, ◌+◌, ◌-◌, ◌*◌, ◌^◌};
-ghost use Rattle.tfpg_kernel.specs.inside.Chains.{IsWithin, new_chain, with_constraint, closing_fault};
+ghost use Rattle.tfpg_kernel.specs.inside.Chains.{IsWithin, with_constraint, closing_fault};
 
 use crate::taken::BadStep;
 use tfpg_base::Constraint;
@@ -12,16 +12,39 @@ use tfpg_base::Constraint;
 /// stays below 2^127 either way, and 128 bits hold it exactly.
 #[derive(Clone, Copy)]
 pub(crate) struct Chain {
-    pub(crate) ends: Option<Ends>,
+    pub(crate) ends: Option<ChainEnds>,
     pub(crate) unbroken: bool,
     pub(crate) sum: i128,
 }
 
 /// The left side of the first constraint, and the right side of the last.
 #[derive(Clone, Copy)]
-pub(crate) struct Ends {
+pub(crate) struct ChainEnds {
     pub(crate) first: u32,
     pub(crate) last: u32,
+}
+
+/// What the constraints of a cycle can be at fault for, in this order.
+#[derive(Clone, Copy)]
+pub(crate) enum ClosingFault {
+    /// They do not chain into a cycle, or there are none.
+    Unchained,
+    /// The sum of their bounds is 0 or more.
+    NotNegative,
+}
+
+impl From<ClosingFault> for BadStep {
+    ghost use Rattle.std.specs.Prelude.{◌≡◌};
+    ghost use Rattle.tfpg_kernel.specs.inside.Chains.{bad_of};
+
+    ghost from_gives = { λ fault bad. bad ≡ bad_of fault };
+
+    fn from(fault: ClosingFault) -> BadStep {
+        match fault {
+            ClosingFault::Unchained => BadStep::Unchained,
+            ClosingFault::NotNegative => BadStep::NotNegative,
+        }
+    }
 }
 
 impl Chain {
@@ -42,7 +65,7 @@ impl Chain {
         let sum = self.sum + i128::from(constraint.most);
         match self.ends {
             None => Chain {
-                ends: Some(Ends {
+                ends: Some(ChainEnds {
                     first: constraint.left,
                     last: constraint.right,
                 }),
@@ -50,7 +73,7 @@ impl Chain {
                 sum,
             },
             Some(ends) => Chain {
-                ends: Some(Ends {
+                ends: Some(ChainEnds {
                     first: ends.first,
                     last: constraint.right,
                 }),
@@ -60,8 +83,8 @@ impl Chain {
         }
     }
 
-    /// The first of the last two conditions that the whole cycle breaks, where it breaks one.
-    pub(crate) fn fault(self) -> Option<BadStep>
+    /// What the whole cycle is at fault for first, where it is at fault.
+    pub(crate) fn fault(self) -> Option<ClosingFault>
         ensures { result ≡ closing_fault self }
     {
         match self.ends {
@@ -69,10 +92,10 @@ impl Chain {
                 if self.sum < 0 {
                     None
                 } else {
-                    Some(BadStep::NotNegative)
+                    Some(ClosingFault::NotNegative)
                 }
             }
-            _ => Some(BadStep::Unchained),
+            _ => Some(ClosingFault::Unchained),
         }
     }
 }

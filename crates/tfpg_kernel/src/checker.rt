@@ -156,7 +156,7 @@ impl Checker {
         }
     }
 
-    /// Puts a split at the end of the path, where there is room for it.
+    /// Appends a split to the path, which has room for it.
     fn enter(&mut self, frame: Frame)
         requires { 1 ≤ self.old.spare }
         ensures path { self.new.path ≡ self.old.path ++ frame ∷ [] }

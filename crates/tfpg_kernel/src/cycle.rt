@@ -35,7 +35,7 @@ pub(crate) fn check_cycle(
     }
     match chain.fault() {
         None => Ok(()),
-        Some(bad) => Err(bad),
+        Some(fault) => Err(BadStep::from(fault)),
     }
 }
 

@@ -5,7 +5,8 @@ use Rattle.std.specs.Prelude.{IsTrue, is_some, option_map, not, slice_get, filte
 use Rattle.tfpg_graph.specs.declared.edge.Edge.{Edge}
 use Rattle.tfpg_graph.specs.declared.kind.Kind.{Kind}
 use Rattle.tfpg_graph.specs.declared.kind.Kind.TheVariants.{Failure, Or, And}
-use Rattle.tfpg_graph.specs.Graph.{Tfpg, numbers_from, is_kind_at, is_and, is_failure, kind_at}
+use Rattle.tfpg_graph.specs.Graph.{Tfpg, is_kind_at, is_and, is_failure, kind_at}
+use Rattle.tfpg_base.specs.Choice.{numbers_from}
 use Rattle.tfpg_graph.specs.Valid.{IsValid}
 
 -- where some edge enters a node, there is an edge into it

@@ -1,15 +1,8 @@
 -- The shape of a line, by its words.
-use Rattle.std.proofs.Common.{◌≡◌, ℕ, true, false, eqb, List, length, map, None, refl, sym, ap, ◌∙◌}
+use Rattle.std.proofs.Common.{◌≡◌, ℕ, true, false, eqb, List, length, None, refl}
 use Rattle.std.specs.List.{list_any}
-use Rattle.std.specs.Borrow.{Bor}
 use Rattle.tfpg_base.specs.Words.{words_of}
-use Rattle.tfpg_base.proofs.lists.Images.{list_any-map}
 use Rattle.tfpg_log.specs.LogStatements.{log_statement_of, log_statement_in}
-
--- whether the line of these words has an empty one
-pub has_empty : (line : List ℕ) (words : List (Bor (List ℕ))) → map (λ word. word.now) words ≡ words_of line
-    → list_any (λ word. eqb (length word) 0) (words_of line) ≡ list_any (λ word. eqb (length word.now) 0) words
-has_empty line words are = sym (ap (list_any (λ word. eqb (length word) 0)) are) ∙ list_any-map (λ word. eqb (length word) 0) (λ word. word.now) words
 
 -- a line with an empty word has no shape
 pub log_statement_of-empty : (line : List ℕ) → list_any (λ word. eqb (length word) 0) (words_of line) ≡ true → log_statement_of line ≡ None

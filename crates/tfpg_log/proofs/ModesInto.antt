@@ -7,7 +7,8 @@ use Rattle.std.proofs.lemmas.Bool.Decides.{nat_tests}
 use Rattle.std.proofs.lemmas.List.Folds.{list_all_more}
 use Rattle.std.proofs.lemmas.Nat.Bits.{bit_at-lt, bit_at_and}
 use Rattle.tfpg_graph.specs.declared.edge.Edge.{Edge}
-use Rattle.tfpg_graph.specs.Graph.{Tfpg, numbers_from, incoming, edges_into, is_allowed}
+use Rattle.tfpg_graph.specs.Graph.{Tfpg, incoming, edges_into, is_allowed}
+use Rattle.tfpg_base.specs.Choice.{numbers_from}
 use Rattle.tfpg_log.specs.declared.active_modes.ActiveModes.{ActiveModes}
 use Rattle.tfpg_log.specs.declared.active_modes.ActiveModes.TheVariants.{OfEdge}
 use Rattle.tfpg_log.specs.inside.ActiveModes.{has_mode}

@@ -1,7 +1,8 @@
 -- Which events bound when a node became active, as one more event comes.
-use Rattle.std.proofs.Common.{◌≡◌, ℕ, zero, suc, ◌<◌, ◌≤◌, List, [], ◌∷◌, ◌++◌, length, Option, Some, None, ◌⊎◌, inl, inr, refl, sym, ap, ◌∙◌, arith}
-use Rattle.std.specs.Prelude.{option_map, slice_get}
+use Rattle.std.proofs.Common.{◌≡◌, ℕ, zero, suc, ◌<◌, ◌≤◌, [], ◌∷◌, length, Option, Some, None, ◌⊎◌, inl, inr, refl, sym, ap, ◌∙◌, arith}
+use Rattle.std.specs.Prelude.{option_map}
 use Rattle.std.proofs.lemmas.Option.{slice_get_within}
+use Rattle.tfpg_base.proofs.lists.Written.{slice_get-push_cases}
 use Rattle.tfpg_log.specs.declared.event.Event.{Event}
 use Rattle.tfpg_log.specs.declared.event.Event.TheVariants.{Alarm, Silent, Sweep}
 use Rattle.tfpg_log.specs.declared.node_events.NodeEvents.{NodeEvents}
@@ -24,20 +25,11 @@ last_at P last holds upto = (holds, λ later above also. absurd (omega (arith, a
 
 -- ---- the events of a log with one more
 
-pub new_or_old : (xs : List Event) (y x : Event) (k : ℕ) → slice_get (xs ++ y ∷ []) k ≡ Some x → (slice_get xs k ≡ Some x) ⊎ ((k ≡ length xs) × (y ≡ x))
-new_or_old [] y x zero e = let is : y ≡ x = cc in inr (refl, is)
-new_or_old [] y x (suc k) e = absurd cc
-new_or_old (z ∷ zs) y x zero e = inl e
-new_or_old (z ∷ zs) y x (suc k) e = elim (new_or_old zs y x k e) [
-  | inl old ↦ inl old
-  | inr new ↦ inr (ap suc new.0, new.1)
-]
-
 -- an event of the longer log was there, or is the one more
 event_cases : (log : Logbook) (event x : Event) (number : ℕ) → event_at (with_event log event) number ≡ Some x
     → (event_at log number ≡ Some x) ⊎ ((number ≡ suc (length log.events)) × (event ≡ x))
 event_cases log event x zero e = absurd cc
-event_cases log event x (suc before) e = elim (new_or_old log.events event x before e) [
+event_cases log event x (suc before) e = elim (slice_get-push_cases log.events event before x e) [
   | inl old ↦ inl old
   | inr new ↦ inr (ap suc new.0, new.1)
 ]

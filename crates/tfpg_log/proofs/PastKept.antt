@@ -1,10 +1,12 @@
 -- A log that goes on keeps its past.
-use Rattle.std.proofs.Common.{◌≡◌, ℕ, zero, suc, ◌-◌, ◌<◌, ◌≤◌, Bool, true, false, cond, ltb, eqb, List, [], ◌∷◌, ◌++◌, length, take, Option, Some, None, refl, sym, ap, subst, ◌∙◌, arith}
+use Rattle.std.proofs.Common.{◌≡◌, ℕ, zero, suc, ◌-◌, ◌≤◌, Bool, true, false, cond, ltb, eqb, List, [], ◌∷◌, ◌++◌, length, take, Option, Some, None, refl, sym, ap, subst, ◌∙◌, arith}
 use Rattle.std.specs.Prelude.{◌↔◌, fold, All, AllPairs, IsTrue, slice_get, option_map, option_and_then}
 use Rattle.std.proofs.lemmas.Bool.{le-ltb}
 use Rattle.std.proofs.lemmas.List.Elements.{All-tail}
 use Rattle.tfpg_base.specs.declared.activation.Activation.{Activation}
+use Rattle.tfpg_base.proofs.lists.Cuts.{take-append_left}
 use Rattle.tfpg_base.proofs.lists.Elements.{AllPairs-head, AllPairs-tail}
+use Rattle.tfpg_base.proofs.lists.Written.{slice_get-append_left, slice_get-append_some}
 use Rattle.tfpg_graph.specs.declared.edge.Edge.{Edge}
 use Rattle.tfpg_graph.specs.Graph.{Tfpg, is_allowed}
 use Rattle.tfpg_log.specs.declared.event.Event.{Event}
@@ -123,16 +125,11 @@ module _ (earlier later : Logbook) (is : IsOrdered later) (goes_on : GoesOn earl
 
 -- ---- events, alarms and silences
 
-item_kept : {X : Type 0} (xs ys : List X) (k : ℕ) (x : X) → slice_get xs k ≡ Some x → slice_get (xs ++ ys) k ≡ Some x
-item_kept [] ys k x e = absurd cc
-item_kept (z ∷ zs) ys zero x e = e
-item_kept (z ∷ zs) ys (suc k) x e = item_kept zs ys k x e
-
 -- An event keeps its number.
 pub events_kept : (earlier later : Logbook) → GoesOn earlier later → (number : ℕ) (event : Event) → event_at earlier number ≡ Some event → event_at later number ≡ Some event
 events_kept earlier later goes_on zero event e = absurd cc
 events_kept earlier later goes_on (suc before) event e =
-    ap (λ events. slice_get events before) goes_on.1 ∙ item_kept earlier.events goes_on.0 before event e
+    ap (λ events. slice_get events before) goes_on.1 ∙ slice_get-append_some earlier.events goes_on.0 before event e
 
 alarm_or : (is_it : Bool) (time found : ℕ) (rest longer : Option ℕ) → (rest ≡ Some found → longer ≡ Some found) → cond is_it (Some time) rest ≡ Some found
     → cond is_it (Some time) longer ≡ Some found
@@ -173,16 +170,6 @@ alarm_events_kept earlier later goes_on node number e =
     let at = number_of_place (alarm_place earlier.events node) number e in
     ap (λ events. option_map suc (alarm_place events node)) goes_on.1 ∙ ap (option_map suc) (place_kept earlier.events goes_on.0 node at.0 at.1) ∙ ap Some (sym at.2)
 
-take_kept : {X : Type 0} (xs ys : List X) (k : ℕ) → k ≤ length xs → take k (xs ++ ys) ≡ take k xs
-take_kept xs ys zero within = refl
-take_kept [] ys (suc k) within = absurd (omega arith)
-take_kept (x ∷ xs) ys (suc k) within = ap (λ items. x ∷ items) (take_kept xs ys k (omega arith))
-
-item_within : {X : Type 0} (xs ys : List X) (k : ℕ) → k < length xs → slice_get (xs ++ ys) k ≡ slice_get xs k
-item_within [] ys k within = absurd (omega arith)
-item_within (x ∷ xs) ys zero within = refl
-item_within (x ∷ xs) ys (suc k) within = item_within xs ys k (omega arith)
-
 -- An event that was there is a silence of the same nodes.
 pub silences_kept : (graph : Tfpg) (earlier later : Logbook) → GoesOn earlier later → (number node : ℕ) → number ≤ length earlier.events
     → quiet_at graph later number node ≡ quiet_at graph earlier number node
@@ -190,5 +177,5 @@ silences_kept graph earlier later goes_on zero node within = refl
 silences_kept graph earlier later goes_on (suc before) node within =
     ap (λ events. option_and_then (λ event. quiet_time graph (take (suc before - 1) events) event node) (slice_get events before)) goes_on.1
     ∙ ap (λ first. option_and_then (λ event. quiet_time graph first event node) (slice_get (earlier.events ++ goes_on.0) before))
-    (take_kept earlier.events goes_on.0 (suc before - 1) (omega arith))
-    ∙ ap (option_and_then (λ event. quiet_time graph (take (suc before - 1) earlier.events) event node)) (item_within earlier.events goes_on.0 before (omega arith))
+    (take-append_left earlier.events goes_on.0 (suc before - 1) (omega arith))
+    ∙ ap (option_and_then (λ event. quiet_time graph (take (suc before - 1) earlier.events) event node)) (slice_get-append_left earlier.events goes_on.0 before (omega arith))

@@ -58,7 +58,7 @@ mode_of_span-take changes count (suc place) within =
     ap (λ (change : ModeChange). change.mode) (get_or-take count changes place (record { time = 0; mode = 0 }) (omega arith))
 
 module _ (modes : ℕ → ℕ) (changes : List ModeChange) (spans : BeginSpans modes changes) (time : ℕ) where
-  -- without a change of the same time they are as before
+  -- without a change of the same time they are unchanged
   all_kept : begin_of_span changes (length changes) ≤ time → BeginSpansUpTo modes time changes
   all_kept upto = record {
     rise = spans.rise;

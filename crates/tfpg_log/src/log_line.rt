@@ -8,7 +8,7 @@ use tfpg_base::{Words, has_empty_word};
 
 /// What a line says after its time, with its name unread.
 #[derive(Clone, Copy)]
-pub(crate) enum Statement<'a> {
+pub(crate) enum LogStatement<'a> {
     Alarm(&'a [u8]),
     Silent(&'a [u8]),
     Sweep,
@@ -20,7 +20,7 @@ pub(crate) enum Statement<'a> {
 #[derive(Clone, Copy)]
 pub(crate) struct LogLine<'a> {
     pub(crate) time: &'a [u8],
-    pub(crate) statement: Statement<'a>,
+    pub(crate) statement: LogStatement<'a>,
 }
 
 /// The line, where it has one of the five shapes. Takes time in its length.
@@ -53,29 +53,29 @@ fn line_of<'a>(words: &[&'a [u8]]) -> Option<LogLine<'a>>
 }
 
 /// What the word says that no name follows.
-fn statement_alone(word: &[u8]) -> Option<Statement<'static>>
+fn statement_alone(word: &[u8]) -> Option<LogStatement<'static>>
     ensures { option_map log_statement_seen result
         ≡ (if bytes_eq word.now (codes "sweep") then Some Sweep
         else (if bytes_eq word.now (codes "tick") then Some Tick else None)) }
 {
     match word {
-        b"sweep" => Some(Statement::Sweep),
-        b"tick" => Some(Statement::Tick),
+        b"sweep" => Some(LogStatement::Sweep),
+        b"tick" => Some(LogStatement::Tick),
         _ => None,
     }
 }
 
 /// What the word says of this name.
-fn statement_with_name<'a>(word: &[u8], name: &'a [u8]) -> Option<Statement<'a>>
+fn statement_with_name<'a>(word: &[u8], name: &'a [u8]) -> Option<LogStatement<'a>>
     ensures { option_map log_statement_seen result
         ≡ (if bytes_eq word.now (codes "alarm") then Some (Alarm name.now)
         else (if bytes_eq word.now (codes "silent") then Some (Silent name.now)
         else (if bytes_eq word.now (codes "mode") then Some (Mode name.now) else None))) }
 {
     match word {
-        b"alarm" => Some(Statement::Alarm(name)),
-        b"silent" => Some(Statement::Silent(name)),
-        b"mode" => Some(Statement::Mode(name)),
+        b"alarm" => Some(LogStatement::Alarm(name)),
+        b"silent" => Some(LogStatement::Silent(name)),
+        b"mode" => Some(LogStatement::Mode(name)),
         _ => None,
     }
 }

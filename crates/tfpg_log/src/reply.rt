@@ -13,7 +13,7 @@ ghost use Rattle.tfpg_log.specs.inside.LogLine.{log_statement_seen};
 
 use crate::event::{Event, Offered};
 use crate::log::Log;
-use crate::log_line::{Statement, read_line};
+use crate::log_line::{LogStatement, read_line};
 use crate::refusal::Refusal;
 use tfpg_base::{MAX_TIME, NoMemory, Number, read_number};
 use tfpg_graph::Graph;
@@ -84,18 +84,18 @@ fn judge_statement(
     graph: &Graph,
     log: &Log,
     time: u64,
-    statement: Statement<'_>,
+    statement: LogStatement<'_>,
 ) -> Result<Event, Refusal>
     ensures { result ≡ unless_refused
         (first_of (statement_refusals graph.now log.now (log_statement_seen statement.entry)))
         (event_of graph.now time (log_statement_seen statement.entry)) }
 {
     match statement {
-        Statement::Alarm(name) => judge_alarm(graph, log, time, name),
-        Statement::Silent(name) => judge_silence(graph, log, time, name),
-        Statement::Sweep => judge_room(log, Event::Sweep { time }),
-        Statement::Tick => judge_room(log, Event::Tick { time }),
-        Statement::Mode(name) => judge_mode(graph, log, time, name),
+        LogStatement::Alarm(name) => judge_alarm(graph, log, time, name),
+        LogStatement::Silent(name) => judge_silence(graph, log, time, name),
+        LogStatement::Sweep => judge_room(log, Event::Sweep { time }),
+        LogStatement::Tick => judge_room(log, Event::Tick { time }),
+        LogStatement::Mode(name) => judge_mode(graph, log, time, name),
     }
 }
 

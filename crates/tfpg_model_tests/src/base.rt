@@ -125,6 +125,57 @@ fn a_file_may_be_too_long(rt: HostRuntime) -> Result<(), Fail> {
     Ok(())
 }
 
+/// A row by its name: how many bytes a file has, what is appended, whether that fits, how many bytes the file has then, and
+/// how it ends.
+const APPENDED: [(&str, usize, &[u8], bool, usize, &[u8]); 4] = [
+    ("a part that fits", 2, b"ab", true, 4, b"77ab"),
+    (
+        "a part that reaches the limit",
+        LONGEST_FILE - 2,
+        b"ab",
+        true,
+        LONGEST_FILE,
+        b"7ab",
+    ),
+    (
+        "a part that passes it by one",
+        LONGEST_FILE - 1,
+        b"ab",
+        false,
+        LONGEST_FILE,
+        b"7a",
+    ),
+    (
+        "nothing, at the limit",
+        LONGEST_FILE,
+        b"",
+        true,
+        LONGEST_FILE,
+        b"7",
+    ),
+];
+
+/// Whether the part fits a file of so many bytes, and what the file holds then.
+fn appended(alloc: Global, count: usize, part: &[u8]) -> Result<(bool, Vec<u8>), Fail> {
+    let mut file = vec![in alloc; b'7'; count]?;
+    if file.len() > LONGEST_FILE {
+        return Err(Fail::from("the file is too long"));
+    }
+    let fits = append_to_file(&mut file, part)?;
+    Ok((fits, file))
+}
+
+#[test]
+fn a_file_grows_up_to_its_limit(rt: HostRuntime) -> Result<(), Fail> {
+    for (row, count, part, fits, length, end) in &APPENDED {
+        let (whole, file) = appended(rt.alloc(), *count, *part)?;
+        assert_eq!(rt; whole, *fits, "{row}");
+        assert_eq!(rt; file.len(), *length, "{row}");
+        assert!(rt; file.as_slice().ends_with(*end), "{row}");
+    }
+    Ok(())
+}
+
 // ---- lines
 
 /// What the first six calls of `next` return: a bar and the text, `x` for a line that is too long, `.` for the end, `!` for a
@@ -220,8 +271,14 @@ fn long_lines(rt: HostRuntime) -> Result<(), Fail> {
 fn numbers_count_every_line(rt: HostRuntime) -> Result<(), Fail> {
     let mut source = SteadySource::new(b"a\n\nb");
     let mut lines = Lines::new(rt.alloc())?;
-    for number in [0, 1, 2, 3, 3] {
-        assert_eq!(rt; lines.number(), number);
+    for (call, number) in [
+        ("the first call", 0),
+        ("the second call", 1),
+        ("the third call", 2),
+        ("the call that finds the end", 3),
+        ("a call after the end", 3),
+    ] {
+        assert_eq!(rt; lines.number(), number, "before {call}");
         let _ = lines.next(&mut source);
     }
     Ok(())
@@ -241,56 +298,79 @@ fn words_are_cut_at_each_space(rt: HostRuntime) {
     assert!(rt; Words::of(b"1 2 3 4 5 6 7 8 9 ").is_none());
 }
 
+/// A row by its name: a word, and whether it is a name.
+const NAMES: [(&str, &[u8], bool); 10] = [
+    ("a letter and a digit", b"F1", true),
+    ("one small letter", b"z", true),
+    ("each kind of byte", b"Pump_2.out-B", true),
+    (
+        "as long as a name may be",
+        b"abcdefghijklmnopqrstuvwxyz012345",
+        true,
+    ),
+    (
+        "a byte too long",
+        b"abcdefghijklmnopqrstuvwxyz0123456",
+        false,
+    ),
+    ("no byte", b"", false),
+    ("a digit first", b"1F", false),
+    ("an underscore first", b"_a", false),
+    ("a space inside", b"a b", false),
+    ("a letter that is not ASCII", b"a\xc3\xa9", false),
+];
+
 #[test]
 fn names(rt: HostRuntime) {
-    let words: [(&[u8], bool); 10] = [
-        (b"F1", true),
-        (b"z", true),
-        (b"Pump_2.out-B", true),
-        (b"abcdefghijklmnopqrstuvwxyz012345", true),
-        (b"abcdefghijklmnopqrstuvwxyz0123456", false),
-        (b"", false),
-        (b"1F", false),
-        (b"_a", false),
-        (b"a b", false),
-        (b"a\xc3\xa9", false),
-    ];
-    for (word, is_name) in words {
-        assert_eq!(rt; read_name(word), is_name, "at {word:?}");
+    for (row, word, is_name) in &NAMES {
+        assert_eq!(rt; read_name(*word), *is_name, "{row}");
     }
 }
 
+/// A row by its name: a word, the greatest number that is allowed, and what is read.
+const NUMBERS: [(&str, &[u8], u64, Number); 13] = [
+    ("the least number", b"0", 0, Number::Value(0)),
+    ("one digit", b"7", 9, Number::Value(7)),
+    ("the greatest that is allowed", b"10", 10, Number::Value(10)),
+    ("one more than is allowed", b"11", 10, Number::TooLarge),
+    (
+        "the greatest of 64 bits",
+        b"18446744073709551615",
+        u64::MAX,
+        Number::Value(u64::MAX),
+    ),
+    (
+        "one more than 64 bits hold",
+        b"18446744073709551616",
+        u64::MAX,
+        Number::TooLarge,
+    ),
+    (
+        "far more than 64 bits hold",
+        b"99999999999999999999999999999999999999999",
+        u64::MAX,
+        Number::TooLarge,
+    ),
+    ("no digit", b"", 9, Number::NotANumber),
+    ("two zeros", b"00", 9, Number::NotANumber),
+    ("a zero in front", b"01", 9, Number::NotANumber),
+    ("a plus sign", b"+1", 9, Number::NotANumber),
+    ("a minus sign", b"-1", 9, Number::NotANumber),
+    ("a letter after a digit", b"1a", 0, Number::NotANumber),
+];
+
 #[test]
 fn numbers(rt: HostRuntime) {
-    let words: [(&[u8], u64, Number); 13] = [
-        (b"0", 0, Number::Value(0)),
-        (b"7", 9, Number::Value(7)),
-        (b"10", 10, Number::Value(10)),
-        (b"11", 10, Number::TooLarge),
-        (b"18446744073709551615", u64::MAX, Number::Value(u64::MAX)),
-        (b"18446744073709551616", u64::MAX, Number::TooLarge),
-        (
-            b"99999999999999999999999999999999999999999",
-            u64::MAX,
-            Number::TooLarge,
-        ),
-        (b"", 9, Number::NotANumber),
-        (b"00", 9, Number::NotANumber),
-        (b"01", 9, Number::NotANumber),
-        (b"+1", 9, Number::NotANumber),
-        (b"-1", 9, Number::NotANumber),
-        (b"1a", 0, Number::NotANumber),
-    ];
-    for (word, most, number) in words {
-        assert_eq!(rt; read_number(word, most), number, "at {word:?}");
+    for (row, word, most, number) in &NUMBERS {
+        assert_eq!(rt; read_number(*word, *most), *number, "{row}");
     }
 }
 
 #[test]
 fn words_follow_the_text(rt: HostRuntime) -> Result<(), Fail> {
     let mut text = Vec::from_slice(rt.alloc(), b"a\n")?;
-    put_line(&mut text, &[b"b", b"", b"c"])?;
-    put_part(&mut text, b',', false, b"d")?;
+    append_line(&mut text, &[b"b", b"", b"c"])?;
+    append_part(&mut text, b',', false, b"d")?;
     assert_eq!(rt; text.as_slice(), b"a\nb  c\n,d".as_slice());
     assert_eq!(rt; Text::of(rt.alloc(), "pump")?.as_str(), "pump");
     Ok(())
@@ -313,14 +393,14 @@ fn items_come_back_in_order(rt: HostRuntime) -> Result<(), Fail> {
 fn a_set_holds_its_members(rt: HostRuntime) {
     let set = Set::empty().with(63).with(0).with(63);
     assert_eq!(rt; set.len(), 2);
-    for (place, is_member) in [
-        (0, true),
-        (1, false),
-        (63, true),
-        (64, false),
-        (u32::MAX, false),
+    for (row, place, is_member) in [
+        ("the least member", 0, true),
+        ("between the members", 1, false),
+        ("the greatest member", 63, true),
+        ("past all members", 64, false),
+        ("the greatest number", u32::MAX, false),
     ] {
-        assert_eq!(rt; set.has(place), is_member, "at {place}");
+        assert_eq!(rt; set.has(place), is_member, "{row}");
     }
     assert!(rt; Set::empty().is_empty() && !set.is_empty());
     assert!(rt; Set::empty().with(63).is_proper_part(set));

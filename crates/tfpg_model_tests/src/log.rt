@@ -14,60 +14,201 @@ use tfpg_log::{Event, Log, MAX_EVENTS, MAX_MODE_CHANGES, Offered, Refusal, Span,
 const GRAPH: &[u8] =
     b"tfpg 1\nmode N\nmode D\nfailure F 1\nor A watch 0\nor B hidden\nor C watch 7\nedge F A 1 3 *\nedge F B 2 inf *\nedge B C 9 9 *\nend\n";
 
-/// Lines that a log refuses whose last event is an alarm of A at 10: one for each refusal alone, and for each two that hold
-/// of one line, of which the first decides.
-const REFUSED: [(&str, Refusal); 42] = [
-    ("", Refusal::BadLine),
-    ("11", Refusal::BadLine),
-    ("11  tick", Refusal::BadLine),
-    (" 11 tick", Refusal::BadLine),
-    ("11 tick ", Refusal::BadLine),
-    ("11 alarm", Refusal::BadLine),
-    ("11 Alarm C", Refusal::BadLine),
-    ("1 2 3 4 5 6 7 8 9 10", Refusal::BadLine),
-    ("eleven tick C", Refusal::BadLine),
-    ("1000000000001 tick C", Refusal::BadLine),
-    ("9 tick C", Refusal::BadLine),
-    ("11 alarm X X", Refusal::BadLine),
-    ("11 alarm F F", Refusal::BadLine),
-    ("11 mode B B", Refusal::BadLine),
-    ("11 alarm A A", Refusal::BadLine),
-    ("11 silent A A", Refusal::BadLine),
-    ("011 tick", Refusal::BadNumber),
-    ("01000000000001 tick", Refusal::BadNumber),
-    ("09 tick", Refusal::BadNumber),
-    ("eleven alarm X", Refusal::BadNumber),
-    ("11. alarm F", Refusal::BadNumber),
-    ("+11 mode B", Refusal::BadNumber),
-    ("-11 alarm A", Refusal::BadNumber),
-    ("0x11 silent A", Refusal::BadNumber),
-    ("1000000000001 tick", Refusal::TimeTooLarge),
-    ("99999999999999999999 alarm X", Refusal::TimeTooLarge),
-    ("1000000000001 silent B", Refusal::TimeTooLarge),
-    ("1000000000001 mode B", Refusal::TimeTooLarge),
-    ("1000000000001 alarm A", Refusal::TimeTooLarge),
-    ("1000000000001 silent A", Refusal::TimeTooLarge),
-    ("9 tick", Refusal::TimeBack { last: 10 }),
-    ("9 alarm X", Refusal::TimeBack { last: 10 }),
-    ("9 silent B", Refusal::TimeBack { last: 10 }),
-    ("9 mode B", Refusal::TimeBack { last: 10 }),
-    ("9 alarm A", Refusal::TimeBack { last: 10 }),
-    ("9 silent A", Refusal::TimeBack { last: 10 }),
-    ("11 silent X", Refusal::UnknownName),
-    ("11 alarm F", Refusal::NotMonitored),
-    ("11 silent B", Refusal::NotMonitored),
-    ("11 mode B", Refusal::NotAMode),
-    ("11 alarm A", Refusal::SecondAlarm { first: 10 }),
-    ("11 silent A", Refusal::SilentAfterAlarm { first: 10 }),
+/// Lines, with their names, that a log refuses whose last event is an alarm of A at 10: one for each refusal alone, and for
+/// each two that hold of one line, of which the first decides.
+const REFUSED: [(&str, &str, Refusal); 42] = [
+    ("no word", "", Refusal::BadLine),
+    ("a time alone", "11", Refusal::BadLine),
+    ("two spaces", "11  tick", Refusal::BadLine),
+    ("a space in front", " 11 tick", Refusal::BadLine),
+    ("a space at the end", "11 tick ", Refusal::BadLine),
+    ("an alarm of no node", "11 alarm", Refusal::BadLine),
+    ("a word with a capital", "11 Alarm C", Refusal::BadLine),
+    (
+        "more words than any line has",
+        "1 2 3 4 5 6 7 8 9 10",
+        Refusal::BadLine,
+    ),
+    (
+        "a word too many, and no number",
+        "eleven tick C",
+        Refusal::BadLine,
+    ),
+    (
+        "a word too many, and a time too large",
+        "1000000000001 tick C",
+        Refusal::BadLine,
+    ),
+    (
+        "a word too many, and a time that falls",
+        "9 tick C",
+        Refusal::BadLine,
+    ),
+    (
+        "a word too many, and an unknown name",
+        "11 alarm X X",
+        Refusal::BadLine,
+    ),
+    (
+        "a word too many, and a failure mode",
+        "11 alarm F F",
+        Refusal::BadLine,
+    ),
+    (
+        "a word too many, and no mode",
+        "11 mode B B",
+        Refusal::BadLine,
+    ),
+    (
+        "a word too many, and a second alarm",
+        "11 alarm A A",
+        Refusal::BadLine,
+    ),
+    (
+        "a word too many, and a silence after the alarm",
+        "11 silent A A",
+        Refusal::BadLine,
+    ),
+    ("a zero in front", "011 tick", Refusal::BadNumber),
+    (
+        "a zero in front of a time too large",
+        "01000000000001 tick",
+        Refusal::BadNumber,
+    ),
+    (
+        "a zero in front of a time that falls",
+        "09 tick",
+        Refusal::BadNumber,
+    ),
+    (
+        "a time in letters, and an unknown name",
+        "eleven alarm X",
+        Refusal::BadNumber,
+    ),
+    (
+        "a time with a dot, and a failure mode",
+        "11. alarm F",
+        Refusal::BadNumber,
+    ),
+    (
+        "a time with a plus, and no mode",
+        "+11 mode B",
+        Refusal::BadNumber,
+    ),
+    (
+        "a time with a minus, and a second alarm",
+        "-11 alarm A",
+        Refusal::BadNumber,
+    ),
+    (
+        "a time of base 16, and a silence after the alarm",
+        "0x11 silent A",
+        Refusal::BadNumber,
+    ),
+    (
+        "a time one too large",
+        "1000000000001 tick",
+        Refusal::TimeTooLarge,
+    ),
+    (
+        "a time of 20 digits, and an unknown name",
+        "99999999999999999999 alarm X",
+        Refusal::TimeTooLarge,
+    ),
+    (
+        "a time too large, and a hidden node",
+        "1000000000001 silent B",
+        Refusal::TimeTooLarge,
+    ),
+    (
+        "a time too large, and no mode",
+        "1000000000001 mode B",
+        Refusal::TimeTooLarge,
+    ),
+    (
+        "a time too large, and a second alarm",
+        "1000000000001 alarm A",
+        Refusal::TimeTooLarge,
+    ),
+    (
+        "a time too large, and a silence after the alarm",
+        "1000000000001 silent A",
+        Refusal::TimeTooLarge,
+    ),
+    (
+        "a time that falls",
+        "9 tick",
+        Refusal::TimeBack { last: 10 },
+    ),
+    (
+        "a time that falls, and an unknown name",
+        "9 alarm X",
+        Refusal::TimeBack { last: 10 },
+    ),
+    (
+        "a time that falls, and a hidden node",
+        "9 silent B",
+        Refusal::TimeBack { last: 10 },
+    ),
+    (
+        "a time that falls, and no mode",
+        "9 mode B",
+        Refusal::TimeBack { last: 10 },
+    ),
+    (
+        "a time that falls, and a second alarm",
+        "9 alarm A",
+        Refusal::TimeBack { last: 10 },
+    ),
+    (
+        "a time that falls, and a silence after the alarm",
+        "9 silent A",
+        Refusal::TimeBack { last: 10 },
+    ),
+    ("an unknown name", "11 silent X", Refusal::UnknownName),
+    (
+        "an alarm of a failure mode",
+        "11 alarm F",
+        Refusal::NotMonitored,
+    ),
+    (
+        "a silence of a hidden node",
+        "11 silent B",
+        Refusal::NotMonitored,
+    ),
+    ("a node in place of a mode", "11 mode B", Refusal::NotAMode),
+    (
+        "a second alarm",
+        "11 alarm A",
+        Refusal::SecondAlarm { first: 10 },
+    ),
+    (
+        "a silence after the alarm",
+        "11 silent A",
+        Refusal::SilentAfterAlarm { first: 10 },
+    ),
 ];
 
 /// Lines that it accepts.
-const ACCEPTED: [(&str, Event); 5] = [
-    ("10 tick", Event::Tick { time: 10 }),
-    ("10 alarm C", Event::Alarm { time: 10, node: 3 }),
-    ("11 silent C", Event::Silent { time: 11, node: 3 }),
-    ("11 sweep", Event::Sweep { time: 11 }),
+const ACCEPTED: [(&str, &str, Event); 5] = [
     (
+        "a tick at the last time",
+        "10 tick",
+        Event::Tick { time: 10 },
+    ),
+    (
+        "an alarm at the last time",
+        "10 alarm C",
+        Event::Alarm { time: 10, node: 3 },
+    ),
+    (
+        "a silence of another node",
+        "11 silent C",
+        Event::Silent { time: 11, node: 3 },
+    ),
+    ("a sweep", "11 sweep", Event::Sweep { time: 11 }),
+    (
+        "a change of mode at the greatest time",
         "1000000000000 mode N",
         Event::Mode {
             time: 1_000_000_000_000,
@@ -77,28 +218,56 @@ const ACCEPTED: [(&str, Event); 5] = [
 ];
 
 /// Lines that a log refuses that takes no further change of mode, and whose last event is an alarm of A at 10.
-const REFUSED_WITH_ALL_MODES: [(&str, Refusal); 6] = [
-    ("11 mode D D", Refusal::BadLine),
-    ("011 mode D", Refusal::BadNumber),
-    ("1000000000001 mode D", Refusal::TimeTooLarge),
-    ("9 mode D", Refusal::TimeBack { last: 10 }),
-    ("11 mode B", Refusal::NotAMode),
-    ("11 mode D", Refusal::ModesFull),
+const REFUSED_WITH_ALL_MODES: [(&str, &str, Refusal); 6] = [
+    ("a word too many", "11 mode D D", Refusal::BadLine),
+    ("a zero in front", "011 mode D", Refusal::BadNumber),
+    (
+        "a time too large",
+        "1000000000001 mode D",
+        Refusal::TimeTooLarge,
+    ),
+    (
+        "a time that falls",
+        "9 mode D",
+        Refusal::TimeBack { last: 10 },
+    ),
+    ("a node in place of a mode", "11 mode B", Refusal::NotAMode),
+    ("a change of mode", "11 mode D", Refusal::ModesFull),
 ];
 
 /// Lines that a full log refuses with such an alarm, and as many changes of mode.
-const REFUSED_WHEN_FULL: [(&str, Refusal); 11] = [
-    ("11 tick C", Refusal::BadLine),
-    ("011 tick", Refusal::BadNumber),
-    ("1000000000001 tick", Refusal::TimeTooLarge),
-    ("9 tick", Refusal::TimeBack { last: 10 }),
-    ("11 silent X", Refusal::UnknownName),
-    ("11 alarm F", Refusal::NotMonitored),
-    ("11 mode B", Refusal::NotAMode),
-    ("11 alarm A", Refusal::SecondAlarm { first: 10 }),
-    ("11 silent A", Refusal::SilentAfterAlarm { first: 10 }),
-    ("11 mode D", Refusal::LogFull),
-    ("11 tick", Refusal::LogFull),
+const REFUSED_WHEN_FULL: [(&str, &str, Refusal); 11] = [
+    ("a word too many", "11 tick C", Refusal::BadLine),
+    ("a zero in front", "011 tick", Refusal::BadNumber),
+    (
+        "a time too large",
+        "1000000000001 tick",
+        Refusal::TimeTooLarge,
+    ),
+    (
+        "a time that falls",
+        "9 tick",
+        Refusal::TimeBack { last: 10 },
+    ),
+    ("an unknown name", "11 silent X", Refusal::UnknownName),
+    (
+        "an alarm of a failure mode",
+        "11 alarm F",
+        Refusal::NotMonitored,
+    ),
+    ("a node in place of a mode", "11 mode B", Refusal::NotAMode),
+    (
+        "a second alarm",
+        "11 alarm A",
+        Refusal::SecondAlarm { first: 10 },
+    ),
+    (
+        "a silence after the alarm",
+        "11 silent A",
+        Refusal::SilentAfterAlarm { first: 10 },
+    ),
+    ("a change of mode", "11 mode D", Refusal::LogFull),
+    ("a tick", "11 tick", Refusal::LogFull),
 ];
 
 /// The log of the lines.
@@ -123,19 +292,19 @@ fn offer_often(log: &mut Log, graph: &Graph, line: &[u8], count: u32) -> Result<
     Ok(())
 }
 
-/// Asserts that the log refuses each of the lines so.
+/// Asserts that the log refuses the line of each row so.
 fn assert_refused(
     rt: &impl Abort,
     log: &mut Log,
     graph: &Graph,
-    lines: &[(&'static str, Refusal)],
+    rows: &[(&'static str, &'static str, Refusal)],
 ) -> Result<(), Fail>
     requires { IsOf graph.now log.old }
     ensures { IsOf graph.now log.new }
 {
-    for (line, refusal) in lines {
+    for (row, line, refusal) in rows {
         let offered = log.offer(graph, line.as_bytes())?;
-        assert_eq!(rt; offered, Offered::Refused(*refusal), "{line}");
+        assert_eq!(rt; offered, Offered::Refused(*refusal), "{row}");
     }
     Ok(())
 }
@@ -155,9 +324,9 @@ fn accepts_and_refuses_each_line(rt: HostRuntime) -> Result<(), Fail> {
     assert_refused(&rt, &mut log, &graph, &REFUSED)?;
     assert_eq!(rt; log.len(), 1);
     assert_eq!(rt; log.now(), 10);
-    for (line, event) in &ACCEPTED {
+    for (row, line, event) in &ACCEPTED {
         let offered = offered_to_copy(&log, &graph, line.as_bytes())?;
-        assert_eq!(rt; offered, Offered::Accepted(*event), "{line}");
+        assert_eq!(rt; offered, Offered::Accepted(*event), "{row}");
     }
     Ok(())
 }
@@ -260,7 +429,7 @@ fn a_log_and_its_copy_have_the_same_look_ups(rt: HostRuntime) -> Result<(), Fail
     Ok(())
 }
 
-/// An AND node with an edge in one mode and an edge in both, and behind it a node with an edge in the other mode.
+/// An AND node with an edge in one mode and an edge in both, and after it a node with an edge in the other mode.
 const TWO_EDGES: &[u8] =
     b"tfpg 1\nmode N\nmode D\nfailure F 1\nfailure G 1\nand A watch 0\nor B hidden\nedge F A 1 3 N\nedge G A 1 3 *\nedge A B 1 1 D\nend\n";
 

@@ -29,8 +29,8 @@ const IN_ONE_MODE: &[u8] =
 const BY_EITHER: &[u8] =
     b"tfpg 1\nmode N\nfailure F 1\nfailure G 1\nor A watch 0\nedge F A 0 5 *\nedge G A 3 inf *\nend\n";
 
-/// Two OR nodes behind one failure mode.
-const TWO_BEHIND_ONE: &[u8] =
+/// Two OR nodes after one failure mode.
+const TWO_AFTER_ONE: &[u8] =
     b"tfpg 1\nmode N\nfailure F 1\nor A watch 0\nor B watch 0\nedge F A 0 5 *\nedge F B 3 inf *\nend\n";
 
 /// Lines by which the first mode holds up to 5, and again from 16 on.
@@ -258,7 +258,7 @@ const ROWS: [Row; 29] = [
     ),
     (
         "the first node, before the second breaks the may rule",
-        TWO_BEHIND_ONE,
+        TWO_AFTER_ONE,
         &[b"10 tick"],
         &[0],
         &[(0, 0), (2, 1)],
@@ -266,7 +266,7 @@ const ROWS: [Row; 29] = [
     ),
     (
         "the first of two nodes that break a silence",
-        TWO_BEHIND_ONE,
+        TWO_AFTER_ONE,
         &[b"25 sweep"],
         &[0],
         &[(0, 0), (1, 2), (2, 4)],
@@ -274,7 +274,7 @@ const ROWS: [Row; 29] = [
     ),
     (
         "the one node that breaks a silence",
-        TWO_BEHIND_ONE,
+        TWO_AFTER_ONE,
         &[b"2 alarm A", b"25 sweep"],
         &[0],
         &[(0, 0), (1, 2), (2, 4)],

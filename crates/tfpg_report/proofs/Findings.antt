@@ -1,16 +1,16 @@
 -- Findings by their numbers.
-use Rattle.std.proofs.Common.{◌≡◌, ◌≢◌, ℕ, suc, zero, ◌<◌, ◌≤◌, Bool, true, false, cond, eqb, List, [], ◌∷◌, ◌++◌, length, get_or, All, Option, Some, None, Ok, Err, refl, sym, ap, ◌∙◌, subst, arith, ⊎_elim}
+use Rattle.std.proofs.Common.{◌≡◌, ◌≢◌, ℕ, suc, zero, ◌<◌, Bool, true, false, cond, eqb, List, [], ◌∷◌, ◌++◌, length, get_or, All, Option, Some, None, Ok, Err, refl, sym, ap, ◌∙◌, subst, arith, ⊎_elim}
 use Rattle.std.specs.List.{AllPairs, cons_option, filter_map, flat_map}
 use Rattle.std.specs.Option.{option_map, unwrap_or}
-use Rattle.std.specs.List.Sorted.{IsBinarySearchResult, IsNonDecreasingBy}
-use Rattle.std.specs.Ordering.{nat_cmp, ordering_index}
+use Rattle.std.specs.List.Sorted.{IsBinarySearchResult}
+use Rattle.std.specs.Ordering.{nat_cmp}
 use Rattle.std.proofs.lemmas.Cmp.{ranked}
 use Rattle.std.proofs.lemmas.Bool.{eq-eqb, ne_eqb, cases_lt}
-use Rattle.std.proofs.lemmas.Bool.Decides.{nat_tests}
 use Rattle.std.proofs.lemmas.List.Elements.{All-head, All-tail}
 use Rattle.tfpg_base.proofs.lists.Elements.{AllPairs-head, AllPairs-tail}
 use Rattle.tfpg_evidence.specs.declared.finding.Finding.{Finding}
 use Rattle.tfpg_evidence.specs.RoundOf.{finding_numbered}
+use Rattle.tfpg_base.proofs.lists.Ordered.{comparisons_rise}
 
 -- each number is below all later ones
 abbrev pub RiseByNumber : List Finding → Type 0
@@ -39,20 +39,6 @@ finding_numbered-absent (first ∷ others) number absent =
     ap (λ (b : Bool). cond b (Some first) (finding_numbered others number)) here
     ∙ finding_numbered-absent others number (All-tail (λ f. f.number ≢ number) first others absent)
 
--- the comparisons of the numbers with a number rise along the findings, as a binary search asks
-comparisons_rise : (findings : List Finding) (number : ℕ) → RiseByNumber findings → IsNonDecreasingBy (λ f. ordering_index (nat_cmp f.number number)) findings
-comparisons_rise findings number rising i j d le within =
-    ⊎_elim
-    (λ less. index_rises (get_or findings i d).number (get_or findings j d).number number (omega (arith, rising i j d less within)))
-    (λ no_less. index_rises (get_or findings i d).number (get_or findings j d).number number (omega (arith, ap (λ (k : ℕ). (get_or findings k d).number) (same_place i j le no_less))))
-    (cases_lt i j)
-  where
-    same_place : (i j : ℕ) → i ≤ j → j ≤ i → i ≡ j
-    same_place i j le ge = omega arith
-
-    index_rises : (low high with : ℕ) → low ≤ high → ordering_index (nat_cmp low with) ≤ ordering_index (nat_cmp high with)
-    index_rises low high with le = grind (arith, nat_tests)
-
 -- what a binary search by number found is the finding of the number
 pub finding_numbered-found : (findings : List Finding) (number place : ℕ) (found : Finding) → RiseByNumber findings → place < length findings
     → IsBinarySearchResult (λ f. nat_cmp f.number number) findings (Ok place) → get_or findings place found ≡ found → finding_numbered findings number ≡ Some found
@@ -64,7 +50,7 @@ finding_numbered-found findings number place found rising within equal at =
 pub finding_numbered-not_found : (findings : List Finding) (number place : ℕ) → RiseByNumber findings
     → IsBinarySearchResult (λ f. nat_cmp f.number number) findings (Err place) → finding_numbered findings number ≡ None
 finding_numbered-not_found findings number place rising parted =
-    let halves = parted (comparisons_rise findings number rising) in
+    let halves = parted (comparisons_rise (λ (f : Finding). f.number) findings number rising) in
     finding_numbered-absent findings number
     (λ k d within e. ⊎_elim
     (λ before. let lesser : (get_or findings k d).number < number = ranked _ number _ (sym (halves.0 k d (omega arith) before)) in omega arith)

@@ -78,12 +78,12 @@ edge_words graph edge =
 
 -- the name of the failure mode at a position
 abbrev pub failure_word : Tfpg → ℕ → List ℕ
-failure_word graph place = unwrap_or (option_and_then (name_at graph) (failure_at graph place)) []
+failure_word graph position = unwrap_or (option_and_then (name_at graph) (failure_at graph position)) []
 
 -- a set: a hyphen for the empty set, else the names of its members with commas between
 abbrev pub set_word : Tfpg → List ℕ → List ℕ
 set_word graph [] = codes "-"
-set_word graph (place ∷ places) = join_with_byte 44 (map (failure_word graph) (place ∷ places))
+set_word graph (position ∷ positions) = join_with_byte 44 (map (failure_word graph) (position ∷ positions))
 
 -- the words that name a clause
 abbrev pub clause_words : Tfpg → ClauseName → List (List ℕ)

@@ -1,2 +1,3 @@
 -- What the code and its proofs need besides. No public clause reaches it.
 pub mod Numbered
+pub mod Sections

@@ -4,7 +4,7 @@ ghost use Rattle.tfpg_base.specs.Append.{Appends};
 ghost use Rattle.tfpg_report.specs.Blocks.{head_text};
 
 use itoa::Buffer;
-use tfpg_base::{NoMemory, put_line};
+use tfpg_base::{NoMemory, append_line};
 
 /// Appends the first line of a report on sets of at most `k` failure modes, with this budget.
 /// Where memory runs out, a part of the line may stand after the old bytes.
@@ -13,7 +13,7 @@ pub fn head(k: u32, budget: u64, into: &mut Vec<u8>) -> Result<(), NoMemory>
 {
     let mut k_digits = Buffer::new();
     let mut budget_digits = Buffer::new();
-    put_line(
+    append_line(
         into,
         &[
             b"report",

@@ -1,77 +1,53 @@
-//! The lines of the open hypotheses and of those that a round rejected.
+//! The line of an open hypothesis, and of one that a round rejected.
 
-ghost use Rattle.std.specs.Prelude.{◌≡◌, ◌++◌, All, flat_map};
+ghost use Rattle.std.specs.Prelude.{◌≡◌, ◌++◌};
 ghost use Rattle.tfpg_base.specs.Append.{Appends};
 ghost use Rattle.tfpg_evidence.specs.RoundOf.{IsFindingOf};
 ghost use Rattle.tfpg_base.specs.TextLine.{text_line};
 ghost use Rattle.tfpg_report.specs.Blocks.{hypothesis_words, open_text, rejected_text, sizes_of};
 
-use crate::set_line::put_set_line;
+use crate::set_line::append_set_line;
 use itoa::Buffer;
 use tfpg_base::NoMemory;
 use tfpg_evidence::{Finding, Status};
 use tfpg_graph::Graph;
 
-/// Appends the lines of the open hypotheses.
-pub(crate) fn put_all_open(
-    graph: &Graph,
-    findings: &[Finding],
-    into: &mut Vec<u8>,
-) -> Result<(), NoMemory>
-    requires { All (IsFindingOf (sizes_of graph.now)) findings.now }
-    ensures { Appends result into.old.items into.new.items
-        (flat_map (λ finding. open_text graph.now finding finding.status) findings.now) }
-{
-    for finding in findings {
-        put_open(graph, finding, into)?;
-    }
-    Ok(())
-}
-
-/// Appends the lines of the hypotheses that the round rejected.
-pub(crate) fn put_all_rejected(
-    graph: &Graph,
-    findings: &[Finding],
-    into: &mut Vec<u8>,
-) -> Result<(), NoMemory>
-    requires { All (IsFindingOf (sizes_of graph.now)) findings.now }
-    ensures { Appends result into.old.items into.new.items
-        (flat_map (λ finding. rejected_text graph.now finding finding.status) findings.now) }
-{
-    for finding in findings {
-        put_rejected(graph, finding, into)?;
-    }
-    Ok(())
-}
-
 /// Appends the line of a hypothesis, where it is open.
-fn put_open(graph: &Graph, finding: &Finding, into: &mut Vec<u8>) -> Result<(), NoMemory>
+pub(crate) fn append_open(
+    graph: &Graph,
+    finding: &Finding,
+    into: &mut Vec<u8>,
+) -> Result<(), NoMemory>
     requires { IsFindingOf (sizes_of graph.now) finding.now }
     ensures { Appends result into.old.items into.new.items
         (open_text graph.now finding.now finding.now.status) }
 {
     match &finding.status {
-        Status::Open => put_hypothesis(graph, b"open ", finding, into),
+        Status::Open => append_hypothesis(graph, b"open ", finding, into),
         _ => Ok(()),
     }
 }
 
 /// Appends the line of a hypothesis, where it is rejected by a step of this round.
-fn put_rejected(graph: &Graph, finding: &Finding, into: &mut Vec<u8>) -> Result<(), NoMemory>
+pub(crate) fn append_rejected(
+    graph: &Graph,
+    finding: &Finding,
+    into: &mut Vec<u8>,
+) -> Result<(), NoMemory>
     requires { IsFindingOf (sizes_of graph.now) finding.now }
     ensures { Appends result into.old.items into.new.items
         (rejected_text graph.now finding.now finding.now.status) }
 {
     match &finding.status {
         Status::Rejected if !finding.steps.as_slice().is_empty() => {
-            put_hypothesis(graph, b"rejected ", finding, into)
+            append_hypothesis(graph, b"rejected ", finding, into)
         }
         _ => Ok(()),
     }
 }
 
 /// Appends the line of a hypothesis: the word of its status with a space after it, its number and its set.
-fn put_hypothesis(
+fn append_hypothesis(
     graph: &Graph,
     status: &[u8],
     finding: &Finding,
@@ -83,5 +59,5 @@ fn put_hypothesis(
 {
     let mut digits = Buffer::new();
     let number = digits.format(finding.number).as_bytes();
-    put_set_line(graph, &[status, number, b" set "], finding.set, into)
+    append_set_line(graph, &[status, number, b" set "], finding.set, into)
 }

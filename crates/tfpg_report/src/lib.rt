@@ -4,7 +4,7 @@
 //! - [`refused`] appends the block of a line that was refused.
 //! - [`render`] appends the block of a round.
 //! - [`lost`] appends the line of a panel, which is a listener to rounds, that was lost.
-//! - [`put_set`] and [`put_activations`] append a set and the lines of a trace, for other texts that have them.
+//! - [`append_set`] and [`append_activations`] append a set and the lines of a trace, for other texts that have them.
 //! - [`RefusedLine`] is why a line has a block of its own in place of a round.
 //!
 //! ```
@@ -24,6 +24,7 @@ mod reason_line;
 mod refused_block;
 mod refused_line;
 mod round_block;
+mod sections;
 mod set_line;
 mod split_line;
 mod step_lines;
@@ -31,8 +32,8 @@ mod steps_block;
 
 pub use first_line::head;
 pub use lost_line::lost;
-pub use ranked_lines::put_activations;
+pub use ranked_lines::append_activations;
 pub use refused_block::refused;
 pub use refused_line::RefusedLine;
 pub use round_block::render;
-pub use set_line::put_set;
+pub use set_line::append_set;

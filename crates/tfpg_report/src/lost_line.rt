@@ -5,7 +5,7 @@ ghost use Rattle.tfpg_base.specs.Append.{Appends};
 ghost use Rattle.tfpg_report.specs.Blocks.{lost_text};
 
 use itoa::Buffer;
-use tfpg_base::{NoMemory, put_line};
+use tfpg_base::{NoMemory, append_line};
 
 /// Appends the line of a panel that was lost at the round before, or for which memory ran out. Panels count from 1.
 /// Where memory runs out, a part of the line may stand after the old bytes.
@@ -14,7 +14,7 @@ pub fn lost(panel: u64, memory: bool, into: &mut Vec<u8>) -> Result<(), NoMemory
         (lost_text (record { panel = panel; no_memory = memory })) }
 {
     let mut digits = Buffer::new();
-    put_line(
+    append_line(
         into,
         &[b"panel", digits.format(panel).as_bytes(), why_lost(memory)],
     )

@@ -26,9 +26,9 @@ pub(crate) fn edge_names(graph: &Graph, edge: u32) -> (&[u8], &[u8])
 }
 
 /// The name of the failure mode at a position.
-pub(crate) fn failure_name(graph: &Graph, place: u32) -> &[u8]
-    requires { place < length (failures graph.now) }
-    ensures { result.now ≡ failure_word graph.now place }
+pub(crate) fn failure_name(graph: &Graph, position: u32) -> &[u8]
+    requires { position < length (failures graph.now) }
+    ensures { result.now ≡ failure_word graph.now position }
 {
-    graph.name(graph.failure_node(place))
+    graph.name(graph.failure_node(position))
 }

@@ -8,15 +8,15 @@ ghost use Rattle.tfpg_report.specs.Blocks.{activation_text, findings_at, ranked_
 ghost use Rattle.tfpg_report.specs.inside.Numbered.{numbered_text};
 
 use crate::names::node_name;
-use crate::set_line::put_set_line;
+use crate::set_line::append_set_line;
 use itoa::Buffer;
-use tfpg_base::{Activation, NoMemory, put_line};
+use tfpg_base::{Activation, NoMemory, append_line};
 use tfpg_evidence::{Finding, Status};
 use tfpg_graph::Graph;
 
 /// Appends the lines of the ranked hypotheses of these numbers, in their order. Costs for each the logarithm of the count of
 /// findings, besides its text.
-pub(crate) fn put_all_ranked(
+pub(crate) fn append_all_ranked(
     graph: &Graph,
     findings: &[Finding],
     order: &[u32],
@@ -29,13 +29,13 @@ pub(crate) fn put_all_ranked(
         (findings_at findings.now order.now)) }
 {
     for number in order {
-        put_numbered(graph, findings, *number, into)?;
+        append_numbered(graph, findings, *number, into)?;
     }
     Ok(())
 }
 
 /// Appends the lines of the hypothesis of a number, where it is ranked.
-fn put_numbered(
+fn append_numbered(
     graph: &Graph,
     findings: &[Finding],
     number: u32,
@@ -46,7 +46,7 @@ fn put_numbered(
     ensures { Appends result into.old.items into.new.items (numbered_text graph.now findings.now number) }
 {
     match finding_of(findings, number) {
-        Some(finding) => put_ranked(graph, finding, into),
+        Some(finding) => append_ranked(graph, finding, into),
         None => Ok(()),
     }
 }
@@ -63,7 +63,7 @@ fn finding_of(findings: &[Finding], number: u32) -> Option<&Finding>
 }
 
 /// Appends the lines of a hypothesis, where it is ranked.
-fn put_ranked(graph: &Graph, finding: &Finding, into: &mut Vec<u8>) -> Result<(), NoMemory>
+fn append_ranked(graph: &Graph, finding: &Finding, into: &mut Vec<u8>) -> Result<(), NoMemory>
     requires { IsFindingOf (sizes_of graph.now) finding.now }
     ensures { Appends result into.old.items into.new.items
         (ranked_text graph.now finding.now finding.now.status) }
@@ -75,15 +75,15 @@ fn put_ranked(graph: &Graph, finding: &Finding, into: &mut Vec<u8>) -> Result<()
             alarmed,
             monitored,
         } => {
-            put_ranked_line(graph, finding, *cost, *alarmed, *monitored, into)?;
-            put_activations(graph, trace.as_slice(), into)
+            append_ranked_line(graph, finding, *cost, *alarmed, *monitored, into)?;
+            append_activations(graph, trace.as_slice(), into)
         }
         _ => Ok(()),
     }
 }
 
 /// Appends the first line of a ranked hypothesis.
-fn put_ranked_line(
+fn append_ranked_line(
     graph: &Graph,
     finding: &Finding,
     cost: u64,
@@ -103,7 +103,7 @@ fn put_ranked_line(
     let cost = cost_digits.format(cost).as_bytes();
     let alarmed = alarmed_digits.format(alarmed).as_bytes();
     let monitored = monitored_digits.format(monitored).as_bytes();
-    put_set_line(
+    append_set_line(
         graph,
         &[
             b"ranked ",
@@ -122,7 +122,7 @@ fn put_ranked_line(
 }
 
 /// Appends the lines of the activations, in their order.
-pub fn put_activations(
+pub fn append_activations(
     graph: &Graph,
     trace: &[Activation],
     into: &mut Vec<u8>,
@@ -131,17 +131,21 @@ pub fn put_activations(
     ensures { Appends result into.old.items into.new.items (flat_map (activation_text graph.now) trace.now) }
 {
     for activation in trace {
-        put_activation(graph, *activation, into)?;
+        append_activation(graph, *activation, into)?;
     }
     Ok(())
 }
 
 /// Appends the line of an activation.
-fn put_activation(graph: &Graph, activation: Activation, into: &mut Vec<u8>) -> Result<(), NoMemory>
+fn append_activation(
+    graph: &Graph,
+    activation: Activation,
+    into: &mut Vec<u8>,
+) -> Result<(), NoMemory>
     requires { activation.node < length graph.now.nodes }
     ensures { Appends result into.old.items into.new.items (activation_text graph.now activation) }
 {
     let mut digits = Buffer::new();
     let time = digits.format(activation.time).as_bytes();
-    put_line(into, &[b"at", node_name(graph, activation.node), time])
+    append_line(into, &[b"at", node_name(graph, activation.node), time])
 }

@@ -7,43 +7,47 @@ ghost use Rattle.tfpg_report.specs.Blocks.{reason_text, sizes_of};
 
 use crate::names::node_name;
 use itoa::Buffer;
-use tfpg_base::{NoMemory, put_line};
+use tfpg_base::{NoMemory, append_line};
 use tfpg_evidence::Reason;
 use tfpg_graph::Graph;
 
 /// Appends the line of a reason.
-pub(crate) fn put_reason(graph: &Graph, reason: Reason, into: &mut Vec<u8>) -> Result<(), NoMemory>
+pub(crate) fn append_reason(
+    graph: &Graph,
+    reason: Reason,
+    into: &mut Vec<u8>,
+) -> Result<(), NoMemory>
     requires { IsReasonOf (sizes_of graph.now) reason }
     ensures { Appends result into.old.items into.new.items (reason_text graph.now reason) }
 {
     let mut digits = Buffer::new();
     match reason {
-        Reason::Zero { node } => put_line(into, &[b"why", b"zero", node_name(graph, node)]),
-        Reason::Top { node } => put_line(into, &[b"why", b"top", node_name(graph, node)]),
+        Reason::Zero { node } => append_line(into, &[b"why", b"zero", node_name(graph, node)]),
+        Reason::Top { node } => append_line(into, &[b"why", b"top", node_name(graph, node)]),
         Reason::Unreached { node, horizon } => {
             let horizon = digits.format(horizon).as_bytes();
-            put_line(
+            append_line(
                 into,
                 &[b"why", b"unreached", node_name(graph, node), horizon],
             )
         }
-        Reason::From { event } => put_line(
+        Reason::From { event } => append_line(
             into,
             &[b"why", b"from", digits.format(event).as_bytes()],
         ),
-        Reason::Upto { event } => put_line(
+        Reason::Upto { event } => append_line(
             into,
             &[b"why", b"upto", digits.format(event).as_bytes()],
         ),
         Reason::Quiet { event, node } => {
             let event = digits.format(event).as_bytes();
-            put_line(into, &[b"why", b"quiet", event, node_name(graph, node)])
+            append_line(into, &[b"why", b"quiet", event, node_name(graph, node)])
         }
         Reason::Pick { split, place } => {
             let mut place_digits = Buffer::new();
             let split = digits.format(split).as_bytes();
             let place = place_digits.format(place).as_bytes();
-            put_line(into, &[b"why", b"pick", split, place])
+            append_line(into, &[b"why", b"pick", split, place])
         }
     }
 }

@@ -7,7 +7,7 @@ ghost use Rattle.tfpg_report.specs.Blocks.{refusal_name, refusal_time, refused_t
 
 use crate::RefusedLine;
 use itoa::Buffer;
-use tfpg_base::{NoMemory, put_line};
+use tfpg_base::{NoMemory, append_line};
 use tfpg_log::Refusal;
 
 /// Appends the block of a line that was refused. Lines count from 1. Where memory runs out, a part of the block may
@@ -18,17 +18,17 @@ pub fn refused(line: u64, cause: RefusedLine, into: &mut Vec<u8>) -> Result<(), 
     match cause {
         RefusedLine::TooLong => {
             let mut digits = Buffer::new();
-            put_line(
+            append_line(
                 into,
                 &[b"refused", digits.format(line).as_bytes(), b"TooLong"],
             )
         }
-        RefusedLine::Offer(refusal) => put_refusal(line, refusal, into),
+        RefusedLine::Offer(refusal) => append_refusal(line, refusal, into),
     }
 }
 
 /// Appends the block of a line that the log refused.
-fn put_refusal(line: u64, refusal: Refusal, into: &mut Vec<u8>) -> Result<(), NoMemory>
+fn append_refusal(line: u64, refusal: Refusal, into: &mut Vec<u8>) -> Result<(), NoMemory>
     ensures { Appends result into.old.items into.new.items
         (text_line
         (codes "refused" ∷ decimal line ∷ refusal_name refusal ∷ time_words (refusal_time refusal))) }
@@ -36,11 +36,11 @@ fn put_refusal(line: u64, refusal: Refusal, into: &mut Vec<u8>) -> Result<(), No
     let mut line_digits = Buffer::new();
     let line_word = line_digits.format(line).as_bytes();
     match time_of(refusal) {
-        None => put_line(into, &[b"refused", line_word, name_of(refusal)]),
+        None => append_line(into, &[b"refused", line_word, name_of(refusal)]),
         Some(time) => {
             let mut time_digits = Buffer::new();
             let time_word = time_digits.format(time).as_bytes();
-            put_line(into, &[b"refused", line_word, name_of(refusal), time_word])
+            append_line(into, &[b"refused", line_word, name_of(refusal), time_word])
         }
     }
 }

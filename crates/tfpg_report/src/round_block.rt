@@ -6,11 +6,10 @@ ghost use Rattle.tfpg_evidence.specs.RoundOf.{IsRoundOf};
 ghost use Rattle.tfpg_base.specs.TextLine.{text_line};
 ghost use Rattle.tfpg_report.specs.Blocks.{counts_text, round_text, sizes_of};
 
-use crate::hypothesis_lines::{put_all_open, put_all_rejected};
-use crate::ranked_lines::put_all_ranked;
-use crate::steps_block::put_all_steps;
+use crate::ranked_lines::append_all_ranked;
+use crate::sections::{Section, append_section};
 use itoa::Buffer;
-use tfpg_base::{NoMemory, put_line};
+use tfpg_base::{NoMemory, append_line};
 use tfpg_evidence::{Counts, Round};
 use tfpg_graph::Graph;
 
@@ -23,16 +22,16 @@ pub fn render(graph: &Graph, round: &Round, into: &mut Vec<u8>) -> Result<(), No
     ensures { Appends result into.old.items into.new.items (round_text graph.now round.entry.now) }
 {
     let findings = round.findings.as_slice();
-    put_round_line(round.number, round.line, round.now, into)?;
-    put_all_steps(graph, findings, into)?;
-    put_all_ranked(graph, findings, round.order.as_slice(), into)?;
-    put_all_open(graph, findings, into)?;
-    put_all_rejected(graph, findings, into)?;
-    put_counts(round.counts, into)
+    append_round_line(round.number, round.line, round.now, into)?;
+    append_section(graph, Section::Steps, findings, into)?;
+    append_all_ranked(graph, findings, round.order.as_slice(), into)?;
+    append_section(graph, Section::Open, findings, into)?;
+    append_section(graph, Section::Rejected, findings, into)?;
+    append_counts(round.counts, into)
 }
 
 /// Appends the first line of a round.
-fn put_round_line(number: u32, line: u64, now: u64, into: &mut Vec<u8>) -> Result<(), NoMemory>
+fn append_round_line(number: u32, line: u64, now: u64, into: &mut Vec<u8>) -> Result<(), NoMemory>
     ensures { Appends result into.old.items into.new.items
         (text_line (codes "round" ∷ decimal number ∷ decimal line ∷ decimal now ∷ [])) }
 {
@@ -42,11 +41,11 @@ fn put_round_line(number: u32, line: u64, now: u64, into: &mut Vec<u8>) -> Resul
     let number = number_digits.format(number).as_bytes();
     let line = line_digits.format(line).as_bytes();
     let now = now_digits.format(now).as_bytes();
-    put_line(into, &[b"round", number, line, now])
+    append_line(into, &[b"round", number, line, now])
 }
 
 /// Appends the line of the counts.
-fn put_counts(counts: Counts, into: &mut Vec<u8>) -> Result<(), NoMemory>
+fn append_counts(counts: Counts, into: &mut Vec<u8>) -> Result<(), NoMemory>
     ensures { Appends result into.old.items into.new.items (counts_text counts) }
 {
     let mut ranked_digits = Buffer::new();
@@ -57,7 +56,7 @@ fn put_counts(counts: Counts, into: &mut Vec<u8>) -> Result<(), NoMemory>
     let covered = covered_digits.format(counts.covered).as_bytes();
     let rejected = rejected_digits.format(counts.rejected).as_bytes();
     let unsettled = open_digits.format(counts.unsettled).as_bytes();
-    put_line(
+    append_line(
         into,
         &[
             b"counts",

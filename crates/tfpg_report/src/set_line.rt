@@ -7,28 +7,28 @@ ghost use Rattle.tfpg_graph.specs.Graph.{failures};
 ghost use Rattle.tfpg_report.specs.Blocks.{failure_word, set_word};
 
 use crate::names::failure_name;
-use tfpg_base::{NoMemory, Set, put_part};
+use tfpg_base::{NoMemory, Set, append_part};
 use tfpg_graph::Graph;
 
 /// Appends the pieces, a set and a line end.
-pub(crate) fn put_set_line(
+pub(crate) fn append_set_line(
     graph: &Graph,
     pieces: &[&[u8]],
     set: Set,
     into: &mut Vec<u8>,
 ) -> Result<(), NoMemory>
-    requires { All (λ place. place < length (failures graph.now)) set }
+    requires { All (λ position. position < length (failures graph.now)) set }
     ensures { Appends result into.old.items into.new.items
         (flat_map (λ piece. piece.now) pieces.now ++ set_word graph.now set ++ 10 ∷ []) }
 {
-    put_pieces(pieces, into)?;
-    put_set(graph, set, into)?;
+    append_pieces(pieces, into)?;
+    append_set(graph, set, into)?;
     into.push(b'\n')?;
     Ok(())
 }
 
 /// Appends the pieces one after another.
-fn put_pieces(pieces: &[&[u8]], into: &mut Vec<u8>) -> Result<(), NoMemory>
+fn append_pieces(pieces: &[&[u8]], into: &mut Vec<u8>) -> Result<(), NoMemory>
     ensures { Appends result into.old.items into.new.items (flat_map (λ piece. piece.now) pieces.now) }
 {
     for piece in pieces {
@@ -39,27 +39,27 @@ fn put_pieces(pieces: &[&[u8]], into: &mut Vec<u8>) -> Result<(), NoMemory>
 
 /// Appends a set: a hyphen for the empty one, else the names of its members with commas between. Costs linear time in the
 /// count of failure modes, besides its text.
-pub fn put_set(graph: &Graph, set: Set, into: &mut Vec<u8>) -> Result<(), NoMemory>
-    requires { All (λ place. place < length (failures graph.now)) set }
+pub fn append_set(graph: &Graph, set: Set, into: &mut Vec<u8>) -> Result<(), NoMemory>
+    requires { All (λ position. position < length (failures graph.now)) set }
     ensures { Appends result into.old.items into.new.items (set_word graph.now set) }
 {
     if set.is_empty() {
         into.push(b'-')?;
         return Ok(());
     }
-    put_members(graph, set, into)
+    append_members(graph, set, into)
 }
 
 /// Appends the names of the members with commas between.
-fn put_members(graph: &Graph, set: Set, into: &mut Vec<u8>) -> Result<(), NoMemory>
-    requires { All (λ place. place < length (failures graph.now)) set }
+fn append_members(graph: &Graph, set: Set, into: &mut Vec<u8>) -> Result<(), NoMemory>
+    requires { All (λ position. position < length (failures graph.now)) set }
     ensures { Appends result into.old.items into.new.items
         (join_with_byte 44 (map (failure_word graph.now) set)) }
 {
     let mut is_first = true;
-    for place in 0..graph.failure_count() {
-        if set.has(place) {
-            put_part(into, b',', is_first, failure_name(graph, place))?;
+    for position in 0..graph.failure_count() {
+        if set.has(position) {
+            append_part(into, b',', is_first, failure_name(graph, position))?;
             is_first = false;
         }
     }

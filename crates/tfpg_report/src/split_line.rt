@@ -8,12 +8,12 @@ ghost use Rattle.tfpg_report.specs.Blocks.{clause_words, edge_words, name_word, 
 
 use crate::names::{edge_names, node_name};
 use itoa::Buffer;
-use tfpg_base::{NoMemory, put_line};
+use tfpg_base::{NoMemory, append_line};
 use tfpg_evidence::ClauseName;
 use tfpg_graph::Graph;
 
 /// Appends the line of a step that splits on a clause.
-pub(crate) fn put_split(
+pub(crate) fn append_split(
     graph: &Graph,
     clause: ClauseName,
     into: &mut Vec<u8>,
@@ -27,27 +27,27 @@ pub(crate) fn put_split(
             node,
             span,
             horizon,
-        } => put_node_split(graph, b"ormay", node, span, horizon, into),
+        } => append_node_split(graph, b"ormay", node, span, horizon, into),
         ClauseName::AndMay {
             edge,
             span,
             horizon,
-        } => put_edge_split(graph, b"andmay", edge, span, horizon, into),
+        } => append_edge_split(graph, b"andmay", edge, span, horizon, into),
         ClauseName::OrMust {
             edge,
             span,
             horizon,
-        } => put_edge_split(graph, b"ormust", edge, span, horizon, into),
+        } => append_edge_split(graph, b"ormust", edge, span, horizon, into),
         ClauseName::AndMust {
             node,
             span,
             horizon,
-        } => put_node_split(graph, b"andmust", node, span, horizon, into),
+        } => append_node_split(graph, b"andmust", node, span, horizon, into),
     }
 }
 
 /// Appends the line of a split on a clause of a node.
-fn put_node_split(
+fn append_node_split(
     graph: &Graph,
     kind: &[u8],
     node: u32,
@@ -64,14 +64,14 @@ fn put_node_split(
     let mut horizon_digits = Buffer::new();
     let span = span_digits.format(span).as_bytes();
     let horizon = horizon_digits.format(horizon).as_bytes();
-    put_line(
+    append_line(
         into,
         &[b"split", kind, node_name(graph, node), span, horizon],
     )
 }
 
 /// Appends the line of a split on a clause of an edge.
-fn put_edge_split(
+fn append_edge_split(
     graph: &Graph,
     kind: &[u8],
     edge: u32,
@@ -89,5 +89,5 @@ fn put_edge_split(
     let mut horizon_digits = Buffer::new();
     let span = span_digits.format(span).as_bytes();
     let horizon = horizon_digits.format(horizon).as_bytes();
-    put_line(into, &[b"split", kind, source, target, span, horizon])
+    append_line(into, &[b"split", kind, source, target, span, horizon])
 }

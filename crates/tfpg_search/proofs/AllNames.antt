@@ -1,10 +1,12 @@
 -- The clause names of a log are finitely many: they can be listed.
 use Rattle.std.proofs.Common.{◌≡◌, ◌≢◌, ◌⊎◌, ℕ, zero, suc, ◌+◌, ◌<◌, ◌≤◌, List, [], ◌∷◌, ◌++◌, length, Bool, true, false, Option, Some, None, refl, sym, ap, subst, ◌∙◌, inl, inr, arith}
-use Rattle.std.specs.Prelude.{All, AllPairs, Contains, cond, map, flat_map, nat_le, ◌==◌, ◌&&◌, ◌||◌, if◌then◌else◌, is_some, option_map, option_and_then, slice_get, filter_map}
+use Rattle.std.specs.Prelude.{All, AllPairs, Contains, cond, map, filter, flat_map, nat_le, ◌==◌, ◌&&◌, if◌then◌else◌, is_some, option_map, option_and_then, slice_get, filter_map}
 use Rattle.std.specs.Bool.{then_some}
 use Rattle.std.specs.Option.{option_or, option_map_or}
 use Rattle.std.specs.List.{list_any}
+use Rattle.std.proofs.lemmas.Bool.{and_parts, and_from}
 use Rattle.std.proofs.lemmas.Bool.Decides.{nat_tests}
+use Rattle.std.proofs.lemmas.List.Folds.{list_any_at}
 use Rattle.std.proofs.lemmas.List.Elements.{All-nil, All-cons, Contains-append_left, Contains-append_right}
 use Rattle.std.proofs.lemmas.Option.{slice_get_within}
 use Rattle.std.proofs.lemmas.List.Kept.{AllPairs-cons}
@@ -22,78 +24,16 @@ use Rattle.tfpg_base.specs.Choice.{each_of}
 use Rattle.tfpg_clause.specs.Clauses.{alternatives, outside_span, arrival, due_over, may_by, must_by}
 use Rattle.tfpg_clause.specs.Order.{horizon_of}
 use Rattle.tfpg_search.specs.Enough.{IsNameAt, AreNamesAt}
-use Rattle.tfpg_search.proofs.Pigeons.{contains_head, contains_tail, contains_cases}
+use Rattle.tfpg_base.proofs.lists.Elements.{Contains-head, Contains-tail, Contains-cons_cases, slice_get-contains, list_any-found}
+use Rattle.tfpg_base.proofs.lists.Choices.{is_some-there}
+use Rattle.tfpg_base.proofs.lists.Passing.{Contains-filter, Contains-filter_only}
 
 -- ---- lists
 
-or_cases : (a b : Bool) → (a || b) ≡ true → (a ≡ true) ⊎ (b ≡ true)
-or_cases true b is = inl refl
-or_cases false b is = inr is
-
-or_right : (a b : Bool) → b ≡ true → (a || b) ≡ true
-or_right true b is = refl
-or_right false b is = is
-
-and_left : (a b : Bool) → (a && b) ≡ true → a ≡ true
-and_left true b is = refl
-and_left false b is = cc
-
-and_right : (a b : Bool) → (a && b) ≡ true → b ≡ true
-and_right true b is = is
-and_right false b is = cc
-
-and_both : (a b : Bool) → a ≡ true → b ≡ true → (a && b) ≡ true
-and_both true b one other = other
-and_both false b one other = cc
-
 module _ {X : Type 0} where
-  -- some item passes where the test passes some
-  pub any_passes : (p : X → Bool) (xs : List X) → list_any p xs ≡ true → (x : X) × Contains xs x × (p x ≡ true)
-  any_passes p [] is = absurd cc
-  any_passes p (x ∷ xs) is =
-      elim (or_cases (p x) (list_any p xs) is) [
-        | inl here ↦ (x, contains_head x xs, here)
-        | inr later ↦ (let found = any_passes p xs later in (found.0, contains_tail x xs found.0 found.1, found.2))
-      ]
-
+  -- the test passes some where an item passes
   pub passes_any : (p : X → Bool) (xs : List X) (x : X) → Contains xs x → p x ≡ true → list_any p xs ≡ true
-  passes_any p [] x has is = absurd (omega (arith, has.1))
-  passes_any p (y ∷ xs) x has is =
-      elim (contains_cases y xs x has) [
-        | inl same ↦ first (p y) (ap p same ∙ is)
-        | inr later ↦ or_right (p y) (list_any p xs) (passes_any p xs x later is)
-      ]
-    where
-      first : (b : Bool) → b ≡ true → (b || list_any p xs) ≡ true
-      first true yes_ = refl
-      first false no_ = cc
-
-  -- the items that pass
-  abbrev pub passing : (X → Bool) → List X → List X
-  passing p [] = []
-  passing p (x ∷ xs) = cond (p x) (x ∷ passing p xs) (passing p xs)
-
-  kept_passing : (p : X → Bool) (xs : List X) (x : X) → Contains xs x → p x ≡ true → Contains (passing p xs) x
-  kept_passing p [] x has is = absurd (omega (arith, has.1))
-  kept_passing p (y ∷ xs) x has is = by (λ there. kept_passing p xs x there is) (p y) refl (contains_cases y xs x has)
-    where
-      by : (Contains xs x → Contains (passing p xs) x) → (b : Bool) → p y ≡ b → (y ≡ x) ⊎ Contains xs x → Contains (cond b (y ∷ passing p xs) (passing p xs)) x
-      by later true at (inl same) = subst (Contains (y ∷ passing p xs)) same (contains_head y (passing p xs))
-      by later true at (inr there) = contains_tail y (passing p xs) x (later there)
-      by later false at (inl same) = let is_not : p x ≡ false = ap p (sym same) ∙ at in cc
-      by later false at (inr there) = later there
-
-  was_passing : (p : X → Bool) (xs : List X) (x : X) → Contains (passing p xs) x → p x ≡ true
-  was_passing p [] x has = absurd (omega (arith, has.1))
-  was_passing p (y ∷ xs) x has = by (λ later. was_passing p xs x later) (p y) refl has
-    where
-      by : (Contains (passing p xs) x → p x ≡ true) → (b : Bool) → p y ≡ b → Contains (cond b (y ∷ passing p xs) (passing p xs)) x → p x ≡ true
-      by next true at there =
-          elim (contains_cases y (passing p xs) x there) [
-            | inl same ↦ ap p (sym same) ∙ at
-            | inr later ↦ next later
-          ]
-      by next false at there = next there
+  passes_any p xs x has is = list_any_at p xs has.0 x has.1 (ap p has.2 ∙ is)
 
   module _ (same : X → X → Bool) (exact : (x y : X) → same x y ≡ true → x ≡ y) (itself : (x : X) → same x x ≡ true) where
     -- the list, of each item the last time that it stands there
@@ -103,34 +43,34 @@ module _ {X : Type 0} where
 
     pub in_once : (xs : List X) (x : X) → Contains xs x → Contains (once xs) x
     in_once [] x has = absurd (omega (arith, has.1))
-    in_once (y ∷ xs) x has = by (λ there. in_once xs x there) (list_any (same y) xs) refl (contains_cases y xs x has)
+    in_once (y ∷ xs) x has = by (λ there. in_once xs x there) (list_any (same y) xs) refl (Contains-cons_cases y xs x has)
       where
         by : (Contains xs x → Contains (once xs) x) → (b : Bool) → list_any (same y) xs ≡ b → (y ≡ x) ⊎ Contains xs x → Contains (cond b (once xs) (y ∷ once xs)) x
         by next true at (inl is) =
-            let found = any_passes (same y) xs at in
+            let found = list_any-found (same y) xs at in
             next (subst (Contains xs) (sym (exact y found.0 found.2) ∙ is) found.1)
         by next true at (inr there) = next there
-        by next false at (inl is) = subst (Contains (y ∷ once xs)) is (contains_head y (once xs))
-        by next false at (inr there) = contains_tail y (once xs) x (next there)
+        by next false at (inl is) = subst (Contains (y ∷ once xs)) is (Contains-head y (once xs))
+        by next false at (inr there) = Contains-tail y (once xs) x (next there)
 
     pub from_once : (xs : List X) (x : X) → Contains (once xs) x → Contains xs x
     from_once [] x has = has
     from_once (y ∷ xs) x has = by (λ there. from_once xs x there) (list_any (same y) xs) has
       where
         by : (Contains (once xs) x → Contains xs x) → (b : Bool) → Contains (cond b (once xs) (y ∷ once xs)) x → Contains (y ∷ xs) x
-        by next true there = contains_tail y xs x (next there)
+        by next true there = Contains-tail y xs x (next there)
         by next false there =
-            elim (contains_cases y (once xs) x there) [
-              | inl is ↦ subst (Contains (y ∷ xs)) is (contains_head y xs)
-              | inr later ↦ contains_tail y xs x (next later)
+            elim (Contains-cons_cases y (once xs) x there) [
+              | inl is ↦ subst (Contains (y ∷ xs)) is (Contains-head y xs)
+              | inr later ↦ Contains-tail y xs x (next later)
             ]
 
     none_later : (y : X) (xs all : List X) → list_any (same y) all ≡ false → ((x : X) → Contains xs x → Contains all x) → All (λ (x : X). y ≢ x) xs
     none_later y [] all none in_all = All-nil (λ (x : X). y ≢ x)
     none_later y (x ∷ xs) all none in_all =
         All-cons (λ (z : X). y ≢ z) x xs
-        (λ is. (let there : list_any (same y) all ≡ true = passes_any (same y) all x (in_all x (contains_head x xs)) (ap (same y) (sym is) ∙ itself y) in absurd cc))
-        (none_later y xs all none (λ z has. in_all z (contains_tail x xs z has)))
+        (λ is. (let there : list_any (same y) all ≡ true = passes_any (same y) all x (in_all x (Contains-head x xs)) (ap (same y) (sym is) ∙ itself y) in absurd cc))
+        (none_later y xs all none (λ z has. in_all z (Contains-tail x xs z has)))
 
     pub once_differ : (xs : List X) → AllPairs ◌≢◌ (once xs)
     once_differ [] = λ i j d less within. absurd (omega (arith, within))
@@ -143,7 +83,7 @@ module _ {X : Type 0} where
 in_flat_map : {X Y : Type 0} (f : X → List Y) (xs : List X) (x : X) (y : Y) → Contains xs x → Contains (f x) y → Contains (flat_map f xs) y
 in_flat_map f [] x y has there = absurd (omega (arith, has.1))
 in_flat_map f (z ∷ xs) x y has there =
-    elim (contains_cases z xs x has) [
+    elim (Contains-cons_cases z xs x has) [
       | inl is ↦ Contains-append_left (f z) (flat_map f xs) y (subst (λ w. Contains (f w) y) (sym is) there)
       | inr later ↦ Contains-append_right (f z) (flat_map f xs) y (in_flat_map f xs x y later there)
     ]
@@ -158,8 +98,8 @@ in_below zero k less = absurd (omega arith)
 in_below (suc n) k less = by (λ smaller. in_below n k smaller) (k == n) refl
   where
     by : (k < n → Contains (below n) k) → (b : Bool) → (k == n) ≡ b → Contains (n ∷ below n) k
-    by next true at = (let is : n ≡ k = grind (arith, nat_tests) in subst (Contains (n ∷ below n)) is (contains_head n (below n)))
-    by next false at = (let smaller : k < n = grind (arith, nat_tests) in contains_tail n (below n) k (next smaller))
+    by next true at = (let is : n ≡ k = grind (arith, nat_tests) in subst (Contains (n ∷ below n)) is (Contains-head n (below n)))
+    by next false at = (let smaller : k < n = grind (arith, nat_tests) in Contains-tail n (below n) k (next smaller))
 
 -- ---- names
 
@@ -212,13 +152,12 @@ number_itself a = grind (arith, nat_tests)
 
 three_are : {Y : Type 0} (f : ℕ → ℕ → ℕ → Y) (a b c x y z : ℕ) → same_numbers a b c x y z ≡ true → f a b c ≡ f x y z
 three_are f a b c x y z is =
-    let others : ((b == y) && (c == z)) ≡ true = and_right (a == x) ((b == y) && (c == z)) is in
-    ap (λ n. f n b c) (number_is a x (and_left (a == x) ((b == y) && (c == z)) is))
-    ∙ ap (λ n. f x n c) (number_is b y (and_left (b == y) (c == z) others))
-    ∙ ap (λ n. f x y n) (number_is c z (and_right (b == y) (c == z) others))
+    let all = and_parts (a == x) ((b == y) && (c == z)) is in
+    let others = and_parts (b == y) (c == z) all.1 in
+    ap (λ n. f n b c) (number_is a x all.0) ∙ ap (λ n. f x n c) (number_is b y others.0) ∙ ap (λ n. f x y n) (number_is c z others.1)
 
 three_itself : (a b c : ℕ) → same_numbers a b c a b c ≡ true
-three_itself a b c = and_both (a == a) ((b == b) && (c == c)) (number_itself a) (and_both (b == b) (c == c) (number_itself b) (number_itself c))
+three_itself a b c = and_from (a == a) ((b == b) && (c == c)) (number_itself a) (and_from (b == b) (c == c) (number_itself b) (number_itself c))
 
 exact_name : (one other : ClauseName) → same_name one other ≡ true → one ≡ other
 exact_name (OrMay a b c) (OrMay x y z) is = three_are OrMay a b c x y z is
@@ -303,20 +242,12 @@ span_small_at log number horizon some = by (nat_le horizon (now_of log)) refl so
 
 -- ---- allowed names
 
-within_list : {X : Type 0} (xs : List X) (k : ℕ) (found : Option X) → slice_get xs k ≡ found → is_some found ≡ true → k < length xs
-within_list xs k None at some = absurd cc
-within_list xs k (Some x) at some = slice_get_within xs k x at
-
 kind_within : (is_kind : Kind → Bool) (graph : Tfpg) (node : ℕ) → is_kind_at is_kind graph node ≡ true → node < length graph.nodes
 kind_within is_kind graph node is = by (slice_get graph.nodes node) refl is
   where
     by : (found : Option Node) → slice_get graph.nodes node ≡ found → option_map_or is_kind (option_map (λ (n : Node). n.kind) found) false ≡ true → node < length graph.nodes
     by None at there = absurd cc
     by (Some n) at there = slice_get_within graph.nodes node n at
-
-span_there : {X : Type 0} (f : Span → Option X) (span : Option Span) → is_some (option_and_then f span) ≡ true → is_some span ≡ true
-span_there f None is = cc
-span_there f (Some s) is = refl
 
 first_there : {X Y : Type 0} (f : X → Option Y) (found : Option X) → is_some (option_and_then f found) ≡ true → is_some found ≡ true
 first_there f None is = cc
@@ -398,33 +329,35 @@ module _ (graph : Tfpg) (log : Logbook) where
   abbrev is_name : ClauseName → Bool
   is_name name = allowed name && at_event name
 
-  clause_of : (clause : Option (List (List Constraint))) → is_some clause ≡ true → (c : List (List Constraint)) × (clause ≡ Some c)
-  clause_of None some = absurd cc
-  clause_of (Some c) some = (c, refl)
-
   name_from : (name : ClauseName) → is_name name ≡ true → IsNameAt graph log name
   name_from name is =
-      let clause = clause_of (alternatives graph log name) (and_left (allowed name) (at_event name) is) in
-      let event = any_passes (λ event. time_of_event event == horizon_of name) log.events (and_right (allowed name) (at_event name) is) in
+      let parts = and_parts (allowed name) (at_event name) is in
+      let clause = is_some-there (alternatives graph log name) parts.0 in
+      let event = list_any-found (λ event. time_of_event event == horizon_of name) log.events parts.1 in
       record { clause = clause.0; allowed = clause.1; horizon = record { event = event.0; accepted = event.1; at = number_is (time_of_event event.0) (horizon_of name) event.2 } }
 
   name_to : (name : ClauseName) → IsNameAt graph log name → is_name name ≡ true
   name_to name is =
-      and_both (allowed name) (at_event name) (ap is_some is.allowed)
+      and_from (allowed name) (at_event name) (ap is_some is.allowed)
       (passes_any (λ event. time_of_event event == horizon_of name) log.events is.horizon.event is.horizon.accepted
       (ap (λ n. n == horizon_of name) is.horizon.at ∙ number_itself (horizon_of name)))
+
+  -- those of small numbers
+  abbrev small_names : List ClauseName
+  small_names = filter is_name (names_below limit)
 
   -- There is a list of all names.
   pub names_listed : (names : List ClauseName) × AreNamesAt graph log names
   names_listed = (
-    once same_name exact_name name_itself (passing is_name (names_below limit)),
+    once same_name exact_name name_itself small_names,
     record {
-      once = once_differ same_name exact_name name_itself (passing is_name (names_below limit));
+      once = once_differ same_name exact_name name_itself small_names;
       exact = λ name. (
-        λ has. name_from name (was_passing is_name (names_below limit) name (from_once same_name exact_name name_itself (passing is_name (names_below limit)) name has)),
+        λ has. name_from name (Contains-filter_only is_name (names_below limit) name (from_once same_name exact_name name_itself small_names name has)).2,
         λ is.
-            in_once same_name exact_name name_itself (passing is_name (names_below limit)) name
-            (kept_passing is_name (names_below limit) name (listed name (and_left (allowed name) (at_event name) (name_to name is))) (name_to name is)),
+            let low = listed name (and_parts (allowed name) (at_event name) (name_to name is)).0 in
+            in_once same_name exact_name name_itself small_names name
+            (Contains-filter is_name (names_below limit) low.0 name (slice_get-contains (names_below limit) name low) (name_to name is)),
       );
     },
   )

@@ -13,15 +13,14 @@ use Rattle.tfpg_diff.specs.State.{widest, with_floor, with_ceiling, with_pick, p
 use Rattle.tfpg_diff.specs.inside.Kept.{demands_of}
 use Rattle.tfpg_diff.specs.Cycle.{NamesNegativeCycle}
 use Rattle.tfpg_diff.proofs.Bounding.{under, over}
-use Rattle.tfpg_base.proofs.lists.Written.{slice_get-set_same, slice_get-set_other}
+use Rattle.tfpg_base.proofs.lists.Written.{slice_get-set_same, slice_get-set_other, set_back}
 use Rattle.tfpg_diff.proofs.Updates.{with_floor-tighter, with_ceiling-tighter}
 use Rattle.tfpg_search.specs.declared.add_fault.AddFault.{AddFault}
 use Rattle.tfpg_search.specs.Leaf.{Leaf, pick_reasons, IsStated}
 use Rattle.tfpg_search.specs.inside.Tags.{IsTagged, HasReason, reason_of}
 use Rattle.tfpg_search.specs.inside.Closing.{Closes, IsFaultOf}
-use Rattle.tfpg_search.proofs.Lists.{set_back}
 use Rattle.tfpg_search.proofs.Tagging.{IsTagged-write, IsTagged-push}
-use Rattle.tfpg_search.proofs.Stating.{leaf_of, named_by-floor, named_by-ceiling, IsPlaceOf, IsStated-write, IsStated-push, IsStated-pop, pick_reasons-pop}
+use Rattle.tfpg_search.proofs.Stating.{leaf_of, tagged_by-floor, tagged_by-ceiling, IsPlaceOf, IsStated-write, IsStated-push, IsStated-pop, pick_reasons-pop}
 use Rattle.tfpg_search.proofs.Conflicts.{HasReason-cycle, AreDemandsNamed-stated, Closes-cycle}
 
 module _ (demands : Demands) (reasons read : List Reason) (tags lent : List Why) (is_read : read ≡ reasons) (is_lent : lent ≡ tags)
@@ -65,7 +64,7 @@ module _ (demands : Demands) (reasons : List Reason) (tagged : IsTagged demands 
         subst (λ (d : Demands). IsStated fact stated (leaf_of d (set reasons v reason))) (sym raised_is)
         (IsStated-write fact stated demands reasons tagged is_stated v (over old least v) v reason place
         (ap (option_and_then fact) (slice_get-set_same reasons v reason (omega arith)) ∙ states)
-        (named_by-ceiling fact reasons (set reasons v reason) old.ceiling_why v (length demands.bounds + v) (tagged.ceilings v old at)
+        (tagged_by-ceiling fact reasons (set reasons v reason) old.ceiling_why v (length demands.bounds + v) (tagged.ceilings v old at)
         (slice_get-set_other reasons v (length demands.bounds + v) reason (λ same. omega arith))
         ∙ is_stated.bounds.ceilings v old at))
 
@@ -87,7 +86,7 @@ module _ (demands : Demands) (reasons : List Reason) (tagged : IsTagged demands 
         let apart : IsPlaceOf demands v place = record { inside = omega arith; not_lower = λ u other here same. omega arith; not_upper = λ u other same. other (omega arith) } in
         subst (λ (d : Demands). IsStated fact stated (leaf_of d (set reasons place reason))) (sym lowered_is)
         (IsStated-write fact stated demands reasons tagged is_stated v (under old most place) place reason apart
-        (named_by-floor fact reasons (set reasons place reason) old.floor_why v (tagged.floors v old at)
+        (tagged_by-floor fact reasons (set reasons place reason) old.floor_why v (tagged.floors v old at)
         (slice_get-set_other reasons place v reason (λ same. omega arith))
         ∙ is_stated.bounds.floors v old at)
         (ap (option_and_then fact) (slice_get-set_same reasons place reason (omega arith)) ∙ states))

@@ -15,7 +15,7 @@ use Rattle.tfpg_clause.specs.Paths.{framed, stated_by}
 use Rattle.tfpg_clause.specs.declared.path.Frame.{Frame}
 use Rattle.tfpg_diff.specs.declared.why.Why.{Why}
 use Rattle.tfpg_diff.specs.declared.why.Why.TheVariants.{Floor, Ceiling, Given}
-use Rattle.tfpg_search.specs.Leaf.{Leaf, named_by, pick_reasons, IsStated}
+use Rattle.tfpg_search.specs.Leaf.{Leaf, tagged_by, pick_reasons, IsStated}
 use Rattle.tfpg_search.specs.Picks.{IsAllowed, place_count, picks_from, picks_of_from}
 use Rattle.tfpg_search.specs.Searching.{Searching, IsAtItsLeaf}
 use Rattle.tfpg_search.specs.inside.ClauseLaws.{ClauseLaws}
@@ -71,7 +71,7 @@ module _ (laws : ClauseLaws) (graph : Tfpg) (earlier later : Logbook) (ordered :
     stated_stays frames allowed (Upto event) c is = still (Upto event) c is
     stated_stays frames allowed (Quiet event node) c is = still (Quiet event node) c is
 
-    named_stays : (reasons : List Reason) (why : Why) (c : Constraint) → named_by (fact graph earlier reach) reasons why ≡ Some c → named_by (fact graph later reach) reasons why ≡ Some c
+    named_stays : (reasons : List Reason) (why : Why) (c : Constraint) → tagged_by (fact graph earlier reach) reasons why ≡ Some c → tagged_by (fact graph later reach) reasons why ≡ Some c
     named_stays reasons (Floor node) c is = still (Zero node) c is
     named_stays reasons (Ceiling node) c is = still (Top node) c is
     named_stays reasons (Given tag) c is = by (slice_get reasons tag) is

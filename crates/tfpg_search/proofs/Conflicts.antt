@@ -16,10 +16,12 @@ use Rattle.tfpg_diff.specs.Named.{AreDemandsNamed}
 use Rattle.tfpg_diff.proofs.Naming.{AreDemandsNamed-parts, IsCycleOf-named}
 use Rattle.tfpg_search.specs.declared.add_fault.AddFault.{AddFault}
 use Rattle.tfpg_search.specs.declared.add_fault.AddFault.TheVariants.{Conflict, NoMemory}
-use Rattle.tfpg_search.specs.Leaf.{named_by, IsStated}
+use Rattle.tfpg_search.specs.Leaf.{tagged_by, IsStated}
 use Rattle.tfpg_search.specs.inside.Tags.{IsTagged, HasReason, reason_of}
 use Rattle.tfpg_search.specs.inside.Closing.{Closes, IsFaultOf}
-use Rattle.tfpg_search.proofs.Lists.{map_map, slice_get-drop, slice_get-contains}
+use Rattle.tfpg_base.proofs.lists.Images.{map-map}
+use Rattle.tfpg_base.proofs.lists.Cuts.{slice_get-drop}
+use Rattle.tfpg_base.proofs.lists.Elements.{slice_get-contains}
 use Rattle.tfpg_search.proofs.Stating.{leaf_of}
 
 -- the tag of a lower bound is the place of a reason, or names one that no reason set
@@ -65,11 +67,11 @@ module _ (demands : Demands) (reasons : List Reason) (tagged : IsTagged demands 
 
   -- the tag of each demand names its constraint
   pub AreDemandsNamed-stated : (fact stated : Reason → Option Constraint) → IsStated fact stated (leaf_of demands reasons) →
-      AreDemandsNamed demands (named_by stated reasons)
-  AreDemandsNamed-stated fact stated is_stated = AreDemandsNamed-parts demands (named_by stated reasons)
+      AreDemandsNamed demands (tagged_by stated reasons)
+  AreDemandsNamed-stated fact stated is_stated = AreDemandsNamed-parts demands (tagged_by stated reasons)
       (λ v b at. (
-        named_by-wider b.ceiling_why _ (is_stated.bounds.ceilings v b at),
-        named_by-wider b.floor_why _ (is_stated.bounds.floors v b at),
+        tagged_by-wider b.ceiling_why _ (is_stated.bounds.ceilings v b at),
+        tagged_by-wider b.floor_why _ (is_stated.bounds.floors v b at),
       ))
       (λ pick among.
       let at = slice_get-contains demands.picks pick among in
@@ -81,14 +83,14 @@ module _ (demands : Demands) (reasons : List Reason) (tagged : IsTagged demands 
       by_reason None constraint names = absurd cc
       by_reason (Some reason) constraint names = is_stated.wider reason constraint names
 
-      named_by-wider : (why : Why) (constraint : Constraint) → named_by fact reasons why ≡ Some constraint → named_by stated reasons why ≡ Some constraint
-      named_by-wider (Floor node) constraint names = is_stated.wider _ constraint names
-      named_by-wider (Ceiling node) constraint names = is_stated.wider _ constraint names
-      named_by-wider (Given tag) constraint names = by_reason (slice_get reasons tag) constraint names
+      tagged_by-wider : (why : Why) (constraint : Constraint) → tagged_by fact reasons why ≡ Some constraint → tagged_by stated reasons why ≡ Some constraint
+      tagged_by-wider (Floor node) constraint names = is_stated.wider _ constraint names
+      tagged_by-wider (Ceiling node) constraint names = is_stated.wider _ constraint names
+      tagged_by-wider (Given tag) constraint names = by_reason (slice_get reasons tag) constraint names
 
 -- what a tag names is what its reason states
 stated_of-named : (stated : Reason → Option Constraint) (reasons : List Reason) (why : Why) (constraint : Constraint) →
-    named_by stated reasons why ≡ Some constraint → stated (reason_of reasons why) ≡ Some constraint
+    tagged_by stated reasons why ≡ Some constraint → stated (reason_of reasons why) ≡ Some constraint
 stated_of-named stated reasons (Floor node) constraint names = names
 stated_of-named stated reasons (Ceiling node) constraint names = names
 stated_of-named stated reasons (Given tag) constraint names = go (slice_get reasons tag) refl names
@@ -99,7 +101,7 @@ stated_of-named stated reasons (Given tag) constraint names = go (slice_get reas
 
 -- the reasons of a cycle's tags close the leaf
 pub Closes-cycle : (stated : Reason → Option Constraint) (demands : Demands) (reasons : List Reason) (tags : List Why) (fault : AddFault) →
-    AreDemandsNamed demands (named_by stated reasons) → NamesNegativeCycle demands tags →
+    AreDemandsNamed demands (tagged_by stated reasons) → NamesNegativeCycle demands tags →
     IsFaultOf (map (reason_of reasons) tags) fault → Closes stated fault
 Closes-cycle stated demands reasons tags NoMemory names found is = tt
 Closes-cycle stated demands reasons tags (Conflict list) names found is =
@@ -108,7 +110,7 @@ Closes-cycle stated demands reasons tags (Conflict list) names found is =
     let cycle = IsCycleOf-named demands (λ (why : Why). stated (reason_of reasons why)) tags by_reason found in
     record {
       constraints = cycle.0;
-      hold = ap (λ (rs : List Reason). each_of (map stated rs)) is ∙ ap each_of (map_map stated (reason_of reasons) tags) ∙ cycle.1.are_named;
+      hold = ap (λ (rs : List Reason). each_of (map stated rs)) is ∙ ap each_of (map-map stated (reason_of reasons) tags) ∙ cycle.1.are_named;
       cycle = cycle.1.chained;
       simple = cycle.1.simple;
       negative = cycle.1.negative;

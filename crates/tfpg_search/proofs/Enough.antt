@@ -19,7 +19,7 @@ use Rattle.tfpg_search.specs.inside.ClauseLaws.{ClauseLaws}
 use Rattle.tfpg_search.specs.inside.Moves.{Goes, Leads, LeadsTo}
 use Rattle.tfpg_search.proofs.Names.{frame_name, all_allowed, names_after, AreDistinct}
 use Rattle.tfpg_search.proofs.Lifted.{after_step, distinct_frames}
-use Rattle.tfpg_search.proofs.Pigeons.{at_most_as_long}
+use Rattle.tfpg_base.proofs.lists.Pigeons.{length-le_contained}
 use Rattle.tfpg_search.proofs.Measure.{weight, weight_some, weight_limit, AreFew, split_lowers, cycle_lowers}
 
 module _ (laws : ClauseLaws) (graph : Tfpg) (log : Logbook) (reach : List ℕ) (ordered : IsOrdered log) (now_is : IsEventTime log (now_of log)) (budget : ℕ) (enough : IsEnough graph log budget) where
@@ -49,7 +49,7 @@ module _ (laws : ClauseLaws) (graph : Tfpg) (log : Logbook) (reach : List ℕ) (
 
   short_names : (names : List ClauseName) → AllPairs ◌≢◌ names → All (IsNameAt graph log) names → length names ≤ n
   short_names names distinct are =
-      at_most_as_long names enough.names distinct (All-weaker (IsNameAt graph log) (Contains enough.names) (λ name is. (enough.names_are.exact name).1 is) names are)
+      length-le_contained names enough.names distinct (All-weaker (IsNameAt graph log) (Contains enough.names) (λ name is. (enough.names_are.exact name).1 is) names are)
 
   short : (frames : List Frame) (earlier : List Judged) → Stands frames earlier → length frames ≤ n
   short frames earlier stands =
@@ -90,7 +90,7 @@ module _ (laws : ClauseLaws) (graph : Tfpg) (log : Logbook) (reach : List ℕ) (
       record {
         stands = record {
           leads = after_step laws graph log reach ordered frames earlier stands.leads (Cycle reasons) (Some after) goes;
-          names = names_after (IsNameAt graph log) frames after stands.leads.2 is stands.names;
+          names = names_after (IsNameAt graph log) frames after is stands.names;
         };
         lower = cycle_lowers a a_some frames after n (short frames earlier stands) is;
       }

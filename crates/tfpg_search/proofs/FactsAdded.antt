@@ -2,7 +2,7 @@
 use Rattle.std.proofs.Common.{◌≡◌, ◌≢◌, ℕ, zero, suc, ◌+◌, ◌<◌, ◌≤◌, Bool, true, false, cond, eqb, ltb, ◌&&◌, not, leb, List, [], ◌∷◌, length, get_or, take, Option, Some, None, refl, sym, ◌∙◌, ap, subst, inl, inr, ⊎_elim, ◌⊎◌, arith}
 use Rattle.std.specs.Prelude.{slice_get, pos, is_none, option_map, option_and_then, unwrap_or, ◌-◌}
 use Rattle.std.proofs.lemmas.Bool.{ltb-true, ltb-false, eqb-true, and_parts}
-use Rattle.std.proofs.lemmas.Option.{same_Some, none-some, slice_get_within, slice_get-get_or, get_or_from_slice_get}
+use Rattle.std.proofs.lemmas.Option.{same_Some, cond_some, none-some, slice_get-get_or}
 use Rattle.tfpg_base.specs.Times.{never}
 use Rattle.tfpg_base.specs.Constraint.{Meets}
 use Rattle.tfpg_base.specs.declared.constraint.Constraint.{Constraint}
@@ -15,8 +15,9 @@ use Rattle.tfpg_evidence.specs.declared.reason.Reason.{Reason}
 use Rattle.tfpg_evidence.specs.declared.reason.Reason.TheVariants.{Zero, Top, Unreached, From, Upto, Quiet, Pick}
 use Rattle.tfpg_clause.specs.Bounds.{at_most, at_least}
 use Rattle.tfpg_clause.specs.Facts.{fact, from_alarm, upto_alarm}
-use Rattle.tfpg_clause.proofs.Dues.{passed}
-use Rattle.tfpg_clause.proofs.FactsMet.{monitored_within}
+use Rattle.tfpg_base.proofs.lists.Elements.{All-at}
+use Rattle.tfpg_base.proofs.lists.Choices.{then_some-true}
+use Rattle.tfpg_graph.proofs.NodeAt.{monitored_within}
 use Rattle.tfpg_diff.specs.declared.bounds.Bounds.{Bounds}
 use Rattle.tfpg_diff.specs.declared.why.Why.TheVariants.{Given}
 use Rattle.tfpg_diff.specs.Demands.{Demands, Bounded}
@@ -48,24 +49,19 @@ module _ (graph : Tfpg) (log : Logbook) (of : IsOf graph log) where
   -- what holds of each event holds of that of a number
   event_of : (number : ℕ) (event : Event) → event_at log number ≡ Some event → IsEventOf graph event
   event_of zero event at = absurd cc
-  event_of (suc place) event at =
-      subst (IsEventOf graph) (get_or_from_slice_get log.events place event event at) (of.own place event (slice_get_within log.events place event at))
+  event_of (suc place) event at = All-at (IsEventOf graph) log.events place event of.own at
 
   -- an alarm is of a node of the graph
   pub alarm_within : (number time node : ℕ) → event_at log number ≡ Some (Alarm time node) → node < length graph.nodes
   alarm_within number time node at = monitored_within graph node (event_of number (Alarm time node) at)
 
-  quiet_by : (passes : Bool) (own time : ℕ) → cond passes (Some own) None ≡ Some time → passes ≡ true
-  quiet_by true own time is = refl
-  quiet_by false own time is = absurd cc
-
   quiet_event : (before : List Event) (node time : ℕ) (event : Event) → IsEventOf graph event → quiet_time graph before event node ≡ Some time → node < length graph.nodes
   quiet_event before node time (Alarm own alarmed) is silent = absurd cc
   quiet_event before node time (Silent own quiet) is silent =
-      let same : quiet ≡ node = eqb-true quiet node (quiet_by (eqb quiet node) own time silent) in
+      let same : quiet ≡ node = eqb-true quiet node (cond_some (eqb quiet node) own time silent).0 in
       subst (λ (n : ℕ). n < length graph.nodes) same (monitored_within graph quiet is)
   quiet_event before node time (Sweep own) is silent =
-      let both = and_parts (is_monitored graph node) (is_none (alarm_among before node)) (quiet_by (is_monitored graph node && is_none (alarm_among before node)) own time silent) in
+      let both = and_parts (is_monitored graph node) (is_none (alarm_among before node)) (cond_some (is_monitored graph node && is_none (alarm_among before node)) own time silent).0 in
       monitored_within graph node both.0
   quiet_event before node time (Tick own) is silent = absurd cc
   quiet_event before node time (Mode own mode) is silent = absurd cc
@@ -106,13 +102,13 @@ module _ (graph : Tfpg) (log : Logbook) (of : IsOf graph log) where
     -- a fact bounds the time of a node of the graph
     pub fact_bounds : (reason : Reason) → fact graph log reach reason ≡ Some constraint → IsBound graph constraint
     fact_bounds (Zero node) is =
-        let parts = passed (ltb node (length graph.nodes)) (at_least node 0) constraint is in
+        let parts = then_some-true (ltb node (length graph.nodes)) (at_least node 0) constraint is in
         inl (record { node = node; bound = 0; within = ltb-true node (length graph.nodes) parts.0; is = sym parts.1 })
     fact_bounds (Top node) is =
-        let parts = passed (ltb node (length graph.nodes)) (at_most node (pos never)) constraint is in
+        let parts = then_some-true (ltb node (length graph.nodes)) (at_most node (pos never)) constraint is in
         inr (record { node = node; bound = never; within = ltb-true node (length graph.nodes) parts.0; is = sym parts.1 })
     fact_bounds (Unreached node horizon) is =
-        let parts = passed (ltb node (length graph.nodes) && (leb horizon (now_of log) && not (is_among reach node))) (at_least node (horizon + 1)) constraint is in
+        let parts = then_some-true (ltb node (length graph.nodes) && (leb horizon (now_of log) && not (is_among reach node))) (at_least node (horizon + 1)) constraint is in
         let both = and_parts (ltb node (length graph.nodes)) (leb horizon (now_of log) && not (is_among reach node)) parts.0 in
         inl (record { node = node; bound = horizon + 1; within = ltb-true node (length graph.nodes) both.0; is = sym parts.1 })
     fact_bounds (From number) is = from_bound number (event_at log number) refl is

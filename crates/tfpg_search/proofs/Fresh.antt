@@ -13,7 +13,7 @@ use Rattle.tfpg_diff.specs.Demands.{Demands, Bounded}
 use Rattle.tfpg_diff.specs.State.{widest, unbounded_from}
 use Rattle.tfpg_diff.specs.inside.Kept.{demands_of}
 use Rattle.tfpg_diff.proofs.Fresh.{length-unbounded_from}
-use Rattle.tfpg_search.specs.Leaf.{named_by, IsStated}
+use Rattle.tfpg_search.specs.Leaf.{tagged_by, IsStated}
 use Rattle.tfpg_search.specs.inside.Tags.{IsTagged}
 use Rattle.tfpg_search.proofs.Stating.{leaf_of}
 
@@ -56,12 +56,12 @@ module _ (demands : Demands) (reasons : List Reason) (nodes : ℕ) (is : demands
       floors = λ u b at.
           let below = slice_get_within demands.bounds u b at in
           let as_many = count in
-          ap (λ (c : Bounds). named_by fact reasons c.floor_why) (bounds_are u b at) ∙ zeros u (omega arith)
+          ap (λ (c : Bounds). tagged_by fact reasons c.floor_why) (bounds_are u b at) ∙ zeros u (omega arith)
           ∙ sym (ap (λ (c : Bounds). Some (at_least u c.floor)) (bounds_are u b at));
       ceilings = λ u b at.
           let below = slice_get_within demands.bounds u b at in
           let as_many = count in
-          ap (λ (c : Bounds). named_by fact reasons c.ceiling_why) (bounds_are u b at) ∙ tops u (omega arith)
+          ap (λ (c : Bounds). tagged_by fact reasons c.ceiling_why) (bounds_are u b at) ∙ tops u (omega arith)
           ∙ sym (ap (λ (c : Bounds). Some (at_most u (pos c.ceiling))) (bounds_are u b at));
     };
     picks = λ place pick at. absurd (none-some pick (sym (ap (λ (ps : List Pick). slice_get ps place) none) ∙ at));

@@ -1,29 +1,28 @@
 -- The horizons of the names on the path of a search are times of events.
-use Rattle.std.proofs.Common.{◌≡◌, ℕ, ◌≤◌, List, [], ◌∷◌, length, take, drop, Bool, true, false, Option, Some, None, refl, sym, subst, arith}
-use Rattle.std.specs.Prelude.{All, Contains, fold, nat_lt, option_map}
-use Rattle.std.specs.Option.{option_or}
-use Rattle.std.specs.Bool.{then_some}
+use Rattle.std.proofs.Common.{◌≡◌, ℕ, ◌≤◌, List, [], ◌∷◌, length, take, drop, Option, Some, None, refl, sym, subst, arith}
+use Rattle.std.specs.Prelude.{All, Contains, fold}
 use Rattle.std.proofs.lemmas.List.{take-append-drop}
-use Rattle.std.proofs.lemmas.List.Elements.{All-nil, All-cons, All-head, All-tail, All-push, All-weaker, Contains-append_left}
+use Rattle.std.proofs.lemmas.List.Elements.{All-push, All-weaker, Contains-append_left}
 use Rattle.tfpg_graph.specs.Graph.{Tfpg}
 use Rattle.tfpg_log.specs.declared.event.Event.{Event}
 use Rattle.tfpg_log.specs.Log.{Logbook, now_of, time_of_event, first_events}
 use Rattle.tfpg_evidence.specs.declared.step.Step.{Step}
 use Rattle.tfpg_evidence.specs.declared.step.Step.TheVariants.{Split, Cycle}
 use Rattle.tfpg_clause.specs.Order.{horizon_of}
-use Rattle.tfpg_clause.specs.Paths.{new_frame, path_after, next_alternative}
+use Rattle.tfpg_clause.specs.Paths.{new_frame, path_after}
 use Rattle.tfpg_clause.specs.declared.path.Frame.{Frame}
 use Rattle.tfpg_search.specs.Enough.{IsEventTime}
 use Rattle.tfpg_search.specs.inside.Moves.{Goes, Leads}
-use Rattle.tfpg_search.proofs.Pigeons.{contains_head, contains_tail}
+use Rattle.tfpg_base.proofs.lists.Elements.{Contains-head, Contains-tail}
+use Rattle.tfpg_search.proofs.PathAfter.{all_after}
 
 -- ---- now is the time of an event
 
 last_time : (held : ℕ) (event : Event) (events : List Event) → (e : Event) × Contains (event ∷ events) e × (time_of_event e ≡ fold (λ last e. time_of_event e) held (event ∷ events))
-last_time held event [] = (event, contains_head event [], refl)
+last_time held event [] = (event, Contains-head event [], refl)
 last_time held event (next ∷ events) =
     let later = last_time (time_of_event event) next events in
-    (later.0, contains_tail event (next ∷ events) later.0 later.1, later.2)
+    (later.0, Contains-tail event (next ∷ events) later.0 later.1, later.2)
 
 some_last : (events : List Event) → 1 ≤ length events → (e : Event) × Contains events e × (time_of_event e ≡ fold (λ last e. time_of_event e) 0 events)
 some_last [] some = absurd (omega (arith, some))
@@ -58,22 +57,16 @@ module _ (log : Logbook) where
   abbrev At : Frame → Type 0
   At frame = IsEventTime log (horizon_of frame.name)
 
-  after_cycle : (frames : List Frame) → AtTimes log frames → AtTimesWhere log (path_after frames)
-  after_cycle [] times = tt
-  after_cycle (frame ∷ deeper) times = by (path_after deeper) (after_cycle deeper (All-tail At frame deeper times)) (nat_lt frame.alternative frame.alternatives)
-    where
-      by : (found : Option (List Frame)) → AtTimesWhere log found → (more : Bool)
-          → AtTimesWhere log (option_or (option_map (λ (fs : List Frame). frame ∷ fs) found) (then_some more (next_alternative frame ∷ [])))
-      by (Some d) there more = All-cons At frame d (All-head At frame deeper times) there
-      by None there true = All-cons At (next_alternative frame) [] (All-head At frame deeper times) (All-nil At)
-      by None there false = tt
+  after_cycle : (frames : List Frame) → AtTimes log frames → (next : Option (List Frame)) → path_after frames ≡ next → AtTimesWhere log next
+  after_cycle frames times None is = tt
+  after_cycle frames times (Some after) is = all_after At (λ frame more time. time) frames after is times
 
   module _ (graph : Tfpg) (reach : List ℕ) (now_is : IsEventTime log (now_of log)) where
     after_step : (frames : List Frame) → AtTimes log frames → (step : Step) (next : Option (List Frame)) → Goes graph log reach frames step next → AtTimesWhere log next
     after_step frames times (Split name) next goes =
         subst (AtTimesWhere log) (sym goes.3)
         (All-push At frames (new_frame name goes.0) times (subst (IsEventTime log) (sym goes.2.first.at_now) now_is))
-    after_step frames times (Cycle reasons) next goes = subst (AtTimesWhere log) (sym goes.1) (after_cycle frames times)
+    after_step frames times (Cycle reasons) next goes = after_cycle frames times next (sym goes.1)
 
     led : (steps : List Step) (start end : Option (List Frame)) → AtTimesWhere log start → Leads graph log reach start steps end → AtTimesWhere log end
     led [] start end times leads = subst (AtTimesWhere log) leads times

@@ -19,15 +19,15 @@ use Rattle.tfpg_diff.specs.declared.why.Why.TheVariants.{Floor, Ceiling, Given}
 use Rattle.tfpg_diff.specs.declared.pick.Pick.{Pick as PickOf}
 use Rattle.tfpg_diff.specs.Solution.{IsSolution, IsLatest}
 use Rattle.tfpg_search.specs.inside.ClauseLaws.{ClauseLaws}
-use Rattle.tfpg_search.specs.Leaf.{named_by, pick_reasons}
+use Rattle.tfpg_search.specs.Leaf.{tagged_by, pick_reasons}
 use Rattle.tfpg_search.specs.Picks.{picks_of}
 use Rattle.tfpg_search.specs.Searching.{Searching, IsAtItsLeaf}
 use Rattle.tfpg_search.specs.inside.Moves.{SolvesFramed, IsLatestFramed, IsSettled}
-use Rattle.tfpg_search.proofs.Names.{all_from}
+use Rattle.tfpg_base.proofs.lists.Elements.{All-from_places}
 use Rattle.tfpg_search.proofs.Picking.{picks_have}
 
 -- the reason by which something is named
-named_fact : (facts : Reason → Option Constraint) (reasons : List Reason) (why : Why) (c : Constraint) → named_by facts reasons why ≡ Some c → (r : Reason) × (facts r ≡ Some c)
+named_fact : (facts : Reason → Option Constraint) (reasons : List Reason) (why : Why) (c : Constraint) → tagged_by facts reasons why ≡ Some c → (r : Reason) × (facts r ≡ Some c)
 named_fact facts reasons (Floor node) c is = (Zero node, is)
 named_fact facts reasons (Ceiling node) c is = (Top node, is)
 named_fact facts reasons (Given tag) c is = by (slice_get reasons tag) is
@@ -94,7 +94,7 @@ module _ (laws : ClauseLaws) (graph : Tfpg) (log : Logbook) (search : Searching)
             above = (laws.least times node bounds.floor).0 (solves.facts low.0 (at_least node bounds.floor) low.1);
             below = (laws.most times node bounds.ceiling).0 (solves.facts high.0 (at_most node (pos bounds.ceiling)) high.1);
           };
-      met = all_from (λ (p : PickOf). Meets times p.constraint) search.leaf.demands.picks
+      met = All-from_places (λ (p : PickOf). Meets times p.constraint) search.leaf.demands.picks
           (λ place pick there.
           let reason = some_reason states (slice_get (pick_reasons search.leaf) place) pick.constraint (at.stated.picks place pick there) in
           met_by_reason reason.0 pick.constraint reason.1);

@@ -1,5 +1,3 @@
--- Laws of lists.
-mod Lists
 -- The tags of the system of a leaf.
 mod Tagging
 mod Stating
@@ -11,6 +9,7 @@ mod StatedBounds
 mod FactsAdded
 -- Trees: steps that lead on, and what they come to for all steps before.
 mod Cuts
+mod PathAfter
 mod Names
 mod Lifted
 mod Growing
@@ -27,7 +26,6 @@ mod Settling
 mod Rounds
 mod Beginning
 -- The budget that is always enough.
-mod Pigeons
 mod Measure
 mod Horizons
 mod Enough

@@ -11,14 +11,14 @@ use Rattle.tfpg_evidence.specs.declared.reason.Reason.{Reason}
 use Rattle.tfpg_evidence.specs.declared.reason.Reason.TheVariants.{Pick}
 use Rattle.tfpg_evidence.specs.declared.step.Step.{Step}
 use Rattle.tfpg_evidence.specs.declared.step.Step.TheVariants.{Split, Cycle}
-use Rattle.tfpg_clause.specs.Trees.{Judged, PathSplit, IsRefutation, IsPresentLeaf}
-use Rattle.tfpg_clause.specs.Paths.{judged_by, with_step, IsAtLeaf, stated_by, new_frame, path_after, IsClosedBy}
+use Rattle.tfpg_clause.specs.Trees.{Judged, PathSplit, IsRefutation, IsPresentLeaf, picked}
+use Rattle.tfpg_clause.specs.Paths.{judged_by, with_step, IsAtLeaf, framed, stated_by, new_frame, path_after, IsClosedBy}
 use Rattle.tfpg_clause.specs.declared.path.Frame.{Frame}
 use Rattle.tfpg_search.specs.inside.Closing.{IsSimpleCycle}
-use Rattle.tfpg_search.specs.Solutions.{Solves}
+use Rattle.tfpg_search.specs.Solutions.{IsLatestBy}
 use Rattle.tfpg_search.specs.Live.{IsLive, IsSimpleAfter, HasDistinctNames, HasNoNameTwice}
 use Rattle.tfpg_search.specs.Searched.{with_steps, IsSearchStep, AreSearchSteps}
-use Rattle.tfpg_search.specs.inside.Moves.{SolvesFramed, IsLiveFramed, Goes, Leads, LeadsTo}
+use Rattle.tfpg_search.specs.inside.Moves.{IsLiveFramed, Goes, Leads, LeadsTo}
 use Rattle.tfpg_search.specs.Picks.{AreInRange}
 use Rattle.tfpg_search.specs.inside.ClauseLaws.{ClauseLaws}
 use Rattle.tfpg_search.proofs.Cuts.{cut_last}
@@ -28,29 +28,16 @@ module _ (laws : ClauseLaws) (graph : Tfpg) (log : Logbook) (reach : List ℕ) (
   -- ---- solutions by frames are those of the path
 
   module _ (frames : List Frame) (earlier : List Judged) (at : IsAtLeaf graph log reach frames earlier) where
-    by_path : (times : List ℕ) → SolvesFramed graph log reach frames times → Solves graph log reach at.path times
-    by_path times solves = record {
-      one_each = solves.one_each;
-      facts = solves.facts;
-      picks = λ split place constraint is. solves.picks split place constraint (laws.states_same graph log reach at.path frames (Pick split place) ordered at.frames_are ∙ is);
-    }
-
-    by_frames : (times : List ℕ) → Solves graph log reach at.path times → SolvesFramed graph log reach frames times
-    by_frames times solves = record {
-      one_each = solves.one_each;
-      facts = solves.facts;
-      picks = λ split place constraint is. solves.picks split place constraint (sym (laws.states_same graph log reach at.path frames (Pick split place) ordered at.frames_are) ∙ is);
-    }
+    -- what is picked on the path is what the frames say
+    same_picks : framed graph log frames ≡ picked graph log at.path
+    same_picks = λ i split place. laws.states_same graph log reach at.path frames (Pick split place) ordered at.frames_are i
 
     pub live_here : (name : ClauseName) → IsLiveFramed graph log reach frames name → IsLive graph log reach earlier name
     live_here name live = record {
       path = at.path;
       leaf = at.leaf;
       times = live.times;
-      latest = record {
-        solves = by_path live.times live.latest.solves;
-        latest = λ other solves node within. live.latest.latest other (by_frames other solves) node within;
-      };
+      latest = subst (λ (pick : ℕ → ℕ → Option Constraint). IsLatestBy graph log reach pick live.times) same_picks live.latest;
       first = live.first;
     }
 
@@ -118,7 +105,7 @@ module _ (laws : ClauseLaws) (graph : Tfpg) (log : Logbook) (reach : List ℕ) (
       )
   after_cycle frames earlier here reasons (Some after) closes is =
       let at : IsAtLeaf graph log reach after (with_step earlier log (Cycle reasons)) = laws.frames_next graph log reach frames after earlier reasons ordered here.0 (closed_by frames reasons closes) is in
-      let distinct : AreDistinct after = distinct_after frames after here.2 is (distinct_frames frames earlier here.0 here.1) in (
+      let distinct : AreDistinct after = distinct_after frames after is (distinct_frames frames earlier here.0 here.1) in (
         at,
         names_push earlier (judged_by log (Cycle reasons)) here.1 (λ path leaf. distinct_names after (with_step earlier log (Cycle reasons)) at path leaf distinct),
         range_after frames after here.2 is,

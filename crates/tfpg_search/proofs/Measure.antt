@@ -2,11 +2,8 @@
 --
 -- Let n names be allowed. The present leaf under q splits counts a ^ (n - q), and so does each alternative of the split number q + 1
 -- that is not entered yet.
-use Rattle.std.proofs.Common.{◌≡◌, ℕ, zero, suc, ◌+◌, ◌-◌, ◌*◌, ◌^◌, ◌<◌, ◌≤◌, List, [], ◌∷◌, ◌++◌, length, Bool, true, false, Option, Some, None, refl, ap, subst, ◌∙◌, arith}
-use Rattle.std.specs.Prelude.{All, nat_lt, option_map}
-use Rattle.std.specs.Option.{option_or}
-use Rattle.std.specs.Bool.{then_some}
-use Rattle.std.proofs.lemmas.Bool.Decides.{nat_tests}
+use Rattle.std.proofs.Common.{◌≡◌, ℕ, zero, suc, ◌+◌, ◌-◌, ◌*◌, ◌^◌, ◌<◌, ◌≤◌, List, [], ◌∷◌, ◌++◌, length, Some, sym, ap, subst, ◌∙◌, arith}
+use Rattle.std.specs.Prelude.{All}
 use Rattle.std.proofs.lemmas.List.Elements.{All-head, All-tail}
 use Rattle.std.proofs.lemmas.Nat.{row_fits}
 use Rattle.std.proofs.Math.Nat.{pow-succ', add-mul, one-le-pow}
@@ -14,6 +11,7 @@ use Rattle.tfpg_evidence.specs.declared.clause_name.ClauseName.{ClauseName}
 use Rattle.tfpg_clause.specs.Paths.{path_after, next_alternative, new_frame}
 use Rattle.tfpg_clause.specs.declared.path.Frame.{Frame}
 use Rattle.tfpg_search.specs.Picks.{IsInRange, AreInRange}
+use Rattle.tfpg_search.proofs.PathAfter.{after_is}
 
 module _ (a : ℕ) (some : 1 ≤ a) where
   abbrev pub weight : List Frame → ℕ → ℕ
@@ -70,24 +68,16 @@ module _ (a : ℕ) (some : 1 ≤ a) where
       let whole : (one - other) * p ≡ (one - (other + 1)) * p + 1 * p = ap (λ k. k * p) same ∙ parts in
       omega (arith, whole)
 
-  pub cycle_lowers : (frames after : List Frame) (n : ℕ) → length frames ≤ n → path_after frames ≡ Some after → weight after n + 1 ≤ weight frames n
-  cycle_lowers [] after n within is = cc
-  cycle_lowers (frame ∷ deeper) after zero within is = absurd (omega arith)
-  cycle_lowers (frame ∷ deeper) after (suc n) within is = by (λ d there. cycle_lowers deeper d n (omega arith) there) (path_after deeper) refl is
-    where
-      own : (more : Bool) → nat_lt frame.alternative frame.alternatives ≡ more → then_some more (next_alternative frame ∷ []) ≡ Some after → weight after (suc n) + 1 ≤ weight (frame ∷ deeper) (suc n)
-      own false none gives = cc
-      own true less gives =
-          let same : next_alternative frame ∷ [] ≡ after = cc in
-          let left : frame.alternative < frame.alternatives = grind (arith, nat_tests) in
-          let rest : weight (next_alternative frame ∷ []) (suc n) + 1 ≤ weight (frame ∷ deeper) (suc n) =
-          omega (arith, one_less frame.alternatives frame.alternative (a ^ n) left, weight_some deeper n (omega arith)) in
-          subst (λ (fs : List Frame). weight fs (suc n) + 1 ≤ weight (frame ∷ deeper) (suc n)) same rest
+  next_lowers : (front : List Frame) (frame : Frame) (deeper : List Frame) (n : ℕ) → length (front ++ frame ∷ deeper) ≤ n → frame.alternative < frame.alternatives
+      → weight (front ++ next_alternative frame ∷ []) n + 1 ≤ weight (front ++ frame ∷ deeper) n
+  next_lowers [] frame deeper zero within more = absurd (omega arith)
+  next_lowers [] frame deeper (suc n) within more = omega (arith, one_less frame.alternatives frame.alternative (a ^ n) more, weight_some deeper n (omega arith))
+  next_lowers (first ∷ front) frame deeper zero within more = absurd (omega arith)
+  next_lowers (first ∷ front) frame deeper (suc n) within more = omega (arith, next_lowers front frame deeper n (omega arith) more)
 
-      by : ((d : List Frame) → path_after deeper ≡ Some d → weight d n + 1 ≤ weight deeper n) → (found : Option (List Frame)) → path_after deeper ≡ found
-          → option_or (option_map (λ (fs : List Frame). frame ∷ fs) found) (then_some (nat_lt frame.alternative frame.alternatives) (next_alternative frame ∷ [])) ≡ Some after
-          → weight after (suc n) + 1 ≤ weight (frame ∷ deeper) (suc n)
-      by next None there gives = own (nat_lt frame.alternative frame.alternatives) refl gives
-      by next (Some d) there gives =
-          let same : frame ∷ d ≡ after = cc in
-          subst (λ (fs : List Frame). weight fs (suc n) + 1 ≤ weight (frame ∷ deeper) (suc n)) same (omega (arith, next d there))
+  pub cycle_lowers : (frames after : List Frame) (n : ℕ) → length frames ≤ n → path_after frames ≡ Some after → weight after n + 1 ≤ weight frames n
+  cycle_lowers frames after n within is =
+      let next = after_is frames after is in
+      subst (λ (fs : List Frame). weight after n + 1 ≤ weight fs n) (sym next.frames_are)
+      (subst (λ (fs : List Frame). weight fs n + 1 ≤ weight (next.front ++ next.frame ∷ next.deeper) n) (sym next.next_is)
+      (next_lowers next.front next.frame next.deeper n (subst (λ (fs : List Frame). length fs ≤ n) next.frames_are within) next.more))

@@ -7,7 +7,7 @@ use Rattle.std.proofs.lemmas.List.Elements.{All-nil, All-cons, All-contains, All
 use Rattle.tfpg_graph.specs.declared.edge.Edge.{Edge}
 use Rattle.tfpg_graph.specs.Graph.{Tfpg, edges_into}
 use Rattle.tfpg_search.specs.Enough.{IsMostIncoming}
-use Rattle.tfpg_search.proofs.Pigeons.{contains_head, contains_tail}
+use Rattle.tfpg_base.proofs.lists.Elements.{Contains-head, Contains-tail}
 
 module _ (graph : Tfpg) where
   abbrev count : ℕ → ℕ
@@ -48,8 +48,8 @@ module _ (graph : Tfpg) where
       by : (0 < length (filter (λ (x : Edge). x.target == node) edges) → (edge : Edge) × Contains edges edge × (edge.target ≡ node))
           → (b : Bool) → (e.target == node) ≡ b → 0 < length (cond b (e ∷ filter (λ (x : Edge). x.target == node) edges) (filter (λ (x : Edge). x.target == node) edges))
           → (edge : Edge) × Contains (e ∷ edges) edge × (edge.target ≡ node)
-      by next true at there = (e, contains_head e edges, grind (arith, nat_tests))
-      by next false at there = (let found = next there in (found.0, contains_tail e edges found.0 found.1, found.2))
+      by next true at there = (e, Contains-head e edges, grind (arith, nat_tests))
+      by next false at there = (let found = next there in (found.0, Contains-tail e edges found.0 found.1, found.2))
 
   no_more : (node : ℕ) → (0 < count node) ⊎ (count node ≤ 0) → count node ≤ (greatest graph.edges).most
   no_more node (inl some) =

@@ -2,7 +2,7 @@
 use Rattle.std.proofs.Common.{◌≡◌, ℕ, zero, suc, ◌+◌, ◌-◌, ◌<◌, ◌≤◌, List, [], ◌∷◌, ◌++◌, length, take, true, false, Option, Some, None, refl, sym, ap, subst, ◌∙◌, arith, length-append, append_assoc}
 use Rattle.std.specs.Prelude.{All, slice_get, IsTrue, is_some, option_and_then, Result, Ok, Err, OnOk, OnErr, IfErr}
 use Rattle.std.specs.Option.{option_map_or}
-use Rattle.std.proofs.lemmas.Option.{slice_get_within, slice_get_past, get_or_from_slice_get}
+use Rattle.std.proofs.lemmas.Option.{same_Some, slice_get_within, slice_get_past, get_or_from_slice_get}
 use Rattle.std.proofs.lemmas.List.{append-nil}
 use Rattle.std.proofs.lemmas.List.Elements.{All-get_or}
 use Rattle.tfpg_base.specs.declared.constraint.Constraint.{Constraint}
@@ -13,6 +13,7 @@ use Rattle.tfpg_evidence.specs.declared.reason.Reason.{Reason}
 use Rattle.tfpg_evidence.specs.declared.reason.Reason.TheVariants.{Pick}
 use Rattle.tfpg_evidence.specs.declared.step.Step.{Step}
 use Rattle.tfpg_evidence.specs.declared.step.Step.TheVariants.{Split, Cycle}
+use Rattle.tfpg_clause.specs.declared.limits.TheConstants.{MAX_CONSTRAINTS}
 use Rattle.tfpg_clause.specs.Facts.{fact}
 use Rattle.tfpg_clause.specs.Clauses.{alternatives, count_of, item_at, constraint_at, IsOver, IsSmall}
 use Rattle.tfpg_graph.specs.Valid.{IsValid}
@@ -33,7 +34,8 @@ use Rattle.tfpg_search.specs.Searching.{Searching, IsAtItsLeaf}
 use Rattle.tfpg_search.specs.inside.Leaving.{Leaves, Pushing, PushesOne}
 use Rattle.tfpg_search.specs.inside.Moves.{IsLiveFramed, Grows, KeepsSet, HasEnteredAll, IsSettled, untaken}
 use Rattle.tfpg_search.proofs.Growing.{grows_none, grows_one}
-use Rattle.tfpg_search.proofs.Standing.{leaf_stands, split_stands, enter_stands, entered_all, left_again}
+use Rattle.tfpg_search.proofs.Standing.{leaf_stands, split_stands, enter_stands, left_again}
+use Rattle.tfpg_base.proofs.lists.Written.{slice_get-push_last}
 use Rattle.tfpg_search.proofs.Closed.{counted, next_stands, next_some, next_fewer}
 
 -- ---- leaving
@@ -93,26 +95,26 @@ framed_small laws graph log valid frames (suc k) place c is = by (slice_get fram
     by (Some frame) some = named frame (alternatives graph log frame.name) refl some
 
 -- an alternative on a path has at most three constraints
-pub few_places : ClauseLaws → (graph : Tfpg) (log : Logbook) → IsValid graph → (frames : List Frame) (split : ℕ) → places_at graph log frames split ≤ 3
+pub few_places : ClauseLaws → (graph : Tfpg) (log : Logbook) → IsValid graph → (frames : List Frame) (split : ℕ) → places_at graph log frames split ≤ MAX_CONSTRAINTS
 few_places laws graph log valid frames zero = omega arith
 few_places laws graph log valid frames (suc k) = by (slice_get frames k)
   where
-    chosen_few : (o : Option (List Constraint)) → ((alternative : List Constraint) → o ≡ Some alternative → length alternative ≤ 3) → option_map_or length o 0 ≤ 3
+    chosen_few : (o : Option (List Constraint)) → ((alternative : List Constraint) → o ≡ Some alternative → length alternative ≤ MAX_CONSTRAINTS) → option_map_or length o 0 ≤ MAX_CONSTRAINTS
     chosen_few None few = omega arith
     chosen_few (Some alternative) few = few alternative refl
 
-    in_clause : (clause : List (List Constraint)) (number : ℕ) → All (IsSmall (length graph.nodes)) clause → (alternative : List Constraint) → item_at clause number ≡ Some alternative → length alternative ≤ 3
+    in_clause : (clause : List (List Constraint)) (number : ℕ) → All (IsSmall (length graph.nodes)) clause → (alternative : List Constraint) → item_at clause number ≡ Some alternative → length alternative ≤ MAX_CONSTRAINTS
     in_clause clause zero small alternative at = cc
     in_clause clause (suc i) small alternative at =
-        subst (λ (a : List Constraint). length a ≤ 3) (get_or_from_slice_get clause i alternative alternative at)
+        subst (λ (a : List Constraint). length a ≤ MAX_CONSTRAINTS) (get_or_from_slice_get clause i alternative alternative at)
         (All-get_or (IsSmall (length graph.nodes)) clause i alternative (slice_get_within clause i alternative at) small).few
 
     named : (frame : Frame) (clause : Option (List (List Constraint))) → alternatives graph log frame.name ≡ clause
-        → option_map_or length (option_and_then (λ (c : List (List Constraint)). item_at c frame.alternative) clause) 0 ≤ 3
+        → option_map_or length (option_and_then (λ (c : List (List Constraint)). item_at c frame.alternative) clause) 0 ≤ MAX_CONSTRAINTS
     named frame None there = omega arith
     named frame (Some clause) there = chosen_few (item_at clause frame.alternative) (in_clause clause frame.alternative (laws.small graph log frame.name clause valid there))
 
-    by : (o : Option Frame) → option_map_or (place_count graph log) o 0 ≤ 3
+    by : (o : Option Frame) → option_map_or (place_count graph log) o 0 ≤ MAX_CONSTRAINTS
     by None = omega arith
     by (Some frame) = named frame (alternatives graph log frame.name) refl
 
@@ -235,7 +237,7 @@ module _ (graph : Tfpg) (log : Logbook) (now loop : Searching) (same : loop ≡ 
           at_most_there graph log now.path split (before + 1) (subst (λ (fs : List Frame). IsTrue (is_some (framed graph log fs split (before + 1)))) loop_path one.1)
 
 -- all places were pushed
-pub all_pushed : ClauseLaws → (graph : Tfpg) (log : Logbook) → IsValid graph → (now : Searching) (leaf : Leaf) (split before : ℕ) → 3 ≤ before → before ≤ places_at graph log now.path split
+pub all_pushed : ClauseLaws → (graph : Tfpg) (log : Logbook) → IsValid graph → (now : Searching) (leaf : Leaf) (split before : ℕ) → MAX_CONSTRAINTS ≤ before → before ≤ places_at graph log now.path split
     → pick_reasons leaf ≡ pick_reasons now.leaf ++ picks_from split 1 before → pick_reasons leaf ≡ pick_reasons now.leaf ++ picks_from split 1 (places_at graph log now.path split)
 all_pushed laws graph log valid now leaf split before past within picks =
     let few = few_places laws graph log valid now.path split in
@@ -264,9 +266,6 @@ module _ (graph : Tfpg) (log : Logbook) (old : Searching) (at : IsAtItsLeaf grap
   module _ (after : List Step) (reasons : List Reason) (cycle : IsSimpleCycle (stated_by graph log old.reach old.path) reasons) (appended : after ≡ before ++ Cycle reasons ∷ []) where
     closes_to : (end : Option (List Frame)) → path_after old.path ≡ end → Grows graph log old.reach old.path before after 0 end
     closes_to end is = grows_one graph log old.reach old.path before after (Cycle reasons) end appended (cycle, sym is)
-
-    pub close_none : path_after old.path ≡ None → Grows graph log old.reach old.path before after 0 None
-    close_none none = closes_to None none
 
     module _ (middle : Searching) (same : middle ≡ record old { path = middle.path }) (is : path_after old.path ≡ Some middle.path) where
       pub close_counted : (kept number : ℕ) → slice_get middle.entered kept ≡ Some number → number ≤ length (pick_reasons middle.leaf)
@@ -299,18 +298,6 @@ module _ (graph : Tfpg) (log : Logbook) (old : Searching) (at : IsAtItsLeaf grap
 
 module _ (graph : Tfpg) (log : Logbook) (old : Searching) (at : IsAtItsLeaf graph log old) where
   module _ (marked : Searching) (marked_is : marked ≡ record old { entered = old.entered ++ length (pick_reasons old.leaf) ∷ [] }) where
-    same_leaf : old.leaf ≡ marked.leaf
-    same_leaf = sym (ap (λ (s : Searching). s.leaf) marked_is)
-
-    same_path : old.path ≡ marked.path
-    same_path = sym (ap (λ (s : Searching). s.path) marked_is)
-
-    same_reach : old.reach ≡ marked.reach
-    same_reach = sym (ap (λ (s : Searching). s.reach) marked_is)
-
-    pub marked_variables : length marked.leaf.demands.bounds ≡ length graph.nodes
-    marked_variables = subst (λ (l : Leaf). length l.demands.bounds ≡ length graph.nodes) same_leaf at.variables
-
     pub marked_stated : IsStated (fact graph log marked.reach) (stated_by graph log marked.reach marked.path) marked.leaf
     marked_stated =
         subst (λ (s : Searching). IsStated (fact graph log s.reach) (stated_by graph log s.reach s.path) s.leaf) (sym marked_is) at.stated
@@ -324,9 +311,6 @@ module _ (graph : Tfpg) (log : Logbook) (old : Searching) (at : IsAtItsLeaf grap
 
       pushing_old : Pushing graph log old.reach old.path old.leaf pushed.leaf
       pushing_old = subst (λ (s : Searching). Pushing graph log s.reach s.path s.leaf pushed.leaf) marked_is pushing
-
-      pub pushed_keeps : KeepsSet old pushed
-      pushed_keeps = record { set = ap (λ (s : Searching). s.set) whole; reach = ap (λ (s : Searching). s.reach) whole; seen = ap (λ (s : Searching). s.seen) whole }
 
       pub pushed_path : pushed.path ≡ old.path
       pushed_path = ap (λ (s : Searching). s.path) whole
@@ -346,23 +330,16 @@ module _ (graph : Tfpg) (log : Logbook) (old : Searching) (at : IsAtItsLeaf grap
               subst (λ (n : ℕ). pick_reasons pushed.leaf ≡ pick_reasons old.leaf ++ picks_from n 1 (places_at graph log old.path n)) number picks_old in
               subst (IsAtItsLeaf graph log) (sym whole) (enter_stands graph log old at left_out pushed.leaf pushing_old picks_there)
 
-          pub now_all : HasEnteredAll pushed
-          now_all =
-              ap (λ (s : Searching). length s.entered) whole ∙ entered_all graph log old at left_out ∙ ap (λ (fs : List Frame). length fs) (sym pushed_path)
-
         pub left_counted : (number : ℕ) → slice_get pushed.entered count ≡ Some number → number ≤ length (pick_reasons pushed.leaf)
         left_counted number there =
             let entered_is : pushed.entered ≡ old.entered ++ length (pick_reasons old.leaf) ∷ [] = ap (λ (s : Searching). s.entered) whole in
             let here : slice_get (old.entered ++ length (pick_reasons old.leaf) ∷ []) (length old.entered) ≡ Some number =
             ap (λ (es : List ℕ). slice_get es (length old.entered)) (sym entered_is) ∙ ap (λ (n : ℕ). slice_get pushed.entered n) (sym count_is) ∙ there in
-            let same : length (pick_reasons old.leaf) ≡ number = last_is old.entered (length (pick_reasons old.leaf)) number here in
+            let same : length (pick_reasons old.leaf) ≡ number =
+            same_Some (length (pick_reasons old.leaf)) number (sym (slice_get-push_last old.entered (length (pick_reasons old.leaf))) ∙ here) in
             let long : length (pick_reasons pushed.leaf) ≡ length (pick_reasons old.leaf) + length pushing_old.more.0 =
             ap (λ (rs : List Reason). length rs) pushing_old.more.1 ∙ length-append (pick_reasons old.leaf) pushing_old.more.0 in
             omega arith
-          where
-            last_is : (xs : List ℕ) (x y : ℕ) → slice_get (xs ++ x ∷ []) (length xs) ≡ Some y → x ≡ y
-            last_is [] x y is = cc
-            last_is (z ∷ xs) x y is = last_is xs x y is
 
         pub left_stands : (new : Searching) → new ≡ record pushed { entered = take count pushed.entered; leaf = new.leaf }
             → Leaves (slice_get pushed.entered count) pushed.leaf new.leaf → IsAtItsLeaf graph log new × KeepsSet old new × (new.path ≡ old.path)

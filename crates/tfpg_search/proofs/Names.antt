@@ -1,13 +1,10 @@
 -- The names on the path of a search: no name stands twice, since the latest solution meets the clause of each.
-use Rattle.std.proofs.Common.{◌≡◌, ◌≢◌, ℕ, zero, suc, ◌<◌, ◌≤◌, List, [], ◌∷◌, ◌++◌, length, get_or, Option, Some, None, refl, sym, ap, subst, ◌∙◌, arith, length-append}
-use Rattle.std.specs.Prelude.{All, AllPairs, Bool, true, false, map, nat_lt, slice_get, option_map, option_and_then}
-use Rattle.std.specs.Option.{option_or}
-use Rattle.std.specs.Bool.{then_some}
-use Rattle.std.proofs.lemmas.List.{map-append, get_or_append_left}
+use Rattle.std.proofs.Common.{◌≡◌, ◌≢◌, ℕ, zero, suc, ◌<◌, ◌≤◌, List, [], ◌∷◌, ◌++◌, length, get_or, Option, Some, None, refl, sym, ap, subst, ◌∙◌, arith, append_assoc}
+use Rattle.std.specs.Prelude.{All, AllPairs, map, slice_get, option_map, option_and_then}
+use Rattle.std.proofs.lemmas.List.{map-append}
 use Rattle.std.proofs.lemmas.List.Elements.{All-nil, All-cons, All-head, All-tail, All-get_or, All-map, All-append, Contains-get_or}
 use Rattle.std.proofs.lemmas.List.Quantifiers.{all_pairs_push}
 use Rattle.std.proofs.lemmas.Option.{slice_get-get_or}
-use Rattle.std.proofs.lemmas.Bool.Decides.{nat_tests}
 use Rattle.tfpg_base.specs.declared.constraint.Constraint.{Constraint}
 use Rattle.tfpg_base.specs.Constraint.{Meets}
 use Rattle.tfpg_graph.specs.Graph.{Tfpg}
@@ -19,6 +16,8 @@ use Rattle.tfpg_clause.specs.Paths.{AreFramesOf, framed, path_after, next_altern
 use Rattle.tfpg_clause.specs.declared.path.Frame.{Frame}
 use Rattle.tfpg_search.specs.Picks.{IsInRange, AreInRange}
 use Rattle.tfpg_search.specs.inside.ClauseLaws.{ClauseLaws}
+use Rattle.tfpg_base.proofs.lists.Elements.{All-front, All-from_places, AllPairs-front}
+use Rattle.tfpg_search.proofs.PathAfter.{after_is, all_after}
 
 abbrev pub frame_name : Frame → ClauseName
 frame_name frame = frame.name
@@ -33,24 +32,6 @@ same_names graph log [] (frame ∷ frames) are = absurd are
 same_names graph log (split ∷ path) [] are = absurd are
 same_names graph log (split ∷ path) (frame ∷ frames) are =
     ap (λ (n : ClauseName). n ∷ map split_name path) (sym are.0.name) ∙ ap (λ (ns : List ClauseName). frame.name ∷ ns) (same_names graph log path frames are.1)
-
--- ---- lists
-
--- what holds of the item of each place holds of all
-pub all_from : {X : Type 0} (P : X → Type 0) (xs : List X) → ((place : ℕ) (x : X) → slice_get xs place ≡ Some x → P x) → All P xs
-all_from P [] each = All-nil P
-all_from P (x ∷ xs) each = All-cons P x xs (each 0 x refl) (all_from P xs (λ place y is. each (suc place) y is))
-
--- what holds of all holds of those in front
-all_front : {X : Type 0} (P : X → Type 0) (xs ys : List X) → All P (xs ++ ys) → All P xs
-all_front P [] ys all = All-nil P
-all_front P (x ∷ xs) ys all = All-cons P x xs (All-head P x (xs ++ ys) all) (all_front P xs ys (All-tail P x (xs ++ ys) all))
-
--- pairs of a front are pairs of the whole
-pairs_front : {X : Type 0} (R : X → X → Type 0) (xs ys : List X) → AllPairs R (xs ++ ys) → AllPairs R xs
-pairs_front R xs ys pairs i j d less within =
-    subst (λ a. R a (get_or xs j d)) (get_or_append_left xs ys d i (omega arith))
-    (subst (λ b. R (get_or (xs ++ ys) i d) b) (get_or_append_left xs ys d j within) (pairs i j d less (omega (arith, length-append xs ys))))
 
 -- ---- the frames that name allowed clauses, in one of their alternatives
 
@@ -82,7 +63,7 @@ module _ (graph : Tfpg) (log : Logbook) where
         let there : slice_get clause before ≡ Some (get_or clause before []) = slice_get-get_or clause before [] (omega arith) in (
           get_or clause before [],
           Contains-get_or clause before [] (omega arith),
-          all_from (Meets times) (get_or clause before [])
+          All-from_places (Meets times) (get_or clause before [])
               (λ place constraint at. each (suc place) constraint (ap (option_and_then (λ (a : List Constraint). item_at a (suc place))) there ∙ at)),
         )
 
@@ -130,57 +111,32 @@ distinct_push frames frame distinct fresh =
     subst (AllPairs ◌≢◌) (sym (map-append frame_name frames (frame ∷ [])))
     (all_pairs_push ◌≢◌ (map frame_name frames) frame.name distinct (λ k d within. All-get_or (λ (n : ClauseName). n ≢ frame.name) (map frame_name frames) k d within fresh))
 
--- After a leaf is closed the frames up to some one stay, that one with its next alternative.
-record Front (frames after : List Frame) : Type 0 where
-  rest : List ClauseName
-  names : map frame_name frames ≡ map frame_name after ++ rest
-  range : AreInRange after
-
-front_after : (frames after : List Frame) → AreInRange frames → path_after frames ≡ Some after → Front frames after
-front_after [] after range is = cc
-front_after (frame ∷ deeper) after range is =
-    by (λ d there. front_after deeper d (All-tail IsInRange frame deeper range) there) (path_after deeper) refl is
-  where
-    own : (more : Bool) → nat_lt frame.alternative frame.alternatives ≡ more → then_some more (next_alternative frame ∷ []) ≡ Some after → Front (frame ∷ deeper) after
-    own false none gives = cc
-    own true less gives =
-        let same : next_alternative frame ∷ [] ≡ after = cc in
-        subst (Front (frame ∷ deeper)) same
-        (record {
-          rest = map frame_name deeper;
-          names = refl;
-          range =
-              All-cons IsInRange (next_alternative frame) []
-              (record { first = grind arith; last = grind (arith, nat_tests) })
-              (All-nil IsInRange);
-        })
-
-    by : ((d : List Frame) → path_after deeper ≡ Some d → Front deeper d) → (found : Option (List Frame)) → path_after deeper ≡ found
-        → option_or (option_map (λ (fs : List Frame). frame ∷ fs) found) (then_some (nat_lt frame.alternative frame.alternatives) (next_alternative frame ∷ [])) ≡ Some after → Front (frame ∷ deeper) after
-    by next None there gives = own (nat_lt frame.alternative frame.alternatives) refl gives
-    by next (Some d) there gives =
-        let same : frame ∷ d ≡ after = cc in
-        let front = next d there in
-        subst (Front (frame ∷ deeper)) same
-        (record {
-          rest = front.rest;
-          names = ap (λ (ns : List ClauseName). frame.name ∷ ns) front.names;
-          range = All-cons IsInRange frame d (All-head IsInRange frame deeper range) front.range;
-        })
+-- the names of the frames after are the first names of the frames
+names_front : (frames after : List Frame) → path_after frames ≡ Some after → (rest : List ClauseName) × (map frame_name frames ≡ map frame_name after ++ rest)
+names_front frames after is =
+    let a = after_is frames after is in
+    let rest : List ClauseName = map frame_name a.deeper in (
+      rest,
+      ap (map frame_name) a.frames_are
+          ∙ map-append frame_name a.front (a.frame ∷ a.deeper)
+          ∙ sym (append_assoc (map frame_name a.front) (a.frame.name ∷ []) rest)
+          ∙ ap (λ (ns : List ClauseName). ns ++ rest) (sym (ap (map frame_name) a.next_is ∙ map-append frame_name a.front (next_alternative a.frame ∷ []))),
+    )
 
 pub range_after : (frames after : List Frame) → AreInRange frames → path_after frames ≡ Some after → AreInRange after
-range_after frames after range is = (front_after frames after range is).range
+range_after frames after range is =
+    all_after IsInRange (λ frame more low. record { first = omega arith; last = omega (arith, more) }) frames after is range
 
 -- what holds of the names of the frames holds of those after
-pub names_after : (P : ClauseName → Type 0) (frames after : List Frame) → AreInRange frames → path_after frames ≡ Some after → All P (map frame_name frames) → All P (map frame_name after)
-names_after P frames after range is all =
-    let front = front_after frames after range is in
-    all_front P (map frame_name after) front.rest (subst (All P) front.names all)
+pub names_after : (P : ClauseName → Type 0) (frames after : List Frame) → path_after frames ≡ Some after → All P (map frame_name frames) → All P (map frame_name after)
+names_after P frames after is all =
+    let front = names_front frames after is in
+    All-front P (map frame_name after) front.0 (subst (All P) front.1 all)
 
-pub distinct_after : (frames after : List Frame) → AreInRange frames → path_after frames ≡ Some after → AreDistinct frames → AreDistinct after
-distinct_after frames after range is distinct =
-    let front = front_after frames after range is in
-    pairs_front ◌≢◌ (map frame_name after) front.rest (subst (AllPairs ◌≢◌) front.names distinct)
+pub distinct_after : (frames after : List Frame) → path_after frames ≡ Some after → AreDistinct frames → AreDistinct after
+distinct_after frames after is distinct =
+    let front = names_front frames after is in
+    AllPairs-front ◌≢◌ (map frame_name after) front.0 (subst (AllPairs ◌≢◌) front.1 distinct)
 
 -- a new frame is in its first alternative, which there is
 pub range_push : (graph : Tfpg) (log : Logbook) (frames : List Frame) (name : ClauseName) (count : ℕ) → AreInRange frames → 0 < count

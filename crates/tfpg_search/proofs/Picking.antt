@@ -12,6 +12,7 @@ use Rattle.tfpg_evidence.specs.declared.reason.Reason.TheVariants.{Pick}
 use Rattle.tfpg_clause.specs.Clauses.{alternatives, item_at, constraint_at}
 use Rattle.tfpg_clause.specs.declared.path.Frame.{Frame}
 use Rattle.tfpg_search.specs.Picks.{place_count, picks_from, picks_of_from}
+use Rattle.tfpg_base.proofs.lists.Written.{slice_get-append_some}
 
 -- ---- lists
 
@@ -20,11 +21,6 @@ pub get_append : {X : Type 0} (xs ys : List X) (i : ℕ) (x : X) → slice_get (
 get_append [] ys i x is = inr (i, is)
 get_append (y ∷ xs) ys zero x is = inl is
 get_append (y ∷ xs) ys (suc i) x is = get_append xs ys i x is
-
-pub get_front : {X : Type 0} (xs ys : List X) (i : ℕ) (x : X) → slice_get xs i ≡ Some x → slice_get (xs ++ ys) i ≡ Some x
-get_front [] ys i x is = cc
-get_front (y ∷ xs) ys zero x is = is
-get_front (y ∷ xs) ys (suc i) x is = get_front xs ys i x is
 
 -- an item of the second list stands somewhere in both
 pub get_back : {X : Type 0} (xs ys : List X) (j : ℕ) (x : X) → slice_get ys j ≡ Some x → (i : ℕ) × (slice_get (xs ++ ys) i ≡ Some x)
@@ -128,7 +124,7 @@ module _ (graph : Tfpg) (log : Logbook) where
           let same_place : 1 + before ≡ suc before = omega arith in
           let same_split : start ≡ start + 0 = omega arith in (
             before,
-            get_front (picks_from start 1 (place_count graph log frame)) (picks_of_from graph log (start + 1) deeper) before (Pick (start + 0) (suc before))
+            slice_get-append_some (picks_from start 1 (place_count graph log frame)) (picks_of_from graph log (start + 1) deeper) before (Pick (start + 0) (suc before))
                 (pick_at start 1 (place_count graph log frame) before (omega arith)
                 ∙ ap (λ (n : ℕ). Some (Pick start n)) same_place
                 ∙ ap (λ (n : ℕ). Some (Pick n (suc before))) same_split),

@@ -17,7 +17,7 @@ use Rattle.tfpg_search.specs.Live.{HasDistinctNames, HasNoNameTwice}
 use Rattle.tfpg_search.specs.Searching.{Searching, IsAtItsLeaf, SearchRepresents, RepresentsSome}
 use Rattle.tfpg_search.specs.Searched.{with_steps, split_count, AreSearchSteps, FindsOrNot, IsSearched}
 use Rattle.tfpg_search.specs.inside.ClauseLaws.{ClauseLaws}
-use Rattle.tfpg_search.specs.inside.Moves.{Leads, LeadsTo, HasEnteredAll, Ends, SearchesOn}
+use Rattle.tfpg_search.specs.inside.Moves.{Leads, LeadsTo, HasEnteredAll, FoundAtLeaf, SearchesOn}
 use Rattle.tfpg_search.proofs.Lifted.{live_here, lift}
 use Rattle.tfpg_search.proofs.Carried.{carried}
 use Rattle.tfpg_search.specs.Enough.{IsEventTime, IsNameAt, IsEnough}
@@ -47,7 +47,7 @@ module _ (laws : ClauseLaws) (graph : Tfpg) (log : Logbook) (ordered : IsOrdered
   represents steps leads times stands all = record { seen = seen; leaf = leads.0; names = leads.1; horizons = times; system = stands; all_entered = all }
 
   finds : (added : List Step) (steps : List Judged) (splits : ℕ) (end : Option (List Frame)) (result : Result Found NoMemory) → split_count added ≡ splits → LeadsTo graph log new.reach steps end
-      → (end ≡ Some new.path → AtTimes log new.path) → Ends graph log budget new splits end result → FindsOrNot graph log budget added steps new result
+      → (end ≡ Some new.path → AtTimes log new.path) → FoundAtLeaf graph log budget new splits end result → FindsOrNot graph log budget added steps new result
   finds added steps splits end (Ok (Shown trace)) count leads times ends = (ends.0, represents steps (subst (LeadsTo graph log new.reach steps) ends.3 leads) (times ends.3) ends.1 ends.2)
   finds added steps splits end (Ok Closed) count leads times ends = (subst (LeadsTo graph log new.reach steps) ends leads).0
   finds added steps splits end (Ok Spent) count leads times ends =
@@ -116,7 +116,7 @@ module _ (laws : ClauseLaws) (graph : Tfpg) (log : Logbook) (budget : ℕ) (old 
   pub never_spent : RepresentsSome graph log old → IsEnough graph log budget → result ≡ Ok Spent → ⊥
   never_spent represented enough spent =
       let here = at_start represented.0 represented.1 in
-      let ends : Ends graph log budget new on.splits on.end (Ok Spent) = subst (Ends graph log budget new on.splits on.end) spent on.ends in
+      let ends : FoundAtLeaf graph log budget new on.splits on.end (Ok Spent) = subst (FoundAtLeaf graph log budget new on.splits on.end) spent on.ends in
       let led : Leads graph log old.reach (Some old.path) on.grows.added (Some new.path) = subst (Leads graph log old.reach (Some old.path) on.grows.added) ends.4 leads in
       not_spent laws graph log old.reach ordered (now_is_a_time log some) budget enough old.path represented.0 here
       (all_named old.path (all_allowed graph log laws ordered here.0.path old.path here.0.frames_are) (times_at_start represented.0 represented.1))

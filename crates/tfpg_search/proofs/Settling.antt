@@ -1,5 +1,5 @@
 -- What settling, looking and searching on come to.
-use Rattle.std.proofs.Common.{◌≡◌, ℕ, ◌+◌, ◌≤◌, List, Option, Some, refl, sym, subst, ◌∙◌, arith}
+use Rattle.std.proofs.Common.{◌≡◌, ℕ, ◌+◌, ◌≤◌, List, Option, Some, refl, subst, ◌∙◌, arith}
 use Rattle.std.specs.Prelude.{Result, Ok, Err, IfOk}
 use Rattle.tfpg_base.specs.declared.no_memory.NoMemory.{NoMemory}
 use Rattle.tfpg_graph.specs.Graph.{Tfpg}
@@ -10,11 +10,8 @@ use Rattle.tfpg_search.specs.declared.found.Found.{Found}
 use Rattle.tfpg_search.specs.declared.search.Look.{Look}
 use Rattle.tfpg_search.specs.declared.search.Look.TheVariants.{Violated, Shown, Closed}
 use Rattle.tfpg_search.specs.Searching.{Searching, IsAtItsLeaf}
-use Rattle.tfpg_search.specs.inside.Moves.{Grows, KeepsSet, IsSettled, Sees, Looking, Ends, SearchesOn}
+use Rattle.tfpg_search.specs.inside.Moves.{Grows, KeepsSet, IsSettled, Sees, Looking, FoundAtLeaf, SearchesOn}
 use Rattle.tfpg_search.proofs.Growing.{grows_on}
-
-pub keeps_none : (s : Searching) → KeepsSet s s
-keeps_none s = record { set = refl; reach = refl; seen = refl }
 
 pub keeps_on : (a b c : Searching) → KeepsSet a b → KeepsSet b c → KeepsSet a c
 keeps_on a b c one other = record { set = other.set ∙ one.set; reach = other.reach ∙ one.reach; seen = other.seen ∙ one.seen }
@@ -28,12 +25,6 @@ module _ (graph : Tfpg) (log : Logbook) where
       grows_on graph log initial.reach initial.path path before between after splits more end one
       (subst (λ (fs : List Frame). Grows graph log initial.reach fs between after more end) path_is
       (subst (λ (r : List ℕ). Grows graph log r middle.path between after more end) keeps.reach other))
-
-  -- the same path by another name
-  pub grows_same : (initial : Searching) (path other : List Frame) (before after : List Step) (splits : ℕ) → other ≡ path
-      → Grows graph log initial.reach initial.path before after splits (Some path) → Grows graph log initial.reach initial.path before after splits (Some other)
-  grows_same initial path other before after splits same grows =
-      subst (λ (fs : List Frame). Grows graph log initial.reach initial.path before after splits (Some fs)) (sym same) grows
 
   pub look_ok : (old new : Searching) (before after : List Step) (result : Result Look NoMemory) → IfOk result (Sees graph log new) → IsAtItsLeaf graph log new → IsSettled graph log new
       → Grows graph log old.reach old.path before after 0 (Some new.path) → Looking graph log old new before after result
@@ -53,7 +44,7 @@ module _ (graph : Tfpg) (log : Logbook) where
   -- what is found at the end
   pub found_on : (budget : ℕ) (initial middle new : Searching) (before between after : List Step) (splits : ℕ) (end : Option (List Frame)) (result : Result Found NoMemory) → KeepsSet initial middle
       → Grows graph log initial.reach initial.path before between splits (Some middle.path) → Grows graph log middle.reach middle.path between after 0 end → splits ≤ budget
-      → Ends graph log budget new splits end result → SearchesOn graph log budget initial new before after result
+      → FoundAtLeaf graph log budget new splits end result → SearchesOn graph log budget initial new before after result
   found_on budget initial middle new before between after splits end result keeps one other within ends = record {
     splits = splits;
     end = end;

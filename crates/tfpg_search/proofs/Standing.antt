@@ -1,5 +1,5 @@
 -- What moves do to the system of a search.
-use Rattle.std.proofs.Common.{◌≡◌, ◌⊎◌, ℕ, zero, suc, ◌+◌, ◌<◌, List, [], ◌∷◌, ◌++◌, length, take, get_or, Option, Some, None, refl, sym, ap, subst, ◌∙◌, inl, inr, arith, length-append}
+use Rattle.std.proofs.Common.{◌≡◌, ℕ, zero, suc, ◌+◌, ◌<◌, List, [], ◌∷◌, ◌++◌, length, take, get_or, Option, Some, None, refl, sym, ap, subst, ◌∙◌, inl, inr, arith, length-append}
 use Rattle.std.specs.Prelude.{slice_get, option_and_then}
 use Rattle.std.specs.Option.{option_map_or}
 use Rattle.std.proofs.lemmas.List.{take-append-le, take_more, take_at, length-take-le}
@@ -23,7 +23,8 @@ use Rattle.tfpg_search.specs.Searching.{Searching, IsAtItsLeaf}
 use Rattle.tfpg_search.specs.inside.Leaving.{KeepsBounds, Leaves, Pushing}
 use Rattle.tfpg_search.specs.inside.Moves.{HasEnteredAll}
 use Rattle.tfpg_search.proofs.Names.{range_push}
-use Rattle.tfpg_search.proofs.Picking.{get_front, of_frame, picks_last}
+use Rattle.tfpg_search.proofs.Picking.{of_frame, picks_last}
+use Rattle.tfpg_base.proofs.lists.Written.{slice_get-push_cases, slice_get-push_last, slice_get-append_some}
 
 -- ---- what is stated
 
@@ -41,23 +42,6 @@ module _ (facts stated other : Reason → Option Constraint) (leaf : Leaf) where
     picks = λ place pick at. through (slice_get (pick_reasons leaf) place) pick.constraint (λ r there states. same place r pick.constraint there states) (is.picks place pick at);
   }
 
--- the number of an item that stands in a list with one more item
-push_cases : {X : Type 0} (xs : List X) (y : X) (i : ℕ) (x : X) → slice_get (xs ++ y ∷ []) i ≡ Some x → (slice_get xs i ≡ Some x) ⊎ ((i ≡ length xs) × (y ≡ x))
-push_cases [] y zero x is = let same : y ≡ x = cc in inr (refl, same)
-push_cases [] y (suc i) x is = cc
-push_cases (z ∷ xs) y zero x is = inl is
-push_cases (z ∷ xs) y (suc i) x is = elim (push_cases xs y i x is) [
-  | inl there ↦ inl there
-  | inr last ↦ inr (ap suc last.0, last.1)
-]
-
--- an item of a front is that of the whole
-pub get_take : {X : Type 0} (n : ℕ) (xs : List X) (i : ℕ) (x : X) → slice_get (take n xs) i ≡ Some x → (i < n) × (slice_get xs i ≡ Some x)
-get_take zero xs i x is = cc
-get_take (suc n) [] i x is = cc
-get_take (suc n) (y ∷ xs) zero x is = (omega arith, is)
-get_take (suc n) (y ∷ xs) (suc i) x is = let there = get_take n xs i x is in let less = there.0 in (omega arith, there.1)
-
 -- what is read past the end
 abbrev no_frame : Frame
 no_frame = record { name = OrMay 0 0 0; alternative = 0; alternatives = 0 }
@@ -69,7 +53,7 @@ module _ (graph : Tfpg) (log : Logbook) where
 
   framed_push : (frames : List Frame) (last : Frame) (split place : ℕ) (c : Constraint) → framed graph log frames split place ≡ Some c → framed graph log (frames ++ last ∷ []) split place ≡ Some c
   framed_push frames last zero place c is = cc
-  framed_push frames last (suc k) place c is = of_same (slice_get frames k) (slice_get (frames ++ last ∷ []) k) place c (λ f at. get_front frames (last ∷ []) k f at) is
+  framed_push frames last (suc k) place c is = of_same (slice_get frames k) (slice_get (frames ++ last ∷ []) k) place c (λ f at. slice_get-append_some frames (last ∷ []) k f at) is
 
   module _ (reach : List ℕ) where
     pub states_more : (frames others : List Frame) → ((split place : ℕ) (c : Constraint) → framed graph log frames split place ≡ Some c → framed graph log others split place ≡ Some c)
@@ -106,7 +90,7 @@ module _ (graph : Tfpg) (log : Logbook) where
       picks = record { few = at.picks.few; many = at.picks.many; counts = at.picks.counts; reasons = reasons ∙ at.picks.reasons };
     }
 
-    -- ---- a split is put at the end of the path
+    -- ---- a split is appended to the path
 
     pub split_stands : (name : ClauseName) (count : ℕ) → HasEnteredAll old → count_of graph log name ≡ Some count → 0 < count
         → IsAtItsLeaf graph log (record old { path = old.path ++ new_frame name count ∷ [] })
@@ -175,7 +159,7 @@ module _ (graph : Tfpg) (log : Logbook) where
       marked_long = length-append old.entered (length (pick_reasons old.leaf) ∷ [])
 
       counted_now : (split before : ℕ) → slice_get marked split ≡ Some before → before ≡ length (picks_of graph log (take split old.path))
-      counted_now split before there = elim (push_cases old.entered (length (pick_reasons old.leaf)) split before there) [
+      counted_now split before there = elim (slice_get-push_cases old.entered (length (pick_reasons old.leaf)) split before there) [
         | inl earlier ↦ at.picks.counts split before earlier
         | inr last ↦
             sym last.1 ∙ ap (λ (rs : List Reason). length rs) at.picks.reasons ∙ ap (λ (n : ℕ). length (picks_of graph log (take n old.path))) (sym last.0)
@@ -198,9 +182,6 @@ module _ (graph : Tfpg) (log : Logbook) where
         };
       }
 
-      pub entered_all : length (old.entered ++ length (pick_reasons old.leaf) ∷ []) ≡ length old.path
-      entered_all = let m = marked_long in let one = one_left in omega arith
-
     -- ---- it is left again
 
     pub left_again : (pushed left : Leaf) → Pushing graph log old.reach old.path old.leaf pushed
@@ -208,13 +189,9 @@ module _ (graph : Tfpg) (log : Logbook) where
         → IsAtItsLeaf graph log (record old { entered = take (length old.entered) (old.entered ++ length (pick_reasons old.leaf) ∷ []); leaf = left })
     left_again pushed left pushing leaves =
         let count : ℕ = length (pick_reasons old.leaf) in
-        let there : slice_get (old.entered ++ count ∷ []) (length old.entered) ≡ Some count = get_last old.entered count in
+        let there : slice_get (old.entered ++ count ∷ []) (length old.entered) ≡ Some count = slice_get-push_last old.entered count in
         let gone : KeepsBounds pushed left × (pick_reasons left ≡ take count (pick_reasons pushed)) = subst (λ (o : Option ℕ). Leaves o pushed left) there leaves in
         let back : pick_reasons left ≡ pick_reasons old.leaf =
         gone.1 ∙ ap (λ (rs : List Reason). take count rs) pushing.more.1 ∙ take_at (pick_reasons old.leaf) pushing.more.0 count refl in
         subst (λ (es : List ℕ). IsAtItsLeaf graph log (record old { entered = es; leaf = left })) (sym (take_at old.entered (count ∷ []) (length old.entered) refl))
         (leaf_stands left (gone.0.variables ∙ pushing.variables) (gone.0.stated (fact graph log old.reach) (stated_by graph log old.reach old.path) pushing.stated) back)
-      where
-        get_last : (xs : List ℕ) (x : ℕ) → slice_get (xs ++ x ∷ []) (length xs) ≡ Some x
-        get_last [] x = refl
-        get_last (y ∷ xs) x = get_last xs x

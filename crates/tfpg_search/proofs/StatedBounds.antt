@@ -17,7 +17,7 @@ use Rattle.tfpg_evidence.specs.declared.reason.Reason.{Reason}
 use Rattle.tfpg_evidence.specs.declared.reason.Reason.TheVariants.{Zero, Top, Unreached, From, Upto, Quiet, Pick}
 use Rattle.tfpg_clause.specs.Bounds.{at_most, at_least}
 use Rattle.tfpg_clause.specs.Facts.{fact, from_alarm, upto_alarm}
-use Rattle.tfpg_clause.proofs.Dues.{passed}
+use Rattle.tfpg_base.proofs.lists.Choices.{then_some-true}
 use Rattle.tfpg_clause.proofs.InRange.{now_in_range}
 use Rattle.tfpg_clause.proofs.FactsMet.{event_by_now}
 
@@ -118,13 +118,13 @@ module _ (graph : Tfpg) (log : Logbook) (reach : List ℕ) (node bound : ℕ) wh
   -- why a fact states a lower bound of the node
   pub low_cause : (reason : Reason) → fact graph log reach reason ≡ Some (at_least node bound) → IsLowCause graph log reach node bound
   low_cause (Zero u) is =
-      let parts = passed (ltb u (length graph.nodes)) (at_least u 0) (at_least node bound) is in
+      let parts = then_some-true (ltb u (length graph.nodes)) (at_least u 0) (at_least node bound) is in
       inl (sym (at_least-same u node 0 bound parts.1).1)
   low_cause (Top u) is =
-      let parts = passed (ltb u (length graph.nodes)) (at_most u (pos never)) (at_least node bound) is in
+      let parts = then_some-true (ltb u (length graph.nodes)) (at_most u (pos never)) (at_least node bound) is in
       absurd (at_most-least u node bound (pos never) parts.1)
   low_cause (Unreached u horizon) is =
-      let parts = passed (ltb u (length graph.nodes) && (leb horizon (now_of log) && not (is_among reach u))) (at_least u (horizon + 1)) (at_least node bound) is in
+      let parts = then_some-true (ltb u (length graph.nodes) && (leb horizon (now_of log) && not (is_among reach u))) (at_least u (horizon + 1)) (at_least node bound) is in
       let both = and_parts (ltb u (length graph.nodes)) (leb horizon (now_of log) && not (is_among reach u)) parts.0 in
       let rest = and_parts (leb horizon (now_of log)) (not (is_among reach u)) both.1 in
       let same = at_least-same u node (horizon + 1) bound parts.1 in
@@ -170,13 +170,13 @@ module _ (graph : Tfpg) (log : Logbook) (reach : List ℕ) (node bound : ℕ) wh
   -- why a fact states an upper bound of the node
   pub high_cause : (reason : Reason) → fact graph log reach reason ≡ Some (at_most node (pos bound)) → (bound ≡ never) ⊎ IsActiveBy log node bound
   high_cause (Zero u) is =
-      let parts = passed (ltb u (length graph.nodes)) (at_least u 0) (at_most node (pos bound)) is in
+      let parts = then_some-true (ltb u (length graph.nodes)) (at_least u 0) (at_most node (pos bound)) is in
       absurd (at_most-least node u 0 (pos bound) (sym parts.1))
   high_cause (Top u) is =
-      let parts = passed (ltb u (length graph.nodes)) (at_most u (pos never)) (at_most node (pos bound)) is in
+      let parts = then_some-true (ltb u (length graph.nodes)) (at_most u (pos never)) (at_most node (pos bound)) is in
       inl (sym (at_most-same u node never bound parts.1).1)
   high_cause (Unreached u horizon) is =
-      let parts = passed (ltb u (length graph.nodes) && (leb horizon (now_of log) && not (is_among reach u))) (at_least u (horizon + 1)) (at_most node (pos bound)) is in
+      let parts = then_some-true (ltb u (length graph.nodes) && (leb horizon (now_of log) && not (is_among reach u))) (at_least u (horizon + 1)) (at_most node (pos bound)) is in
       absurd (at_most-least node u (horizon + 1) (pos bound) (sym parts.1))
   high_cause (From number) is = absurd (no_high_of_alarm number (event_at log number) is)
   high_cause (Upto number) is = inr (high_of_alarm number (event_at log number) refl is)

@@ -14,10 +14,10 @@ use Rattle.tfpg_diff.specs.Demands.{Demands, Bounded}
 use Rattle.tfpg_diff.specs.State.{with_pick, popped_to}
 use Rattle.tfpg_diff.specs.inside.Kept.{demands_of}
 use Rattle.tfpg_diff.proofs.Changes.{Bounded-set}
-use Rattle.tfpg_base.proofs.lists.Written.{slice_get-set_other, slice_get-push_before, slice_get-push_last}
-use Rattle.tfpg_search.specs.Leaf.{Leaf, named_by, pick_reasons, AreBoundsStated, IsStated}
+use Rattle.tfpg_base.proofs.lists.Written.{slice_get-set_other, slice_get-push_before, slice_get-push_last, slice_get-push_cases}
+use Rattle.tfpg_search.specs.Leaf.{Leaf, tagged_by, pick_reasons, AreBoundsStated, IsStated}
 use Rattle.tfpg_search.specs.inside.Tags.{IsTagged}
-use Rattle.tfpg_search.proofs.Lists.{slice_get-take, slice_get-taken, slice_get-push_cases}
+use Rattle.tfpg_base.proofs.lists.Cuts.{slice_get-take, slice_get-taken}
 
 -- the system with these demands and reasons
 abbrev pub leaf_of : Demands → List Reason → Leaf
@@ -25,19 +25,19 @@ leaf_of demands reasons = record { demands = demands; reasons = reasons }
 
 module _ (stated : Reason → Option Constraint) (reasons others : List Reason) where
   -- what the tag of a lower bound names, where its reason stays
-  pub named_by-floor : (why : Why) (u : ℕ) → (why ≡ Floor u) ⊎ (why ≡ Given u) → slice_get others u ≡ slice_get reasons u →
-      named_by stated others why ≡ named_by stated reasons why
-  named_by-floor why u either same = ⊎_elim
-      (λ (is : why ≡ Floor u). ap (named_by stated others) is ∙ sym (ap (named_by stated reasons) is))
-      (λ (is : why ≡ Given u). ap (named_by stated others) is ∙ ap (option_and_then stated) same ∙ sym (ap (named_by stated reasons) is))
+  pub tagged_by-floor : (why : Why) (u : ℕ) → (why ≡ Floor u) ⊎ (why ≡ Given u) → slice_get others u ≡ slice_get reasons u →
+      tagged_by stated others why ≡ tagged_by stated reasons why
+  tagged_by-floor why u either same = ⊎_elim
+      (λ (is : why ≡ Floor u). ap (tagged_by stated others) is ∙ sym (ap (tagged_by stated reasons) is))
+      (λ (is : why ≡ Given u). ap (tagged_by stated others) is ∙ ap (option_and_then stated) same ∙ sym (ap (tagged_by stated reasons) is))
       either
 
   -- and that of an upper bound
-  pub named_by-ceiling : (why : Why) (u place : ℕ) → (why ≡ Ceiling u) ⊎ (why ≡ Given place) → slice_get others place ≡ slice_get reasons place →
-      named_by stated others why ≡ named_by stated reasons why
-  named_by-ceiling why u place either same = ⊎_elim
-      (λ (is : why ≡ Ceiling u). ap (named_by stated others) is ∙ sym (ap (named_by stated reasons) is))
-      (λ (is : why ≡ Given place). ap (named_by stated others) is ∙ ap (option_and_then stated) same ∙ sym (ap (named_by stated reasons) is))
+  pub tagged_by-ceiling : (why : Why) (u place : ℕ) → (why ≡ Ceiling u) ⊎ (why ≡ Given place) → slice_get others place ≡ slice_get reasons place →
+      tagged_by stated others why ≡ tagged_by stated reasons why
+  tagged_by-ceiling why u place either same = ⊎_elim
+      (λ (is : why ≡ Ceiling u). ap (tagged_by stated others) is ∙ sym (ap (tagged_by stated reasons) is))
+      (λ (is : why ≡ Given place). ap (tagged_by stated others) is ∙ ap (option_and_then stated) same ∙ sym (ap (tagged_by stated reasons) is))
       either
 
 -- the bounds stay stated where their reasons stay
@@ -47,10 +47,10 @@ pub AreBoundsStated-same : (fact : Reason → Option Constraint) (demands : Dema
 AreBoundsStated-same fact demands picks reasons others tagged same stated = record {
   floors = λ u b at.
       let inside = slice_get_within demands.bounds u b at in
-      named_by-floor fact reasons others b.floor_why u (tagged.floors u b at) (same u (omega arith)) ∙ stated.floors u b at;
+      tagged_by-floor fact reasons others b.floor_why u (tagged.floors u b at) (same u (omega arith)) ∙ stated.floors u b at;
   ceilings = λ u b at.
       let inside = slice_get_within demands.bounds u b at in
-      named_by-ceiling fact reasons others b.ceiling_why u (length demands.bounds + u) (tagged.ceilings u b at) (same (length demands.bounds + u) (omega arith))
+      tagged_by-ceiling fact reasons others b.ceiling_why u (length demands.bounds + u) (tagged.ceilings u b at) (same (length demands.bounds + u) (omega arith))
       ∙ stated.ceilings u b at;
 }
 
@@ -80,8 +80,8 @@ module _ (fact stated : Reason → Option Constraint) (demands : Demands) (reaso
     (is_stated : IsStated fact stated (leaf_of demands reasons)) where
   -- after a write of the bounds of one node, and of a reason
   pub IsStated-write : (v : ℕ) (new : Bounds) (place : ℕ) (reason : Reason) → IsPlaceOf demands v place →
-      named_by fact (set reasons place reason) new.floor_why ≡ Some (at_least v new.floor) →
-      named_by fact (set reasons place reason) new.ceiling_why ≡ Some (at_most v (pos new.ceiling)) →
+      tagged_by fact (set reasons place reason) new.floor_why ≡ Some (at_least v new.floor) →
+      tagged_by fact (set reasons place reason) new.ceiling_why ≡ Some (at_most v (pos new.ceiling)) →
       IsStated fact stated (leaf_of (demands_of (set demands.bounds v new) demands.picks) (set reasons place reason))
   IsStated-write v new place reason apart low high =
       let others : List Reason = set reasons place reason in
@@ -92,19 +92,19 @@ module _ (fact stated : Reason → Option Constraint) (demands : Demands) (reaso
         bounds = record {
           floors = λ u b at. ⊎_elim
               (λ (here : (u ≡ v) × (b ≡ new)).
-              ap (λ (c : Bounds). named_by fact others c.floor_why) here.1 ∙ low
+              ap (λ (c : Bounds). tagged_by fact others c.floor_why) here.1 ∙ low
               ∙ sym (ap (λ (n : ℕ). Some (at_least n b.floor)) here.0 ∙ ap (λ (c : Bounds). Some (at_least v c.floor)) here.1))
               (λ (there : (u ≢ v) × Bounded demands u b).
-              named_by-floor fact reasons others b.floor_why u (tagged.floors u b there.1)
+              tagged_by-floor fact reasons others b.floor_why u (tagged.floors u b there.1)
               (slice_get-set_other reasons place u reason (apart.not_lower u there.0 (slice_get_within demands.bounds u b there.1)))
               ∙ is_stated.bounds.floors u b there.1)
               (Bounded-set demands.bounds demands.picks v new u b at);
           ceilings = λ u b at. ⊎_elim
               (λ (here : (u ≡ v) × (b ≡ new)).
-              ap (λ (c : Bounds). named_by fact others c.ceiling_why) here.1 ∙ high
+              ap (λ (c : Bounds). tagged_by fact others c.ceiling_why) here.1 ∙ high
               ∙ sym (ap (λ (n : ℕ). Some (at_most n (pos b.ceiling))) here.0 ∙ ap (λ (c : Bounds). Some (at_most v (pos c.ceiling))) here.1))
               (λ (there : (u ≢ v) × Bounded demands u b).
-              named_by-ceiling fact reasons others b.ceiling_why u (length demands.bounds + u) (tagged.ceilings u b there.1)
+              tagged_by-ceiling fact reasons others b.ceiling_why u (length demands.bounds + u) (tagged.ceilings u b there.1)
               (slice_get-set_other reasons place (length demands.bounds + u) reason (apart.not_upper u there.0))
               ∙ is_stated.bounds.ceilings u b there.1)
               (Bounded-set demands.bounds demands.picks v new u b at);

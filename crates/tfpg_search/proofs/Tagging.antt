@@ -13,7 +13,7 @@ use Rattle.tfpg_diff.specs.State.{with_pick}
 use Rattle.tfpg_diff.specs.inside.Kept.{demands_of}
 use Rattle.tfpg_diff.proofs.Changes.{Bounded-set}
 use Rattle.tfpg_search.specs.inside.Tags.{IsTagged}
-use Rattle.tfpg_search.proofs.Lists.{slice_get-push_cases}
+use Rattle.tfpg_base.proofs.lists.Written.{slice_get-push_cases}
 
 -- The tag is one that no reason set, or that of a place.
 abbrev pub IsEither : Why → Why → ℕ → Type 0

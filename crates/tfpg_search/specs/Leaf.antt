@@ -21,17 +21,17 @@ abbrev pub pick_reasons : Leaf → List Reason
 pick_reasons leaf = drop (2 * length leaf.demands.bounds) leaf.reasons
 
 -- the constraint that a tag names, where these are the reasons of the tags
-abbrev pub named_by : (Reason → Option Constraint) → List Reason → Why → Option Constraint
-named_by stated reasons (Floor variable) = stated (Zero variable)
-named_by stated reasons (Ceiling variable) = stated (Top variable)
-named_by stated reasons (Given tag) = option_and_then stated (slice_get reasons tag)
+abbrev pub tagged_by : (Reason → Option Constraint) → List Reason → Why → Option Constraint
+tagged_by stated reasons (Floor variable) = stated (Zero variable)
+tagged_by stated reasons (Ceiling variable) = stated (Top variable)
+tagged_by stated reasons (Given tag) = option_and_then stated (slice_get reasons tag)
 
 -- Each bound is stated by its reason, which is a fact.
 pub record AreBoundsStated (fact : Reason → Option Constraint) (leaf : Leaf) : Type 0 where
   pub floors : (node : ℕ) (bounds : Bounds) → Bounded leaf.demands node bounds →
-      named_by fact leaf.reasons bounds.floor_why ≡ Some (at_least node bounds.floor)
+      tagged_by fact leaf.reasons bounds.floor_why ≡ Some (at_least node bounds.floor)
   pub ceilings : (node : ℕ) (bounds : Bounds) → Bounded leaf.demands node bounds →
-      named_by fact leaf.reasons bounds.ceiling_why ≡ Some (at_most node (pos bounds.ceiling))
+      tagged_by fact leaf.reasons bounds.ceiling_why ≡ Some (at_most node (pos bounds.ceiling))
 
 -- Each pick is stated by the reason in its place.
 abbrev pub ArePicksStated : (Reason → Option Constraint) → Leaf → Type 0

@@ -1,5 +1,5 @@
 -- Solutions at a leaf, and the latest of them.
-use Rattle.std.specs.Prelude.{◌≡◌, ℕ, ◌<◌, ◌≤◌, List, length, Some, slice_index}
+use Rattle.std.specs.Prelude.{◌≡◌, ℕ, ◌<◌, ◌≤◌, List, length, Option, Some, slice_index}
 use Rattle.tfpg_base.specs.declared.constraint.Constraint.{Constraint}
 use Rattle.tfpg_base.specs.Constraint.{Meets}
 use Rattle.tfpg_graph.specs.Graph.{Tfpg}
@@ -8,15 +8,19 @@ use Rattle.tfpg_evidence.specs.declared.reason.Reason.{Reason}
 use Rattle.tfpg_clause.specs.Facts.{fact}
 use Rattle.tfpg_clause.specs.Trees.{PathSplit, picked}
 
--- The times solve what holds at a leaf of this path: there is one for each node, and they meet each fact of the log and each
--- constraint that was picked on the path.
-pub record Solves (graph : Tfpg) (log : Logbook) (reach : List ℕ) (path : List PathSplit) (times : List ℕ) : Type 0 where
+-- The times solve what holds at a leaf, where this picks the constraints of its path: there is one for each node, and they meet
+-- each fact of the log and each constraint that is picked in some place of some split.
+pub record SolvesBy (graph : Tfpg) (log : Logbook) (reach : List ℕ) (pick : ℕ → ℕ → Option Constraint) (times : List ℕ) : Type 0 where
   pub one_each : length times ≡ length graph.nodes
   pub facts : (reason : Reason) (constraint : Constraint) → fact graph log reach reason ≡ Some constraint → Meets times constraint
-  pub picks : (split place : ℕ) (constraint : Constraint) → picked graph log path split place ≡ Some constraint → Meets times constraint
+  pub picks : (split place : ℕ) (constraint : Constraint) → pick split place ≡ Some constraint → Meets times constraint
 
 -- They are the latest that do: no others that do give any node a later time.
-pub record IsLatestAt (graph : Tfpg) (log : Logbook) (reach : List ℕ) (path : List PathSplit) (times : List ℕ) : Type 0 where
-  pub solves : Solves graph log reach path times
-  pub latest : (other : List ℕ) → Solves graph log reach path other →
+pub record IsLatestBy (graph : Tfpg) (log : Logbook) (reach : List ℕ) (pick : ℕ → ℕ → Option Constraint) (times : List ℕ) : Type 0 where
+  pub solves : SolvesBy graph log reach pick times
+  pub latest : (other : List ℕ) → SolvesBy graph log reach pick other →
       (node : ℕ) → node < length graph.nodes → slice_index other node ≤ slice_index times node
+
+-- The times are the latest that solve what holds at the leaf of this path.
+abbrev pub IsLatestAt : Tfpg → Logbook → List ℕ → List PathSplit → List ℕ → Type 0
+IsLatestAt graph log reach path times = IsLatestBy graph log reach (picked graph log path) times

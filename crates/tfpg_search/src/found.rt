@@ -9,6 +9,6 @@ pub enum Found {
     Shown(Trace),
     /// No trace does: the steps of all rounds are a refutation.
     Closed,
-    /// The budget of this round was spent on splits, and a further one is wanted.
+    /// The budget of this round was spent on splits, and a further one is needed.
     Spent,
 }

@@ -94,8 +94,8 @@ impl Search {
         self.seen
     }
 
-    /// Searches on, for a log that goes on from that of the last round, and appends the steps of this round: at most so many
-    /// splits as the budget says.
+    /// Searches on, for a log that goes on from that of the last round, and appends the steps of this round: at most as
+    /// many splits as the budget says.
     pub fn round<L: Ledger>(
         &mut self,
         graph: &Graph,

@@ -33,7 +33,7 @@ use Rattle.tfpg_log.specs.LogOfLines.{is_too_long}
 use Rattle.tfpg_log.specs.LogStatements.{LogStatement, Alarm, Silent, Sweep, Tick, Mode, words_of_log_statement, log_statement_of}
 use Rattle.tfpg_log.specs.Accepted.{time_refusals, statement_refusals, event_of, offered, reply_to_statement, reply_to}
 use Rattle.tfpg_log.proofs.WrittenLines.{read_as_written}
-use Rattle.tfpg_trace.proofs.Sweeps.{monitored_within}
+use Rattle.tfpg_graph.proofs.NodeAt.{monitored_within}
 use Rattle.tfpg_sim.specs.SimulatedLog.{node_word, mode_word, event_line}
 
 -- no alarm of its node came before, where it is an alarm or a silence

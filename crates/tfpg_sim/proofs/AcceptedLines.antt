@@ -8,7 +8,7 @@ use Rattle.std.proofs.lemmas.List.Sums.{sum_by-append, sum_by-cons}
 use Rattle.std.proofs.lemmas.List.{take-map}
 use Rattle.std.proofs.lemmas.Option.{slice_get-map}
 use Rattle.tfpg_base.proofs.lists.Elements.{Contains-head}
-use Rattle.tfpg_base.proofs.LinesOf.{lines_of-after as lines_of-behind}
+use Rattle.tfpg_base.proofs.LinesOf.{lines_of-after}
 use Rattle.tfpg_base.specs.declared.activation.Activation.{Activation}
 use Rattle.tfpg_base.specs.Lines.{lines_of, with_line_end, HasNoLineEnd}
 use Rattle.tfpg_base.proofs.lists.Choices.{option_map-some}
@@ -160,7 +160,7 @@ module _ (graph : Tfpg) (valid : IsValid graph) (entries : List Entry) (script :
   pub lines_there : lines_of (log_text graph events) ≡ map (line_said graph) events
   lines_there =
       ap lines_of (ended_lines (event_line graph) (line_said graph) events (event_line-said graph) ∙ sym (append-nil (flat_map with_line_end (map (line_said graph) events))))
-      ∙ lines_of-behind (map (line_said graph) events) [] (clean_lines [] events refl)
+      ∙ lines_of-after (map (line_said graph) events) [] (clean_lines [] events refl)
       ∙ append-nil (map (line_said graph) events)
 
   -- The log of the lines has these events.

@@ -7,16 +7,15 @@ use Rattle.std.proofs.lemmas.List.Elements.{All-contains}
 use Rattle.tfpg_base.proofs.lists.Elements.{AllPairs-head, AllPairs-tail, Contains-cons_cases, Contains-nil}
 use Rattle.tfpg_base.specs.declared.activation.Activation.{Activation}
 use Rattle.tfpg_base.specs.Trace.{time_of}
-use Rattle.tfpg_base.proofs.lists.Choices.{option_and_then-some}
+use Rattle.tfpg_base.proofs.lists.Choices.{option_and_then-some, then_some-true}
 use Rattle.tfpg_graph.specs.Graph.{Tfpg, Node, lag_of, lag_at, is_monitored}
-use Rattle.tfpg_trace.proofs.Sweeps.{monitored_within}
+use Rattle.tfpg_graph.proofs.NodeAt.{monitored_within}
 use Rattle.rand_pcg.specs.Lcg.{Lcg}
 use Rattle.tfpg_sim.specs.declared.entry.Entry.{Entry}
 use Rattle.tfpg_sim.specs.declared.entry.Entry.TheVariants.{Start, Mode, Sweep, Tick, Stop}
 use Rattle.tfpg_sim.specs.Draws.{drawn, after_edges, after_lag, generator, lateness_of, latenesses_from, latenesses}
 use Rattle.tfpg_sim.specs.Script.{time_of_entry}
 use Rattle.tfpg_sim.specs.SimulatedLog.{sweep_time, first_sweep, due_time, alarm_time}
-use Rattle.tfpg_sim.proofs.ScriptLines.{from_test}
 
 -- ---- latenesses
 
@@ -132,7 +131,7 @@ module _ (entries : List Entry) (trace : List Activation) (lateness : Option ℕ
   alarmed_at time is =
       let late = option_and_then-some (λ late. option_and_then (λ active. then_some (nat_le (due_time entries active late) stop) (due_time entries active late)) (time_of trace node)) lateness time is in
       let active = option_and_then-some (λ active. then_some (nat_le (due_time entries active late.0) stop) (due_time entries active late.0)) (time_of trace node) time late.2 in
-      let test = from_test (nat_le (due_time entries active.0 late.0) stop) (due_time entries active.0 late.0) time active.2 in
+      let test = then_some-true (nat_le (due_time entries active.0 late.0) stop) (due_time entries active.0 late.0) time active.2 in
       record {
         late = late.0;
         lateness_is = late.1;

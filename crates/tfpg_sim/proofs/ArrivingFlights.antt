@@ -2,7 +2,7 @@
 use Rattle.std.proofs.Common.{◌≡◌, ℕ, suc, ◌^◌, ◌⊎◌, ⊎_elim, cond, [], ◌∷◌, ◌<◌, ◌≤◌, Bool, true, false, eqb, IsTrue, List, length, get_or, filter_map, All, Option, Some, None, option_map, option_and_then, slice_get, slice_index, refl, sym, ap, ◌∙◌, subst, arith}
 use Rattle.std.specs.Option.{option_map_or}
 use Rattle.std.proofs.lemmas.List.{get_or_past}
-use Rattle.std.proofs.lemmas.Option.{slice_get-get_or, slice_get_within}
+use Rattle.std.proofs.lemmas.Option.{slice_get-get_or, slice_get_within, get_or_from_slice_get}
 use Rattle.std.proofs.lemmas.List.Elements.{All-contains}
 use Rattle.tfpg_base.proofs.lists.Elements.{All-from_members}
 use Rattle.tfpg_base.specs.declared.activation.Activation.{Activation}
@@ -25,19 +25,13 @@ pub IsFirst-same : (Holds Other : ℕ → Type 0) (limit : ℕ) (first : Option 
 IsFirst-same Holds Other limit None to from is = λ x upto other. is x upto (from x other)
 IsFirst-same Holds Other limit (Some first) to from is = (is.0, to first is.1, λ x less other. is.2 x less (from x other))
 
--- the item of a number, read with a default
-item_read : (xs : List ℕ) (n x : ℕ) → slice_get xs n ≡ Some x → slice_index xs n ≡ x
-item_read xs n x is =
-    let within : n < length xs = slice_get_within xs n x is in
-    let same : Some (get_or xs n 0) ≡ Some x = sym (slice_get-get_or xs n 0 within) ∙ is in cc
-
 -- a time of a trace is one of its times
-time_small : (most : ℕ) (trace : List Activation) (node start : ℕ) → All (λ activation. activation.time ≤ most) trace → time_of trace node ≡ Some start → start ≤ most
-time_small most [] node start all is = absurd (let none : None ≡ Some start = is in cc)
-time_small most (first ∷ others) node start all is = by (eqb first.node node) is (λ rest. time_small most others node start (λ k d within. all (suc k) d (omega arith)) rest)
+time_small : (limit : ℕ) (trace : List Activation) (node start : ℕ) → All (λ activation. activation.time ≤ limit) trace → time_of trace node ≡ Some start → start ≤ limit
+time_small limit [] node start all is = absurd (let none : None ≡ Some start = is in cc)
+time_small limit (first ∷ others) node start all is = by (eqb first.node node) is (λ rest. time_small limit others node start (λ k d within. all (suc k) d (omega arith)) rest)
   where
-    by : (same : Bool) → cond same (Some first.time) (time_of others node) ≡ Some start → (time_of others node ≡ Some start → start ≤ most) → start ≤ most
-    by true here again = let upto : first.time ≤ most = all 0 first (omega arith) in let same : first.time ≡ start = (let somes : Some first.time ≡ Some start = here in cc) in omega arith
+    by : (same : Bool) → cond same (Some first.time) (time_of others node) ≡ Some start → (time_of others node ≡ Some start → start ≤ limit) → start ≤ limit
+    by true here again = let upto : first.time ≤ limit = all 0 first (omega arith) in let same : first.time ≡ start = (let somes : Some first.time ≡ Some start = here in cc) in omega arith
     by false rest again = again rest
 
 -- the flights have small numbers
@@ -47,8 +41,8 @@ pub flights_small : (graph : Tfpg) (delays : List ℕ) (trace : List Activation)
 flights_small graph delays trace numbers small times = λ k d within.
     let at = slice_get-get_or (filter_map (flight_over graph delays trace) numbers) k d within in
     let item = slice_get-filter_map_only (flight_over graph delays trace) numbers k _ at in
-    let edge = option_and_then-some (λ (e : Edge). option_map (λ start. record { modes = e.modes; start = start; delay = slice_index delays item.0 }) (time_of trace e.source)) (slice_get graph.edges item.0) _ item.2 in
-    let start = option_map-some (λ start. record { modes = edge.0.modes; start = start; delay = slice_index delays item.0 }) (time_of trace edge.0.source) _ edge.2 in
+    let edge = option_and_then-some (λ (e : Edge). option_map (λ start. record { edge = e; start = start; delay = slice_index delays item.0 }) (time_of trace e.source)) (slice_get graph.edges item.0) _ item.2 in
+    let start = option_map-some (λ start. record { edge = edge.0; start = start; delay = slice_index delays item.0 }) (time_of trace edge.0.source) _ edge.2 in
     subst (λ (flight : Flight). (flight.start ≤ 2 ^ 42) × (flight.delay ≤ 2 ^ 42)) start.2
     (time_small (2 ^ 42) trace edge.0.source start.0 times start.1, delay_small item.0)
   where
@@ -61,10 +55,10 @@ module _ (graph : Tfpg) (log : Logbook) (delays : List ℕ) (trace : List Activa
   pub carried : (x number : ℕ) → Carries graph log delays trace x number
       → (flight : Flight) × (flight_over graph delays trace number ≡ Some flight) × Lands log x flight
   carried x number carries =
-      let delay = item_read delays number carries.delay carries.drawn in (
-        record { modes = carries.edge.modes; start = carries.age.start; delay = slice_index delays number },
-        ap (λ o. option_and_then (λ (edge : Edge). option_map (λ start. record { modes = edge.modes; start = start; delay = slice_index delays number }) (time_of trace edge.source)) o) carries.is
-            ∙ ap (λ o. option_map (λ start. record { modes = carries.edge.modes; start = start; delay = slice_index delays number }) o) carries.age.source,
+      let delay = get_or_from_slice_get delays number carries.delay 0 carries.drawn in (
+        record { edge = carries.edge; start = carries.age.start; delay = slice_index delays number },
+        ap (λ o. option_and_then (λ (edge : Edge). option_map (λ start. record { edge = edge; start = start; delay = slice_index delays number }) (time_of trace edge.source)) o) carries.is
+            ∙ ap (λ o. option_map (λ start. record { edge = carries.edge; start = start; delay = slice_index delays number }) o) carries.age.source,
         record {
           since = let since = carries.age.since in omega arith;
           open_since = λ y after upto. carries.age.allowed y (omega arith) upto;
@@ -74,10 +68,10 @@ module _ (graph : Tfpg) (log : Logbook) (delays : List ℕ) (trace : List Activa
   -- and the other way round
   pub landed : (x number : ℕ) (flight : Flight) → flight_over graph delays trace number ≡ Some flight → Lands log x flight → Carries graph log delays trace x number
   landed x number flight is lands =
-      let edge = option_and_then-some (λ (e : Edge). option_map (λ start. record { modes = e.modes; start = start; delay = slice_index delays number }) (time_of trace e.source)) (slice_get graph.edges number) flight is in
-      let start = option_map-some (λ start. record { modes = edge.0.modes; start = start; delay = slice_index delays number }) (time_of trace edge.0.source) flight edge.2 in
+      let edge = option_and_then-some (λ (e : Edge). option_map (λ start. record { edge = e; start = start; delay = slice_index delays number }) (time_of trace e.source)) (slice_get graph.edges number) flight is in
+      let start = option_map-some (λ start. record { edge = edge.0; start = start; delay = slice_index delays number }) (time_of trace edge.0.source) flight edge.2 in
       let within : number < length delays = let inside = slice_get_within graph.edges number edge.0 edge.1 in omega arith in
-      let same : record { modes = edge.0.modes; start = start.0; delay = slice_index delays number } ≡ flight = start.2 in
+      let same : record { edge = edge.0; start = start.0; delay = slice_index delays number } ≡ flight = start.2 in
       let here = subst (Lands log x) (sym same) lands in
       record {
         edge = edge.0;

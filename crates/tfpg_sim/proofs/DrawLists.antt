@@ -1,5 +1,5 @@
 -- What is drawn for a list, step by step.
-use Rattle.std.proofs.Common.{◌≡◌, ℕ, zero, suc, ◌+◌, List, [], ◌∷◌, ◌++◌, ◌%◌, take, fold, Some, None, slice_get, option_map, All, refl, ap, ◌∙◌, subst, arith, add-one}
+use Rattle.std.proofs.Common.{◌≡◌, ℕ, zero, suc, ◌+◌, List, [], ◌∷◌, ◌++◌, ◌%◌, take, fold, Some, slice_get, option_map, refl, ap, ◌∙◌, add-one}
 use Rattle.std.specs.List.{scan}
 use Rattle.std.proofs.lemmas.List.Sums.{fold_push}
 use Rattle.tfpg_graph.specs.declared.edge.Edge.{Edge}
@@ -18,12 +18,6 @@ module _ {X : Type 0} where
   -- the same, as code counts
   pub take-next : (xs : List X) (n : ℕ) (x : X) → slice_get xs n ≡ Some x → take (n + 1) xs ≡ take n xs ++ x ∷ []
   take-next xs n x is = ap (λ m. take m xs) (add-one n) ∙ take-item xs n x is
-
-  -- what holds of all holds of the item of a number
-  pub All-item : (P : X → Type 0) (xs : List X) (n : ℕ) (x : X) → All P xs → slice_get xs n ≡ Some x → P x
-  All-item P [] n x all is = absurd (let no : None ≡ Some x = is in cc)
-  All-item P (y ∷ xs) zero x all is = subst P (let same : y ≡ x = cc in same) (all 0 y (omega arith))
-  All-item P (y ∷ xs) (suc n) x all is = All-item P xs n x (λ index d within. all (suc index) d (omega arith)) is
 
 module _ {S X Y : Type 0} (next : S → X → S) (out : S → X → Y) where
   -- one item more

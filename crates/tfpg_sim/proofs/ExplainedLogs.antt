@@ -10,7 +10,7 @@ use Rattle.tfpg_base.specs.Lines.{lines_of}
 use Rattle.tfpg_base.specs.Set.{with_member}
 use Rattle.tfpg_base.specs.Trace.{time_of}
 use Rattle.tfpg_graph.specs.declared.edge.Edge.{Edge}
-use Rattle.tfpg_graph.specs.Graph.{Tfpg, is_kind_at, is_failure, is_allowed, edges_into, place_of_failure}
+use Rattle.tfpg_graph.specs.Graph.{Tfpg, is_kind_at, is_failure, is_allowed, edges_into, position_of_failure}
 use Rattle.tfpg_graph.specs.Valid.{IsValid}
 use Rattle.tfpg_log.specs.declared.event.Event.{Event}
 use Rattle.tfpg_log.specs.declared.event.Event.TheVariants as event
@@ -74,7 +74,7 @@ start_there (Stop when ∷ entries) node time is = Contains-tail (Stop when) ent
 module _ (graph : Tfpg) (place : ℕ) where
   -- a line keeps the members
   kept_by : (entry : Entry) (set : List ℕ) → Contains set place → Contains (with_started graph set entry) place
-  kept_by (Start time node) set member = by (place_of_failure graph node)
+  kept_by (Start time node) set member = by (position_of_failure graph node)
     where
       by : (o : Option ℕ) → Contains (unwrap_or (option_map (λ p. with_member p set) o) set) place
       by None = member
@@ -89,7 +89,7 @@ module _ (graph : Tfpg) (place : ℕ) where
   all_keep (entry ∷ entries) set member = all_keep entries (with_started graph set entry) (kept_by entry set member)
 
   -- what a line starts is a member
-  started_member : (entries : List Entry) (set : List ℕ) (time node : ℕ) → place_of_failure graph node ≡ Some place → Contains entries (Start time node)
+  started_member : (entries : List Entry) (set : List ℕ) (time node : ℕ) → position_of_failure graph node ≡ Some place → Contains entries (Start time node)
       → Contains (fold (with_started graph) set entries) place
   started_member [] set time node at member = absurd (Contains-nil (Start time node) member)
   started_member (entry ∷ entries) set time node at member =
@@ -188,9 +188,9 @@ module _ (graph : Tfpg) (script : List ℕ) (number : ℕ) (simulated : Simulate
 
   -- a failure mode in it is a member of the set
   started : (node time : ℕ) → time_of trace node ≡ Some time → IsTrue (is_kind_at is_failure graph node) → IsMember graph simulated.set node
-  started node time at failure = by (place_of_failure graph node) refl
+  started node time at failure = by (position_of_failure graph node) refl
     where
-      by : (o : Option ℕ) → place_of_failure graph node ≡ o → IsMember graph simulated.set node
+      by : (o : Option ℕ) → position_of_failure graph node ≡ o → IsMember graph simulated.set node
       by None none = absurd (no_failure graph node none failure)
       by (Some place) there = (
         place,

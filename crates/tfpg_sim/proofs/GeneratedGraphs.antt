@@ -17,12 +17,13 @@ use Rattle.tfpg_base.specs.Words.{is_name, is_letter, is_name_byte}
 use Rattle.tfpg_graph.specs.declared.edge.Edge.{Edge}
 use Rattle.tfpg_graph.specs.declared.kind.Kind.{Kind}
 use Rattle.tfpg_graph.specs.declared.kind.Kind.TheVariants.{Failure, Or, And}
-use Rattle.tfpg_graph.specs.Graph.{Tfpg, Node, numbers_from, is_failure, is_kind_at, failures, incoming}
+use Rattle.tfpg_graph.specs.Graph.{Tfpg, Node, is_failure, is_kind_at, failures, incoming}
+use Rattle.tfpg_base.specs.Choice.{numbers_from}
 use Rattle.tfpg_graph.specs.Valid.{HasValidNumber, IsValidEdge, IsSamePair, WalksInNoTime, IsValidSoFar, IsValid}
 use Rattle.rand_pcg.specs.Lcg.{Lcg}
 use Rattle.tfpg_sim.specs.Draws.{generator}
 use Rattle.tfpg_sim.specs.inside.GraphText.{HasDrawnModes}
-use Rattle.tfpg_sim.specs.Generated.{after_words, draw, node_name, failure_kinds, has_two, is_and_drawn, lag_drawn, kind_drawn, first_source, second_source, edge_drawn, edges_drawn, draft_after, named, graph_of, draft_of, generated_graph}
+use Rattle.tfpg_sim.specs.Generated.{after_words, draw, node_name, failure_kinds, has_two, is_and_drawn, lag_drawn, kind_drawn, first_source, second_source, edge_drawn, edges_drawn, draft_after, named_nodes, drawn_graph, draft_of, generated_graph}
 
 -- ---- names
 
@@ -110,19 +111,19 @@ failure_numbers : (n : ℕ) → n ≤ 16 → All HasValidNumber (failure_kinds n
 failure_numbers zero upto = All-nil HasValidNumber
 failure_numbers (suc n) upto = All-push HasValidNumber (failure_kinds n) (Failure (n + 1)) (failure_numbers n (omega arith)) (omega arith)
 
-pub length-named : (number : ℕ) (kinds : List Kind) → length (named number kinds) ≡ length kinds
-length-named number [] = refl
-length-named number (kind ∷ kinds) = ap suc (length-named (number + 1) kinds)
+pub length-named_nodes : (number : ℕ) (kinds : List Kind) → length (named_nodes number kinds) ≡ length kinds
+length-named_nodes number [] = refl
+length-named_nodes number (kind ∷ kinds) = ap suc (length-named_nodes (number + 1) kinds)
 
 -- a node by its number and kind
 abbrev pub node_of : ℕ → Kind → Node
 node_of number kind = record { name = node_name number; kind = kind }
 
-pub get_or-named : (number : ℕ) (kinds : List Kind) (k : ℕ) (d : Node) (e : Kind) → k < length kinds → get_or (named number kinds) k d ≡ node_of (number + k) (get_or kinds k e)
-get_or-named number [] k d e within = absurd (omega arith)
-get_or-named number (kind ∷ kinds) zero d e within = ap (λ n. node_of n kind) (let same : number ≡ number + 0 = omega arith in same)
-get_or-named number (kind ∷ kinds) (suc k) d e within =
-    get_or-named (number + 1) kinds k d e (omega arith) ∙ ap (λ n. node_of n (get_or kinds k e)) (let same : number + 1 + k ≡ number + suc k = omega arith in same)
+pub get_or-named_nodes : (number : ℕ) (kinds : List Kind) (k : ℕ) (d : Node) (e : Kind) → k < length kinds → get_or (named_nodes number kinds) k d ≡ node_of (number + k) (get_or kinds k e)
+get_or-named_nodes number [] k d e within = absurd (omega arith)
+get_or-named_nodes number (kind ∷ kinds) zero d e within = ap (λ n. node_of n kind) (let same : number ≡ number + 0 = omega arith in same)
+get_or-named_nodes number (kind ∷ kinds) (suc k) d e within =
+    get_or-named_nodes (number + 1) kinds k d e (omega arith) ∙ ap (λ n. node_of n (get_or kinds k e)) (let same : number + 1 + k ≡ number + suc k = omega arith in same)
 
 -- ---- counts
 
@@ -133,11 +134,11 @@ length-numbers_from p n (x ∷ xs) =
     (λ yes_it. omega (arith, length-numbers_from p (n + 1) xs, sum_by-cons (λ y. cond (p y) 1 0) x xs, ap {B = ℕ} (λ b. cond b 1 0) yes_it))
     (λ not_it. omega (arith, length-numbers_from p (n + 1) xs, sum_by-cons (λ y. cond (p y) 1 0) x xs, ap {B = ℕ} (λ b. cond b 1 0) not_it))
 
-count-named : (number : ℕ) (kinds : List Kind) → count_by (λ node. is_failure node.kind) (named number kinds) ≡ count_by is_failure kinds
-count-named number [] = refl
-count-named number (kind ∷ kinds) =
-    sum_by-cons (λ (node : Node). cond (is_failure node.kind) 1 0) (node_of number kind) (named (number + 1) kinds)
-    ∙ ap (λ n. cond (is_failure kind) 1 0 + n) (count-named (number + 1) kinds)
+count-named_nodes : (number : ℕ) (kinds : List Kind) → count_by (λ node. is_failure node.kind) (named_nodes number kinds) ≡ count_by is_failure kinds
+count-named_nodes number [] = refl
+count-named_nodes number (kind ∷ kinds) =
+    sum_by-cons (λ (node : Node). cond (is_failure node.kind) 1 0) (node_of number kind) (named_nodes (number + 1) kinds)
+    ∙ ap (λ n. cond (is_failure kind) 1 0 + n) (count-named_nodes (number + 1) kinds)
     ∙ sym (sum_by-cons (λ k. cond (is_failure k) 1 0) kind kinds)
 
 count-none : (kinds : List Kind) → All IsDiscrepancy kinds → count_by is_failure kinds ≡ 0
@@ -327,21 +328,21 @@ drafts state (suc place) =
 
 module _ (place : ℕ) (some : 1 ≤ place) (few : place ≤ 400) (kinds : List Kind) (edges : List Edge) (is : IsDraft place kinds edges) where
   abbrev graph : Tfpg
-  graph = graph_of kinds edges
+  graph = drawn_graph kinds edges
 
   abbrev all_kinds : List Kind
   all_kinds = failure_kinds 16 ++ kinds
 
-  node_count : length (named 0 all_kinds) ≡ 16 + place
-  node_count = omega (arith, length-named 0 all_kinds, length-append (failure_kinds 16) kinds, is.count)
+  node_count : length (named_nodes 0 all_kinds) ≡ 16 + place
+  node_count = omega (arith, length-named_nodes 0 all_kinds, length-append (failure_kinds 16) kinds, is.count)
 
   kind_count : length all_kinds ≡ 16 + place
   kind_count = omega (arith, length-append (failure_kinds 16) kinds, is.count)
 
   -- the node of a number
-  node_is : (k : ℕ) (d : Node) → k < 16 + place → get_or (named 0 all_kinds) k d ≡ node_of k (get_or all_kinds k (Failure 0))
+  node_is : (k : ℕ) (d : Node) → k < 16 + place → get_or (named_nodes 0 all_kinds) k d ≡ node_of k (get_or all_kinds k (Failure 0))
   node_is k d within =
-      get_or-named 0 all_kinds k d (Failure 0) (omega (arith, kind_count))
+      get_or-named_nodes 0 all_kinds k d (Failure 0) (omega (arith, kind_count))
       ∙ ap (λ n. node_of n (get_or all_kinds k (Failure 0))) (let same : 0 + k ≡ k = omega arith in same)
 
   -- whether it is a failure mode
@@ -349,7 +350,7 @@ module _ (place : ℕ) (some : 1 ≤ place) (few : place ≤ 400) (kinds : List 
   kind_is k within =
       let nobody : Node = node_of 0 (Failure 0) in
       ap (λ (o : Option Node). option_map_or is_failure (option_map (λ n. n.kind) o) false)
-      (slice_get-get_or (named 0 all_kinds) k nobody (omega (arith, node_count)) ∙ ap Some (node_is k nobody within))
+      (slice_get-get_or (named_nodes 0 all_kinds) k nobody (omega (arith, node_count)) ∙ ap Some (node_is k nobody within))
 
   discrepancy_at : (k : ℕ) → 16 ≤ k → k < 16 + place → is_kind_at is_failure graph k ≡ false
   discrepancy_at k low high =
@@ -385,8 +386,8 @@ module _ (place : ℕ) (some : 1 ≤ place) (few : place ≤ 400) (kinds : List 
   failure_count_is =
       omega (
         arith,
-        length-numbers_from (λ (node : Node). is_failure node.kind) 0 (named 0 all_kinds),
-        count-named 0 all_kinds,
+        length-numbers_from (λ (node : Node). is_failure node.kind) 0 (named_nodes 0 all_kinds),
+        count-named_nodes 0 all_kinds,
         sum_by-append (λ kind. cond (is_failure kind) 1 0) (failure_kinds 16) kinds,
         count-none kinds is.discrepancies,
         count_by-le-length is_failure (failure_kinds 16),
@@ -454,8 +455,8 @@ generated_failures number size =
     let own : count_by is_failure (failure_kinds 16) ≡ 16 = refl in
     omega (
       arith,
-      length-numbers_from (λ (node : Node). is_failure node.kind) 0 (named 0 (failure_kinds 16 ++ kinds)),
-      count-named 0 (failure_kinds 16 ++ kinds),
+      length-numbers_from (λ (node : Node). is_failure node.kind) 0 (named_nodes 0 (failure_kinds 16 ++ kinds)),
+      count-named_nodes 0 (failure_kinds 16 ++ kinds),
       sum_by-append (λ kind. cond (is_failure kind) 1 0) (failure_kinds 16) kinds,
       count-none kinds is.discrepancies,
       own,

@@ -21,7 +21,7 @@ use Rattle.tfpg_base.proofs.Numbers.{number_of-decimal}
 use Rattle.tfpg_base.proofs.Separators.{name_lacks, decimal_lacks, slice_split-join, lacks_checked}
 use Rattle.tfpg_graph.specs.declared.kind.Kind.{Kind}
 use Rattle.tfpg_graph.specs.declared.kind.Kind.TheVariants.{Failure}
-use Rattle.tfpg_graph.specs.Graph.{Tfpg, is_kind_at, is_failure, node_named, failures, place_of_failure}
+use Rattle.tfpg_graph.specs.Graph.{Tfpg, is_kind_at, is_failure, node_named, failures, position_of_failure}
 use Rattle.tfpg_graph.proofs.lemmas.reading.SpelledEdges.{name_of, node_named-name_of}
 use Rattle.tfpg_log.specs.declared.event.Event.{Event}
 use Rattle.tfpg_log.specs.LogOfLines.{log_of_lines}
@@ -33,11 +33,11 @@ use Rattle.tfpg_sim.specs.Simulated.{IsSimulationOf}
 use Rattle.tfpg_sim.specs.Generated.{draw, failure_count, node_name, failure_kinds, draft_of, generated_graph, generated_script, start_text, last_lines}
 use Rattle.tfpg_sim.specs.Simulation.{event_of_entry}
 use Rattle.tfpg_sim.specs.SimulatedLog.{with_started, set_of, alarm_time, with_alarm, with_alarms, log_events}
-use Rattle.tfpg_sim.specs.Script.{entry_in, entry_of, entry_with_name, failure_named, may_follow, with_line, with_next, read_lines, stopped, script_of, time_so_far}
+use Rattle.tfpg_sim.specs.Script.{entry_in, entry_of, entry_with_name, failure_named, may_follow, with_script_line, with_next, read_lines, stopped, script_of, time_so_far}
 use Rattle.tfpg_sim.proofs.AcceptedEvents.{clean, number_clean}
 use Rattle.tfpg_sim.proofs.ExplainedLogs.{events_are}
 use Rattle.tfpg_sim.proofs.PutAlarms.{put_there, one_more}
-use Rattle.tfpg_sim.proofs.GeneratedGraphs.{generated_valid, generated_failures, length-failure_kinds, failure_kind, length-named, get_or-named, node_of, is_name-node}
+use Rattle.tfpg_sim.proofs.GeneratedGraphs.{generated_valid, generated_failures, length-failure_kinds, failure_kind, length-named_nodes, get_or-named_nodes, node_of, is_name-node}
 
 -- the line by which a failure mode starts
 abbrev start_line : ℕ → ℕ → List ℕ
@@ -93,14 +93,14 @@ module _ (number size : ℕ) (some : 1 ≤ size) (few : size ≤ 100) where
   node_at : (node : ℕ) → node < 16 → slice_get graph.nodes node ≡ Some (node_of node (Failure (node + 1)))
   node_at node low =
       let within : node < length kinds = omega (arith, length-append (failure_kinds 16) (draft_of number size).kinds, length-failure_kinds 16) in
-      slice_get-get_or graph.nodes node (node_of 0 (Failure 0)) (omega (arith, within, length-named 0 kinds))
-      ∙ ap Some (get_or-named 0 kinds node (node_of 0 (Failure 0)) (Failure 0) within)
+      slice_get-get_or graph.nodes node (node_of 0 (Failure 0)) (omega (arith, within, length-named_nodes 0 kinds))
+      ∙ ap Some (get_or-named_nodes 0 kinds node (node_of 0 (Failure 0)) (Failure 0) within)
       ∙ ap (λ k. Some (node_of (0 + node) k))
       (get_or_append_left (failure_kinds 16) (draft_of number size).kinds (Failure 0) node (omega (arith, length-failure_kinds 16)) ∙ failure_kind 16 node (Failure 0) low)
       ∙ ap (λ n. Some (node_of n (Failure (node + 1)))) (let same : 0 + node ≡ node = omega arith in same)
 
   node_within : (node : ℕ) → node < 16 → node < length graph.nodes
-  node_within node low = omega (arith, length-append (failure_kinds 16) (draft_of number size).kinds, length-failure_kinds 16, length-named 0 kinds)
+  node_within node low = omega (arith, length-append (failure_kinds 16) (draft_of number size).kinds, length-failure_kinds 16, length-named_nodes 0 kinds)
 
   -- and is found by its name
   failure_there : (node : ℕ) → node < 16 → failure_named graph (node_name node) ≡ Some node
@@ -125,15 +125,15 @@ module _ (number size : ℕ) (some : 1 ≤ size) (few : size ≤ 100) where
   -- one start and the lines after it
   one_started : (node : ℕ) → node < 16 → read_lines graph (start_line 0 node ∷ fixed_lines) ≡ Ok (Start 0 node ∷ fixed_entries)
   one_started node low =
-      ap (λ o. fold (with_line graph) (with_next [] (option_and_then (λ e. then_some (may_follow [] e) e) o)) fixed_lines) (start_said 0 node (omega arith) low)
+      ap (λ o. fold (with_script_line graph) (with_next [] (option_and_then (λ e. then_some (may_follow [] e) e) o)) fixed_lines) (start_said 0 node (omega arith) low)
 
   -- two starts and the lines after them
   two_started : (node other : ℕ) → node < 16 → other < 16 → eqb node other ≡ false
       → read_lines graph (start_line 0 node ∷ start_line 50 other ∷ fixed_lines) ≡ Ok (Start 0 node ∷ Start 50 other ∷ fixed_entries)
   two_started node other low too apart =
-      ap (λ o. fold (with_line graph) (with_next [] (option_and_then (λ e. then_some (may_follow [] e) e) o)) (start_line 50 other ∷ fixed_lines)) (start_said 0 node (omega arith) low)
-      ∙ ap (λ o. fold (with_line graph) (with_next (Start 0 node ∷ []) (option_and_then (λ e. then_some (may_follow (Start 0 node ∷ []) e) e) o)) fixed_lines) (start_said 50 other (omega arith) too)
-      ∙ ap (λ b. fold (with_line graph) (with_next (Start 0 node ∷ []) (then_some b (Start 50 other))) fixed_lines) second_new
+      ap (λ o. fold (with_script_line graph) (with_next [] (option_and_then (λ e. then_some (may_follow [] e) e) o)) (start_line 50 other ∷ fixed_lines)) (start_said 0 node (omega arith) low)
+      ∙ ap (λ o. fold (with_script_line graph) (with_next (Start 0 node ∷ []) (option_and_then (λ e. then_some (may_follow (Start 0 node ∷ []) e) e) o)) fixed_lines) (start_said 50 other (omega arith) too)
+      ∙ ap (λ b. fold (with_script_line graph) (with_next (Start 0 node ∷ []) (then_some b (Start 50 other))) fixed_lines) second_new
     where
       second_new : may_follow (Start 0 node ∷ []) (Start 50 other) ≡ true
       second_new = ap (λ b. not (b || false)) apart
@@ -188,16 +188,16 @@ length-with_member place (first ∷ others) =
 module _ (graph : Tfpg) (few_failures : length (failures graph) ≤ 64) where
   -- a start makes a set at most one longer, and keeps it a set
   started_length : (time node : ℕ) (set : List ℕ) → length (with_started graph set (Start time node)) ≤ length set + 1
-  started_length time node set = by (place_of_failure graph node)
+  started_length time node set = by (position_of_failure graph node)
     where
       by : (o : Option ℕ) → length (unwrap_or (option_map (λ place. with_member place set) o) set) ≤ length set + 1
       by None = omega arith
       by (Some place) = length-with_member place set
 
   started_set : (time node : ℕ) (set : List ℕ) → IsSet set → IsSet (with_started graph set (Start time node))
-  started_set time node set is = by (place_of_failure graph node) refl
+  started_set time node set is = by (position_of_failure graph node) refl
     where
-      by : (o : Option ℕ) → place_of_failure graph node ≡ o → IsSet (unwrap_or (option_map (λ place. with_member place set) o) set)
+      by : (o : Option ℕ) → position_of_failure graph node ≡ o → IsSet (unwrap_or (option_map (λ place. with_member place set) o) set)
       by None at = is
       by (Some place) at = IsSet-with_member place set (let within = (position-Some (λ failure. eqb failure node) (failures graph) place 0 at).0 in omega arith) is
 

@@ -3,7 +3,7 @@ use Rattle.std.proofs.Common.{◌≡◌, ℕ, zero, suc, ◌+◌, ◌-◌, ◌%�
 use Rattle.std.specs.List.{scan, Contains}
 use Rattle.std.specs.Option.{option_map_or}
 use Rattle.std.proofs.lemmas.List.Elements.{All-contains}
-use Rattle.tfpg_base.proofs.lists.Elements.{All-from_members}
+use Rattle.tfpg_base.proofs.lists.Elements.{All-from_members, All-at}
 use Rattle.tfpg_base.specs.declared.activation.Activation.{Activation}
 use Rattle.tfpg_base.specs.Times.{max_time}
 use Rattle.tfpg_base.specs.Trace.{time_of}
@@ -20,7 +20,6 @@ use Rattle.tfpg_sim.specs.declared.entry.Entry.{Entry}
 use Rattle.tfpg_sim.specs.Script.{time_so_far}
 use Rattle.tfpg_sim.specs.Draws.{delays, delay_of, delay_count, generator, drawn, after_draw}
 use Rattle.tfpg_sim.specs.Simulation.{Carries, Arrives, IsFirst, IsSimulated, script_log}
-use Rattle.tfpg_sim.proofs.DrawLists.{All-item}
 
 module _ {S X Y : Type 0} (next : S → X → S) (out : S → X → Y) where
   -- what is drawn for an item
@@ -40,7 +39,7 @@ delay_at : (graph : Tfpg) (number n : ℕ) (edge : Edge) → IsValid graph → s
     → (delay : ℕ) × (slice_get (delays graph number) n ≡ Some delay) × (edge.tmin ≤ delay) × ((m : ℕ) → edge.tmax ≡ Some m → delay ≤ m)
 delay_at graph number n edge valid at =
     let found = scan_at (λ (before : Lcg) (e : Edge). after_draw before) (λ before e. delay_of e (drawn before)) (generator number 2) graph.edges n edge at in
-    let own = All-item (IsValidEdge graph) graph.edges n edge valid.so_far.edges at in (
+    let own = All-at (IsValidEdge graph) graph.edges n edge valid.so_far.edges at in (
       delay_of edge (drawn found.0),
       found.1,
       omega arith,

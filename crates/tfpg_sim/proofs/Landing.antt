@@ -1,6 +1,6 @@
 -- When flights land, span by span.
-use Rattle.std.proofs.Common.{◌≡◌, ℕ, zero, suc, ◌+◌, ◌<◌, ◌≤◌, ◌↔◌, max, ◌⊎◌, inl, inr, ⊎_elim, Bool, true, false, eqb, IsTrue, List, [], ◌∷◌, length, get_or, cond, Option, Some, None, slice_get, unwrap_or, refl, sym, ap, subst, ◌∙◌, arith}
-use Rattle.std.specs.Int.{bit_at}
+use Rattle.std.proofs.Common.{◌≡◌, ℕ, zero, suc, ◌+◌, ◌<◌, ◌≤◌, ◌↔◌, max, ◌⊎◌, inl, inr, ⊎_elim, Bool, true, false, IsTrue, List, [], ◌∷◌, length, get_or, cond, Option, Some, None, slice_get, unwrap_or, refl, sym, ap, subst, ◌∙◌, arith}
+use Rattle.tfpg_graph.specs.Graph.{is_allowed}
 use Rattle.std.proofs.lemmas.Option.{slice_get-get_or, slice_get_within}
 use Rattle.tfpg_log.specs.declared.span.Span.{Span}
 use Rattle.tfpg_log.specs.Log.{Logbook, mode_at}
@@ -47,13 +47,13 @@ module _ (log : Logbook) (flight : Flight) where
       → IsPending log (lo + 1) flight pending → IsPending log (later + 1) flight pending
   pending_stays lo later None upto same before = λ x next open_x.
       let here : x ≡ later = omega arith in
-      before lo (omega arith) (subst (λ mode. IsTrue (eqb (bit_at flight.modes mode) 1)) (ap (mode_at log) here ∙ same later upto (omega arith)) open_x)
+      before lo (omega arith) (subst (λ mode. IsTrue (is_allowed flight.edge mode)) (ap (mode_at log) here ∙ same later upto (omega arith)) open_x)
   pending_stays lo later (Some arrival) upto same before = (
     before.0,
     record {
       before = omega (arith, before.1.before);
       throughout = λ x from_x within. ⊎_elim (λ less. before.1.throughout x from_x less)
-          (λ past. subst (λ mode. IsTrue (eqb (bit_at flight.modes mode) 1)) (sym (same x (omega arith) (omega arith)))
+          (λ past. subst (λ mode. IsTrue (is_allowed flight.edge mode)) (sym (same x (omega arith) (omega arith)))
           (before.1.throughout lo (omega (arith, before.1.before)) (omega arith))) (let cases : (x < lo + 1) ⊎ (lo + 1 ≤ x) = grind arith in cases);
       alone = before.1.alone;
     },
@@ -84,7 +84,7 @@ module _ (log : Logbook) (flight : Flight) where
 module _ (log : Logbook) (flights : List Flight) where
   -- a flight, where there is none
   abbrev no_flight : Flight
-  no_flight = record { modes = 0; start = 0; delay = 0 }
+  no_flight = record { edge = record { source = 0; target = 0; tmin = 0; tmax = None; modes = 0 }; start = 0; delay = 0 }
 
   -- some flight has landed, or each, exactly where some of the times that are pending is reached, or each
   pub lands_reached : (needs_all : Bool) (x : ℕ) (pendings : List (Option ℕ)) → length pendings ≡ length flights
@@ -130,9 +130,9 @@ module _ (log : Logbook) (limit : ℕ) (flights : List Flight) (needs_all : Bool
     at : (x : ℕ) → span.lo ≤ x → x ≤ span.hi → ArePending log (x + 1) flights entered
     at x from upto = λ place flight is.
         let here = modes span.lo (omega arith) before.left.1 in
-        let test : ℕ → Type 0 = λ mode. IsTrue (eqb (bit_at flight.modes mode) 1) in
+        let test : ℕ → Type 0 = λ mode. IsTrue (is_allowed flight.edge mode) in
         pending_stays log flight span.lo x (get_or entered place None) from (λ y after within. modes y after (omega arith) ∙ sym here)
-        (pending_at log flight span.lo (get_or pendings place None) (eqb (bit_at flight.modes span.mode) 1) (subst test (sym here)) (subst test here)
+        (pending_at log flight span.lo (get_or pendings place None) (is_allowed flight.edge span.mode) (subst test (sym here)) (subst test here)
         (subst (λ n. IsPending log n flight (get_or pendings place None)) (sym before.left.0) (before.pending place flight is))
         (get_or entered place None) (enters place flight is))
 

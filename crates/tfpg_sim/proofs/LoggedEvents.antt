@@ -1,12 +1,11 @@
 -- The events of a simulated log: what each is, their order, and how many there are.
-use Rattle.std.proofs.Common.{◌≡◌, ℕ, zero, suc, ◌+◌, ◌-◌, ◌<◌, ◌≤◌, ⊎_elim, false, cond, List, [], ◌∷◌, length, get_or, filter_map, All, Contains, Option, Some, None, slice_get, refl, sym, ap, ◌∙◌, subst, arith}
+use Rattle.std.proofs.Common.{◌≡◌, ℕ, zero, suc, ◌+◌, ◌-◌, ◌<◌, ◌≤◌, ⊎_elim, false, cond, List, [], ◌∷◌, length, get_or, filter_map, All, Contains, Option, Some, None, refl, sym, ap, ◌∙◌, subst, arith}
 use Rattle.std.specs.Prelude.{AllPairs, IsTrue, count_by, slice_index_or}
 use Rattle.std.specs.Option.{option_map_or}
 use Rattle.std.proofs.lemmas.Bool.{cases_eq, false≢true}
 use Rattle.std.proofs.lemmas.List.Elements.{All-nil, All-cons, All-head, All-tail, All-weaker, Contains-get_or}
 use Rattle.std.proofs.lemmas.List.Sums.{sum_by-cons}
-use Rattle.std.proofs.lemmas.Option.{slice_get_within, get_or_from_slice_get}
-use Rattle.tfpg_base.proofs.lists.Elements.{AllPairs-head, AllPairs-tail}
+use Rattle.tfpg_base.proofs.lists.Elements.{AllPairs-head, AllPairs-tail, Contains-at}
 use Rattle.tfpg_base.specs.declared.activation.Activation.{Activation}
 use Rattle.tfpg_base.proofs.lists.Passing.{slice_get-filter_map, length-filter_map}
 use Rattle.tfpg_graph.specs.Graph.{Tfpg}
@@ -88,10 +87,6 @@ own_changes (entry ∷ entries) = by entry (own_changes entries)
     by (Tick time) rest = omega (arith, sum_by-cons change (event.Tick time) (filter_map event_of_entry entries), sum_by-cons counts (Tick time) entries)
     by (Stop time) rest = omega (arith, sum_by-cons change (event.Tick time) (filter_map event_of_entry entries), sum_by-cons counts (Stop time) entries)
 
--- an item that is read stands there
-pub Contains-read : {X : Type 0} (xs : List X) (n : ℕ) (x : X) → slice_get xs n ≡ Some x → Contains xs x
-Contains-read xs n x at = (n, slice_get_within xs n x at, get_or_from_slice_get xs n x x at)
-
 -- the last line is the stop
 stop_last : (entries : List Entry) → IsTrue (has_stopped entries) → last_of entries ≡ Some (Stop (time_so_far entries))
 stop_last entries stops = by (last_of entries) refl
@@ -117,7 +112,7 @@ module _ (graph : Tfpg) (entries : List Entry) (trace : List Activation) (latene
   abbrev pub alarm_at : ℕ → Option ℕ
   alarm_at node = alarm_time entries trace (slice_index_or latenesses node None) node stop
 
-  -- what an event is when the alarms of the first so many nodes are put among the script's own
+  -- what an event is when the alarms of the first so many nodes are inserted among the script's own
   abbrev pub IsLogged : ℕ → Event → Type 0
   IsLogged count (event.Alarm time node) = (node < count) × (alarm_at node ≡ Some time)
   IsLogged count (event.Silent time node) = ⊥
@@ -194,8 +189,8 @@ module _ (graph : Tfpg) (entries : List Entry) (trace : List Activation) (latene
       changes = omega (arith, own_changes entries, few_changes graph entries script);
       modes = λ instant. refl;
       last =
-          let there = slice_get-filter_map event_of_entry entries (Stop stop) (event.Tick stop) (Contains-read entries (length entries - 1) (Stop stop) (stop_last entries stops)) refl in
-          Contains-read (filter_map event_of_entry entries) there.0 (event.Tick stop) there.1;
+          let there = slice_get-filter_map event_of_entry entries (Stop stop) (event.Tick stop) (Contains-at entries (length entries - 1) (Stop stop) (stop_last entries stops)) refl in
+          Contains-at (filter_map event_of_entry entries) there.0 (event.Tick stop) there.1;
     }
 
     -- The script's own events with the alarms of the first so many nodes.

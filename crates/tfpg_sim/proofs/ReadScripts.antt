@@ -9,7 +9,7 @@ use Rattle.tfpg_base.specs.Lines.{lines_of}
 use Rattle.tfpg_graph.specs.Graph.{Tfpg}
 use Rattle.tfpg_sim.specs.declared.entry.Entry.{Entry}
 use Rattle.tfpg_sim.specs.declared.entry.Entry.TheVariants.{Start, Mode, Sweep, Tick, Stop}
-use Rattle.tfpg_sim.specs.Script.{next_entry, with_next, with_line, read_lines, stopped, script_of, has_stopped, is_new, changes_mode, max_entries, max_mode_lines}
+use Rattle.tfpg_sim.specs.Script.{next_entry, with_next, with_script_line, read_lines, stopped, script_of, has_stopped, is_new, changes_mode, max_entries, max_mode_lines}
 use Rattle.tfpg_sim.specs.inside.Entries.{IsScript}
 use Rattle.tfpg_sim.proofs.DrawLists.{take-item}
 use Rattle.tfpg_sim.proofs.ReadLines.{fault_stays}
@@ -18,14 +18,14 @@ use Rattle.tfpg_sim.proofs.ScriptOrder.{new_there}
 
 module _ (graph : Tfpg) where
   -- lines that are read after a script's make one
-  reads_script : (lines : List (List ℕ)) (before entries : List Entry) → IsScript graph before → fold (with_line graph) (Ok before) lines ≡ Ok entries → IsScript graph entries
+  reads_script : (lines : List (List ℕ)) (before entries : List Entry) → IsScript graph before → fold (with_script_line graph) (Ok before) lines ≡ Ok entries → IsScript graph entries
   reads_script [] before entries script read = subst (IsScript graph) (let same : before ≡ entries = cc in same) script
   reads_script (line ∷ lines) before entries script read =
       by (next_entry graph before line) refl read
       (λ entry is. reads_script lines (before ++ entry ∷ []) entries (script_push graph before (before ++ entry ∷ []) line entry is refl script))
     where
-      by : (o : Option Entry) → next_entry graph before line ≡ o → fold (with_line graph) (with_next before o) lines ≡ Ok entries
-          → ((entry : Entry) → next_entry graph before line ≡ Some entry → fold (with_line graph) (Ok (before ++ entry ∷ [])) lines ≡ Ok entries → IsScript graph entries)
+      by : (o : Option Entry) → next_entry graph before line ≡ o → fold (with_script_line graph) (with_next before o) lines ≡ Ok entries
+          → ((entry : Entry) → next_entry graph before line ≡ Some entry → fold (with_script_line graph) (Ok (before ++ entry ∷ [])) lines ≡ Ok entries → IsScript graph entries)
           → IsScript graph entries
       by None is faulty rest = absurd (let both : Err (length before + 1) ≡ Ok entries = sym (fault_stays graph (length before + 1) lines) ∙ faulty in cc)
       by (Some entry) is more rest = rest entry is more

@@ -1,5 +1,5 @@
 -- What is read of a script is one.
-use Rattle.std.proofs.Common.{◌≡◌, ℕ, ◌<◌, ◌≤◌, ◌⊎◌, ⊎_elim, Bool, true, false, nat_le, List, [], ◌∷◌, ◌++◌, length, take, Some, None, IsTrue, codes, bytes_eq, refl, sym, ap, ◌∙◌, subst, arith}
+use Rattle.std.proofs.Common.{◌≡◌, ℕ, ◌<◌, ◌≤◌, ◌⊎◌, ⊎_elim, true, nat_le, List, [], ◌∷◌, ◌++◌, length, take, Some, None, IsTrue, codes, bytes_eq, sym, ap, ◌∙◌, subst, arith}
 use Rattle.std.specs.Bool.{then_some}
 use Rattle.std.proofs.lemmas.Bool.{cond_both}
 use Rattle.std.proofs.lemmas.Bool.Decides.{nat_tests}
@@ -11,22 +11,17 @@ use Rattle.tfpg_base.specs.Words.{words_of, number_of}
 use Rattle.tfpg_base.specs.Times.{max_time}
 use Rattle.tfpg_graph.specs.Graph.{Tfpg, is_kind_at, is_failure, node_named, mode_named}
 use Rattle.tfpg_base.proofs.lists.Written.{slice_get-push_before, slice_get-push_at as slice_get-push_last}
-use Rattle.tfpg_base.proofs.lists.Choices.{option_and_then-some, option_map-some}
+use Rattle.tfpg_base.proofs.lists.Choices.{option_and_then-some, option_map-some, then_some-true}
 use Rattle.tfpg_sim.specs.declared.entry.Entry.{Entry}
 use Rattle.tfpg_sim.specs.declared.entry.Entry.TheVariants.{Start, Mode, Sweep, Tick, Stop}
 use Rattle.tfpg_sim.specs.Script.{time_in, failure_named, entry_alone, entry_with_name, entry_in, entry_of, may_follow, next_entry}
 use Rattle.tfpg_sim.specs.inside.Entries.{IsEntryOf, IsScript}
 
--- what a value that was tested is
-pub from_test : {X : Type 0} (b : Bool) (x y : X) → then_some b x ≡ Some y → (b ≡ true) × (x ≡ y)
-from_test true x y is = (refl, let same : x ≡ y = cc in same)
-from_test false x y is = absurd (let none : None ≡ Some y = is in cc)
-
 -- a time that is read is not too large
 time_small : (word : List ℕ) (time : ℕ) → time_in word ≡ Some time → time ≤ max_time
 time_small word time is =
     let number = option_and_then-some (λ n. then_some (nat_le n max_time) n) (number_of word) time is in
-    let test = from_test (nat_le number.0 max_time) number.0 time number.2 in
+    let test = then_some-true (nat_le number.0 max_time) number.0 time number.2 in
     let upto : number.0 ≤ max_time = (let holds = test.0 in grind (arith, nat_tests, holds)) in let same = test.1 in omega arith
 
 -- what a line says by one word is of the graph
@@ -44,7 +39,7 @@ alone_own graph word time entry small =
 failure_own : (graph : Tfpg) (name : List ℕ) (node : ℕ) → failure_named graph name ≡ Some node → IsTrue (is_kind_at is_failure graph node)
 failure_own graph name node is =
     let found = option_and_then-some (λ n. then_some (is_kind_at is_failure graph n) n) (node_named graph name) node is in
-    let test = from_test (is_kind_at is_failure graph found.0) found.0 node found.2 in
+    let test = then_some-true (is_kind_at is_failure graph found.0) found.0 node found.2 in
     subst (λ n. IsTrue (is_kind_at is_failure graph n)) test.1 test.0
 
 -- what a line says by a word and a name is of the graph
@@ -90,7 +85,7 @@ script_push graph before more line entry is are script = subst (IsScript graph) 
     found = option_and_then-some (λ e. then_some (may_follow before e) e) (entry_of graph line) entry is
 
     tested : (may_follow before found.0 ≡ true) × (found.0 ≡ entry)
-    tested = from_test (may_follow before found.0) found.0 entry found.2
+    tested = then_some-true (may_follow before found.0) found.0 entry found.2
 
     test : (may_follow before entry ≡ true) × (found.0 ≡ entry)
     test = (subst (λ e. may_follow before e ≡ true) tested.1 tested.0, tested.1)

@@ -2,7 +2,7 @@
 use Rattle.std.proofs.Common.{◌≡◌, ℕ, zero, suc, ◌+◌, ◌-◌, ◌≤◌, ⊎_elim, Bool, true, false, not, ◌&&◌, ◌||◌, cond, eqb, nat_le, nat_lt, List, [], ◌∷◌, ◌++◌, length, take, get_or, All, AllPairs, Option, Some, None, slice_get, refl, sym, ap, ◌∙◌, subst, arith}
 use Rattle.std.specs.List.{list_any}
 use Rattle.std.specs.Option.{option_or, option_map_or}
-use Rattle.std.proofs.lemmas.Bool.{cond-true, cond-false, eqb-true, ne_eqb, eq-eqb}
+use Rattle.std.proofs.lemmas.Bool.{cond-true, cond-false, eqb-true, ne_eqb, eq-eqb, cases_eq, not-true}
 use Rattle.std.proofs.lemmas.Bool.Decides.{nat_tests}
 use Rattle.std.proofs.lemmas.List.{take_all, get_or-take, length-take, length_push}
 use Rattle.std.proofs.lemmas.List.Elements.{All-nil, All-cons, All-append}
@@ -17,24 +17,20 @@ use Rattle.tfpg_sim.specs.declared.entry.Entry.TheVariants.{Start, Mode, Sweep, 
 use Rattle.tfpg_sim.specs.Script.{time_of_entry, time_so_far, last_of, may_follow, is_new, starts, has_stopped, max_entries}
 use Rattle.tfpg_sim.specs.inside.Entries.{IsEntryOf, IsScript}
 use Rattle.tfpg_sim.specs.Simulation.{start_of}
-use Rattle.tfpg_sim.proofs.DrawLists.{take-next, All-item}
-use Rattle.tfpg_sim.specs.inside.Settling.{IsStart, with_start}
-use Rattle.tfpg_sim.proofs.SettledNodes.{same_or_not}
+use Rattle.tfpg_sim.proofs.DrawLists.{take-next}
+use Rattle.tfpg_sim.specs.inside.Settling.{IsFailureStart, with_start}
+use Rattle.tfpg_base.proofs.lists.Elements.{All-at}
+use Rattle.tfpg_base.proofs.lists.Written.{slice_get-push_last}
 
 -- both of two tests that hold together
 and_both : (a b : Bool) → a && b ≡ true → (a ≡ true) × (b ≡ true)
 and_both true b is = (refl, is)
 and_both false b is = absurd (let no : false ≡ true = is in cc)
 
--- the last item of a list that has grown
-slice_get-last : (entries : List Entry) (entry : Entry) → slice_get (entries ++ entry ∷ []) (length entries) ≡ Some entry
-slice_get-last [] entry = refl
-slice_get-last (first ∷ entries) entry = slice_get-last entries entry
-
 last-push : (entries : List Entry) (entry : Entry) → last_of (entries ++ entry ∷ []) ≡ Some entry
 last-push entries entry =
     let at : length (entries ++ entry ∷ []) - 1 ≡ length entries = omega (arith, length_push entries entry) in
-    ap (slice_get (entries ++ entry ∷ [])) at ∙ slice_get-last entries entry
+    ap (slice_get (entries ++ entry ∷ [])) at ∙ slice_get-push_last entries entry
 
 time-push : (entries : List Entry) (entry : Entry) → time_so_far (entries ++ entry ∷ []) ≡ time_of_entry entry
 time-push entries entry = ap (λ o. option_map_or time_of_entry o 0) (last-push entries entry)
@@ -98,7 +94,7 @@ module _ (graph : Tfpg) (entries : List Entry) (script : IsScript graph entries)
       by : (o : Option Entry) → last_of entries ≡ o → option_map_or time_of_entry (last_of entries) 0 ≤ max_time
       by None is = subst (λ o. option_map_or time_of_entry o 0 ≤ max_time) (sym is) (omega arith)
       by (Some entry) is = subst (λ o. option_map_or time_of_entry o 0 ≤ max_time) (sym is)
-          (own_time entry (All-item (IsEntryOf graph) entries (length entries - 1) entry script.own is))
+          (own_time entry (All-at (IsEntryOf graph) entries (length entries - 1) entry script.own is))
 
 -- ---- what a script starts
 
@@ -133,10 +129,6 @@ not_started (Mode time mode ∷ entries) node none = not_started entries node no
 not_started (Sweep time ∷ entries) node none = not_started entries node none
 not_started (Tick time ∷ entries) node none = not_started entries node none
 not_started (Stop time ∷ entries) node none = not_started entries node none
-
-not_true : (b : Bool) → not b ≡ true → b ≡ false
-not_true true is = let both : false ≡ true = is in cc
-not_true false is = refl
 
 -- a trace with one time more
 pub All-with_time : (P : Activation → Type 0) (trace : List Activation) (node time : ℕ) → All P trace → P (record { node = node; time = time }) → All P (with_time node time trace)
@@ -181,10 +173,10 @@ module _ (graph : Tfpg) (entries : List Entry) (script : IsScript graph entries)
           ∙ cond-true (eqb started started) _ _ (eq-eqb started started refl))))
           (λ unlike. time_of-with_time_other trace started time node unlike ∙ sym same
           ∙ ap (option_or (start_of (take i entries) node)) (sym (cond-false (eqb started node) _ _ (ne_eqb started node unlike))))
-          (same_or_not started node)
+          (cases_eq started node)
         where
           none_yet : (n t : ℕ) → entry ≡ Start t n → start_of (take i entries) n ≡ None
-          none_yet n t is' = not_started (take i entries) n (not_true (list_any (starts n) (take i entries))
+          none_yet n t is' = not_started (take i entries) n (not-true (list_any (starts n) (take i entries))
               (subst (λ e. is_new (take i entries) e ≡ true) is' (new_there (take i entries) entry (script.follows i entry at))))
       by (Mode time mode) is = sym same
       by (Sweep time) is = sym same
@@ -192,11 +184,11 @@ module _ (graph : Tfpg) (entries : List Entry) (script : IsScript graph entries)
       by (Stop time) is = sym same
 
   -- and it has starts alone
-  pub own_step : (stop : ℕ) → All (λ e. time_of_entry e ≤ stop) entries → All (IsStart graph stop) trace → All (IsStart graph stop) (with_start entry trace)
-  own_step stop all own = by entry (All-item (IsEntryOf graph) entries i entry script.own at) (All-item (λ e. time_of_entry e ≤ stop) entries i entry all at)
+  pub own_step : (stop : ℕ) → All (λ e. time_of_entry e ≤ stop) entries → All (IsFailureStart graph stop) trace → All (IsFailureStart graph stop) (with_start entry trace)
+  own_step stop all own = by entry (All-at (IsEntryOf graph) entries i entry script.own at) (All-at (λ e. time_of_entry e ≤ stop) entries i entry all at)
     where
-      by : (e : Entry) → IsEntryOf graph e → time_of_entry e ≤ stop → All (IsStart graph stop) (with_start e trace)
-      by (Start time node) is upto = All-with_time (IsStart graph stop) trace node time own (is.1, upto)
+      by : (e : Entry) → IsEntryOf graph e → time_of_entry e ≤ stop → All (IsFailureStart graph stop) (with_start e trace)
+      by (Start time node) is upto = All-with_time (IsFailureStart graph stop) trace node time own (is.1, upto)
       by (Mode time mode) is upto = own
       by (Sweep time) is upto = own
       by (Tick time) is upto = own

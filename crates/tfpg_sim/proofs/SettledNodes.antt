@@ -1,10 +1,10 @@
 -- A simulation goes on by the earliest candidate.
-use Rattle.std.proofs.Common.{◌≡◌, ◌≢◌, ℕ, zero, suc, ◌&&◌, MatchOption, ◌<◌, ◌≤◌, ◌⊎◌, inl, inr, ⊎_elim, Bool, true, false, eqb, IsTrue, List, [], ◌∷◌, length, All, Option, Some, None, slice_get, refl, sym, ap, ◌∙◌, subst, arith}
+use Rattle.std.proofs.Common.{◌≡◌, ◌≢◌, ℕ, ◌&&◌, MatchOption, ◌<◌, ◌≤◌, ◌⊎◌, ⊎_elim, Bool, true, false, eqb, IsTrue, List, length, All, Option, Some, None, slice_get, refl, sym, ap, ◌∙◌, subst, arith}
 use Rattle.std.specs.List.{Contains}
-use Rattle.std.proofs.lemmas.Bool.{eqb-true, eqb-false, eq-eqb}
+use Rattle.std.proofs.lemmas.Bool.{eq-eqb, cases_eq}
 use Rattle.std.proofs.lemmas.List.{get_or_past}
 use Rattle.std.proofs.lemmas.List.Elements.{All-contains}
-use Rattle.tfpg_base.proofs.lists.Elements.{All-from_members, Contains-tail}
+use Rattle.tfpg_base.proofs.lists.Elements.{All-from_members, Contains-at}
 use Rattle.tfpg_base.proofs.lists.Passing.{Contains-filter_only}
 use Rattle.tfpg_base.specs.declared.activation.Activation.{Activation}
 use Rattle.tfpg_base.specs.Trace.{time_of, with_time}
@@ -18,23 +18,9 @@ use Rattle.tfpg_sim.specs.Simulation.{Carries, Arrives, IsFirst}
 use Rattle.tfpg_sim.proofs.ArrivingFlights.{IsFirst-same}
 use Rattle.tfpg_sim.specs.inside.Settling.{candidate_at, IsCandidate, AreCandidates, IsEarliest, IsEarliestBelow, IsUnderWay}
 
--- two numbers are one or not
-pub same_or_not : (a b : ℕ) → (a ≡ b) ⊎ (a ≢ b)
-same_or_not a b = by (eqb a b) refl
-  where
-    by : (same : Bool) → eqb a b ≡ same → (a ≡ b) ⊎ (a ≢ b)
-    by true is = inl (eqb-true a b is)
-    by false is = inr (eqb-false a b is)
-
 -- an option that is there is not absent
 some_none : {X : Type 0} (o : Option X) (x : X) → o ≡ Some x → o ≡ None → ⊥
 some_none o x some none = let both : Some x ≡ None = sym some ∙ none in cc
-
--- an item of a number is in the list
-item_in : {X : Type 0} (xs : List X) (n : ℕ) (x : X) → slice_get xs n ≡ Some x → Contains xs x
-item_in [] n x is = absurd (let none : None ≡ Some x = is in cc)
-item_in (y ∷ xs) zero x is = (0, omega arith, let same : y ≡ x = cc in same)
-item_in (y ∷ xs) (suc n) x is = Contains-tail y xs x (item_in xs n x is)
 
 -- no edge goes from the one node to the other
 no_edge : (graph : Tfpg) (settled node : ℕ) → edge_from_to graph settled node ≡ None
@@ -44,7 +30,7 @@ no_edge graph settled node none number edge member at same =
     let own : item.0 ≡ edge = (let both : Some item.0 ≡ Some edge = sym item.2 ∙ at in cc) in
     let passes : eqb edge.target node ≡ true = ap (λ (e : Edge). eqb e.target node) (sym own) ∙ (Contains-filter_only (λ (e : Edge). eqb e.target node) graph.edges item.0 item.1).2 in
     let fails = All-contains (λ (e : Edge). eqb e.source settled && eqb e.target node ≡ false) graph.edges edge
-    (All-none (λ (e : Edge). eqb e.source settled && eqb e.target node) graph.edges none) (item_in graph.edges number edge at) in
+    (All-none (λ (e : Edge). eqb e.source settled && eqb e.target node) graph.edges none) (Contains-at graph.edges number edge at) in
     let holds : eqb edge.source settled && eqb edge.target node ≡ true =
     (ap (λ b. b && eqb edge.target node) (eq-eqb edge.source settled (sym same)) ∙ passes) in
     let both : true ≡ false = sym holds ∙ fails in cc
@@ -78,7 +64,7 @@ module _ (graph : Tfpg) (log : Logbook) (delays : List ℕ) where
     -- what is active stays so
     pub keeps : (node start : ℕ) → time_of trace node ≡ Some start → time_of after node ≡ Some start
     keeps node start is = ⊎_elim (λ same. absurd (some_none (time_of trace settled) start (ap (time_of trace) same ∙ is) absent))
-        (λ unlike. time_of-with_time_other trace settled time node unlike ∙ is) (same_or_not settled node)
+        (λ unlike. time_of-with_time_other trace settled time node unlike ∙ is) (cases_eq settled node)
 
     -- the failure still arrives where it did
     pub grows : (node x : ℕ) → Arrives graph log delays trace node x → Arrives graph log delays after node x
@@ -92,7 +78,7 @@ module _ (graph : Tfpg) (log : Logbook) (delays : List ℕ) where
         (λ same. let start : Some time ≡ Some carries.age.start = sym (time_of-with_time trace settled time) ∙ ap (time_of after) same ∙ carries.age.source in
         let equal : time ≡ carries.age.start = cc in let since = carries.age.since in absurd (omega arith))
         (λ unlike. sym (time_of-with_time_other trace settled time carries.edge.source unlike) ∙ carries.age.source)
-        (same_or_not settled carries.edge.source)))
+        (cases_eq settled carries.edge.source)))
 
     -- nor where no edge comes from the node
     pub shrinks_apart : (node x : ℕ) → ((number : ℕ) (edge : Edge) → Contains (incoming graph node) number → slice_get graph.edges number ≡ Some edge → settled ≢ edge.source)
@@ -166,12 +152,12 @@ module _ (graph : Tfpg) (log : Logbook) (delays : List ℕ) (limit : ℕ) (start
         (subst (λ t. IsFirst (Arrives graph log delays after node) limit (Some t)) (own_time other start same at) (stays_first graph log delays trace node time is_absent limit node time (omega arith) its_first)))
         (λ unlike. let old = sym (time_of-with_time_other trace node time other unlike) ∙ at in
         stays_first graph log delays trace node time is_absent limit other start (under_way.ordered other start node time is old earliest.here) (under_way.settled other start is old))
-        (same_or_not node other);
+        (cases_eq node other);
     known = are;
     ordered = λ other start next due is at candidate. let upto = not_earlier next due candidate in
         ⊎_elim (λ same. let own = own_time other start same at in omega arith)
         (λ unlike. let old = under_way.ordered other start node time is (sym (time_of-with_time_other trace node time other unlike) ∙ at) earliest.here in omega arith)
-        (same_or_not node other);
+        (cases_eq node other);
   }
     where
       after : List Activation

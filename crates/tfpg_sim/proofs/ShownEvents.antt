@@ -9,7 +9,7 @@ use Rattle.tfpg_log.specs.declared.event.Event.{Event}
 use Rattle.tfpg_log.specs.declared.event.Event.TheVariants as event
 use Rattle.tfpg_log.specs.Log.{alarm_among}
 use Rattle.tfpg_log.specs.Explains.{Shows}
-use Rattle.tfpg_trace.proofs.Sweeps.{monitored_within}
+use Rattle.tfpg_graph.proofs.NodeAt.{monitored_within}
 use Rattle.tfpg_sim.specs.declared.entry.Entry.{Entry}
 use Rattle.tfpg_sim.specs.Draws.{latenesses}
 use Rattle.tfpg_sim.specs.Script.{time_so_far}

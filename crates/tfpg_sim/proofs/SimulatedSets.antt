@@ -5,7 +5,7 @@ use Rattle.std.proofs.lemmas.Bool.{cond_both}
 use Rattle.std.proofs.lemmas.List.Elements.{All-nil, All-cons, All-head, All-tail}
 use Rattle.std.proofs.lemmas.List.Quantifiers.{position-Some}
 use Rattle.tfpg_base.specs.Set.{with_member}
-use Rattle.tfpg_graph.specs.Graph.{Tfpg, failures, place_of_failure}
+use Rattle.tfpg_graph.specs.Graph.{Tfpg, failures, position_of_failure}
 use Rattle.tfpg_sim.specs.declared.entry.Entry.{Entry}
 use Rattle.tfpg_sim.specs.declared.entry.Entry.TheVariants.{Start, Mode, Sweep, Tick, Stop}
 use Rattle.tfpg_sim.specs.declared.simulated.Simulated.{Simulated}
@@ -26,9 +26,9 @@ module _ (graph : Tfpg) where
 
   -- a line starts failure modes of the graph
   started_in : (entry : Entry) (set : List ℕ) → All InGraph set → All InGraph (with_started graph set entry)
-  started_in (Start time node) set all = by (place_of_failure graph node) refl
+  started_in (Start time node) set all = by (position_of_failure graph node) refl
     where
-      by : (o : Option ℕ) → place_of_failure graph node ≡ o → All InGraph (unwrap_or (option_map (λ place. with_member place set) o) set)
+      by : (o : Option ℕ) → position_of_failure graph node ≡ o → All InGraph (unwrap_or (option_map (λ place. with_member place set) o) set)
       by None is = all
       by (Some place) is = with_member_in place set (position-Some (λ failure. failure == node) (failures graph) place 0 is).0 all
   started_in (Mode time mode) set all = all

@@ -4,8 +4,8 @@ use Rattle.std.proofs.lemmas.List.{append-nil, get_or-take, get_or_default, leng
 use Rattle.tfpg_base.specs.Times.{max_time}
 use Rattle.std.proofs.lemmas.Bool.{cond-true, cond-false, lt-ltb, le-ltb, cond_both}
 use Rattle.std.proofs.lemmas.Bool.Decides.{nat_tests}
-use Rattle.std.proofs.lemmas.List.Elements.{filter_map-append, All-nil, All-cons, All-append, All-contains, Contains-append_left, Contains-append_right}
-use Rattle.tfpg_base.proofs.lists.Elements.{All-from_members, Contains-head}
+use Rattle.std.proofs.lemmas.List.Elements.{filter_map-append, All-nil, All-cons, All-append, All-contains, Contains-append_right}
+use Rattle.tfpg_base.proofs.lists.Elements.{Contains-head, All-front}
 use Rattle.tfpg_log.specs.declared.span.Span.{Span}
 use Rattle.tfpg_log.specs.declared.event.Event.{Event}
 use Rattle.tfpg_log.specs.declared.event.Event.TheVariants as event
@@ -17,10 +17,7 @@ use Rattle.tfpg_sim.specs.Simulation.{event_of_entry, script_log}
 use Rattle.tfpg_sim.specs.inside.ModeSpans.{AreSpans, closed_by, current_after}
 use Rattle.tfpg_sim.proofs.Landing.{spans_rise}
 
--- what holds of all holds of the first of them, and of the last
-pub All-front : {X : Type 0} (P : X → Type 0) (xs ys : List X) → All P (xs ++ ys) → All P xs
-All-front P xs ys all = All-from_members P xs (λ x member. All-contains P (xs ++ ys) x all (Contains-append_left xs ys x member))
-
+-- what holds of all holds of the last of them
 All-last : {X : Type 0} (P : X → Type 0) (xs : List X) (x : X) → All P (xs ++ x ∷ []) → P x
 All-last P xs x all = All-contains P (xs ++ x ∷ []) x all (Contains-append_right xs (x ∷ []) x (Contains-head x []))
 

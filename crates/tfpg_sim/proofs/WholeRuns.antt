@@ -1,5 +1,5 @@
 -- How a simulation begins, goes on and ends.
-use Rattle.std.proofs.Common.{◌≡◌, ℕ, zero, suc, ◌+◌, ◌<◌, ◌≤◌, ⊎_elim, Bool, true, false, not, cond, IsTrue, List, length, get_or, All, Option, Some, None, is_none, option_map, slice_get, refl, sym, ap, ◌∙◌, subst, arith}
+use Rattle.std.proofs.Common.{◌≡◌, ℕ, zero, suc, ◌+◌, ◌<◌, ◌≤◌, ⊎_elim, true, false, cond, IsTrue, List, length, get_or, All, Option, Some, None, is_none, option_map, slice_get, refl, sym, ap, ◌∙◌, subst, arith}
 use Rattle.std.specs.Option.{option_map_or}
 use Rattle.std.proofs.lemmas.Option.{slice_get_within}
 use Rattle.tfpg_base.specs.declared.activation.Activation.{Activation}
@@ -9,9 +9,10 @@ use Rattle.tfpg_graph.specs.Graph.{Tfpg, Node, is_kind_at, is_failure}
 use Rattle.tfpg_sim.specs.declared.entry.Entry.{Entry}
 use Rattle.tfpg_sim.specs.Script.{time_so_far}
 use Rattle.tfpg_sim.specs.Simulation.{Arrives, IsFirst, IsSimulated, script_log, start_of}
-use Rattle.tfpg_sim.specs.inside.Settling.{candidate_at, AreCandidates, IsEarliest, IsUnderWay, IsStart, waiting_count}
+use Rattle.tfpg_sim.specs.inside.Settling.{candidate_at, AreCandidates, IsEarliest, IsUnderWay, IsFailureStart, waiting_count}
 use Rattle.tfpg_sim.proofs.ScriptOrder.{All-with_time, time_holds}
-use Rattle.tfpg_sim.proofs.SettledNodes.{settle, its_first, same_or_not}
+use Rattle.tfpg_sim.proofs.SettledNodes.{settle, its_first}
+use Rattle.std.proofs.lemmas.Bool.{cases_eq, not-true}
 
 -- a failure mode is a node of the graph
 failure_within : (graph : Tfpg) (node : ℕ) → IsTrue (is_kind_at is_failure graph node) → node < length graph.nodes
@@ -24,7 +25,7 @@ failure_within graph node is = by (slice_get graph.nodes node) refl
 module _ (graph : Tfpg) (entries : List Entry) (delays : List ℕ) (stop : ℕ) where
   -- it begins with the failure modes that the script starts
   pub begins : (trace : List Activation) (candidates : List (Option ℕ)) → ((node : ℕ) → time_of trace node ≡ start_of entries node)
-      → All (IsStart graph stop) trace → AreCandidates graph (script_log entries) delays stop trace candidates
+      → All (IsFailureStart graph stop) trace → AreCandidates graph (script_log entries) delays stop trace candidates
       → IsUnderWay graph (script_log entries) delays stop (start_of entries) trace candidates
   begins trace candidates times own known = record {
     within = λ k d below. failure_within graph (get_or trace k d).node (own k d below).0;
@@ -36,7 +37,7 @@ module _ (graph : Tfpg) (entries : List Entry) (delays : List ℕ) (stop : ℕ) 
   }
     where
       never : (node time : ℕ) → is_kind_at is_failure graph node ≡ false → time_of trace node ≡ Some time → ⊥
-      never node time unlike at = let both : false ≡ true = sym unlike ∙ (time_holds (IsStart graph stop) trace node time own at).0 in cc
+      never node time unlike at = let both : false ≡ true = sym unlike ∙ (time_holds (IsFailureStart graph stop) trace node time own at).0 in cc
 
   -- the times so far are small
   pub times_after : (trace : List Activation) (candidates : List (Option ℕ)) (node time : ℕ)
@@ -66,13 +67,9 @@ module _ (graph : Tfpg) (entries : List Entry) (delays : List ℕ) (stop : ℕ) 
     failure_modes = way.failure_modes;
     discrepancies = λ node within unlike.
         subst (λ limit. IsFirst (Arrives graph (script_log entries) delays trace node) limit (time_of trace node)) is
-        (by node within (not_true (is_kind_at is_failure graph node) unlike) (time_of trace node) refl);
+        (by node within (not-true (is_kind_at is_failure graph node) unlike) (time_of trace node) refl);
   }
     where
-      not_true : (b : Bool) → IsTrue (not b) → b ≡ false
-      not_true true holds = let both : false ≡ true = holds in cc
-      not_true false holds = refl
-
       by : (node : ℕ) → node < length graph.nodes → is_kind_at is_failure graph node ≡ false → (o : Option ℕ) → time_of trace node ≡ o
           → IsFirst (Arrives graph (script_log entries) delays trace node) stop (time_of trace node)
       by node within unlike (Some time) at = subst (IsFirst (Arrives graph (script_log entries) delays trace node) stop) (sym at) (way.settled node time unlike at)
@@ -106,4 +103,4 @@ module _ (trace : List Activation) (node time : ℕ) where
       (λ unlike. less_plus (waiting_count (with_time node time trace) n) (waiting_count trace n) _ _
       (waiting_less none n (let less : node < n = grind arith in less))
       (ap (λ o. cond (is_none o) 1 0) (time_of-with_time_other trace node time n unlike)))
-      (same_or_not node n)
+      (cases_eq node n)

@@ -5,6 +5,7 @@ use Rattle.rand_pcg.specs.Lcg.{Lcg, started, increment_of}
 use Rattle.rand_pcg.specs.Pcg.{multiplier_64, pcg32}
 use Rattle.tfpg_graph.specs.declared.edge.Edge.{Edge}
 use Rattle.tfpg_graph.specs.Graph.{Tfpg, Node, lag_of}
+use Rattle.tfpg_sim.specs.declared.limits.TheConstants.{OPEN_DELAYS}
 
 -- the generator of a number and a stream: that of `Lcg64Xsh32`
 abbrev pub generator : ℕ → ℕ → Lcg
@@ -20,7 +21,7 @@ after_draw state = (pcg32 (pcg32 state).1).1
 
 -- how many delays an edge may draw from its least one on
 abbrev pub delay_count : ℕ → Option ℕ → ℕ
-delay_count tmin None = 1000
+delay_count tmin None = OPEN_DELAYS
 delay_count tmin (Some tmax) = tmax - tmin + 1
 
 -- the delay of an edge by what is drawn for it

@@ -8,6 +8,7 @@ use Rattle.tfpg_graph.specs.declared.kind.Kind.{Kind}
 use Rattle.tfpg_graph.specs.declared.kind.Kind.TheVariants.{Failure, Or, And}
 use Rattle.tfpg_graph.specs.Graph.{Tfpg, Node}
 use Rattle.tfpg_sim.specs.Draws.{generator}
+use Rattle.tfpg_sim.specs.declared.limits.TheConstants.{FAILURE_COUNT, MAX_SIZE}
 
 -- the next word of a generator
 unfoldable pub next_word : Lcg → ℕ
@@ -26,9 +27,13 @@ after_words (suc count) state = after_words count (after_word state)
 abbrev pub draw : ℕ → ℕ → Lcg → ℕ
 draw bound count state = next_word (after_words count state) % bound
 
+-- the greatest size
+abbrev pub max_size : ℕ
+max_size = MAX_SIZE
+
 -- how many failure modes there are
 abbrev pub failure_count : ℕ
-failure_count = 16
+failure_count = FAILURE_COUNT
 
 -- how many discrepancies there are
 abbrev pub discrepancy_count : ℕ → ℕ
@@ -106,14 +111,14 @@ draft_after state zero = record { kinds = []; edges = []; state = state }
 draft_after state (suc place) = with_discrepancy (failure_count + place) (draft_after state place)
 
 -- the nodes of these kinds, numbered from this number on
-abbrev pub named : ℕ → List Kind → List Node
-named number [] = []
-named number (kind ∷ kinds) = record { name = node_name number; kind = kind } ∷ named (number + 1) kinds
+abbrev pub named_nodes : ℕ → List Kind → List Node
+named_nodes number [] = []
+named_nodes number (kind ∷ kinds) = record { name = node_name number; kind = kind } ∷ named_nodes (number + 1) kinds
 
 -- the graph of these discrepancies and edges: the failure modes come first, and there are two modes
-abbrev pub graph_of : List Kind → List Edge → Tfpg
-graph_of kinds edges = record {
-  nodes = named 0 (failure_kinds failure_count ++ kinds);
+abbrev pub drawn_graph : List Kind → List Edge → Tfpg
+drawn_graph kinds edges = record {
+  nodes = named_nodes 0 (failure_kinds failure_count ++ kinds);
   edges = edges;
   modes = codes "M0" ∷ codes "M1" ∷ [];
 }
@@ -124,7 +129,7 @@ draft_of number size = draft_after (generator number 1) (discrepancy_count size)
 
 -- The generated graph.
 abbrev pub generated_graph : ℕ → ℕ → Tfpg
-generated_graph number size = graph_of (draft_of number size).kinds (draft_of number size).edges
+generated_graph number size = drawn_graph (draft_of number size).kinds (draft_of number size).edges
 
 -- the line by which a failure mode starts
 abbrev pub start_text : ℕ → ℕ → List ℕ

@@ -7,15 +7,16 @@ use Rattle.tfpg_base.specs.Words.{words_of, number_of}
 use Rattle.tfpg_base.specs.Lines.{lines_of}
 use Rattle.tfpg_base.specs.Times.{max_time}
 use Rattle.tfpg_graph.specs.Graph.{Tfpg, is_kind_at, is_failure, node_named, mode_named}
+use Rattle.tfpg_sim.specs.declared.limits.TheConstants.{MAX_ENTRIES, MAX_MODE_LINES}
 use Rattle.tfpg_sim.specs.declared.entry.Entry.{Entry}
 use Rattle.tfpg_sim.specs.declared.entry.Entry.TheVariants.{Start, Mode, Sweep, Tick, Stop}
 
 -- how many lines a script has at most, and how many of them change the mode
 abbrev pub max_entries : ℕ
-max_entries = 8192
+max_entries = MAX_ENTRIES
 
 abbrev pub max_mode_lines : ℕ
-max_mode_lines = 1024
+max_mode_lines = MAX_MODE_LINES
 
 -- the time that a word spells, where it is a number and not too large
 abbrev pub time_in : List ℕ → Option ℕ
@@ -116,13 +117,13 @@ with_next before None = Err (length before + 1)
 with_next before (Some entry) = Ok (before ++ entry ∷ [])
 
 -- what is read with one line more, or the number of the first line at fault
-abbrev pub with_line : Tfpg → Result (List Entry) ℕ → List ℕ → Result (List Entry) ℕ
-with_line graph (Ok before) line = with_next before (next_entry graph before line)
-with_line graph (Err number) line = Err number
+abbrev pub with_script_line : Tfpg → Result (List Entry) ℕ → List ℕ → Result (List Entry) ℕ
+with_script_line graph (Ok before) line = with_next before (next_entry graph before line)
+with_script_line graph (Err number) line = Err number
 
 -- what the lines say, or the number of the first line at fault
 abbrev pub read_lines : Tfpg → List (List ℕ) → Result (List Entry) ℕ
-read_lines graph lines = fold (with_line graph) (Ok []) lines
+read_lines graph lines = fold (with_script_line graph) (Ok []) lines
 
 -- Where the stop is missing, the line after the last is at fault.
 abbrev pub stopped : Result (List Entry) ℕ → Result (List Entry) ℕ

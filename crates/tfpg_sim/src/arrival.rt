@@ -3,44 +3,41 @@
 ghost use Rattle.std.specs.Prelude.{◌≡◌, ◌≤◌, ◌<◌, ◌+◌, ◌^◌, ℕ, length, not, false, All, IfOk, IsTrue, filter_map};
 ghost use Rattle.tfpg_graph.specs.Graph.{is_kind_at, is_failure, incoming};
 ghost use Rattle.tfpg_log.specs.Log.{Logbook};
-ghost use Rattle.tfpg_sim.specs.inside.Arrivals.{flight_over};
+ghost use Rattle.tfpg_sim.specs.inside.Arrivals.{IsDelayed, flight_over};
 ghost use Rattle.tfpg_sim.specs.inside.ModeSpans.{AreSpans};
 ghost use Rattle.tfpg_sim.specs.Simulation.{IsFirst, Arrives};
 
+use crate::delayed::Delayed;
 use crate::flight::{Flight, first_landing};
 use std::alloc::Global;
 use tfpg_base::{NoMemory, Trace};
 use tfpg_graph::{Graph, Kind};
-use tfpg_log::Span;
 
 /// The first instant up to the limit at which the failure arrives at the discrepancy, by the spans of the modes up to
 /// there. Goes through the edges into the node in each span.
 pub(crate) fn first_arrival(
     alloc: Global,
-    graph: &Graph,
-    spans: &[Span],
-    delays: &[u64],
+    delayed: &Delayed<'_>,
     trace: &Trace,
     node: u32,
 ) -> Result<Option<u64>, NoMemory>
-    requires node { node < length graph.now.nodes }
-    requires discrepancy { is_kind_at is_failure graph.now node ≡ false }
-    requires each { length delays.now ≡ length graph.now.edges }
-    requires spans { All (λ span. span.lo ≤ 2 ^ 42) spans.now }
-    requires delays { All (λ delay. delay ≤ 2 ^ 42) delays.now }
+    requires node { node < length delayed.now.graph.now.nodes }
+    requires discrepancy { is_kind_at is_failure delayed.now.graph.now node ≡ false }
+    requires delayed { IsDelayed delayed.now }
     requires times { All (λ activation. activation.time ≤ 2 ^ 42) trace.now }
-    ensures { IfOk result (λ first. (log : Logbook) (limit : ℕ) → AreSpans log (limit + 1) 0 spans.now →
-        IsFirst (Arrives graph.now log delays.now trace.now node) limit first) }
+    ensures { IfOk result (λ first. (log : Logbook) (limit : ℕ) →
+        AreSpans log (limit + 1) 0 delayed.now.spans.now →
+        IsFirst (Arrives delayed.now.graph.now log delayed.now.delays.now trace.now node) limit first) }
 {
-    let flights = flights_into(alloc, graph, delays, trace, node)?;
-    match graph.kind(node) {
+    let flights = flights_into(alloc, delayed.graph, delayed.delays, trace, node)?;
+    match delayed.graph.kind(node) {
         Kind::Failure { .. } => Ok(None),
-        Kind::Or { .. } => first_landing(alloc, spans, &flights, false),
+        Kind::Or { .. } => first_landing(alloc, delayed.spans, &flights, false),
         Kind::And { .. } => {
-            if flights.len() < graph.incoming(node).len() {
+            if flights.len() < delayed.graph.incoming(node).len() {
                 return Ok(None);
             }
-            first_landing(alloc, spans, &flights, true)
+            first_landing(alloc, delayed.spans, &flights, true)
         }
     }
 }
@@ -77,7 +74,7 @@ fn flight_over(graph: &Graph, delays: &[u64], trace: &Trace, number: u32) -> Opt
     let edge = graph.edge(number);
     let start = trace.at(edge.source)?;
     Some(Flight {
-        modes: edge.modes,
+        edge,
         start,
         delay: delays[number as usize],
     })

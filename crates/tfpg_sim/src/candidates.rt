@@ -3,35 +3,31 @@
 ghost use Rattle.std.specs.Prelude.{◌≡◌, ◌≤◌, ◌<◌, ◌+◌, ◌^◌, ℕ, List, length, All, IfOk, Option, None, MatchOption};
 ghost use Rattle.tfpg_base.specs.declared.activation.Activation.{Activation};
 ghost use Rattle.tfpg_base.specs.Trace.{time_of, with_time};
-ghost use Rattle.tfpg_graph.specs.Graph.{is_kind_at, is_failure};
 ghost use Rattle.tfpg_log.specs.Log.{Logbook};
+ghost use Rattle.tfpg_sim.specs.inside.Arrivals.{IsDelayed};
 ghost use Rattle.tfpg_sim.specs.inside.ModeSpans.{AreSpans};
 ghost use Rattle.tfpg_sim.specs.inside.Settling.{IsCandidate, AreCandidates, IsEarliest, IsEarliestBelow, candidate_at};
 
 use crate::arrival::first_arrival;
+use crate::delayed::Delayed;
 use std::alloc::Global;
 use tfpg_base::{NoMemory, Trace};
-use tfpg_graph::{Graph, Kind};
-use tfpg_log::Span;
 
 /// The candidates of all nodes. Costs the first arrival at each node.
 pub(crate) fn first_candidates(
     alloc: Global,
-    graph: &Graph,
-    spans: &[Span],
-    delays: &[u64],
+    delayed: &Delayed<'_>,
     trace: &Trace,
 ) -> Result<Vec<Option<u64>>, NoMemory>
-    requires each { length delays.now ≡ length graph.now.edges }
-    requires spans { All (λ span. span.lo ≤ 2 ^ 42) spans.now }
-    requires delays { All (λ delay. delay ≤ 2 ^ 42) delays.now }
+    requires delayed { IsDelayed delayed.now }
     requires times { All (λ activation. activation.time ≤ 2 ^ 42) trace.now }
-    ensures { IfOk result (λ candidates. (log : Logbook) (limit : ℕ) → AreSpans log (limit + 1) 0 spans.now →
-        AreCandidates graph.now log delays.now limit trace.now candidates.items) }
+    ensures { IfOk result (λ candidates. (log : Logbook) (limit : ℕ) →
+        AreSpans log (limit + 1) 0 delayed.now.spans.now →
+        AreCandidates delayed.now.graph.now log delayed.now.delays.now limit trace.now candidates.items) }
 {
     let mut candidates = Vec::new(alloc);
-    for node in 0..graph.node_count() {
-        candidates.push(candidate(alloc, graph, spans, delays, trace, node)?)?;
+    for node in 0..delayed.graph.node_count() {
+        candidates.push(candidate(alloc, delayed, trace, node)?)?;
     }
     Ok(candidates)
 }
@@ -39,29 +35,25 @@ pub(crate) fn first_candidates(
 /// The candidates once one more node is active. Costs the first arrival at each node to which an edge goes from that one.
 pub(crate) fn candidates_after(
     alloc: Global,
-    graph: &Graph,
-    spans: &[Span],
-    delays: &[u64],
+    delayed: &Delayed<'_>,
     trace: &Trace,
     settled: u32,
     candidates: &[Option<u64>],
 ) -> Result<Vec<Option<u64>>, NoMemory>
-    requires settled { settled < length graph.now.nodes }
-    requires count { length candidates.now ≡ length graph.now.nodes }
-    requires each { length delays.now ≡ length graph.now.edges }
-    requires spans { All (λ span. span.lo ≤ 2 ^ 42) spans.now }
-    requires delays { All (λ delay. delay ≤ 2 ^ 42) delays.now }
+    requires settled { settled < length delayed.now.graph.now.nodes }
+    requires count { length candidates.now ≡ length delayed.now.graph.now.nodes }
+    requires delayed { IsDelayed delayed.now }
     requires times { All (λ activation. activation.time ≤ 2 ^ 42) trace.now }
     ensures { IfOk result (λ next. (log : Logbook) (limit : ℕ) (before : List Activation) (time : ℕ) →
-        AreSpans log (limit + 1) 0 spans.now →
+        AreSpans log (limit + 1) 0 delayed.now.spans.now →
         trace.now ≡ with_time settled time before → time_of before settled ≡ None →
-        AreCandidates graph.now log delays.now limit before candidates.now →
-        AreCandidates graph.now log delays.now limit trace.now next.items) }
+        AreCandidates delayed.now.graph.now log delayed.now.delays.now limit before candidates.now →
+        AreCandidates delayed.now.graph.now log delayed.now.delays.now limit trace.now next.items) }
 {
     let mut next = Vec::new(alloc);
-    for node in 0..graph.node_count() {
+    for node in 0..delayed.graph.node_count() {
         let before = candidates[node as usize];
-        next.push(candidate_after(alloc, graph, spans, delays, trace, settled, node, before)?)?;
+        next.push(candidate_after(alloc, delayed, trace, settled, node, before)?)?;
     }
     Ok(next)
 }
@@ -69,64 +61,49 @@ pub(crate) fn candidates_after(
 /// The candidate of the node once one more node is active. It is the same where no edge comes from that one.
 fn candidate_after(
     alloc: Global,
-    graph: &Graph,
-    spans: &[Span],
-    delays: &[u64],
+    delayed: &Delayed<'_>,
     trace: &Trace,
     settled: u32,
     node: u32,
     candidate_before: Option<u64>,
 ) -> Result<Option<u64>, NoMemory>
-    requires settled { settled < length graph.now.nodes }
-    requires node { node < length graph.now.nodes }
-    requires each { length delays.now ≡ length graph.now.edges }
-    requires spans { All (λ span. span.lo ≤ 2 ^ 42) spans.now }
-    requires delays { All (λ delay. delay ≤ 2 ^ 42) delays.now }
+    requires settled { settled < length delayed.now.graph.now.nodes }
+    requires node { node < length delayed.now.graph.now.nodes }
+    requires delayed { IsDelayed delayed.now }
     requires times { All (λ activation. activation.time ≤ 2 ^ 42) trace.now }
     ensures { IfOk result (λ next. (log : Logbook) (limit : ℕ) (before : List Activation) (time : ℕ) →
-        AreSpans log (limit + 1) 0 spans.now →
+        AreSpans log (limit + 1) 0 delayed.now.spans.now →
         trace.now ≡ with_time settled time before → time_of before settled ≡ None →
-        IsCandidate graph.now log delays.now limit before node candidate_before →
-        IsCandidate graph.now log delays.now limit trace.now node next) }
+        IsCandidate delayed.now.graph.now log delayed.now.delays.now limit before node candidate_before →
+        IsCandidate delayed.now.graph.now log delayed.now.delays.now limit trace.now node next) }
 {
-    if node != settled && graph.edge_between(settled, node).is_none() {
+    if node != settled && delayed.graph.edge_between(settled, node).is_none() {
         return Ok(candidate_before);
     }
-    candidate(alloc, graph, spans, delays, trace, node)
+    candidate(alloc, delayed, trace, node)
 }
 
 /// The first arrival at the node, where it is a discrepancy that is not active yet.
 fn candidate(
     alloc: Global,
-    graph: &Graph,
-    spans: &[Span],
-    delays: &[u64],
+    delayed: &Delayed<'_>,
     trace: &Trace,
     node: u32,
 ) -> Result<Option<u64>, NoMemory>
-    requires node { node < length graph.now.nodes }
-    requires each { length delays.now ≡ length graph.now.edges }
-    requires spans { All (λ span. span.lo ≤ 2 ^ 42) spans.now }
-    requires delays { All (λ delay. delay ≤ 2 ^ 42) delays.now }
+    requires node { node < length delayed.now.graph.now.nodes }
+    requires delayed { IsDelayed delayed.now }
     requires times { All (λ activation. activation.time ≤ 2 ^ 42) trace.now }
-    ensures { IfOk result (λ candidate. (log : Logbook) (limit : ℕ) → AreSpans log (limit + 1) 0 spans.now →
-        IsCandidate graph.now log delays.now limit trace.now node candidate) }
+    ensures { IfOk result (λ candidate. (log : Logbook) (limit : ℕ) →
+        AreSpans log (limit + 1) 0 delayed.now.spans.now →
+        IsCandidate delayed.now.graph.now log delayed.now.delays.now limit trace.now node candidate) }
 {
-    if is_failure(graph, node) {
+    if delayed.graph.kind(node).is_failure() {
         return Ok(None);
     }
     if trace.at(node).is_some() {
         return Ok(None);
     }
-    first_arrival(alloc, graph, spans, delays, trace, node)
-}
-
-/// Whether the node is a failure mode.
-fn is_failure(graph: &Graph, node: u32) -> bool
-    requires { node < length graph.now.nodes }
-    ensures { result ≡ is_kind_at is_failure graph.now node }
-{
-    matches!(graph.kind(node), Kind::Failure { .. })
+    first_arrival(alloc, delayed, trace, node)
 }
 
 /// The node with the least candidate, and its time.

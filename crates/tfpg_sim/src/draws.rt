@@ -4,8 +4,9 @@ ghost use Rattle.std.specs.Prelude.{◌≡◌, ◌≤◌, ◌<◌, ◌+◌, ◌^
 ghost use Rattle.tfpg_base.specs.Times.{max_time};
 ghost use Rattle.tfpg_graph.specs.Graph.{lag_of};
 ghost use Rattle.tfpg_sim.specs.Draws.{generator, drawn, after_draw, delay_count, delay_of, after_edges, delays_from, after_lag, latenesses_from, delays, latenesses};
-ghost use Rattle.tfpg_sim.specs.inside.Entries.{IsSmall};
+ghost use Rattle.tfpg_sim.specs.inside.Entries.{IsLatenessInRange};
 
+use crate::limits::OPEN_DELAYS;
 use rand_core::utils::NextWord;
 use rand_pcg::Lcg64Xsh32;
 use std::alloc::Global;
@@ -14,9 +15,6 @@ use tfpg_graph::{Edge, Graph, Kind};
 
 /// The stream of the generator from which a simulation draws.
 const STREAM: u64 = 2;
-
-/// How many delays an edge without a greatest one draws from.
-const OPEN_DELAYS: u64 = 1_000;
 
 /// The delay of each edge, and how late the alarm of each monitored node comes, in milliseconds.
 #[derive(Drop)]
@@ -31,7 +29,7 @@ pub(crate) fn draw(alloc: Global, graph: &Graph, number: u64) -> Result<Draws, N
     ensures latenesses { IfOk result (λ draws. draws.latenesses.items ≡ latenesses graph.now number) }
     ensures small_delays { IfOk result (λ draws. All (λ delay. delay ≤ 2 ^ 42) draws.delays.items) }
     ensures each_delay { IfOk result (λ draws. length draws.delays.items ≡ length graph.now.edges) }
-    ensures small_latenesses { IfOk result (λ draws. All IsSmall draws.latenesses.items) }
+    ensures small_latenesses { IfOk result (λ draws. All IsLatenessInRange draws.latenesses.items) }
     ensures each_lateness { IfOk result (λ draws. length draws.latenesses.items ≡ length graph.now.nodes) }
 {
     let mut state = Lcg64Xsh32::new(number, STREAM);
@@ -78,7 +76,7 @@ fn draw_latenesses(
 ) -> Result<Vec<Option<u64>>, NoMemory>
     ensures latenesses { IfOk result (λ latenesses. latenesses.items ≡
         latenesses_from state.old graph.now.nodes) }
-    ensures small { IfOk result (λ latenesses. All IsSmall latenesses.items) }
+    ensures small { IfOk result (λ latenesses. All IsLatenessInRange latenesses.items) }
     ensures count { IfOk result (λ latenesses. length latenesses.items ≡ length graph.now.nodes) }
 {
     let mut latenesses = Vec::new(alloc);
@@ -91,16 +89,12 @@ fn draw_latenesses(
 /// Draws the lateness of a node of this kind, where it is monitored.
 fn draw_lateness(kind: Kind, state: &mut Lcg64Xsh32) -> Option<u64>
     requires { IfSome (lag_of kind) (λ lag. lag ≤ max_time) }
-    ensures small { IsSmall result }
+    ensures small { IsLatenessInRange result }
     ensures lateness { result ≡ option_map (λ lag. drawn state.old % (lag + 1)) (lag_of kind) }
     ensures after { state.new ≡ after_lag state.old (lag_of kind) }
 {
-    match kind {
-        Kind::Or { lag: Some(lag) } | Kind::And { lag: Some(lag) } => {
-            Some(draw_value(state) % (lag + 1))
-        }
-        Kind::Failure { .. } | Kind::Or { lag: None } | Kind::And { lag: None } => None,
-    }
+    let lag = kind.lag()?;
+    Some(draw_value(state) % (lag + 1))
 }
 
 /// Takes a draw: two words, the high half first.

@@ -18,7 +18,7 @@ impl From<NoMemory> for SimFault {
 
     ghost from_gives = { λ _ f. f ≡ fault.NoMemory };
 
-    fn from(_wanting: NoMemory) -> SimFault {
+    fn from(_e: NoMemory) -> SimFault {
         SimFault::NoMemory
     }
 }
@@ -29,7 +29,7 @@ impl<T: Drop> From<AllocFailed<T>> for SimFault {
 
     ghost from_gives = { λ _ f. f ≡ fault.NoMemory };
 
-    fn from(_wanting: AllocFailed<T>) -> SimFault {
+    fn from(_e: AllocFailed<T>) -> SimFault {
         SimFault::NoMemory
     }
 }

@@ -1,7 +1,6 @@
 //! Propagations under way over the edges into one node, and when they land.
 
 ghost use Rattle.std.specs.Prelude.{◌≡◌, ◌≤◌, ◌+◌, ◌^◌, ◌==◌, ◌↔◌, ℕ, true, false, length, vec_len, All, IfOk, Some, None, slice_get, slice_index_or};
-ghost use Rattle.std.specs.Int.{bit_at};
 ghost use Rattle.tfpg_log.specs.Log.{Logbook};
 ghost use Rattle.tfpg_sim.specs.inside.Flights.{IsReached, ReachedBy, ReachedByEither, LandsBy, IsFirstIn, pending_in};
 ghost use Rattle.tfpg_sim.specs.inside.ModeSpans.{AreSpans};
@@ -9,13 +8,14 @@ ghost use Rattle.tfpg_sim.specs.Simulation.{IsFirst};
 
 use std::alloc::Global;
 use tfpg_base::NoMemory;
+use tfpg_graph::Edge;
 use tfpg_log::Span;
 
-/// A propagation over an edge whose source became active at `start`: it takes `delay` milliseconds, in which the mode must
-/// be one of `modes`.
+/// A propagation over an edge whose source became active at `start`: it takes `delay` milliseconds, in which the edge must
+/// be active.
 #[derive(Clone, Copy)]
 pub(crate) struct Flight {
-    pub(crate) modes: u64,
+    pub(crate) edge: Edge,
     pub(crate) start: u64,
     pub(crate) delay: u64,
 }
@@ -95,20 +95,13 @@ fn pending_in(span: Span, flight: Flight, pending: Option<u64>) -> Option<u64>
     requires delay { flight.delay ≤ 2 ^ 42 }
     ensures { result ≡ pending_in span flight pending }
 {
-    if !has_mode(flight.modes, span.mode) {
+    if !flight.edge.is_allowed(span.mode) {
         return None;
     }
     match pending {
         Some(arrival) => Some(arrival),
         None => Some(span.lo.max(flight.start) + flight.delay),
     }
-}
-
-/// Whether the set has the mode: its bit is set.
-fn has_mode(modes: u64, mode: u32) -> bool
-    ensures { result ≡ (bit_at modes mode == 1) }
-{
-    mode < 64 && modes >> mode & 1 == 1
 }
 
 /// The first instant of the span from the arrival on.

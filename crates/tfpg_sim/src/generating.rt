@@ -2,7 +2,7 @@
 
 ghost use Rattle.std.specs.Prelude.{◌≡◌, ◌≤◌, IfOk};
 ghost use Rattle.tfpg_graph.specs.Valid.{IsValid};
-ghost use Rattle.tfpg_sim.specs.Generated.{generated_graph, generated_script};
+ghost use Rattle.tfpg_sim.specs.Generated.{generated_graph, generated_script, max_size};
 
 mod draft;
 mod draws;
@@ -11,7 +11,7 @@ mod node_name;
 mod script_text;
 
 use crate::generating::draft::draw_draft;
-use crate::generating::graph_text::graph_of;
+use crate::generating::graph_text::drawn_graph;
 use crate::generating::script_text::draw_script;
 use rand_pcg::Lcg64Xsh32;
 use std::alloc::Global;
@@ -36,7 +36,7 @@ pub struct Generated {
 /// size, but for look-ups by name.
 pub fn generate(alloc: Global, number: u64, size: u32) -> Result<Generated, NoMemory>
     requires some { 1 ≤ size }
-    requires few { size ≤ 100 }
+    requires few { size ≤ max_size }
     ensures graph { IfOk result (λ generated. generated.graph ≡ generated_graph number size) }
     ensures valid { IfOk result (λ generated. IsValid generated.graph) }
     ensures script { IfOk result (λ generated. generated.script ≡ generated_script number size) }
@@ -44,6 +44,6 @@ pub fn generate(alloc: Global, number: u64, size: u32) -> Result<Generated, NoMe
     let mut state = Lcg64Xsh32::new(number, STREAM);
     let draft = draw_draft(alloc, 4 * size, &mut state)?;
     let script = draw_script(alloc, &mut state)?;
-    let graph = graph_of(alloc, &draft)?;
+    let graph = drawn_graph(alloc, &draft)?;
     Ok(Generated { graph, script })
 }

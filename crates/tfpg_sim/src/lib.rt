@@ -15,12 +15,14 @@
 mod alarms;
 mod arrival;
 mod candidates;
+mod delayed;
 mod draws;
 mod entry;
 mod fault;
 mod flight;
 mod generating;
 pub mod laws;
+mod limits;
 mod log_lines;
 mod mode_spans;
 mod script;
@@ -32,5 +34,6 @@ mod trace;
 
 pub use fault::SimFault;
 pub use generating::{Generated, generate};
+pub use limits::{FAILURE_COUNT, MAX_ENTRIES, MAX_MODE_LINES, MAX_SIZE, OPEN_DELAYS};
 pub use simulated::Simulated;
 pub use simulation::simulate;

@@ -8,7 +8,7 @@ ghost use Rattle.tfpg_sim.specs.inside.Entries.{IsNamed};
 
 use itoa::Buffer;
 use std::alloc::Global;
-use tfpg_base::{Bytes, NoMemory, put_line};
+use tfpg_base::{Bytes, NoMemory, append_line};
 use tfpg_graph::Graph;
 use tfpg_log::Event;
 
@@ -18,33 +18,33 @@ pub(crate) fn log_text(alloc: Global, graph: &Graph, events: &[Event]) -> Result
     ensures { IfOk result (λ text. text ≡ log_text graph.now events.now) }
 {
     let mut text = Vec::new(alloc);
-    put_events(graph, events, &mut text)?;
+    append_events(graph, events, &mut text)?;
     Ok(Bytes::from_vec(text))
 }
 
 /// Appends the lines of the events.
-fn put_events(graph: &Graph, events: &[Event], into: &mut Vec<u8>) -> Result<(), NoMemory>
+fn append_events(graph: &Graph, events: &[Event], into: &mut Vec<u8>) -> Result<(), NoMemory>
     requires { All (IsNamed graph.now) events.now }
     ensures { Appends result into.old.items into.new.items (flat_map (event_line graph.now) events.now) }
 {
     for event in events {
-        put_event(graph, *event, into)?;
+        append_event(graph, *event, into)?;
     }
     Ok(())
 }
 
 /// Appends the line of an event.
-fn put_event(graph: &Graph, event: Event, into: &mut Vec<u8>) -> Result<(), NoMemory>
+fn append_event(graph: &Graph, event: Event, into: &mut Vec<u8>) -> Result<(), NoMemory>
     requires { IsNamed graph.now event }
     ensures { Appends result into.old.items into.new.items (event_line graph.now event) }
 {
     let mut digits = Buffer::new();
     let time = digits.format(event.time()).as_bytes();
     match event {
-        Event::Alarm { node, .. } => put_line(into, &[time, b"alarm", graph.name(node)]),
-        Event::Silent { node, .. } => put_line(into, &[time, b"silent", graph.name(node)]),
-        Event::Sweep { .. } => put_line(into, &[time, b"sweep"]),
-        Event::Tick { .. } => put_line(into, &[time, b"tick"]),
-        Event::Mode { mode, .. } => put_line(into, &[time, b"mode", graph.mode_name(mode)]),
+        Event::Alarm { node, .. } => append_line(into, &[time, b"alarm", graph.name(node)]),
+        Event::Silent { node, .. } => append_line(into, &[time, b"silent", graph.name(node)]),
+        Event::Sweep { .. } => append_line(into, &[time, b"sweep"]),
+        Event::Tick { .. } => append_line(into, &[time, b"tick"]),
+        Event::Mode { mode, .. } => append_line(into, &[time, b"mode", graph.mode_name(mode)]),
     }
 }

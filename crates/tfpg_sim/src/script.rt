@@ -8,16 +8,11 @@ ghost use Rattle.tfpg_sim.specs.ScriptAnswers.{IsFaultAt};
 
 use crate::SimFault;
 use crate::entry::Entry;
+use crate::limits::{MAX_ENTRIES, MAX_MODE_LINES};
 use crate::script_line::read_entry;
 use std::alloc::Global;
 use tfpg_base::without_last_line_end;
 use tfpg_graph::Graph;
-
-/// How many lines a script has at most.
-const MAX_ENTRIES: usize = 8_192;
-
-/// How many of them may change the mode.
-const MAX_MODE_LINES: usize = 1_024;
 
 /// The lines of the script, of which the last is the stop, or the number of the first line at fault. Takes time linear in
 /// the text, but for look-ups by name, and for each start and each change of mode a walk over the lines before it, of

@@ -5,7 +5,7 @@ ghost use Rattle.tfpg_sim.specs.Script.{time_in, failure_named, entry_alone, ent
 
 use crate::entry::Entry;
 use tfpg_base::{MAX_TIME, Number, Words, read_number};
-use tfpg_graph::{Graph, Kind};
+use tfpg_graph::Graph;
 
 /// What the line says, where it has one of the five shapes and its time and name are right. Takes time in its length, and
 /// at most one look-up by name.
@@ -72,8 +72,9 @@ fn failure_named(graph: &Graph, name: &[u8]) -> Option<u32>
     ensures { result ≡ failure_named graph.now name.now }
 {
     let node = graph.find(name)?;
-    match graph.kind(node) {
-        Kind::Failure { .. } => Some(node),
-        Kind::Or { .. } | Kind::And { .. } => None,
+    if graph.kind(node).is_failure() {
+        Some(node)
+    } else {
+        None
     }
 }

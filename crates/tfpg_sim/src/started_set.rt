@@ -1,7 +1,7 @@
 //! The set of failure modes that a script starts.
 
 ghost use Rattle.std.specs.Prelude.{◌≡◌, ◌<◌, All, IfSome, IsTrue};
-ghost use Rattle.tfpg_graph.specs.Graph.{is_kind_at, is_failure, place_of_failure};
+ghost use Rattle.tfpg_graph.specs.Graph.{is_kind_at, is_failure, position_of_failure};
 ghost use Rattle.tfpg_sim.specs.inside.Entries.{IsEntryOf};
 ghost use Rattle.tfpg_sim.specs.SimulatedLog.{set_of, with_started};
 
@@ -38,9 +38,9 @@ fn with_started(graph: &Graph, set: Set, entry: Entry) -> Set
 /// The position of the failure mode.
 fn position_of(graph: &Graph, node: u32) -> Option<u32>
     requires { IsTrue (is_kind_at is_failure graph.now node) }
-    ensures place { result ≡ place_of_failure graph.now node }
+    ensures place { result ≡ position_of_failure graph.now node }
     ensures small { IfSome result (λ place. place < 64) }
 {
     let _few = graph.node_count();
-    graph.place_of(node)
+    graph.position_of(node)
 }

@@ -11,9 +11,10 @@ ghost use Rattle.tfpg_graph.specs.Graph.{Tfpg};
 ghost use Rattle.tfpg_sim.specs.Script.{time_so_far, time_of_entry};
 ghost use Rattle.tfpg_sim.specs.inside.Entries.{IsScript};
 ghost use Rattle.tfpg_sim.specs.Simulation.{IsSimulated, start_of};
-ghost use Rattle.tfpg_sim.specs.inside.Settling.{IsStart, with_start};
+ghost use Rattle.tfpg_sim.specs.inside.Settling.{IsFailureStart, with_start};
 
 use crate::candidates::{candidates_after, earliest, first_candidates};
+use crate::delayed::Delayed;
 use crate::entry::Entry;
 use crate::mode_spans::spans_of;
 use std::alloc::Global;
@@ -36,12 +37,17 @@ pub(crate) fn trace_of(
 {
     let stop = last_time(entries);
     let spans = spans_of(alloc, entries, stop)?;
+    let delayed = Delayed {
+        graph,
+        spans: &spans,
+        delays,
+    };
     let mut trace = started(alloc, entries)?;
     let _few = graph.node_count();
-    let mut candidates = first_candidates(alloc, graph, &spans, delays, &trace)?;
+    let mut candidates = first_candidates(alloc, &delayed, &trace)?;
     while let Some((node, time)) = earliest(&candidates) {
         trace.set(node, time)?;
-        candidates = candidates_after(alloc, graph, &spans, delays, &trace, node, &candidates)?;
+        candidates = candidates_after(alloc, &delayed, &trace, node, &candidates)?;
     }
     let _rising = trace.as_slice();
     Ok(trace)
@@ -62,7 +68,7 @@ fn started(alloc: Global, entries: &[Entry]) -> Result<Trace, NoMemory>
     ensures times { IfOk result (λ trace. (graph : Tfpg) → IsScript graph entries.now →
         (node : ℕ) → time_of trace node ≡ start_of entries.now node) }
     ensures own { IfOk result (λ trace. (graph : Tfpg) (stop : ℕ) → IsScript graph entries.now →
-        All (λ entry. time_of_entry entry ≤ stop) entries.now → All (IsStart graph stop) trace) }
+        All (λ entry. time_of_entry entry ≤ stop) entries.now → All (IsFailureStart graph stop) trace) }
 {
     let mut trace = Trace::new(alloc);
     for entry in entries {

@@ -1,8 +1,9 @@
 -- What a search represents from one event to the next, and when it may be asked again.
-use Rattle.std.proofs.Common.{◌≡◌, ◌⊎◌, ℕ, List, [], ◌∷◌, length, refl, sym, ap, subst, ◌∙◌, inl, inr, ⊎_elim, Bool, false, IsTrue}
+use Rattle.std.proofs.Common.{◌≡◌, ◌⊎◌, ◌≤◌, ℕ, List, [], ◌∷◌, length, take, refl, sym, ap, subst, ◌∙◌, inl, inr, ⊎_elim, Bool, false, IsTrue, arith}
 use Rattle.std.specs.Prelude.{Ok}
 use Rattle.std.proofs.lemmas.Bool.{false≢true}
-use Rattle.std.proofs.Math.Seq.{take-append_seam}
+use Rattle.std.proofs.lemmas.List.{take-append-le, length-take}
+use Rattle.std.proofs.Math.Seq.{take-length}
 use Rattle.tfpg_graph.specs.Graph.{Tfpg}
 use Rattle.tfpg_log.specs.declared.event.Event.{Event}
 use Rattle.tfpg_log.specs.Log.{Logbook, first_events, with_event}
@@ -14,29 +15,36 @@ use Rattle.tfpg_search.specs.declared.found.Found.TheVariants.{Shown, Closed, Sp
 use Rattle.tfpg_search.specs.Searching.{Searching, SearchRepresents, RepresentsSome}
 use Rattle.tfpg_search.specs.Searched.{with_steps, IsSearched}
 
--- the first events of a log that is longer by one are the log as it was
-before_last : (log : Logbook) (event : Event) (seen : ℕ) → seen ≡ length log.events → first_events (with_event log event) seen ≡ log
-before_last log event seen is =
-    ap (λ (count : ℕ). first_events (with_event log event) count) is ∙ ap (λ (events : List Event). record { events = events }) (take-append_seam log.events (event ∷ []))
+-- what was seen of a log are as many events as it has
+within : (seen : ℕ) (events : List Event) → seen ≡ length (take seen events) → seen ≤ length events
+within seen events is = grind (arith, is, length-take seen events)
 
--- What a search represents at a log, it represents at the first events of the longer one.
+-- What a search represents at a log, it represents at the longer one.
 pub represents_still : (graph : Tfpg) (old new : Logbook) (search : Searching) → ((event : Event) × (new ≡ with_event old event))
-    → ((steps : List Judged) × SearchRepresents graph old search steps) → RepresentsSome graph new search
+    → RepresentsSome graph old search → RepresentsSome graph new search
 represents_still graph old new search longer some = (
   some.0,
-  subst (λ (log : Logbook). SearchRepresents graph log search some.0)
-      (sym (ap (λ (log : Logbook). first_events log search.seen) longer.1 ∙ before_last old longer.0 search.seen some.1.seen)) some.1,
+  subst (λ (events : List Event). SearchRepresents graph (record { events = events }) search some.0)
+      (sym (ap (λ (log : Logbook). take search.seen log.events) longer.1 ∙ take-append-le search.seen old.events (longer.0 ∷ []) (within search.seen old.events some.1.seen))) some.1,
+)
+
+-- What it represents at the whole log, it represents at the first events of it.
+at_first : (graph : Tfpg) (log : Logbook) (search : Searching) (steps : List Judged) → SearchRepresents graph log search steps → RepresentsSome graph log search
+at_first graph log search steps represents = (
+  steps,
+  subst (λ (events : List Event). SearchRepresents graph (record { events = events }) search steps)
+      (sym (ap (λ (count : ℕ). take count log.events) represents.seen ∙ take-length log.events)) represents,
 )
 
 -- Whatever it found but a refutation, it represents all steps at the whole log.
 pub may_go_on : (graph : Tfpg) (log : Logbook) (budget : ℕ) (old new : Searching) (before after : List Step) (found : Found)
     → RepresentsSome graph log old → IsSearched graph log budget old new before after (Ok found)
-    → (found ≡ Closed) ⊎ ((steps : List Judged) × SearchRepresents graph log new steps)
+    → (found ≡ Closed) ⊎ RepresentsSome graph log new
 may_go_on graph log budget old new before after (Shown trace) some searched =
-    inr (with_steps some.0 log searched.added, (searched.found some.0 some.1).1)
+    inr (at_first graph log new (with_steps some.0 log searched.added) (searched.found some.0 some.1).1)
 may_go_on graph log budget old new before after Closed some searched = inl refl
 may_go_on graph log budget old new before after Spent some searched =
-    inr (with_steps some.0 log searched.added, (searched.found some.0 some.1).2)
+    inr (at_first graph log new (with_steps some.0 log searched.added) (searched.found some.0 some.1).2)
 
 -- A new search represents some steps at the first events of any log: it has seen none of them.
 pub new_represents : (graph : Tfpg) (log : Logbook) (search : Searching) → SearchRepresents graph new_log search [] → RepresentsSome graph log search

@@ -1,13 +1,12 @@
 //! The public calls of `tfpg_search`: what a search finds for worked logs, whether it is asked at every event or once at the
 //! end, and how it goes on after its budget was spent.
 
-ghost use Rattle.std.specs.Prelude.{◌≡◌, ◌⊎◌, ◌<◌, ◌≤◌, [], List, length, All, IsTrue, IfOk, IfSome, OnOk};
+ghost use Rattle.std.specs.Prelude.{◌≡◌, ◌⊎◌, ◌<◌, ◌≤◌, [], length, All, IsTrue, IfOk, IfSome, OnOk};
 ghost use Rattle.tfpg_graph.specs.Graph.{failures};
 ghost use Rattle.tfpg_log.specs.declared.event.Event.{Event};
 ghost use Rattle.tfpg_log.specs.Log.{IsOf, with_event};
 ghost use Rattle.tfpg_log.specs.LogOfLines.{new_log};
-ghost use Rattle.tfpg_clause.specs.Trees.{Judged};
-ghost use Rattle.tfpg_search.specs.Searching.{SearchRepresents};
+ghost use Rattle.tfpg_search.specs.Searching.{SearchRepresents, RepresentsSome};
 
 use std::alloc::Global;
 use std::marker::Brand;
@@ -238,10 +237,10 @@ fn ask_after<L: Ledger>(
 ) -> Result<Found, Fail>
     requires budget { 1 ≤ budget }
     requires of { IsOf graph.now log.old }
-    requires represents { (earlier : List Judged) × SearchRepresents graph.now log.old search.old earlier }
+    requires represents { RepresentsSome graph.now log.old search.old }
     ensures of { IsOf graph.now log.new }
     ensures represents { IfOk result (λ found.
-        (found ≡ Found.Closed) ⊎ ((all : List Judged) × SearchRepresents graph.now log.new search.new all)) }
+        (found ≡ Found.Closed) ⊎ RepresentsSome graph.now log.new search.new) }
 {
     accept(log, graph, line)?;
     Ok(search.round(graph, log, budget, steps, work)?)
@@ -254,12 +253,30 @@ fn is_closed(found: &Found) -> bool
     matches!(found, Found::Closed)
 }
 
-/// What a search finds at the end of the log that is asked at each of its events, with the steps of all rounds. It is not
-/// asked again once the tree is closed.
-fn asked_at_each_event<L: Ledger>(
+/// At which events of a log a search is asked.
+#[derive(Clone, Copy)]
+enum AskedAt {
+    /// At each of them.
+    EachEvent,
+    /// At the last one alone.
+    LastEvent,
+}
+
+/// The lines at whose events a search is not asked, and those after them, at whose events it is.
+fn parts_of<'a>(lines: &'a [&'a [u8]], at: AskedAt) -> (&'a [&'a [u8]], &'a [&'a [u8]]) {
+    match at {
+        AskedAt::EachEvent => lines.split_at(0),
+        AskedAt::LastEvent => lines.split_at(lines.len().saturating_sub(1)),
+    }
+}
+
+/// What a search finds at the end of the log that is asked at these events, with the steps of all rounds. It is not asked again
+/// once the tree is closed.
+fn asked<L: Ledger>(
     alloc: Global,
     graph: &Graph,
     row: &Row,
+    at: AskedAt,
     budget: u64,
     work: &mut Steps<L>,
 ) -> Result<(Found, StepList), Fail>
@@ -268,8 +285,12 @@ fn asked_at_each_event<L: Ledger>(
     let mut log = Log::new(alloc);
     let mut search = search_of(alloc, graph, row.member)?;
     let mut steps = StepList::new(alloc);
+    let (passed, asking) = parts_of(row.lines, at);
+    for line in passed {
+        accept(&mut log, graph, line)?;
+    }
     let mut last = Found::Spent;
-    for line in row.lines {
+    for line in asking {
         let found = ask_after(&mut log, &mut search, graph, line, budget, &mut steps, work)?;
         if is_closed(&found) {
             return Ok((found, steps));
@@ -277,29 +298,6 @@ fn asked_at_each_event<L: Ledger>(
         last = found;
     }
     Ok((last, steps))
-}
-
-/// What a search finds at the end of the log that is asked nowhere else, with its steps.
-fn asked_at_the_end<L: Ledger>(
-    alloc: Global,
-    graph: &Graph,
-    row: &Row,
-    budget: u64,
-    work: &mut Steps<L>,
-) -> Result<(Found, StepList), Fail>
-    requires { 1 ≤ budget }
-{
-    let mut log = Log::new(alloc);
-    let mut search = search_of(alloc, graph, row.member)?;
-    let mut steps = StepList::new(alloc);
-    for line in row.lines {
-        accept(&mut log, graph, line)?;
-    }
-    if log.len() == 0 {
-        return Err(Fail::from("no line"));
-    }
-    let found = search.round(graph, &log, budget, &mut steps, work)?;
-    Ok((found, steps))
 }
 
 /// Whether this was found as expected, with these steps.
@@ -322,37 +320,11 @@ fn split_count(steps: &StepList) -> usize {
         .count()
 }
 
-/// When a search is asked.
-#[derive(Clone, Copy)]
-enum Asked {
-    /// At each event of the log.
-    AtEachEvent,
-    /// At the end alone.
-    AtTheEnd,
-}
-
-/// What a search finds at the end of the log that is asked at these times, with its steps.
-fn asked_then<L: Ledger>(
-    alloc: Global,
-    graph: &Graph,
-    row: &Row,
-    asked: Asked,
-    budget: u64,
-    work: &mut Steps<L>,
-) -> Result<(Found, StepList), Fail>
-    requires { 1 ≤ budget }
-{
-    match asked {
-        Asked::AtEachEvent => asked_at_each_event(alloc, graph, row, budget, work),
-        Asked::AtTheEnd => asked_at_the_end(alloc, graph, row, budget, work),
-    }
-}
-
-/// The first row that a search asked at these times does not answer as expected.
+/// The first row that a search asked at these events does not answer as expected.
 fn first_wrong<L: Ledger>(
     alloc: Global,
     blank: Blank,
-    asked: Asked,
+    at: AskedAt,
     budget: u64,
     rows: &[Row],
 ) -> Result<Option<&'static str>, Fail>
@@ -364,7 +336,7 @@ fn first_wrong<L: Ledger>(
     let mut work = Steps::<L>::new(blank);
     for row in rows {
         let graph = read(alloc, row.graph)?;
-        let (found, steps) = asked_then(alloc, &graph, row, asked, budget, &mut work)?;
+        let (found, steps) = asked(alloc, &graph, row, at, budget, &mut work)?;
         if !is_as_expected(&row.answer, &found, &steps) {
             return Ok(Some(row.name));
         }
@@ -374,21 +346,21 @@ fn first_wrong<L: Ledger>(
 
 #[test]
 fn a_search_that_is_asked_at_the_end_finds_what_the_log_says(rt: HostRuntime) -> Result<(), Fail> {
-    let wrong = first_wrong::<Brand>(rt.alloc(), Blank::new(1), Asked::AtTheEnd, 1_000, &ROWS)?;
+    let wrong = first_wrong::<Brand>(rt.alloc(), Blank::new(1), AskedAt::LastEvent, 1_000, &ROWS)?;
     assert_eq!(rt; wrong, None);
     Ok(())
 }
 
 #[test]
 fn a_search_that_is_asked_at_each_event_finds_the_same(rt: HostRuntime) -> Result<(), Fail> {
-    let wrong = first_wrong::<Brand>(rt.alloc(), Blank::new(1), Asked::AtEachEvent, 1_000, &ROWS)?;
+    let wrong = first_wrong::<Brand>(rt.alloc(), Blank::new(1), AskedAt::EachEvent, 1_000, &ROWS)?;
     assert_eq!(rt; wrong, None);
     Ok(())
 }
 
 #[test]
 fn a_budget_that_is_spent_comes_anew_with_the_next_event(rt: HostRuntime) -> Result<(), Fail> {
-    let wrong = first_wrong::<Brand>(rt.alloc(), Blank::new(1), Asked::AtEachEvent, 1, &SPENT)?;
+    let wrong = first_wrong::<Brand>(rt.alloc(), Blank::new(1), AskedAt::EachEvent, 1, &SPENT)?;
     assert_eq!(rt; wrong, None);
     Ok(())
 }

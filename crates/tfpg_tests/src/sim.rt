@@ -18,90 +18,90 @@ const OVERLAP: &[u8] =
 const LATE: &[u8] = b"tfpg 1\nmode N\nfailure F 1\nor A watch 1000000000000\nedge F A 2 2 *\nend\n";
 
 /// A script, and its first line at fault.
-struct Refusal {
+struct FaultyScript {
     name: &'static str,
     script: &'static [u8],
     line: u64,
 }
 
 /// Each fault of a script alone.
-const REFUSALS: [Refusal; 16] = [
-    Refusal {
+const FAULTY_SCRIPTS: [FaultyScript; 16] = [
+    FaultyScript {
         name: "no line",
         script: b"",
         line: 1,
     },
-    Refusal {
+    FaultyScript {
         name: "an empty line",
         script: b"\n5 stop\n",
         line: 1,
     },
-    Refusal {
+    FaultyScript {
         name: "no shape",
         script: b"5 tick\n5 start F1 F2\n6 stop\n",
         line: 2,
     },
-    Refusal {
+    FaultyScript {
         name: "two spaces",
         script: b"5  tick\n6 stop\n",
         line: 1,
     },
-    Refusal {
+    FaultyScript {
         name: "an unknown word",
         script: b"5 alarm A\n6 stop\n",
         line: 1,
     },
-    Refusal {
+    FaultyScript {
         name: "no number",
         script: b"05 tick\n6 stop\n",
         line: 1,
     },
-    Refusal {
+    FaultyScript {
         name: "a time too large",
         script: b"1000000000001 stop\n",
         line: 1,
     },
-    Refusal {
+    FaultyScript {
         name: "a time that falls",
         script: b"5 tick\n4 stop\n",
         line: 2,
     },
-    Refusal {
+    FaultyScript {
         name: "an unknown name",
         script: b"5 start X\n6 stop\n",
         line: 1,
     },
-    Refusal {
+    FaultyScript {
         name: "no failure mode",
         script: b"5 start A\n6 stop\n",
         line: 1,
     },
-    Refusal {
+    FaultyScript {
         name: "no mode",
         script: b"5 mode A\n6 stop\n",
         line: 1,
     },
-    Refusal {
+    FaultyScript {
         name: "a second start",
         script: b"1 start F1\n2 start F1\n6 stop\n",
         line: 2,
     },
-    Refusal {
+    FaultyScript {
         name: "a line after the stop",
         script: b"5 stop\n5 tick\n",
         line: 2,
     },
-    Refusal {
+    FaultyScript {
         name: "a second stop",
         script: b"5 stop\n5 stop\n",
         line: 2,
     },
-    Refusal {
+    FaultyScript {
         name: "no stop",
         script: b"5 tick\n",
         line: 2,
     },
-    Refusal {
+    FaultyScript {
         name: "no stop and no line end",
         script: b"1 tick\n5 tick",
         line: 3,
@@ -202,7 +202,7 @@ fn graph_of(rt: &(impl Abort + AllocGlobal), text: &[u8]) -> Graph {
 #[test]
 fn refuses_each_fault_of_a_script(rt: HostRuntime) {
     let graph = graph_of(&rt, TWO_CAUSES);
-    for row in &REFUSALS {
+    for row in &FAULTY_SCRIPTS {
         let line = match simulate(rt.alloc(), &graph, row.script, 1) {
             Err(SimFault::BadScript { line }) => line,
             Err(SimFault::NoMemory) => panic!(&rt; "{}", row.name),
@@ -246,20 +246,20 @@ fn repeated(rt: &impl AllocGlobal, line: &[u8], count: usize) -> Result<Vec<u8>,
 #[test]
 fn refuses_what_is_too_much_for_a_script(rt: HostRuntime) -> Result<(), Fail> {
     let graph = graph_of(&rt, TWO_CAUSES);
-    let rows: [(&[u8], usize, u64); 4] = [
-        (b"3 mode D\n", 1_024, 0),
-        (b"3 mode D\n", 1_025, 1_025),
-        (b"3 tick\n", 8_191, 0),
-        (b"3 tick\n", 8_192, 8_193),
+    let rows: [(&str, &[u8], usize, u64); 4] = [
+        ("as many changes of mode as fit", b"3 mode D\n", 1_024, 0),
+        ("a change of mode too many", b"3 mode D\n", 1_025, 1_025),
+        ("as many lines as fit", b"3 tick\n", 8_191, 0),
+        ("a line too many", b"3 tick\n", 8_192, 8_193),
     ];
-    for (line, count, expected) in rows {
+    for (row, line, count, expected) in rows {
         let script = repeated(&rt, line, count)?;
         let found = match simulate(rt.alloc(), &graph, &script, 1) {
             Err(SimFault::BadScript { line }) => line,
             Err(SimFault::NoMemory) => u64::MAX,
             Ok(_) => 0,
         };
-        assert_eq!(rt; found, expected, "{count} lines");
+        assert_eq!(rt; found, expected, "{row}");
     }
     Ok(())
 }

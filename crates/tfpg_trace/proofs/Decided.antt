@@ -3,7 +3,7 @@ use Rattle.std.proofs.Common.{◌≡◌, ℕ, ◌<◌, ◌≤◌, Bool, true, fa
 use Rattle.std.specs.Prelude.{IsTrue, Contains}
 use Rattle.std.proofs.lemmas.Bool.{eqb-true, eqb-false}
 use Rattle.tfpg_base.proofs.lists.Elements.{Contains-tail, Contains-cons_cases}
-use Rattle.tfpg_graph.specs.Graph.{Tfpg, is_kind_at, is_failure, place_of_failure}
+use Rattle.tfpg_graph.specs.Graph.{Tfpg, is_kind_at, is_failure, position_of_failure}
 use Rattle.tfpg_log.specs.Explains.{IsMember}
 use Rattle.tfpg_trace.proofs.FailureModes.{member_by_place, no_failure}
 
@@ -24,9 +24,9 @@ there_or_not (first ∷ others) number never = by (nat_eq first number) refl (th
 
 -- a failure mode that cannot be outside is a member
 pub member_or_not : (graph : Tfpg) (set : List ℕ) (node : ℕ) → IsTrue (is_kind_at is_failure graph node) → ((IsMember graph set node → ⊥) → ⊥) → IsMember graph set node
-member_or_not graph set node failure never = by (place_of_failure graph node) refl
+member_or_not graph set node failure never = by (position_of_failure graph node) refl
   where
-    by : (place : Option ℕ) → place_of_failure graph node ≡ place → IsMember graph set node
+    by : (place : Option ℕ) → position_of_failure graph node ≡ place → IsMember graph set node
     by None none = absurd (no_failure graph node none failure)
     by (Some place) at =
         let same = member_by_place graph set place node at in

@@ -5,8 +5,9 @@ use Rattle.std.proofs.lemmas.List.{get_or_default}
 use Rattle.std.proofs.lemmas.List.Elements.{All-from_recursion, recursion_from_All, All-contains, All-contains_itself, All-get_or, All-from_get_or, All-same}
 use Rattle.tfpg_base.specs.declared.activation.Activation.{Activation}
 use Rattle.tfpg_graph.specs.declared.edge.Edge.{Edge}
-use Rattle.tfpg_graph.specs.Graph.{Tfpg, numbers_from, incoming, edges_into}
-use Rattle.tfpg_graph.proofs.Numbered.{All-below-numbers_from}
+use Rattle.tfpg_graph.specs.Graph.{Tfpg, incoming, edges_into}
+use Rattle.tfpg_base.specs.Choice.{numbers_from}
+use Rattle.tfpg_base.proofs.lists.Numbered.{All-below-numbers_from}
 use Rattle.tfpg_log.specs.Log.{Logbook}
 use Rattle.tfpg_log.specs.Rules.{IsDue}
 use Rattle.tfpg_trace.specs.inside.Due.{Begins, IsDueBy, SomeDue, AllDue}

@@ -3,6 +3,7 @@ use Rattle.std.proofs.Common.{◌≡◌, ℕ, suc, ◌+◌, ◌<◌, ◌≤◌, 
 use Rattle.tfpg_base.specs.declared.activation.Activation.{Activation}
 use Rattle.tfpg_base.specs.Trace.{time_of}
 use Rattle.tfpg_graph.specs.Graph.{Tfpg, lag_at, is_monitored}
+use Rattle.tfpg_graph.proofs.NodeAt.{monitored_within}
 use Rattle.tfpg_log.specs.declared.event.Event.{Event}
 use Rattle.tfpg_log.specs.declared.event.Event.TheVariants.{Alarm, Silent, Sweep, Tick, Mode}
 use Rattle.tfpg_log.specs.Log.{alarm_among, quiet_time}
@@ -12,7 +13,7 @@ use Rattle.tfpg_log.proofs.AlarmPlaces.{same_node}
 use Rattle.tfpg_trace.specs.declared.verdict.Verdict.{Verdict}
 use Rattle.tfpg_trace.specs.declared.verdict.Verdict.TheVariants as verdict
 use Rattle.tfpg_trace.specs.inside.Shown.{IsNotShown}
-use Rattle.tfpg_trace.proofs.Sweeps.{monitored_within, both_pass}
+use Rattle.tfpg_trace.proofs.Sweeps.{both_pass}
 use Rattle.tfpg_trace.proofs.Choices.{IsDecided, first_below, both_decided, same_decided, le_decided, some_decided}
 use Rattle.tfpg_trace.proofs.RulesDecided.{active_decided}
 

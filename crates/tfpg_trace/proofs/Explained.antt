@@ -1,8 +1,9 @@
 -- A trace without a fault explains the log from the set, and a trace with one does not.
-use Rattle.std.proofs.Common.{◌≡◌, ℕ, ◌<◌, ◌≤◌, Bool, true, false, ◌&&◌, cond, nat_eq, List, length, take, All, Option, Some, None, refl, subst, arith}
+use Rattle.std.proofs.Common.{◌≡◌, ℕ, ◌<◌, ◌≤◌, Bool, true, false, ◌&&◌, nat_eq, List, length, take, All, Option, Some, None, refl, subst, arith}
 use Rattle.std.specs.Prelude.{IsTrue, IsNone, is_none}
 use Rattle.std.proofs.lemmas.Bool.{false≢true, eqb-true}
 use Rattle.std.proofs.lemmas.List.Elements.{All-contains}
+use Rattle.std.proofs.lemmas.Option.{cond_some}
 use Rattle.tfpg_base.specs.declared.activation.Activation.{Activation}
 use Rattle.tfpg_base.specs.Trace.{IsRisingByNode}
 use Rattle.tfpg_base.proofs.lists.Elements.{All-from_members}
@@ -18,11 +19,6 @@ use Rattle.tfpg_trace.specs.Broken.{KeepRulesBefore}
 use Rattle.tfpg_trace.specs.FirstFault.{IsOnTimeFromSet, IsVerdict}
 use Rattle.tfpg_trace.proofs.Decided.{member_or_not, not_later}
 
--- a test that gives a time passed
-asked : (passes : Bool) (own time : ℕ) → cond passes (Some own) None ≡ Some time → (passes ≡ true) × (own ≡ time)
-asked true own time is = (refl, cc)
-asked false own time is = cc
-
 -- where both pass, the node is monitored and has no alarm
 both_passed : (monitored : Bool) (alarm : Option ℕ) → (monitored && is_none alarm) ≡ true → IsTrue monitored × IsNone alarm
 both_passed true None pass = (refl, refl)
@@ -34,10 +30,10 @@ pub shows_quiet : (graph : Tfpg) (trace : List Activation) (before : List Event)
     → quiet_time graph before event node ≡ Some time → ShowsSilence trace node time
 shows_quiet graph trace before (Alarm own alarmed) node time shows is = cc
 shows_quiet graph trace before (Silent own silent) node time shows is =
-    let told = asked (nat_eq silent node) own time is in
+    let told = cond_some (nat_eq silent node) own time is in
     subst (λ t. ShowsSilence trace node t) told.1 (subst (λ n. ShowsSilence trace n own) (eqb-true silent node told.0) shows)
 shows_quiet graph trace before (Sweep own) node time shows is =
-    let told = asked (is_monitored graph node && is_none (alarm_among before node)) own time is in
+    let told = cond_some (is_monitored graph node && is_none (alarm_among before node)) own time is in
     let both = both_passed (is_monitored graph node) (alarm_among before node) told.0 in
     subst (λ t. ShowsSilence trace node t) told.1 (shows node both.0 both.1)
 shows_quiet graph trace before (Tick own) node time shows is = cc

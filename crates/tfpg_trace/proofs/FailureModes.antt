@@ -7,11 +7,11 @@ use Rattle.std.proofs.lemmas.Bool.Decides.{nat_tests}
 use Rattle.std.proofs.lemmas.List.Quantifiers.{position-Some}
 use Rattle.std.proofs.lemmas.List.Elements.{All-get_or}
 use Rattle.std.proofs.lemmas.Option.{slice_get-get_or, slice_get_within, get_or_from_slice_get, slice_get_cases}
-use Rattle.tfpg_graph.specs.Graph.{Tfpg, Node, is_kind_at, is_failure, failures, failure_at, place_of_failure}
+use Rattle.tfpg_graph.specs.Graph.{Tfpg, Node, is_kind_at, is_failure, failures, failure_at, position_of_failure}
 use Rattle.tfpg_base.proofs.lists.Positions.{All-none}
 use Rattle.tfpg_log.specs.Explains.{IsMember}
 use Rattle.tfpg_trace.specs.inside.Strays.{IsOutside}
-use Rattle.tfpg_trace.proofs.NumberedItems.{item_of, one_place, number_of}
+use Rattle.tfpg_base.proofs.lists.Numbered.{item_of, one_place, number_of}
 
 -- equal by the test is equal
 same_number : (one other : ℕ) → nat_eq one other ≡ true → one ≡ other
@@ -34,13 +34,13 @@ module _ (graph : Tfpg) where
       kind_of node of.item (ap (slice_get graph.nodes) (sym same) ∙ of.at) ∙ of.passes
 
   -- the position of a node is where it stands
-  pub stands_there : (place node : ℕ) → place_of_failure graph node ≡ Some place → failure_at graph place ≡ Some node
+  pub stands_there : (place node : ℕ) → position_of_failure graph node ≡ Some place → failure_at graph place ≡ Some node
   stands_there place node at =
       let found = position-Some (λ failure. nat_eq failure node) (failures graph) place 0 at in
       slice_get-get_or (failures graph) place 0 found.0 ∙ ap Some (same_number (get_or (failures graph) place 0) node found.1)
 
   -- a node without a position is no failure mode
-  pub no_failure : (node : ℕ) → place_of_failure graph node ≡ None → IsTrue (is_kind_at is_failure graph node) → ⊥
+  pub no_failure : (node : ℕ) → position_of_failure graph node ≡ None → IsTrue (is_kind_at is_failure graph node) → ⊥
   no_failure node none failure = by (slice_get_cases graph.nodes node)
     where
       by : (slice_get graph.nodes node ≡ slice_get graph.nodes node)
@@ -57,7 +57,7 @@ module _ (graph : Tfpg) where
 
   module _ (set : List ℕ) where
     -- a failure mode is a member exactly where its position is
-    pub member_by_place : (place node : ℕ) → place_of_failure graph node ≡ Some place → IsMember graph set node ↔ Contains set place
+    pub member_by_place : (place node : ℕ) → position_of_failure graph node ≡ Some place → IsMember graph set node ↔ Contains set place
     member_by_place place node at = (
       λ member.
           subst (Contains set) (one_place (λ n. is_failure n.kind) 0 graph.nodes member.0 place node member.2 (stands_there place node at)) member.1,
@@ -65,7 +65,7 @@ module _ (graph : Tfpg) where
     )
 
     -- a failure mode is outside exactly where its position is no member
-    pub outside_by_place : (place node : ℕ) (has : Bool) → place_of_failure graph node ≡ Some place → IsTrue has ↔ Contains set place
+    pub outside_by_place : (place node : ℕ) (has : Bool) → position_of_failure graph node ≡ Some place → IsTrue has ↔ Contains set place
         → IsTrue (not has) ↔ IsOutside graph set node
     outside_by_place place node true at member = (
       λ no. absurd (false≢true no),
@@ -80,5 +80,5 @@ module _ (graph : Tfpg) where
     )
 
     -- a node without a position is not outside
-    pub none_outside : (node : ℕ) → place_of_failure graph node ≡ None → IsTrue false ↔ IsOutside graph set node
+    pub none_outside : (node : ℕ) → position_of_failure graph node ≡ None → IsTrue false ↔ IsOutside graph set node
     none_outside node none = (λ no. absurd (false≢true no), λ outside. absurd (no_failure node none outside.failure))

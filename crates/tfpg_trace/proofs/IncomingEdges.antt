@@ -6,9 +6,9 @@ use Rattle.std.proofs.lemmas.List.{take_all}
 use Rattle.std.proofs.lemmas.Option.{slice_get-get_or, slice_get_within, get_or_from_slice_get}
 use Rattle.tfpg_base.proofs.lists.Elements.{All-from_members}
 use Rattle.tfpg_base.proofs.lists.Passing.{Contains-filter, Contains-filter_only}
-use Rattle.tfpg_graph.specs.Graph.{numbers_from}
-use Rattle.tfpg_graph.proofs.Numbered.{All-below-numbers_from}
-use Rattle.tfpg_trace.proofs.NumberedItems.{item_of, number_of}
+use Rattle.tfpg_base.specs.Choice.{numbers_from}
+use Rattle.tfpg_base.proofs.lists.Numbered.{All-below-numbers_from}
+use Rattle.tfpg_base.proofs.lists.Numbered.{item_of, number_of}
 
 module _ {X : Type 0} (p : X → Bool) (xs : List X) where
   -- the number of an item that passes stands among the numbers of those

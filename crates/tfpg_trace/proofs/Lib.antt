@@ -1,4 +1,3 @@
-pub mod NumberedItems
 pub mod FailureModes
 pub mod IncomingEdges
 pub mod AgesByWindow

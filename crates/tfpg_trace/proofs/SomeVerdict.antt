@@ -5,7 +5,7 @@ use Rattle.std.proofs.lemmas.Bool.Decides.{eqb_tells}
 use Rattle.std.proofs.lemmas.Option.{slice_get_within}
 use Rattle.tfpg_base.specs.declared.activation.Activation.{Activation}
 use Rattle.tfpg_base.specs.Trace.{time_of}
-use Rattle.tfpg_graph.specs.Graph.{Tfpg, is_kind_at, is_failure, place_of_failure}
+use Rattle.tfpg_graph.specs.Graph.{Tfpg, is_kind_at, is_failure, position_of_failure}
 use Rattle.tfpg_log.specs.declared.event.Event.{Event}
 use Rattle.tfpg_log.specs.Log.{Logbook, now_of}
 use Rattle.tfpg_log.specs.Rules.{KeepsRulesOf, IsTraceOf}
@@ -24,7 +24,7 @@ use Rattle.tfpg_trace.proofs.EventsDecided.{event_decided}
 
 -- whether a failure mode is a member of the set
 member_decided : (graph : Tfpg) (set : List ℕ) (node : ℕ) → IsTrue (is_kind_at is_failure graph node) → IsDecided (IsMember graph set node)
-member_decided graph set node failure = by (place_of_failure graph node) refl
+member_decided graph set node failure = by (position_of_failure graph node) refl
   where
     is_here : (place number : ℕ) → IsDecided (number ≡ place)
     is_here place number = elim (eqb_tells number place) [
@@ -32,7 +32,7 @@ member_decided graph set node failure = by (place_of_failure graph node) refl
       | inr apart ↦ inr apart.1
     ]
 
-    by : (place : Option ℕ) → place_of_failure graph node ≡ place → IsDecided (IsMember graph set node)
+    by : (place : Option ℕ) → position_of_failure graph node ≡ place → IsDecided (IsMember graph set node)
     by None none = absurd (no_failure graph node none failure)
     by (Some place) at =
         let same = member_by_place graph set place node at in

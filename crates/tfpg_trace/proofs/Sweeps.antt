@@ -1,11 +1,10 @@
 -- What a sweep says of each node.
-use Rattle.std.proofs.Common.{◌≡◌, ℕ, ◌-◌, ◌≤◌, ◌<◌, Bool, true, false, ◌&&◌, cond, List, length, take, get_or, Option, Some, None, slice_get, ◌⊎◌, inl, inr, refl, ap, sym, subst, ◌∙◌}
-use Rattle.std.specs.Prelude.{IsTrue, IsNone, is_none, is_some, option_and_then}
-use Rattle.std.specs.Option.{option_map}
+use Rattle.std.proofs.Common.{◌≡◌, ℕ, ◌-◌, Bool, true, false, ◌&&◌, cond, List, length, take, Option, Some, None, refl, ap, sym, subst, ◌∙◌}
+use Rattle.std.specs.Prelude.{IsTrue, IsNone, is_none, option_and_then}
 use Rattle.std.proofs.lemmas.Bool.{false≢true}
-use Rattle.std.proofs.lemmas.Option.{slice_get_cases}
 use Rattle.tfpg_base.specs.declared.activation.Activation.{Activation}
-use Rattle.tfpg_graph.specs.Graph.{Tfpg, Node, is_monitored, lag_of}
+use Rattle.tfpg_graph.specs.Graph.{Tfpg, is_monitored}
+use Rattle.tfpg_graph.proofs.NodeAt.{monitored_within}
 use Rattle.tfpg_log.specs.declared.event.Event.{Event}
 use Rattle.tfpg_log.specs.declared.event.Event.TheVariants.{Sweep}
 use Rattle.tfpg_log.specs.Log.{Logbook, event_at, alarm_among, quiet_time, quiet_at}
@@ -13,17 +12,6 @@ use Rattle.tfpg_log.specs.Explains.{Shows}
 use Rattle.tfpg_trace.specs.FirstFault.{NoneBefore}
 use Rattle.tfpg_trace.specs.inside.Strays.{IsFirstNode}
 use Rattle.tfpg_trace.specs.inside.Shown.{IsNotQuiet, IsSilenceNotShown}
-
--- a monitored node is one of the graph
-pub monitored_within : (graph : Tfpg) (node : ℕ) → IsTrue (is_monitored graph node) → node < length graph.nodes
-monitored_within graph node monitored = by (slice_get_cases graph.nodes node)
-  where
-    by : (slice_get graph.nodes node ≡ slice_get graph.nodes node)
-        × (((item : Node) × (node < length graph.nodes) × (slice_get graph.nodes node ≡ Some item) × (get_or graph.nodes node item ≡ item)) ⊎ ((length graph.nodes ≤ node) × (slice_get graph.nodes node ≡ None)))
-        → node < length graph.nodes
-    by (same, inl there) = there.1
-    by (same, inr past) =
-        absurd (false≢true (sym (ap (λ (there : Option Node). is_some (option_and_then lag_of (option_map (λ n. n.kind) there))) past.1) ∙ monitored))
 
 -- a monitored node without an alarm is asked
 pub both_pass : (time : ℕ) (monitored : Bool) (alarm : Option ℕ) → IsTrue monitored → IsNone alarm → cond (monitored && is_none alarm) (Some time) None ≡ Some time

@@ -1,6 +1,6 @@
 //! The age of an edge at an instant, by its window.
 
-ghost use Rattle.std.specs.Prelude.{◌≡◌, ◌+◌, ◌<◌, ◌≤◌, ◌↔◌, length, IsTrue, IsSomeAnd, slice_get};
+ghost use Rattle.std.specs.Prelude.{◌+◌, ◌<◌, ◌≤◌, ◌↔◌, length, IsTrue, IsSomeAnd, slice_get};
 ghost use Rattle.tfpg_log.specs.Log.{now_of};
 ghost use Rattle.tfpg_log.specs.Rules.{HasAge};
 

@@ -1,6 +1,6 @@
 //! Whether a trace shows an alarm.
 
-ghost use Rattle.std.specs.Prelude.{◌≡◌, ◌+◌, ◌<◌, ◌≤◌, ◌↔◌, length, IsTrue};
+ghost use Rattle.std.specs.Prelude.{◌+◌, ◌<◌, ◌≤◌, ◌↔◌, length, IsTrue};
 ghost use Rattle.tfpg_log.specs.Explains.{ShowsAlarm};
 
 use tfpg_base::Trace;

@@ -1,10 +1,10 @@
 //! The first node of a trace that breaks a propagation rule.
 
-ghost use Rattle.std.specs.Prelude.{◌≡◌, ◌<◌, ◌≤◌, ◌↔◌, ℕ, length, IsTrue, MatchOption};
+ghost use Rattle.std.specs.Prelude.{◌<◌, ◌≤◌, ℕ, length, MatchOption};
 ghost use Rattle.tfpg_log.specs.Log.{now_of};
 ghost use Rattle.tfpg_log.specs.Rules.{KeepsMay, KeepsRulesOf};
 ghost use Rattle.tfpg_trace.specs.Broken.{KeepRulesBefore, BreaksMay};
-ghost use Rattle.tfpg_trace.specs.inside.RuleFaults.{IsBroken, IsFirstBroken};
+ghost use Rattle.tfpg_trace.specs.inside.RuleFaults.{IsBroken, IsFirstNodeBroken};
 
 use crate::Verdict;
 use crate::may::keeps_may;
@@ -18,7 +18,7 @@ use tfpg_log::Log;
 pub(crate) fn broken_rule(graph: &Graph, log: &Log, trace: &Trace) -> Option<Verdict>
     ensures { MatchOption result
         (KeepRulesBefore graph.now log.now trace.now (length graph.now.nodes))
-        (IsFirstBroken graph.now log.now trace.now) }
+        (IsFirstNodeBroken graph.now log.now trace.now) }
 {
     for node in 0..graph.node_count() {
         if let Some(fault) = broken_at(graph, log, trace, node) {

@@ -1,6 +1,6 @@
 //! The silences that a trace does not show.
 
-ghost use Rattle.std.specs.Prelude.{◌≡◌, ◌↔◌, ℕ, length, IsTrue, MatchOption};
+ghost use Rattle.std.specs.Prelude.{◌↔◌, ℕ, length, IsTrue, MatchOption};
 ghost use Rattle.tfpg_log.specs.Rules.{IsActive};
 ghost use Rattle.tfpg_trace.specs.FirstFault.{NoneBefore};
 ghost use Rattle.tfpg_trace.specs.inside.Strays.{IsFirstNode};

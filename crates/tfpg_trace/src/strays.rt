@@ -1,7 +1,7 @@
 //! The nodes of a trace that cannot be in it: those that are active after now, and the failure modes that are no members
 //! of the set.
 
-ghost use Rattle.std.specs.Prelude.{◌≡◌, ◌<◌, ℕ, ◌↔◌, length, IsTrue, MatchOption};
+ghost use Rattle.std.specs.Prelude.{◌<◌, ℕ, ◌↔◌, length, IsTrue, MatchOption};
 ghost use Rattle.tfpg_trace.specs.FirstFault.{NoneBefore, IsLate, IsStranger};
 ghost use Rattle.tfpg_trace.specs.inside.Strays.{IsOutside, IsFirstNode};
 
@@ -66,7 +66,7 @@ fn is_outside(graph: &Graph, set: Set, node: u32) -> bool
     requires { node < length graph.now.nodes }
     ensures { IsTrue result ↔ IsOutside graph.now set node }
 {
-    match graph.place_of(node) {
+    match graph.position_of(node) {
         Some(place) => !set.has(place),
         None => false,
     }

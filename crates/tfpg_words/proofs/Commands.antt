@@ -4,7 +4,7 @@ use Rattle.std.specs.Prelude.{count_by, filter, find, is_some, slice_get}
 use Rattle.std.proofs.lemmas.Bool.{lt-ltb}
 use Rattle.std.proofs.lemmas.List.Sums.{sum_by-cons}
 use Rattle.clap.specs.Walk.{Row, Text}
-use Rattle.tfpg_words.specs.Words.{Form, Parts, Use, Word, is_among}
+use Rattle.tfpg_words.specs.Words.{Form, Parts, Use, Word, is_word_among}
 use Rattle.tfpg_words.specs.Meaning.{NumberOption, both, number_by, number_in, use_of, k_option, budget_option, draw_option, size_option, diagnose_form, diagnose_of, diagnose_on, explain_form, explain_of, generate_form, generate_of, generate_on, simulate_form, simulate_of, simulate_on, explain_on}
 use Rattle.tfpg_words.specs.inside.Given.{diagnose_by, diagnose_given, explain_given, first_value, generate_by, generate_given, is_used, number_given, simulate_by, simulate_given}
 use Rattle.tfpg_words.specs.inside.Rows.{Holds, hyphened}
@@ -34,14 +34,14 @@ number_of_first option None = refl
 number_of_first option (Some used) = refl
 
 module _ (form : Form) (rows : List Row) (said : Parts) (h : Holds form rows said) where
-  number_is : (option : NumberOption) (name : Text) → option.name ≡ hyphened name → is_among form.options (hyphened name) ≡ true
+  number_is : (option : NumberOption) (name : Text) → option.name ≡ hyphened name → is_word_among form.options (hyphened name) ≡ true
       → number_given option (first_value name rows) ≡ number_by option said.uses
   number_is option name named is =
       ap (λ (values : List Word). number_given option (slice_get values 0)) (h.values name is)
       ∙ (ap (number_given option) (first_filtered (hyphened name) said.uses)
       ∙ (number_of_first option (use_of (hyphened name) said.uses) ∙ ap (λ (n : Word). number_in option (use_of n said.uses)) (sym named)))
 
-  used_is : (name : Text) → is_among form.flags (hyphened name) ≡ true → is_used name rows ≡ is_some (use_of (hyphened name) said.uses)
+  used_is : (name : Text) → is_word_among form.flags (hyphened name) ≡ true → is_used name rows ≡ is_some (use_of (hyphened name) said.uses)
   used_is name is = ap (λ n. nat_lt 0 n) (h.counts name is) ∙ counted (hyphened name) said.uses
 
 -- the parts of the words, with the rows that have them

@@ -2,4 +2,4 @@ pub mod walk
 pub mod Taken
 pub mod Once
 pub mod Commands
-pub mod Limits
+pub mod WithinLimits

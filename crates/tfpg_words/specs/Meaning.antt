@@ -1,10 +1,11 @@
 -- What the words of a command line mean: a command with its values, or the first cause by which they are refused.
-use Rattle.std.specs.Prelude.{ℕ, ◌^◌, ◌&&◌, Bool, List, [], ◌∷◌, Option, Some, None, Result, Ok, Err}
+use Rattle.std.specs.Prelude.{ℕ, ◌&&◌, Bool, List, [], ◌∷◌, Option, Some, None, Result, Ok, Err}
 use Rattle.std.specs.Prelude.{bytes_eq, codes, if◌then◌else◌, is_some, nat_le, find}
 use Rattle.tfpg_base.specs.Words.{number_of}
+use Rattle.tfpg_words.specs.declared.limits.TheConstants.{MAX_K, MAX_BUDGET, MAX_DRAW, MAX_SIZE}
 use Rattle.tfpg_words.specs.declared.usage_cause.UsageCause.{UsageCause}
 use Rattle.tfpg_words.specs.declared.usage_cause.UsageCause.TheVariants.{NoCommand, UnknownCommand, BadWords, BadNumber, OutOfRange, BadPanel}
-use Rattle.tfpg_words.specs.Words.{Form, Parts, Use, Word, parts_of}
+use Rattle.tfpg_words.specs.Words.{Form, Parts, Use, Word, parts_of_words}
 
 -- What a command asks for.
 pub data Meaning : Type 0 where
@@ -17,48 +18,64 @@ pub data Meaning : Type 0 where
 abbrev pub use_of : Word → List Use → Option Use
 use_of name uses = find (λ used. bytes_eq used.name name) uses
 
--- A number from `least` to `most`, or why there is none.
+-- A number from `least` to `limit`, or why there is none.
 abbrev pub within : ℕ → ℕ → Option ℕ → Result ℕ UsageCause
-within least most None = Err BadNumber
-within least most (Some number) = if nat_le least number && nat_le number most then Ok number else Err OutOfRange
+within least limit None = Err BadNumber
+within least limit (Some number) = if nat_le least number && nat_le number limit then Ok number else Err OutOfRange
 
 -- An option whose value is a number: its name, its limits, and what it is where it is not used.
 pub record NumberOption : Type 0 where
   pub name : Word
   pub least : ℕ
-  pub most : ℕ
+  pub limit : ℕ
   pub default : ℕ
 
 abbrev pub number_in : NumberOption → Option Use → Result ℕ UsageCause
 number_in option None = Ok option.default
-number_in option (Some used) = within option.least option.most (number_of used.value)
+number_in option (Some used) = within option.least option.limit (number_of used.value)
 
 abbrev pub number_by : NumberOption → List Use → Result ℕ UsageCause
 number_by option uses = number_in option (use_of option.name uses)
 
--- Of two causes that refuse a number the one that counts: a word that is no number comes before a number out of its limits.
-abbrev pub first_of : UsageCause → UsageCause → UsageCause
-first_of BadNumber other = BadNumber
-first_of cause other = other
+-- Of two causes that refuse a number the one that wins: a word that is no number comes before a number out of its limits.
+abbrev pub winning_cause : UsageCause → UsageCause → UsageCause
+winning_cause BadNumber other = BadNumber
+winning_cause cause other = other
 
 -- Two numbers, or the first cause by which one of them is refused.
 abbrev pub both : Result ℕ UsageCause → Result ℕ UsageCause → Result (ℕ × ℕ) UsageCause
 both (Ok first) (Ok second) = Ok (first, second)
 both (Ok first) (Err cause) = Err cause
 both (Err cause) (Ok second) = Err cause
-both (Err cause) (Err other) = Err (first_of cause other)
+both (Err cause) (Err other) = Err (winning_cause cause other)
+
+-- the greatest `k`
+abbrev pub max_k : ℕ
+max_k = MAX_K
+
+-- the greatest budget
+abbrev pub max_budget : ℕ
+max_budget = MAX_BUDGET
+
+-- the greatest number of a draw
+abbrev pub max_draw : ℕ
+max_draw = MAX_DRAW
+
+-- the greatest size of a generated case
+abbrev pub max_size : ℕ
+max_size = MAX_SIZE
 
 abbrev pub k_option : NumberOption
-k_option = record { name = codes "--k"; least = 0; most = 64; default = 2 }
+k_option = record { name = codes "--k"; least = 0; limit = max_k; default = 2 }
 
 abbrev pub budget_option : NumberOption
-budget_option = record { name = codes "--budget"; least = 1; most = 10 ^ 12; default = 1000 }
+budget_option = record { name = codes "--budget"; least = 1; limit = max_budget; default = 1000 }
 
 abbrev pub draw_option : NumberOption
-draw_option = record { name = codes "--draw"; least = 0; most = 10 ^ 12; default = 1 }
+draw_option = record { name = codes "--draw"; least = 0; limit = max_draw; default = 1 }
 
 abbrev pub size_option : NumberOption
-size_option = record { name = codes "--size"; least = 1; most = 100; default = 10 }
+size_option = record { name = codes "--size"; least = 1; limit = max_size; default = 10 }
 
 -- `diagnose [--k N] [--budget N] GRAPH [PANEL]..`. For now no word is a panel.
 abbrev pub diagnose_form : Form
@@ -125,10 +142,10 @@ generate_of (Some parts) = generate_on parts.uses parts.positional
 -- What the words after a command mean.
 abbrev pub command_meaning : Word → List Word → Result Meaning UsageCause
 command_meaning command words =
-    if bytes_eq command (codes "diagnose") then diagnose_of (parts_of diagnose_form words)
-    else (if bytes_eq command (codes "explain") then explain_of (parts_of explain_form words)
-    else (if bytes_eq command (codes "simulate") then simulate_of (parts_of simulate_form words)
-    else (if bytes_eq command (codes "generate") then generate_of (parts_of generate_form words)
+    if bytes_eq command (codes "diagnose") then diagnose_of (parts_of_words diagnose_form words)
+    else (if bytes_eq command (codes "explain") then explain_of (parts_of_words explain_form words)
+    else (if bytes_eq command (codes "simulate") then simulate_of (parts_of_words simulate_form words)
+    else (if bytes_eq command (codes "generate") then generate_of (parts_of_words generate_form words)
     else Err UnknownCommand)))
 
 -- What the words after the program's name mean.

@@ -1,4 +1,4 @@
--- What `plan` answers.
+-- What `plan` returns.
 use Rattle.std.specs.Prelude.{◌≡◌, Result, Ok, Err}
 use Rattle.tfpg_words.specs.declared.usage_cause.UsageCause.{UsageCause}
 use Rattle.tfpg_words.specs.declared.plan_fault.PlanFault.{PlanFault}

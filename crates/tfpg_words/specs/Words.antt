@@ -18,11 +18,11 @@ is_option_word (first ∷ []) = false
 is_option_word (first ∷ second ∷ others) = first == 45
 
 -- What stands before and after the first `=` of a word, where it has one.
-abbrev pub cut : Word → Option (Word × Word)
-cut word = option_map (λ place. (take place word, drop (place + 1) word)) (position (λ byte. byte == 61) word)
+abbrev pub cut_at_equals : Word → Option (Word × Word)
+cut_at_equals word = option_map (λ place. (take place word, drop (place + 1) word)) (position (λ byte. byte == 61) word)
 
-abbrev pub is_among : List Word → Word → Bool
-is_among names word = list_any (λ name. bytes_eq name word) names
+abbrev pub is_word_among : List Word → Word → Bool
+is_word_among names word = list_any (λ name. bytes_eq name word) names
 
 -- What the next word may be: any word, the value of this option, or a positional word alone.
 pub data Next : Type 0 where
@@ -32,25 +32,25 @@ pub data Next : Type 0 where
 
 -- What one word is: the first `--`, a positional word, the use of an option or a flag (a flag has the empty value), an
 -- option that waits for its value, or nothing that the command takes.
-pub data Turn : Type 0 where
-  Divider : Turn
-  Positional : (word : Word) → Turn
-  Used : (name value : Word) → Turn
-  Waits : (option : Word) → Turn
-  Wrong : Turn
+pub data WordUse : Type 0 where
+  Divider : WordUse
+  Positional : (word : Word) → WordUse
+  Used : (name value : Word) → WordUse
+  Waits : (option : Word) → WordUse
+  Wrong : WordUse
 
 -- an option word with `=`, cut there, and one without
-abbrev pub option_turn : Form → Word → Option (Word × Word) → Turn
-option_turn form word (Some (name, value)) = if is_among form.options name then Used name value else Wrong
+abbrev pub option_turn : Form → Word → Option (Word × Word) → WordUse
+option_turn form word (Some (name, value)) = if is_word_among form.options name then Used name value else Wrong
 option_turn form word None =
-    if is_among form.options word then Waits word else (if is_among form.flags word then Used word [] else Wrong)
+    if is_word_among form.options word then Waits word else (if is_word_among form.flags word then Used word [] else Wrong)
 
-abbrev pub turn_of : Form → Next → Word → Turn
-turn_of form OnlyPositional word = Positional word
-turn_of form (ValueOf option) word = if is_option_word word then Wrong else Used option word
-turn_of form Any word =
+abbrev pub use_of_word : Form → Next → Word → WordUse
+use_of_word form OnlyPositional word = Positional word
+use_of_word form (ValueOf option) word = if is_option_word word then Wrong else Used option word
+use_of_word form Any word =
     if is_option_word word
-    then (if bytes_eq word (codes "--") then Divider else option_turn form word (cut word))
+    then (if bytes_eq word (codes "--") then Divider else option_turn form word (cut_at_equals word))
     else Positional word
 
 -- The use of an option or a flag, with its value.
@@ -72,7 +72,7 @@ abbrev pub with_positional : Word → Parts → Parts
 with_positional word parts = record parts { positional = word ∷ parts.positional }
 
 -- the parts of a word and of the words after it, by what those are
-abbrev pub after_turn : Next → Turn → (Next → Option Parts) → Option Parts
+abbrev pub after_turn : Next → WordUse → (Next → Option Parts) → Option Parts
 after_turn next Divider others = others OnlyPositional
 after_turn next (Positional word) others = option_map (with_positional word) (others next)
 after_turn next (Used name value) others = option_map (with_use name value) (others Any)
@@ -87,7 +87,7 @@ at_end _ = Some no_parts
 -- The parts of the words, where each word has its place.
 abbrev pub parts_from : Form → List Word → Next → Option Parts
 parts_from form [] next = at_end next
-parts_from form (word ∷ words) next = after_turn next (turn_of form next word) (parts_from form words)
+parts_from form (word ∷ words) next = after_turn next (use_of_word form next word) (parts_from form words)
 
 -- no option and no flag is used twice
 abbrev pub are_once : Form → List Use → Bool
@@ -101,5 +101,5 @@ once form None = None
 once form (Some parts) = if_once form parts
 
 -- The parts of the words after a command, where they are of its form.
-abbrev pub parts_of : Form → List Word → Option Parts
-parts_of form words = once form (parts_from form words Any)
+abbrev pub parts_of_words : Form → List Word → Option Parts
+parts_of_words form words = once form (parts_from form words Any)

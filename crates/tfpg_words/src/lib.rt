@@ -1,7 +1,7 @@
 //! The words of the command line: which command they ask for, and with which values.
 //!
-//! [`plan`] reads the words after the program's name. It answers a [`Command`], or the first [`UsageCause`] by which the
-//! words are refused.
+//! [`plan`] reads the words after the program's name. It returns a [`Command`], or the first [`UsageCause`] by which the
+//! words are refused. [`laws`] says between which limits the numbers of a command are.
 //!
 //! ```
 //! // The words `diagnose --k 1 engine.tfpg`.
@@ -15,6 +15,7 @@
 mod command;
 mod form;
 pub mod laws;
+mod limits;
 mod number;
 mod parts;
 mod plan_fault;
@@ -22,6 +23,7 @@ mod planning;
 mod usage_cause;
 
 pub use command::{Command, Planned};
+pub use limits::{MAX_BUDGET, MAX_DRAW, MAX_K, MAX_SIZE};
 pub use plan_fault::PlanFault;
 pub use planning::plan;
 pub use usage_cause::UsageCause;

@@ -2,7 +2,7 @@
 
 ghost use Rattle.std.specs.Prelude.{◌≡◌, ◌≤◌, IfOk};
 ghost use Rattle.tfpg_base.specs.Words.{number_of};
-ghost use Rattle.tfpg_words.specs.Meaning.{both, first_of, within};
+ghost use Rattle.tfpg_words.specs.Meaning.{both, winning_cause, within};
 ghost use Rattle.tfpg_words.specs.inside.Given.{first_value, number_given};
 ghost use Rattle.tfpg_words.specs.inside.Parts.{rows_in};
 ghost use Rattle.tfpg_words.specs.inside.Numbers.{option_in};
@@ -16,7 +16,7 @@ use tfpg_base::{Number, read_number};
 pub(crate) struct NumberOption {
     pub(crate) name: &'static str,
     pub(crate) least: u64,
-    pub(crate) most: u64,
+    pub(crate) limit: u64,
     pub(crate) default: u64,
 }
 
@@ -27,17 +27,17 @@ impl NumberOption {
             (first_value self.now.name.now (rows_in parts.now)) }
     {
         match parts.value_of(self.name) {
-            Some(value) => within(self.least, self.most, value),
+            Some(value) => within(self.least, self.limit, value),
             None => Ok(self.default),
         }
     }
 }
 
-/// The number of the word, where it is from `least` to `most`.
-fn within(least: u64, most: u64, word: &str) -> Result<u64, UsageCause>
-    ensures { result ≡ within least most (number_of word.now) }
+/// The number of the word, where it is from `least` to `limit`.
+fn within(least: u64, limit: u64, word: &str) -> Result<u64, UsageCause>
+    ensures { result ≡ within least limit (number_of word.now) }
 {
-    match read_number(word.as_bytes(), most) {
+    match read_number(word.as_bytes(), limit) {
         Number::NotANumber => Err(UsageCause::BadNumber),
         Number::Value(number) if number >= least => Ok(number),
         _ => Err(UsageCause::OutOfRange),
@@ -55,12 +55,12 @@ pub(crate) fn both(
         (Ok(first), Ok(second)) => Ok((first, second)),
         (Ok(_), Err(cause)) => Err(cause),
         (Err(cause), Ok(_)) => Err(cause),
-        (Err(cause), Err(other)) => Err(first_of(cause, other)),
+        (Err(cause), Err(other)) => Err(winning_cause(cause, other)),
     }
 }
 
-fn first_of(cause: UsageCause, other: UsageCause) -> UsageCause
-    ensures { result ≡ first_of cause other }
+fn winning_cause(cause: UsageCause, other: UsageCause) -> UsageCause
+    ensures { result ≡ winning_cause cause other }
 {
     match cause {
         UsageCause::BadNumber => cause,

@@ -6,7 +6,7 @@ ghost use Rattle.std.specs.String.{string_bytes};
 ghost use Rattle.clap.specs.Walk.{count_of};
 ghost use Rattle.clap.specs.Simple.{app_of};
 ghost use Rattle.clap.specs.Faults.{is_simple_and_free};
-ghost use Rattle.tfpg_words.specs.Words.{Any, parts_from, parts_of};
+ghost use Rattle.tfpg_words.specs.Words.{Any, parts_from, parts_of_words};
 ghost use Rattle.tfpg_words.specs.inside.Given.{once_given, first_value, is_used};
 ghost use Rattle.tfpg_words.specs.inside.Rows.{vals, IsFormed};
 ghost use Rattle.tfpg_words.specs.inside.Rules.{words_id};
@@ -33,7 +33,7 @@ impl<'a> Parts<'a> {
         words: &'a [String],
     ) -> Result<Parts<'a>, PlanFault>
         requires { IsFormed (options_in form.now) (flags_in form.now) }
-        ensures { TakesApart (form_in form.now) (parts_of (form_in form.now) (map string_bytes words.now))
+        ensures { TakesApart (form_in form.now) (parts_of_words (form_in form.now) (map string_bytes words.now))
             result }
     {
         let parts = Parts::taken(alloc, form, words)?;

@@ -4,13 +4,14 @@ ghost use Rattle.std.specs.Prelude.{◌≡◌, map};
 ghost use Rattle.std.specs.String.{string_bytes};
 ghost use Rattle.tfpg_words.specs.Meaning.{command_meaning, diagnose_form, diagnose_of, explain_form, explain_of, generate_form, generate_of, meaning, simulate_form, simulate_of};
 ghost use Rattle.tfpg_words.specs.Plans.{IsPlanOf};
-ghost use Rattle.tfpg_words.specs.Words.{parts_of};
+ghost use Rattle.tfpg_words.specs.Words.{parts_of_words};
 ghost use Rattle.tfpg_words.specs.inside.CommandOf.{IsCommandOf};
 ghost use Rattle.tfpg_words.specs.inside.Given.{diagnose_given, explain_given, generate_given, simulate_given};
 ghost use Rattle.tfpg_words.specs.inside.Parts.{rows_in};
 
 use crate::command::{Command, Planned};
 use crate::form::Form;
+use crate::limits::{MAX_BUDGET, MAX_DRAW, MAX_K, MAX_SIZE};
 use crate::number::{NumberOption, both};
 use crate::parts::Parts;
 use crate::plan_fault::PlanFault;
@@ -21,28 +22,28 @@ use tfpg_base::Text;
 const K: NumberOption = NumberOption {
     name: "k",
     least: 0,
-    most: 64,
+    limit: MAX_K,
     default: 2,
 };
 
 const BUDGET: NumberOption = NumberOption {
     name: "budget",
     least: 1,
-    most: 1_000_000_000_000,
+    limit: MAX_BUDGET,
     default: 1000,
 };
 
 const DRAW: NumberOption = NumberOption {
     name: "draw",
     least: 0,
-    most: 1_000_000_000_000,
+    limit: MAX_DRAW,
     default: 1,
 };
 
 const SIZE: NumberOption = NumberOption {
     name: "size",
     least: 1,
-    most: 100,
+    limit: MAX_SIZE,
     default: 10,
 };
 
@@ -91,7 +92,7 @@ fn command_of(alloc: Global, command: &str, words: &[String]) -> Result<Command,
 
 /// `diagnose [--k N] [--budget N] GRAPH [PANEL]..`
 fn diagnose(alloc: Global, words: &[String]) -> Result<Command, PlanFault>
-    ensures { IsCommandOf (diagnose_of (parts_of diagnose_form (map string_bytes words.now))) result }
+    ensures { IsCommandOf (diagnose_of (parts_of_words diagnose_form (map string_bytes words.now))) result }
 {
     let form = Form {
         options: &[K.name, BUDGET.name],
@@ -120,7 +121,7 @@ fn diagnose_by(alloc: Global, parts: &Parts) -> Result<Command, PlanFault>
 
 /// `explain GRAPH LOG`
 fn explain(alloc: Global, words: &[String]) -> Result<Command, PlanFault>
-    ensures { IsCommandOf (explain_of (parts_of explain_form (map string_bytes words.now))) result }
+    ensures { IsCommandOf (explain_of (parts_of_words explain_form (map string_bytes words.now))) result }
 {
     let form = Form {
         options: &[],
@@ -144,7 +145,7 @@ fn explain_by(alloc: Global, parts: &Parts) -> Result<Command, PlanFault>
 
 /// `simulate [--draw N] [--trace] GRAPH SCRIPT`
 fn simulate(alloc: Global, words: &[String]) -> Result<Command, PlanFault>
-    ensures { IsCommandOf (simulate_of (parts_of simulate_form (map string_bytes words.now))) result }
+    ensures { IsCommandOf (simulate_of (parts_of_words simulate_form (map string_bytes words.now))) result }
 {
     let form = Form {
         options: &[DRAW.name],
@@ -171,7 +172,7 @@ fn simulate_by(alloc: Global, parts: &Parts) -> Result<Command, PlanFault>
 
 /// `generate [--draw N] [--size N]`
 fn generate(alloc: Global, words: &[String]) -> Result<Command, PlanFault>
-    ensures { IsCommandOf (generate_of (parts_of generate_form (map string_bytes words.now))) result }
+    ensures { IsCommandOf (generate_of (parts_of_words generate_form (map string_bytes words.now))) result }
 {
     let form = Form {
         options: &[DRAW.name, SIZE.name],

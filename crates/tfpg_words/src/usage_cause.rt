@@ -1,6 +1,6 @@
 //! Why the words of the command line are refused.
 
-/// Why the words of the command line are refused. Of several that hold, the first in this order counts.
+/// Why the words of the command line are refused. Of several that hold, the first in this order wins.
 #[derive(Clone, Copy, Debug, PartialEq, Eq)]
 pub enum UsageCause {
     /// There is no word.

@@ -19,7 +19,7 @@ pub record EngineReports (graph : Tfpg) (k budget : ℕ) (engine : Engining) (pr
   pub represents : EngineRepresents engine progress.rounds
 
 -- the engine is of a valid graph, and represents some rounds
-pub record IsReady (engine : Engining) : Type 0 where
+pub record IsEngineReady (engine : Engining) : Type 0 where
   pub valid : IsValid engine.graph
   pub rounds : List Round
   pub represents : EngineRepresents engine rounds

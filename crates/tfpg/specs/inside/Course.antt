@@ -9,16 +9,16 @@ use Rattle.tfpg_engine.specs.Engining.{Engining}
 use Rattle.tfpg_report.specs.Blocks.{Block}
 use Rattle.tfpg_check.specs.Report.{AreBlocks, report_text, progress_of}
 use Rattle.tfpg.specs.declared.course.Turn.{Turn}
-use Rattle.tfpg.specs.declared.course.Turn.TheVariants.{Answered, Ended}
+use Rattle.tfpg.specs.declared.course.Turn.TheVariants.{Written, Ended}
 use Rattle.tfpg.specs.ForNow.{LosesNone}
 use Rattle.tfpg.specs.Saying.{RoundsSay}
 use Rattle.tfpg.specs.inside.Answering.{EngineReports}
 use Rattle.tfpg.specs.Run.{Diagnoses}
 use Rattle.tfpg.specs.Streams.{Streams, HasNoFault}
 
--- A diagnosis that began with the streams before has come to this: each line that the reader has returned is answered,
--- its block is written, and nothing else was written but the head. Nothing has failed.
-pub record IsUnderWay (graph : Tfpg) (k budget : ℕ) (before now : Streams) (lines : Buffered) (engine : Engining) : Type 0 where
+-- A diagnosis that began with the streams before has come to this: each line that the reader has returned has its block,
+-- which is written, and nothing else was written but the head. Nothing has failed.
+pub record IsDiagnosing (graph : Tfpg) (k budget : ℕ) (before now : Streams) (lines : Buffered) (engine : Engining) : Type 0 where
   pub reading : Reading
   pub takes : Takes before.input now.input reading.taken
   pub few : length reading.taken ≤ max_bytes
@@ -34,6 +34,6 @@ pub record IsUnderWay (graph : Tfpg) (k budget : ℕ) (before now : Streams) (li
   pub no_fault : HasNoFault before now
 
 -- What a turn after the line of this number leads to: the diagnosis is under way still, one line on; or it is done.
-abbrev pub LeadsTo : Tfpg → ℕ → ℕ → Streams → Streams → ℕ → Buffered → Engining → Turn → Type 0
-LeadsTo graph k budget before now number lines engine Answered = IsUnderWay graph k budget before now lines engine × (lines.number ≡ number + 1)
-LeadsTo graph k budget before now number lines engine Ended = Diagnoses graph k budget before now (Ok tt)
+abbrev pub ComesTo : Tfpg → ℕ → ℕ → Streams → Streams → ℕ → Buffered → Engining → Turn → Type 0
+ComesTo graph k budget before now number lines engine Written = IsDiagnosing graph k budget before now lines engine × (lines.number ≡ number + 1)
+ComesTo graph k budget before now number lines engine Ended = Diagnoses graph k budget before now (Ok tt)

@@ -1,5 +1,6 @@
 -- A drawn graph, and the simulation of the script that was drawn with it.
 use Rattle.std.specs.Prelude.{◌≡◌, ℕ, ◌≤◌, List}
+use Rattle.tfpg_sim.specs.declared.limits.TheConstants.{MAX_SIZE}
 use Rattle.tfpg_base.specs.Lines.{lines_of}
 use Rattle.tfpg_graph.specs.Graph.{Tfpg}
 use Rattle.tfpg_log.specs.Explains.{Explains}
@@ -13,7 +14,7 @@ use Rattle.tfpg_sim.specs.Simulated.{IsSimulationOf}
 -- accepted, and the trace explains the log from the set.
 pub record IsDrawn (number size : ℕ) (graph : Tfpg) (simulated : Simulated) : Type 0 where
   pub some : 1 ≤ size
-  pub few : size ≤ 100
+  pub few : size ≤ MAX_SIZE
   pub graph_is : graph ≡ generated_graph number size
   pub script : List ℕ
   pub script_is : script ≡ generated_script number size

@@ -18,7 +18,10 @@ use Rattle.tfpg.specs.declared.fault.StreamFault.TheVariants as streams
 use Rattle.tfpg.specs.Fetch.{IsTooLong}
 use Rattle.tfpg_sim.specs.declared.fault.SimFault.{SimFault}
 use Rattle.tfpg_sim.specs.declared.fault.SimFault.TheVariants as sim
-use Rattle.tfpg.specs.declared.end.CheckCause.TheVariants.{BadMap, BadScript}
+use Rattle.tfpg.specs.declared.fault.JudgeFault.{JudgeFault}
+use Rattle.tfpg.specs.declared.fault.JudgeFault.TheVariants as judge
+use Rattle.tfpg.specs.declared.fault.SimulateFault.{SimulateFault}
+use Rattle.tfpg.specs.declared.fault.SimulateFault.TheVariants as simulate
 use Rattle.tfpg.specs.declared.end.End.{End}
 use Rattle.tfpg.specs.declared.end.End.TheVariants as ends
 use Rattle.tfpg.specs.declared.map.NoMap.{NoMap}
@@ -45,12 +48,12 @@ abbrev pub no_map_of_lines : LineFault → NoMap
 no_map_of_lines lines.ReadFault = maps.ReadFault
 no_map_of_lines lines.TooMuchInput = maps.TooMuchInput
 
--- the end of a run whose input gives no map
-abbrev pub end_of_no_map : NoMap → End
-end_of_no_map (maps.Refused line) = ends.NotAccepted line BadMap
-end_of_no_map maps.ReadFault = ends.ReadFault
-end_of_no_map maps.TooMuchInput = ends.TooMuchInput
-end_of_no_map maps.NoMemory = ends.NoMemory
+-- why a map is not judged whose input gives none
+abbrev pub judge_fault_of_no_map : NoMap → JudgeFault
+judge_fault_of_no_map (maps.Refused line) = judge.BadMap line
+judge_fault_of_no_map maps.ReadFault = judge.ReadFault
+judge_fault_of_no_map maps.TooMuchInput = judge.TooMuchInput
+judge_fault_of_no_map maps.NoMemory = judge.NoMemory
 
 -- the end of a run that has no table of hypotheses
 abbrev pub end_of_table_fault : TableFault → End
@@ -62,10 +65,10 @@ abbrev pub end_of_plan_fault : PlanFault → End
 end_of_plan_fault (plan.Usage cause) = ends.Usage cause
 end_of_plan_fault plan.NoMemory = ends.NoMemory
 
--- the end of a run whose script is not simulated
-abbrev pub end_of_sim_fault : SimFault → End
-end_of_sim_fault (sim.BadScript line) = ends.NotAccepted line BadScript
-end_of_sim_fault sim.NoMemory = ends.NoMemory
+-- why a script is not simulated
+abbrev pub simulate_fault_of_sim : SimFault → SimulateFault
+simulate_fault_of_sim (sim.BadScript line) = simulate.BadScript line
+simulate_fault_of_sim sim.NoMemory = simulate.NoMemory
 
 -- the end of a run whose work has this result
 abbrev pub end_of_work : Result (Unit {0}) End → End

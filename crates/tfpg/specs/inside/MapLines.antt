@@ -2,7 +2,7 @@
 use Rattle.std.specs.Prelude.{◌≡◌, ℕ, ◌<◌, ◌≤◌, List, [], ◌∷◌, length, All, AllPairs, if◌then◌else◌, Option, Some, None, option_and_then, unwrap_or, codes, bytes_eq}
 use Rattle.tfpg_base.specs.declared.activation.Activation.{Activation}
 use Rattle.tfpg_base.specs.Trace.{time_of, with_time}
-use Rattle.tfpg_graph.specs.Graph.{Tfpg, name_at, node_named, failures, failure_at, place_of_failure}
+use Rattle.tfpg_graph.specs.Graph.{Tfpg, name_at, node_named, failures, failure_at, position_of_failure}
 use Rattle.tfpg.specs.declared.map.MapReader.{MapReader}
 use Rattle.tfpg.specs.Map.{SpellsMap, IsActivationOf, at_line}
 
@@ -22,8 +22,8 @@ words_after_at (keyword ∷ name ∷ time ∷ []) = if bytes_eq keyword (codes "
 words_after_at (keyword ∷ name ∷ time ∷ more ∷ others) = None
 
 -- the position of the failure mode of this name
-abbrev pub failure_named : Tfpg → List ℕ → Option ℕ
-failure_named graph name = option_and_then (place_of_failure graph) (node_named graph name)
+abbrev pub position_named : Tfpg → List ℕ → Option ℕ
+position_named graph name = option_and_then (position_of_failure graph) (node_named graph name)
 
 -- the name of the failure mode at a position
 abbrev pub failure_name : Tfpg → ℕ → List ℕ

@@ -60,7 +60,7 @@ ShowsNoMap graph before now taken ReadFault = Rose before.faults now.faults × B
 ShowsNoMap graph before now taken TooMuchInput = (length taken ≡ max_bytes + 1) × BeginsMap graph (whole_lines (take max_bytes taken))
 ShowsNoMap graph before now taken NoMemory = Unit {0}
 
--- The input gives no map, for this reason.
+-- The input gives no map, with this cause.
 pub record LacksMap (graph : Tfpg) (before now : SourceState) (fault : NoMap) : Type 0 where
   pub taken : List ℕ
   pub takes : Takes before now taken

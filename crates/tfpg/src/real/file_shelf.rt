@@ -1,6 +1,6 @@
 //! The files of the system as a shelf.
 
-ghost use Rattle.std.specs.Prelude.{◌≡◌, ◌≢◌, ◌<◌, ◌≤◌, ◌^◌, ◌+◌, ◌++◌, [], ℕ, List, length, vec_capacity, Err, IfSome, OnOk, IsErrOf};
+ghost use Rattle.std.specs.Prelude.{◌≡◌, ◌<◌, ◌≤◌, ◌^◌, ◌++◌, [], ℕ, List, length, vec_capacity, IfSome, OnOk, IsErrOf};
 
 use super::fault_count::FaultCount;
 use super::tries::read_uncut;
@@ -8,7 +8,7 @@ use std::alloc::Global;
 use std::fs;
 use std::io::Read;
 use std::rt::Files;
-use tfpg_base::{LONGEST_FILE, Shelf, ShelfFault};
+use tfpg_base::{Shelf, ShelfFault, append_to_file};
 
 /// How many bytes of a file are read at once.
 const BLOCK: usize = 4096;
@@ -89,34 +89,13 @@ fn read_whole<R: Read>(reader: &mut R, into: &mut Vec<u8>) -> Result<(), ShelfFa
     for _ in 0..u64::MAX {
         match read_uncut(reader, &mut room) {
             Ok(0) => return Ok(()),
-            Ok(count) => append(&room[..count], into)?,
+            Ok(count) => {
+                if !append_to_file(into, &room[..count])? {
+                    return Err(ShelfFault::TooLong);
+                }
+            }
             Err(_) => return Err(ShelfFault::Failed),
         }
     }
     Err(ShelfFault::Failed)
-}
-
-/// Appends a part of a file, as far as a file may go.
-fn append(part: &[u8], into: &mut Vec<u8>) -> Result<(), ShelfFault>
-    requires { length into.old.items ≤ 2 ^ 24 }
-    ensures small { OnOk result (length into.new.items ≤ 2 ^ 24) }
-    ensures appended { OnOk result (into.new.items ≡ into.old.items ++ part.now) }
-    ensures too_long { IsErrOf result ShelfFault.TooLong → length into.new.items ≡ 2 ^ 24 }
-    ensures front { IsErrOf result ShelfFault.TooLong → (more : List ℕ) × (0 < length more) ×
-        (into.old.items ++ part.now ≡ into.new.items ++ more) }
-    ensures no_memory { IsErrOf result ShelfFault.NoMemory →
-        vec_capacity into.old < length into.old.items + length part.now }
-    ensures limit { IsErrOf result ShelfFault.NoMemory → vec_capacity into.old < 2 ^ 24 }
-    ensures capacity { vec_capacity into.old ≤ vec_capacity into.new }
-    ensures no_fault { result ≢ Err ShelfFault.Failed }
-{
-    let (kept, more) = part.split_at(part.len().min(LONGEST_FILE - into.len()));
-    if into.extend_from_slice(kept).is_err() {
-        return Err(ShelfFault::NoMemory);
-    }
-    if more.is_empty() {
-        Ok(())
-    } else {
-        Err(ShelfFault::TooLong)
-    }
 }

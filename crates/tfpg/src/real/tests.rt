@@ -94,12 +94,16 @@ fn input_is_taken_in_pieces(rt: HostRuntime) {
     let mut input = StandardInput::new(b"abcde".as_slice());
     let mut room = [0; 3];
     for (count, front) in [(3, b"abc"), (2, b"dec"), (0, b"dec")] {
-        assert_eq!(rt; input.take(&mut room), Ok(count));
-        assert_eq!(rt; room.as_slice(), front.as_slice());
+        assert_eq!(rt; input.take(&mut room), Ok(count), "a read of {count}");
+        assert_eq!(rt; room.as_slice(), front.as_slice(), "a read of {count}");
     }
     let mut faulty = StandardInput::new(Faulty { calls: 0 });
-    for taken in [Ok(3), Err(Failed), Err(Failed)] {
-        assert_eq!(rt; faulty.take(&mut room), taken);
+    for (call, taken) in [
+        ("a call that is made again", Ok(3)),
+        ("the first that fails", Err(Failed)),
+        ("the second that fails", Err(Failed)),
+    ] {
+        assert_eq!(rt; faulty.take(&mut room), taken, "{call}");
     }
     assert_eq!(rt; faulty.faults(), 2);
 }
@@ -108,19 +112,23 @@ fn input_is_taken_in_pieces(rt: HostRuntime) {
 fn output_is_put_in_pieces(rt: HostRuntime) {
     let mut room = [b'-'; 5];
     let mut output = StandardOutput::new(room.as_mut_slice());
-    for (piece, put) in [
-        (b"abc".as_slice(), Ok(3)),
-        (b"", Ok(0)),
-        (b"def", Ok(2)),
-        (b"f", Err(Failed)),
+    for (row, piece, put) in [
+        ("fits", b"abc".as_slice(), Ok(3)),
+        ("nothing", b"", Ok(0)),
+        ("a part fits", b"def", Ok(2)),
+        ("no room", b"f", Err(Failed)),
     ] {
-        assert_eq!(rt; output.put(piece), put);
+        assert_eq!(rt; output.put(piece), put, "{row}");
     }
     assert_eq!(rt; output.faults(), 1);
     assert_eq!(rt; room.as_slice(), b"abcde".as_slice());
     let mut faulty = StandardOutput::new(Faulty { calls: 0 });
-    for put in [Ok(3), Err(Failed), Err(Failed)] {
-        assert_eq!(rt; faulty.put(b"abc"), put);
+    for (row, put) in [
+        ("a call that is made again", Ok(3)),
+        ("the first that fails", Err(Failed)),
+        ("the second that fails", Err(Failed)),
+    ] {
+        assert_eq!(rt; faulty.put(b"abc"), put, "{row}");
     }
     assert_eq!(rt; faulty.faults(), 2);
 }
@@ -172,7 +180,7 @@ fn run_on<S: Source, K: Sink>(
     input: &mut S,
     out: &mut K,
 ) -> Result<End, AllocError> {
-    let words = words_of(rt.alloc(), &["diagnose", "--k", "0", name])?;
+    let words = words_of(rt.alloc(), &["diagnose", name], &["--k", "0"])?;
     let mut shelf = FileShelf::new(rt);
     Ok(run_over(rt.alloc(), &words, &mut shelf, input, out))
 }

@@ -3,19 +3,17 @@
 //! Which trace shows that a ranked set fits, and which steps reject another, is free. So what is compared are the lines that say
 //! what became of each line of the log and of each set.
 
-use super::{GRAPH, TWO_MODES, words_of};
+use super::{GRAPH, InMemory, TWO_MODES, run_in_memory, words_of};
 use crate::end::End;
-use crate::run_over;
 use std::alloc::{AllocError, Global};
 use std::test::Fail;
-use tfpg_base::{MemoryShelf, MemorySink, MemorySource};
 
 /// The graph with one failure mode, whose edge to A has no greatest delay.
 const NO_GREATEST_DELAY: &[u8] =
     b"tfpg 1\nmode N\nfailure F 1\nor A watch 0\nor E watch 0\nedge F A 1 inf *\nedge F E 9 9 *\nend\n";
 
-/// A diagnosis: the words before the name of the graph, the graph, the log, and what the report says of lines and sets.
-struct Diagnosis {
+/// A diagnosis: the options, the graph, the log, and what the report says of lines and sets.
+struct DiagnosisRow {
     name: &'static str,
     options: &'static [&'static str],
     graph: &'static [u8],
@@ -23,106 +21,106 @@ struct Diagnosis {
     says: &'static [u8],
 }
 
-const DIAGNOSES: [Diagnosis; 15] = [
-    Diagnosis {
+const DIAGNOSES: [DiagnosisRow; 15] = [
+    DiagnosisRow {
         name: "two suspects for one alarm",
         options: &["--k", "1"],
         graph: TWO_MODES,
         log: b"30 alarm A\n",
         says: b"report 1 k 1 budget 1000\nround 1 1 30\nranked 1 cost 3 robust 1/2 set F1\nranked 2 cost 5 robust 1/1 set F2\nrejected 0 set -\ncounts ranked 2 covered 0 rejected 1 open 0\n",
     },
-    Diagnosis {
+    DiagnosisRow {
         name: "a tick, with the options that are the default",
         options: &[],
         graph: TWO_MODES,
         log: b"5 tick\n",
         says: b"report 1 k 2 budget 1000\nround 1 1 5\nranked 0 cost 0 robust 1/1 set -\ncounts ranked 1 covered 3 rejected 0 open 0\n",
     },
-    Diagnosis {
+    DiagnosisRow {
         name: "no line",
         options: &["--k=2"],
         graph: TWO_MODES,
         log: b"",
         says: b"report 1 k 2 budget 1000\n",
     },
-    Diagnosis {
+    DiagnosisRow {
         name: "a cut hides a suspect",
         options: &["--k=1"],
         graph: TWO_MODES,
         log: b"20 mode D\n30 alarm A\n",
         says: b"report 1 k 1 budget 1000\nround 1 1 20\nranked 0 cost 0 robust 1/1 set -\ncounts ranked 1 covered 2 rejected 0 open 0\nround 2 2 30\nranked 1 cost 3 robust 1/2 set F1\nrejected 0 set -\nrejected 2 set F2\ncounts ranked 1 covered 0 rejected 2 open 0\n",
     },
-    Diagnosis {
+    DiagnosisRow {
         name: "a change of mode holds from the next instant on",
         options: &["--k=1"],
         graph: TWO_MODES,
         log: b"20 mode D\n20 alarm A\n",
         says: b"report 1 k 1 budget 1000\nround 1 1 20\nranked 0 cost 0 robust 1/1 set -\ncounts ranked 1 covered 2 rejected 0 open 0\nround 2 2 20\nranked 1 cost 3 robust 1/2 set F1\nranked 2 cost 5 robust 1/1 set F2\nrejected 0 set -\ncounts ranked 2 covered 0 rejected 1 open 0\n",
     },
-    Diagnosis {
+    DiagnosisRow {
         name: "a window that begins anew is a millisecond too short",
         options: &["--k=1"],
         graph: TWO_MODES,
         log: b"3 mode D\n9 mode N\n14 alarm A\n",
         says: b"report 1 k 1 budget 1000\nround 1 1 3\nranked 0 cost 0 robust 1/1 set -\ncounts ranked 1 covered 2 rejected 0 open 0\nround 2 2 9\nranked 0 cost 0 robust 1/1 set -\ncounts ranked 1 covered 2 rejected 0 open 0\nround 3 3 14\nranked 1 cost 3 robust 1/2 set F1\nrejected 0 set -\nrejected 2 set F2\ncounts ranked 1 covered 0 rejected 2 open 0\n",
     },
-    Diagnosis {
+    DiagnosisRow {
         name: "a window that begins anew is just long enough",
         options: &["--k=1"],
         graph: TWO_MODES,
         log: b"3 mode D\n9 mode N\n15 alarm A\n",
         says: b"report 1 k 1 budget 1000\nround 1 1 3\nranked 0 cost 0 robust 1/1 set -\ncounts ranked 1 covered 2 rejected 0 open 0\nround 2 2 9\nranked 0 cost 0 robust 1/1 set -\ncounts ranked 1 covered 2 rejected 0 open 0\nround 3 3 15\nranked 1 cost 3 robust 1/2 set F1\nranked 2 cost 5 robust 1/1 set F2\nrejected 0 set -\ncounts ranked 2 covered 0 rejected 1 open 0\n",
     },
-    Diagnosis {
+    DiagnosisRow {
         name: "an alarm that a silence has ruled out",
         options: &["--k", "1"],
         graph: GRAPH,
         log: b"10 silent A\n10 alarm E\n",
         says: b"report 1 k 1 budget 1000\nround 1 1 10\nranked 0 cost 0 robust 1/1 set -\ncounts ranked 1 covered 1 rejected 0 open 0\nround 2 2 10\nrejected 0 set -\nrejected 1 set F\ncounts ranked 0 covered 0 rejected 2 open 0\n",
     },
-    Diagnosis {
+    DiagnosisRow {
         name: "without a greatest delay the silence rules nothing out",
         options: &["--k", "1"],
         graph: NO_GREATEST_DELAY,
         log: b"10 silent A\n10 alarm E\n",
         says: b"report 1 k 1 budget 1000\nround 1 1 10\nranked 0 cost 0 robust 1/1 set -\ncounts ranked 1 covered 1 rejected 0 open 0\nround 2 2 10\nranked 1 cost 1 robust 1/2 set F\nrejected 0 set -\ncounts ranked 1 covered 0 rejected 1 open 0\n",
     },
-    Diagnosis {
+    DiagnosisRow {
         name: "an AND node needs both sources",
         options: &["--k", "1"],
         graph: TWO_MODES,
         log: b"30 alarm C\n",
         says: b"report 1 k 1 budget 1000\nround 1 1 30\nranked 1 cost 3 robust 1/2 set F1\nrejected 0 set -\nrejected 2 set F2\ncounts ranked 1 covered 0 rejected 2 open 0\n",
     },
-    Diagnosis {
+    DiagnosisRow {
         name: "two alarms that both failure modes explain together, and neither alone",
         options: &["--k", "2"],
         graph: TWO_MODES,
         log: b"5 alarm A\n6 alarm C\n",
         says: b"report 1 k 2 budget 1000\nround 1 1 5\nranked 2 cost 5 robust 1/1 set F2\nrejected 0 set -\nrejected 1 set F1\ncounts ranked 1 covered 1 rejected 2 open 0\nround 2 2 6\nranked 3 cost 8 robust 2/2 set F1,F2\nrejected 2 set F2\ncounts ranked 1 covered 0 rejected 3 open 0\n",
     },
-    Diagnosis {
+    DiagnosisRow {
         name: "lines that are refused change nothing",
         options: &["--k", "1"],
         graph: TWO_MODES,
         log: b"30 alarm A\n40 alarm A\n45 silent A\n",
         says: b"report 1 k 1 budget 1000\nround 1 1 30\nranked 1 cost 3 robust 1/2 set F1\nranked 2 cost 5 robust 1/1 set F2\nrejected 0 set -\ncounts ranked 2 covered 0 rejected 1 open 0\nrefused 2 SecondAlarm 30\nrefused 3 SilentAfterAlarm 30\n",
     },
-    Diagnosis {
+    DiagnosisRow {
         name: "a budget of 1, which leaves the set open for one round",
         options: &["--k", "1", "--budget", "1"],
         graph: GRAPH,
         log: b"10 silent A\n10 alarm E\n11 tick\n",
         says: b"report 1 k 1 budget 1\nround 1 1 10\nranked 0 cost 0 robust 1/1 set -\ncounts ranked 1 covered 1 rejected 0 open 0\nround 2 2 10\nopen 1 set F\nrejected 0 set -\ncounts ranked 0 covered 0 rejected 1 open 1\nround 3 3 11\nrejected 1 set F\ncounts ranked 0 covered 0 rejected 2 open 0\n",
     },
-    Diagnosis {
+    DiagnosisRow {
         name: "a sweep and an alarm at one time",
         options: &["--k", "1"],
         graph: TWO_MODES,
         log: b"10 sweep\n10 alarm A\n",
         says: b"report 1 k 1 budget 1000\nround 1 1 10\nranked 0 cost 0 robust 1/1 set -\ncounts ranked 1 covered 2 rejected 0 open 0\nround 2 2 10\nrejected 0 set -\nrejected 1 set F1\nrejected 2 set F2\ncounts ranked 0 covered 0 rejected 3 open 0\n",
     },
-    Diagnosis {
+    DiagnosisRow {
         name: "a rejected set stays rejected",
         options: &["--k", "0"],
         graph: TWO_MODES,
@@ -148,17 +146,10 @@ fn diagnosed(
     graph: &[u8],
     log: &[u8],
 ) -> Result<(End, Vec<u8>), AllocError> {
-    let mut words = words_of(alloc, &["diagnose"])?;
-    for option in options {
-        words.push(String::from_str(alloc, option)?)?;
-    }
-    words.push(String::from_str(alloc, "g")?)?;
+    let words = words_of(alloc, &["diagnose", "g"], options)?;
     let files = [("g", graph)];
-    let mut shelf = MemoryShelf::new(alloc, &files, &[]);
-    let mut input = MemorySource::new(log, 4096, &[]);
-    let mut out = MemorySink::new(alloc, 4096, &[]);
-    let end = run_over(alloc, &words, &mut shelf, &mut input, &mut out);
-    Ok((end, Vec::from_slice(alloc, out.bytes())?))
+    let (end, report, _) = run_in_memory(alloc, &words, &InMemory::of(&files, log))?;
+    Ok((end, report))
 }
 
 /// The lines of a report that say what became of a line of the log, or of a set.

@@ -1,13 +1,9 @@
 //! Maps that are judged by graphs and logs in memory.
 
-ghost use Rattle.std.specs.Prelude.{◌<◌};
-
-use super::{GRAPH, TWO_MODES, log_of, words_of};
+use super::{GRAPH, InMemory, TWO_MODES, log_of, run_in_memory, words_of};
 use crate::end::{CheckCause, End};
-use crate::run_over;
 use std::alloc::{AllocError, Global};
 use std::test::Fail;
-use tfpg_base::{MemoryShelf, MemorySink, MemorySource};
 use tfpg_graph::GraphCause;
 
 /// An AND node whose two edges are active in one mode each.
@@ -31,7 +27,7 @@ const PUMP_LOG: &[u8] =
     b"600000 tick\n1800000 tick\n2715000 alarm LowFlow\n3300000 alarm MotorHot\n3290000 tick\n4500000 alarm LowLevel\n5400000 tick\n";
 
 /// A name, a graph, a log, a map, and what is said of it.
-type Judged = (
+type VerdictRow = (
     &'static str,
     &'static [u8],
     &'static [u8],
@@ -39,7 +35,7 @@ type Judged = (
     &'static [u8],
 );
 
-const VERDICTS: [Judged; 22] = [
+const VERDICTS: [VerdictRow; 22] = [
     (
         "exactly the delay before the alarm",
         TWO_MODES,
@@ -227,43 +223,42 @@ fn explained(
     most: usize,
     input_fails: &[u64],
     output_fails: &[u64],
-) -> Result<(End, Vec<u8>), AllocError>
-    requires { 0 < most }
-{
+) -> Result<(End, Vec<u8>), AllocError> {
     let (graph, log, map) = texts;
-    let words = words_of(alloc, &["explain", "g", "l"])?;
+    let words = words_of(alloc, &["explain", "g", "l"], &[])?;
     let files = [("g", graph), ("l", log)];
-    let mut shelf = MemoryShelf::new(alloc, &files, &[]);
-    let mut input = MemorySource::new(map, most, input_fails);
-    let mut out = MemorySink::new(alloc, most, output_fails);
-    let end = run_over(alloc, &words, &mut shelf, &mut input, &mut out);
-    Ok((end, Vec::from_slice(alloc, out.bytes())?))
+    let memory = InMemory {
+        most,
+        input_fails,
+        output_fails,
+        ..InMemory::of(&files, map)
+    };
+    let (end, written, _) = run_in_memory(alloc, &words, &memory)?;
+    Ok((end, written))
 }
 
-/// How a run on these words ends, where the file `g` has this text and the shelf fails at these calls, and how many files were
-/// asked for.
+/// How a run on these words and files ends, where the shelf fails at these calls, and how many files it asks for.
 fn over_files(
     alloc: Global,
-    texts: &[&str],
+    command: &[&str],
     files: &[(&str, &[u8])],
     shelf_fails: &[u64],
 ) -> Result<(End, usize), AllocError> {
-    let words = words_of(alloc, texts)?;
-    let mut shelf = MemoryShelf::new(alloc, files, shelf_fails);
-    let mut input = MemorySource::new(b"set -\n", 4096, &[]);
-    let mut out = MemorySink::new(alloc, 4096, &[]);
-    let end = run_over(alloc, &words, &mut shelf, &mut input, &mut out);
-    Ok((end, shelf.asked().len()))
+    let words = words_of(alloc, command, &[])?;
+    let memory = InMemory {
+        shelf_fails,
+        ..InMemory::of(files, b"set -\n")
+    };
+    let (end, _, asked) = run_in_memory(alloc, &words, &memory)?;
+    Ok((end, asked))
 }
 
 /// The name of the first row whose verdict is another, where input and output go in pieces of at most so many bytes.
 fn first_wrong_verdict(
     alloc: Global,
-    rows: &[Judged],
+    rows: &[VerdictRow],
     most: usize,
-) -> Result<Option<&'static str>, AllocError>
-    requires { 0 < most }
-{
+) -> Result<Option<&'static str>, AllocError> {
     for (name, graph, log, map, said) in rows {
         let (end, written) = explained(alloc, (*graph, *log, *map), most, &[], &[])?;
         if end != End::Done || written.as_slice() != *said {

@@ -1,13 +1,9 @@
 //! Scripts that are simulated on graphs in memory.
 
-ghost use Rattle.std.specs.Prelude.{◌<◌};
-
-use super::{TWO_MODES, words_of};
+use super::{InMemory, TWO_MODES, run_in_memory, words_of};
 use crate::end::{CheckCause, End};
-use crate::run_over;
 use std::alloc::{AllocError, Global};
 use std::test::Fail;
-use tfpg_base::{MemoryShelf, MemorySink, MemorySource};
 use tfpg_graph::GraphCause;
 
 /// A name, a script over the graph with two modes, its log, and the map of what happened.
@@ -67,24 +63,15 @@ fn simulated(
     trace: bool,
     most: usize,
     output_fails: &[u64],
-) -> Result<(End, Vec<u8>, usize), AllocError>
-    requires { 0 < most }
-{
-    let texts: &[&str] = if trace {
-        &["simulate", "--trace", "g", "s"]
-    } else {
-        &["simulate", "g", "s"]
+) -> Result<(End, Vec<u8>, usize), AllocError> {
+    let options: &[&str] = if trace { &["--trace"] } else { &[] };
+    let words = words_of(alloc, &["simulate", "g", "s"], options)?;
+    let memory = InMemory {
+        most,
+        output_fails,
+        ..InMemory::of(files, b"")
     };
-    let words = words_of(alloc, texts)?;
-    let mut shelf = MemoryShelf::new(alloc, files, &[]);
-    let mut input = MemorySource::new(b"", 1, &[]);
-    let mut out = MemorySink::new(alloc, most, output_fails);
-    let end = run_over(alloc, &words, &mut shelf, &mut input, &mut out);
-    Ok((
-        end,
-        Vec::from_slice(alloc, out.bytes())?,
-        shelf.asked().len(),
-    ))
+    run_in_memory(alloc, &words, &memory)
 }
 
 /// The name of the first row whose log or map is another, where the output goes in pieces of at most so many bytes.
@@ -92,9 +79,7 @@ fn first_wrong_text(
     alloc: Global,
     rows: &[(&'static str, &[u8], &[u8], &[u8])],
     most: usize,
-) -> Result<Option<&'static str>, AllocError>
-    requires { 0 < most }
-{
+) -> Result<Option<&'static str>, AllocError> {
     for (name, script, log, map) in rows {
         let files = [("g", TWO_MODES), ("s", *script)];
         let (log_end, log_written, _) = simulated(alloc, &files, false, most, &[])?;

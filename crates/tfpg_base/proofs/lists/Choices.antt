@@ -1,9 +1,12 @@
 -- Laws of choices among optional values.
-use Rattle.std.proofs.Common.{◌≡◌, ℕ, zero, suc, List, [], ◌∷◌, ◌++◌, length, slice_get, Option, Some, None, Ok, Err, map, inl, inr, refl, sym, ap, subst, ◌∙◌}
+use Rattle.std.proofs.Common.{◌≡◌, ℕ, zero, suc, List, [], ◌∷◌, ◌++◌, length, slice_get, Option, Some, None, Ok, Err, map, Bool, true, false, inl, inr, refl, sym, ap, subst, ◌∙◌}
 use Rattle.std.specs.Option.{option_map, option_and_then}
 use Rattle.std.specs.List.{Contains}
 use Rattle.tfpg_base.proofs.lists.Elements.{Contains-head, Contains-tail, Contains-nil, Contains-cons_cases}
 use Rattle.tfpg_base.specs.Choice.{first_of, each_of, unless_refused}
+use Rattle.std.proofs.lemmas.Option.{same_Some, none-some}
+use Rattle.std.specs.Option.{is_some}
+use Rattle.std.specs.Bool.{then_some}
 
 module _ {X : Type 0} where
   -- a value among the first is the first of all
@@ -152,3 +155,18 @@ module _ {X Y : Type 0} where
   pub option_map-some : (f : X → Y) (o : Option X) (y : Y) → option_map f o ≡ Some y → (x : X) × (o ≡ Some x) × (f x ≡ y)
   option_map-some f None y is = absurd cc
   option_map-some f (Some x) y is = (x, refl, let same : f x ≡ y = cc in same)
+
+module _ {X : Type 0} where
+  -- what an option has, by its test
+  pub is_some-there : (o : Option X) → is_some o ≡ true → (x : X) × (o ≡ Some x)
+  is_some-there None is = absurd (cc)
+  is_some-there (Some x) is = (x, refl)
+
+  pub is_some-none : (o : Option X) → is_some o ≡ false → o ≡ None
+  is_some-none None is = refl
+  is_some-none (Some x) is = absurd (cc)
+
+  -- what there is where a test holds
+  pub then_some-true : (b : Bool) (x y : X) → then_some b x ≡ Some y → (b ≡ true) × (x ≡ y)
+  then_some-true true x y at = (refl, same_Some x y at)
+  then_some-true false x y at = absurd (none-some y at)

@@ -1,9 +1,9 @@
 -- Laws of the elements of a list: which stand in it, and what holds of each two.
-use Rattle.std.proofs.Common.{◌≡◌, ℕ, suc, zero, List, [], ◌∷◌, ◌++◌, get_or, take, drop, Some, slice_get, ◌⊎◌, inl, inr, refl, subst, length-append, arith}
-use Rattle.std.specs.List.{All, AllPairs, Contains}
+use Rattle.std.proofs.Common.{◌≡◌, ℕ, suc, zero, List, [], ◌∷◌, ◌++◌, ◌<◌, ◌∙◌, ◌||◌, Bool, true, false, ap, get_or, take, drop, Some, slice_get, ◌⊎◌, inl, inr, refl, subst, length-append, arith}
+use Rattle.std.specs.List.{All, AllPairs, Contains, list_any}
 use Rattle.std.proofs.lemmas.List.{get_or_append_left, take-append-drop}
 use Rattle.std.proofs.lemmas.List.Elements.{All-tail, Contains-get_or, Contains-append_left, Contains-append_right}
-use Rattle.std.proofs.lemmas.Option.{get_or_from_slice_get, slice_get_within}
+use Rattle.std.proofs.lemmas.Option.{get_or_from_slice_get, slice_get_within, slice_get-get_or}
 pub use Rattle.std.proofs.lemmas.List.Kept.{AllPairs-cons}
 
 module _ {X : Type 0} where
@@ -65,3 +65,32 @@ module _ {X : Type 0} where
       let at_j : get_or (front ++ rest) j d ≡ get_or front j d = get_or_append_left front rest d j within in
       subst (λ (a : X). R a (get_or front j d)) at_i
       (subst (λ (b : X). R (get_or (front ++ rest) i d) b) at_j (pairs i j d before (omega (arith, within, length-append front rest))))
+
+module _ {X : Type 0} where
+  -- what is at a place of a list stands in it
+  pub Contains-at : (xs : List X) (place : ℕ) (x : X) → slice_get xs place ≡ Some x → Contains xs x
+  Contains-at xs place x at = (place, slice_get_within xs place x at, get_or_from_slice_get xs place x x at)
+
+  -- what a list contains is at its place
+  pub slice_get-contains : (xs : List X) (x : X) (found : Contains xs x) → slice_get xs found.0 ≡ Some x
+  slice_get-contains xs x found = slice_get-get_or xs found.0 x found.1 ∙ ap Some found.2
+
+  -- what relates each two relates those at two places
+  pub AllPairs-at : (R : X → X → Type 0) (xs : List X) (i j : ℕ) (x y : X) → AllPairs R xs → slice_get xs i ≡ Some x → slice_get xs j ≡ Some y → i < j → R x y
+  AllPairs-at R xs i j x y pairs at_i at_j before =
+      let related = pairs i j x before (slice_get_within xs j y at_j) in
+      subst (λ z. R z y) (get_or_from_slice_get xs i x x at_i) (subst (λ z. R (get_or xs i x) z) (get_or_from_slice_get xs j y x at_j) related)
+
+  -- what holds of the item of each place holds of all
+  pub All-from_places : (P : X → Type 0) (xs : List X) → ((place : ℕ) (x : X) → slice_get xs place ≡ Some x → P x) → All P xs
+  All-from_places P xs each = λ place d within. each place (get_or xs place d) (slice_get-get_or xs place d within)
+
+  -- some item passes where the test passes some
+  pub list_any-found : (p : X → Bool) (xs : List X) → list_any p xs ≡ true → (x : X) × Contains xs x × (p x ≡ true)
+  list_any-found p [] is = absurd cc
+  list_any-found p (x ∷ xs) is = by (p x) refl is (λ any. list_any-found p xs any)
+    where
+      by : (passes : Bool) → p x ≡ passes → (passes || list_any p xs) ≡ true
+          → (list_any p xs ≡ true → (y : X) × Contains xs y × (p y ≡ true)) → (y : X) × Contains (x ∷ xs) y × (p y ≡ true)
+      by true here any rest = (x, Contains-head x xs, here)
+      by false here any rest = let found = rest any in (found.0, Contains-tail x xs found.0 found.1, found.2)

@@ -1,19 +1,17 @@
 -- What holds of the images of a list's elements under a function.
-use Rattle.std.proofs.Common.{◌≡◌, ◌<◌, Bool, ◌||◌, ◌&&◌, List, [], ◌∷◌, length, map, get_or, ⊎_elim, refl, ap, sym, subst, arith}
-use Rattle.std.specs.List.{AllPairs, Contains, list_any, list_all}
+use Rattle.std.proofs.Common.{◌≡◌, ◌<◌, Bool, ◌||◌, List, [], ◌∷◌, length, map, get_or, ⊎_elim, refl, ap, sym, subst, arith}
+use Rattle.std.specs.List.{AllPairs, Contains, list_any}
 use Rattle.std.proofs.lemmas.List.{get_or-map, length-map}
 use Rattle.tfpg_base.proofs.lists.Elements.{Contains-head, Contains-tail, Contains-cons_cases, Contains-nil}
+use Rattle.std.proofs.Common.{◌∙◌}
+use Rattle.std.specs.List.{All}
+use Rattle.std.proofs.lemmas.List.Elements.{All-head, All-tail}
 
 module _ {X Y : Type 0} (p : Y → Bool) (f : X → Y) where
   -- whether one of the images passes
   pub list_any-map : (xs : List X) → list_any p (map f xs) ≡ list_any (λ x. p (f x)) xs
   list_any-map [] = refl
   list_any-map (x ∷ xs) = ap (λ b. p (f x) || b) (list_any-map xs)
-
-  -- whether all images pass
-  pub list_all-map : (xs : List X) → list_all p (map f xs) ≡ list_all (λ x. p (f x)) xs
-  list_all-map [] = refl
-  list_all-map (x ∷ xs) = ap (λ b. p (f x) && b) (list_all-map xs)
 
 -- what relates the images of each two relates each two of the images
 pub AllPairs-map : {X Y : Type 0} (R : Y → Y → Type 0) (f : X → Y) (xs : List X) → AllPairs (λ a b. R (f a) (f b)) xs → AllPairs R (map f xs)
@@ -41,3 +39,21 @@ module _ {X Y : Type 0} (f : X → Y) where
       ⊎_elim (λ is. (first, Contains-head first others, is))
       (λ after. let old = Contains-map_only others y after in (old.0, Contains-tail first others old.0 old.1, old.2))
       (Contains-cons_cases (f first) (map f others) y member)
+
+-- images that are the same are of the same items, where a function tells items apart
+pub map-injective : {X Y : Type 0} (P : X → Type 0) (f : X → Y) → ((a b : X) → P a → P b → f a ≡ f b → a ≡ b)
+    → (xs ys : List X) → All P xs → All P ys → map f xs ≡ map f ys → xs ≡ ys
+map-injective P f apart [] [] of too e = refl
+map-injective P f apart [] (y ∷ ys) of too e = absurd cc
+map-injective P f apart (x ∷ xs) [] of too e = absurd cc
+map-injective P f apart (x ∷ xs) (y ∷ ys) of too e =
+    let head : f x ≡ f y = cc in
+    let tail : map f xs ≡ map f ys = cc in
+    let firsts : x ≡ y = apart x y (All-head P x xs of) (All-head P y ys too) head in
+    let others : xs ≡ ys = map-injective P f apart xs ys (All-tail P x xs of) (All-tail P y ys too) tail in
+    ap (λ z. z ∷ xs) firsts ∙ ap (λ zs. y ∷ zs) others
+
+-- what a function gives of what another gives
+pub map-map : {X Y Z : Type 0} (g : Y → Z) (f : X → Y) (xs : List X) → map g (map f xs) ≡ map (λ (x : X). g (f x)) xs
+map-map g f [] = refl
+map-map g f (x ∷ xs) = ap (λ zs. g (f x) ∷ zs) (map-map g f xs)

@@ -3,6 +3,11 @@ use Rattle.std.proofs.Common.{◌≡◌, ℕ, ◌<◌, ◌≤◌, List, [], ◌�
 use Rattle.std.specs.List.{AllPairs, Contains}
 use Rattle.std.proofs.lemmas.List.Elements.{All-contains, Contains-append_cases}
 use Rattle.tfpg_base.proofs.lists.Elements.{AllPairs-head, AllPairs-tail, AllPairs-cons, All-from_members, Contains-head, Contains-tail, Contains-cons_cases, Contains-nil}
+use Rattle.std.proofs.Common.{◌≤◌, get_or, ap, ⊎_elim, arith}
+use Rattle.std.specs.List.Sorted.{IsNonDecreasingBy}
+use Rattle.std.specs.Ordering.{nat_cmp, ordering_index}
+use Rattle.std.proofs.lemmas.Bool.{cases_lt}
+use Rattle.std.proofs.lemmas.Bool.Decides.{nat_tests}
 
 module _ {X : Type 0} (R : X → X → Type 0) where
   -- nothing is related in an empty list
@@ -51,3 +56,20 @@ least_first first others place rising member =
 -- Rising lists with the same members are equal.
 pub same_from_members : (xs ys : List ℕ) → Rises xs → Rises ys → ((place : ℕ) → Contains xs place → Contains ys place) → ((place : ℕ) → Contains ys place → Contains xs place) → xs ≡ ys
 same_from_members xs ys rises_x rises_y to from = same_in_order (λ earlier later. earlier < later) (λ x y above below. omega arith) xs ys rises_x rises_y to from
+
+-- ---- binary searches
+
+-- two places of which neither is greater are one
+same_place : (i j : ℕ) → i ≤ j → j ≤ i → i ≡ j
+same_place i j le ge = omega arith
+
+-- a greater number compares no less
+index_rises : (low high with : ℕ) → low ≤ high → ordering_index (nat_cmp low with) ≤ ordering_index (nat_cmp high with)
+index_rises low high with le = grind (arith, nat_tests)
+
+-- comparisons of rising keys with a number rise, as a binary search asks
+pub comparisons_rise : {X : Type 0} (key : X → ℕ) (xs : List X) (with : ℕ) → AllPairs (λ a b. key a < key b) xs → IsNonDecreasingBy (λ x. ordering_index (nat_cmp (key x) with)) xs
+comparisons_rise key xs with rising i j d le within =
+    index_rises (key (get_or xs i d)) (key (get_or xs j d)) with
+    (⊎_elim (λ less. omega (arith, rising i j d less within)) (λ no_less. omega (arith, ap (λ k. key (get_or xs k d)) (same_place i j le no_less)))
+    (cases_lt i j))

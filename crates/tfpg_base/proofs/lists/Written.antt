@@ -2,6 +2,8 @@
 use Rattle.std.proofs.Common.{◌≡◌, ◌≢◌, ℕ, zero, suc, ◌+◌, ◌<◌, ◌⊎◌, ⊎_elim, List, [], ◌∷◌, ◌++◌, length, get_or, set, Some, refl, ap, sym, ◌∙◌, subst, arith}
 use Rattle.std.specs.Prelude.{slice_get}
 use Rattle.std.proofs.lemmas.List.{get_or_append_left, get_or_push}
+use Rattle.std.proofs.Common.{inl, inr}
+use Rattle.std.proofs.lemmas.Option.{same_Some, none-some}
 
 module _ {X : Type 0} where
   -- at another place than the one written nothing changed
@@ -41,3 +43,45 @@ each_get_or-push d P xs ys x n are count each one k within =
     (λ less. subst (P k) (sym (get_or_append_left xs (x ∷ []) d k (omega (arith, less)))) (each k less))
     (λ same. subst (λ m. P m (get_or (xs ++ x ∷ []) m d)) same (subst (P n) (sym (get_or_push xs x d n count)) one))
     (let cases : (k < n) ⊎ (n ≡ k) = grind arith in cases))
+
+module _ {X : Type 0} where
+  -- what is read of a list with a new last item
+  pub slice_get-push_cases : (xs : List X) (y : X) (i : ℕ) (x : X) → slice_get (xs ++ y ∷ []) i ≡ Some x
+      → (slice_get xs i ≡ Some x) ⊎ ((i ≡ length xs) × (y ≡ x))
+  slice_get-push_cases [] y zero x at = inr (refl, same_Some y x at)
+  slice_get-push_cases [] y (suc i) x at = absurd (none-some x at)
+  slice_get-push_cases (z ∷ xs) y zero x at = inl at
+  slice_get-push_cases (z ∷ xs) y (suc i) x at = ⊎_elim
+      (λ (old : slice_get xs i ≡ Some x). inl old)
+      (λ (last : (i ≡ length xs) × (y ≡ x)). inr (ap suc last.0, last.1))
+      (slice_get-push_cases xs y i x at)
+
+  -- within the first of two lists stands what stands there in it
+  pub slice_get-append_left : (xs ys : List X) (i : ℕ) → i < length xs → slice_get (xs ++ ys) i ≡ slice_get xs i
+  slice_get-append_left [] ys i within = absurd (omega arith)
+  slice_get-append_left (x ∷ xs) ys zero within = refl
+  slice_get-append_left (x ∷ xs) ys (suc i) within = slice_get-append_left xs ys i (omega arith)
+
+  -- after it stands what stands in the other
+  pub slice_get-append_right : (xs ys : List X) (i : ℕ) → slice_get (xs ++ ys) (length xs + i) ≡ slice_get ys i
+  slice_get-append_right [] ys i = let same : 0 + i ≡ i = omega arith in ap (slice_get ys) same
+  slice_get-append_right (x ∷ xs) ys i =
+      let same : suc (length xs) + i ≡ suc (length xs + i) = omega arith in
+      ap (slice_get (x ∷ (xs ++ ys))) same ∙ slice_get-append_right xs ys i
+
+  -- what is at a place of the first list is there in both
+  pub slice_get-append_some : (xs ys : List X) (i : ℕ) (x : X) → slice_get xs i ≡ Some x → slice_get (xs ++ ys) i ≡ Some x
+  slice_get-append_some [] ys i x at = absurd (none-some x at)
+  slice_get-append_some (z ∷ xs) ys zero x at = at
+  slice_get-append_some (z ∷ xs) ys (suc i) x at = slice_get-append_some xs ys i x at
+
+  -- the first item of the second list
+  pub slice_get-after : (xs : List X) (y : X) (ys : List X) → slice_get (xs ++ y ∷ ys) (length xs) ≡ Some y
+  slice_get-after [] y ys = refl
+  slice_get-after (x ∷ xs) y ys = slice_get-after xs y ys
+
+  -- a write that writes back what was there undoes another
+  pub set_back : (xs : List X) (i : ℕ) (x y : X) → slice_get xs i ≡ Some x → set (set xs i y) i x ≡ xs
+  set_back [] i x y at = absurd (none-some x at)
+  set_back (z ∷ xs) zero x y at = ap (λ (first : X). first ∷ xs) (sym (same_Some z x at))
+  set_back (z ∷ xs) (suc i) x y at = ap (λ (others : List X). z ∷ others) (set_back xs i x y at)

@@ -13,7 +13,7 @@ pub record IsAtLineEnd (bytes : List ℕ) (count : ℕ) : Type 0 where
   pub line : HasNoLineEnd (take count bytes)
   pub whole : bytes ≡ take count bytes ++ 10 ∷ drop (count + 1) bytes
 
--- what the answer at a line is
+-- what the result for a line is
 abbrev pub kind_of : List ℕ → Line
 kind_of bytes = if nat_le (length bytes) longest_line then line.Text else line.TooLong
 
@@ -46,23 +46,23 @@ GivesLast old line.Text now = (0 < length old.waiting) × (now.text ≡ old.wait
 GivesLast old line.TooLong now = ⊥
 GivesLast old line.End now = (old.waiting ≡ []) × (now.text ≡ []) × (now.number ≡ old.number)
 
--- Nothing was given, and the answer ends the reader.
+-- No line was returned, and the result ends the reader.
 pub record IsEnded (lines : ℕ) (answer : Result Line LineFault) (now : Buffered) : Type 0 where
   pub number : now.number ≡ lines
   pub text : now.text ≡ []
   pub ended : now.ended ≡ Some answer
 
 -- what a call found in these bytes
-abbrev pub Found : List ℕ → ℕ → Type 0 → Result Line LineFault → Buffered → Type 0
-Found bytes lines source_ended (Ok line.Text) now =
+abbrev pub FoundLine : List ℕ → ℕ → Type 0 → Result Line LineFault → Buffered → Type 0
+FoundLine bytes lines source_ended (Ok line.Text) now =
     (first : List ℕ) × IsGiven bytes first lines source_ended now × (length first ≤ longest_line) × (now.text ≡ first)
-Found bytes lines source_ended (Ok line.TooLong) now =
+FoundLine bytes lines source_ended (Ok line.TooLong) now =
     (first : List ℕ) × IsGiven bytes first lines source_ended now × (longest_line < length first) × (now.text ≡ [])
-Found bytes lines source_ended (Ok line.End) now =
+FoundLine bytes lines source_ended (Ok line.End) now =
     (bytes ≡ []) × source_ended × (now.taken ≤ max_bytes) × IsEnded lines (Ok line.End) now
-Found bytes lines source_ended (Err fault.ReadFault) now =
+FoundLine bytes lines source_ended (Err fault.ReadFault) now =
     HasNoLineEnd bytes × (now.taken ≤ max_bytes) × IsEnded lines (Err fault.ReadFault) now
-Found bytes lines source_ended (Err fault.TooMuchInput) now =
+FoundLine bytes lines source_ended (Err fault.TooMuchInput) now =
     (first : List ℕ) × (last : ℕ) × HasNoLineEnd first × (bytes ≡ first ++ last ∷ []) × (now.taken ≡ max_bytes + 1) × IsEnded lines (Err fault.TooMuchInput) now
 
 -- these bytes were taken
@@ -102,4 +102,4 @@ Refilled old before after (Err fault.TooMuchInput) now =
 -- bytes were taken until a line, the end or a fault was found
 abbrev pub Searched : Buffered → SourceState → SourceState → Result Line LineFault → Buffered → Type 0
 Searched old before after result now =
-    (more : List ℕ) × Took old now before after more × Pieces old more × Found (old.waiting ++ more) old.number (IsAtEnd after) result now
+    (more : List ℕ) × Took old now before after more × Pieces old more × FoundLine (old.waiting ++ more) old.number (IsAtEnd after) result now

@@ -22,15 +22,15 @@ impl<'a> BytesLeft<'a> {
         }
     }
 
-    /// Fills the first places of the room with the next bytes, at most `most` of them, and returns how many. A result of
+    /// Fills the first places of the room with the next bytes, at most `limit` of them, and returns how many. A result of
     /// 0 for a room that has a place is the end.
-    pub(crate) fn give(&mut self, room: &mut [u8], most: usize) -> usize
-        ensures count { result ≡ min (min (length self.old.left.now) (length room.old)) most }
+    pub(crate) fn give(&mut self, room: &mut [u8], limit: usize) -> usize
+        ensures count { result ≡ min (min (length self.old.left.now) (length room.old)) limit }
         ensures left { self.new.left.now ≡ drop result self.old.left.now }
         ensures ended { self.new.ended ≡ ended_after self.old.ended result (length room.old) }
         ensures room { room.new ≡ take result self.old.left.now ++ drop result room.old }
     {
-        let count = self.left.len().min(room.len()).min(most);
+        let count = self.left.len().min(room.len()).min(limit);
         let (given, left) = self.left.split_at(count);
         room[..count].copy_from_slice(given);
         self.left = left;

@@ -1,13 +1,13 @@
 //! A shelf of files in memory, which fails at chosen calls.
 
-ghost use Rattle.std.specs.Prelude.{◌≡◌, ◌<◌, ◌≤◌, ◌^◌, [], ◌∷◌, ◌++◌, length, map, OnOk, OnErr, IsErrOf, Some};
+ghost use Rattle.std.specs.Prelude.{◌≡◌, [], ◌∷◌, ◌++◌, map, OnOk, OnErr, IsErrOf};
 ghost use Rattle.std.specs.String.{string_bytes};
 ghost use Rattle.std.specs.Option.{option_copied};
-ghost use Rattle.tfpg_base.specs.Outside.{longest_file, file_of, Gives, PassesLimit, CountsFailure, Asks};
-ghost use Rattle.tfpg_base.specs.Memory.{shelf_state, Copies, Fetches, FailsNext, after_fetch};
+ghost use Rattle.tfpg_base.specs.Outside.{file_of, Rose};
+ghost use Rattle.tfpg_base.specs.Memory.{Copies, Fetches, FailsNext, after_fetch};
 
 use super::failing_calls::FailingCalls;
-use crate::{LONGEST_FILE, NoMemory, Shelf, ShelfFault};
+use crate::{NoMemory, Shelf, ShelfFault, append_to_file};
 use std::alloc::Global;
 use std::marker::Model;
 
@@ -37,7 +37,7 @@ impl<'a> Model for MemoryShelf<'a> {
 
 impl<'a> MemoryShelf<'a> {
     /// A shelf of these files, names with contents, which fails at the calls with these numbers. Of two files
-    /// with one name the first counts. Takes no memory.
+    /// with one name the first wins. Takes no memory.
     pub fn new(
         alloc: Global,
         files: &'a [(&'a str, &'a [u8])],
@@ -71,30 +71,18 @@ impl<'a> MemoryShelf<'a> {
     {
         self.calls.faults
     }
-}
 
-impl<'a> Shelf for MemoryShelf<'a> {
-    ghost use Rattle.tfpg_base.specs.Memory.{shelf_state};
-
-    ghost state = { shelf_state };
-
-    fn fetch(&mut self, alloc: Global, name: &str, into: &mut Vec<u8>) -> Result<(), ShelfFault>
-        ensures given { OnOk result (Gives (shelf_state self.old) name.now into.new.items) }
-        ensures small { OnOk result (length into.new.items ≤ longest_file) }
-        ensures too_long { IsErrOf result ShelfFault.TooLong →
-            PassesLimit (shelf_state self.old) name.now into.new.items }
-        ensures failed { IsErrOf result ShelfFault.Failed → into.new.items ≡ [] }
-        ensures no_memory { IsErrOf result ShelfFault.NoMemory → into.new.items ≡ [] }
-        ensures counted { CountsFailure result (shelf_state self.old) (shelf_state self.new) }
-        ensures asks { Asks (shelf_state self.old) (shelf_state self.new) name.now result }
-        ensures same_files { (shelf_state self.new).files ≡ (shelf_state self.old).files }
+    /// Clears `into` and fills it with the file, as [`Shelf::fetch`] does. It fails at the chosen calls, and where there is no
+    /// such file.
+    pub fn fetch(&mut self, alloc: Global, name: &str, into: &mut Vec<u8>) -> Result<(), ShelfFault>
         ensures fetched { Fetches (FailsNext self.old.failing self.old.calls)
             (file_of self.old.files name.now) into.new.items result }
         ensures now { self.new ≡ after_fetch self.old name.now result }
+        ensures rises { IsErrOf result ShelfFault.Failed → Rose self.old.faults self.new.faults }
     {
         into.clear();
         let fails = self.calls.next_fails();
-        note(&mut self.asked, alloc, name).map_err(|_| ShelfFault::NoMemory)?;
+        note(&mut self.asked, alloc, name)?;
         if fails {
             self.calls.raise();
             return Err(ShelfFault::Failed);
@@ -108,6 +96,20 @@ impl<'a> Shelf for MemoryShelf<'a> {
             Err(ShelfFault::TooLong) | Ok(()) => {}
         }
         answer
+    }
+}
+
+impl<'a> Shelf for MemoryShelf<'a> {
+    ghost use Rattle.std.specs.Prelude.{Some};
+
+    ghost state = { λ shelf. record {
+      files = Some shelf.files;
+      asked = Some shelf.asked;
+      faults = shelf.faults;
+    } };
+
+    fn fetch(&mut self, alloc: Global, name: &str, into: &mut Vec<u8>) -> Result<(), ShelfFault> {
+        MemoryShelf::fetch(self, alloc, name, into)
     }
 }
 
@@ -127,9 +129,13 @@ fn copy_named(files: &[(&str, &[u8])], name: &str, into: &mut Vec<u8>) -> Result
     ensures { Copies (file_of (map (λ file. (file.0.now, file.1.now)) files.now) name.now)
         into.new.items result }
 {
-    match find(files, name) {
-        Some(content) => copy_file(content, into),
-        None => Err(ShelfFault::Failed),
+    let Some(content) = find(files, name) else {
+        return Err(ShelfFault::Failed);
+    };
+    if append_to_file(into, content)? {
+        Ok(())
+    } else {
+        Err(ShelfFault::TooLong)
     }
 }
 
@@ -143,20 +149,4 @@ fn find<'a>(files: &[(&str, &'a [u8])], name: &str) -> Option<&'a [u8]>
         }
     }
     None
-}
-
-/// Copies the content of a file into the empty room, as far as a file may go.
-fn copy_file(content: &[u8], into: &mut Vec<u8>) -> Result<(), ShelfFault>
-    requires { into.old.items ≡ [] }
-    ensures { Copies (Some content.now) into.new.items result }
-{
-    let (kept, more) = content.split_at(content.len().min(LONGEST_FILE));
-    if into.extend_from_slice(kept).is_err() {
-        return Err(ShelfFault::NoMemory);
-    }
-    if more.is_empty() {
-        Ok(())
-    } else {
-        Err(ShelfFault::TooLong)
-    }
 }

@@ -1,8 +1,8 @@
 //! A source that fails at chosen calls.
 
-ghost use Rattle.std.specs.Prelude.{◌≡◌, ◌⊎◌, ◌<◌, ◌≤◌, ◌↔◌, false, length, take, IsErr, IsTrue, IfOk, OnErr, Ok};
-ghost use Rattle.tfpg_base.specs.Outside.{Takes, IsAtEnd, Rose};
-ghost use Rattle.tfpg_base.specs.Memory.{source_state, FailsNext, count_given, after_take, filled};
+ghost use Rattle.std.specs.Prelude.{◌≡◌, ◌<◌, ◌↔◌, [], false, length, IsErr, IfOk, OnErr, Ok};
+ghost use Rattle.tfpg_base.specs.Outside.{Rose};
+ghost use Rattle.tfpg_base.specs.Memory.{FailsNext, count_given, after_take, filled};
 
 use super::bytes_left::BytesLeft;
 use super::failing_calls::FailingCalls;
@@ -13,7 +13,7 @@ use std::marker::Model;
 #[derive(Debug, Drop)]
 pub struct MemorySource<'a> {
     bytes: BytesLeft<'a>,
-    most: usize,
+    limit: usize,
     calls: FailingCalls<'a>,
 }
 
@@ -25,24 +25,24 @@ impl<'a> Model for MemorySource<'a> {
 
     ghost view = { λ source. record {
       left = source.bytes.left.now;
-      most = source.most;
+      limit = source.limit;
       failing = source.calls.failing.now;
       calls = source.calls.calls;
       faults = source.calls.faults;
       ended = source.bytes.ended;
     } };
 
-    ghost invariant = { λ source. 0 < source.most };
+    ghost invariant = { λ source. 0 < source.limit };
 }
 
 impl<'a> MemorySource<'a> {
-    /// A source of these bytes, which gives at most so many of them in a call, and fails at the calls with these
+    /// A source of these bytes, which gives at most `limit` of them in a call, and fails at the calls with these
     /// numbers. Takes no memory.
-    pub fn new(bytes: &'a [u8], most: usize, failing: &'a [u64]) -> MemorySource<'a>
-        requires { 0 < most }
+    pub fn new(bytes: &'a [u8], limit: usize, failing: &'a [u64]) -> MemorySource<'a>
+        requires { 0 < limit }
         ensures { result ≡ record {
           left = bytes.now;
-          most = most;
+          limit = limit;
           failing = failing.now;
           calls = 0;
           faults = 0;
@@ -51,7 +51,7 @@ impl<'a> MemorySource<'a> {
     {
         MemorySource {
             bytes: BytesLeft::new(bytes),
-            most,
+            limit,
             calls: FailingCalls::new(failing),
         }
     }
@@ -69,33 +69,35 @@ impl<'a> MemorySource<'a> {
     {
         self.calls.faults
     }
-}
 
-impl<'a> Source for MemorySource<'a> {
-    ghost use Rattle.tfpg_base.specs.Memory.{source_state};
-
-    ghost state = { source_state };
-
-    fn take(&mut self, room: &mut [u8]) -> Result<usize, Failed>
-        ensures within { IfOk result (λ count. count ≤ length room.old) }
-        ensures taken { IfOk result
-            (λ count. Takes (source_state self.old) (source_state self.new) (take count room.new)) }
-        ensures no_fault { IfOk result
-            (λ count. (source_state self.new).faults ≡ (source_state self.old).faults) }
-        ensures end { result ≡ Ok 0 → 0 < length room.old → IsAtEnd (source_state self.new) }
-        ensures ended { IsTrue (source_state self.new).ended ↔
-            (IsTrue (source_state self.old).ended ⊎ ((result ≡ Ok 0) × (0 < length room.old))) }
-        ensures failed { OnErr result (Rose (source_state self.old).faults (source_state self.new).faults) }
-        ensures nothing_taken { OnErr result ((source_state self.new).left ≡ (source_state self.old).left) }
+    /// Fills the first places of the room with the next bytes, and returns how many, as [`Source::take`] does. It fails
+    /// exactly at the chosen calls.
+    pub fn take(&mut self, room: &mut [u8]) -> Result<usize, Failed>
         ensures fails { IsErr result ↔ FailsNext self.old.failing self.old.calls }
         ensures given { IfOk result (λ count. count ≡ count_given self.old (length room.old)) }
         ensures now { self.new ≡ after_take self.old (length room.old) result }
         ensures room { room.new ≡ filled self.old.left room.old result }
+        ensures end { result ≡ Ok 0 → 0 < length room.old → self.old.left ≡ [] }
+        ensures rises { OnErr result (Rose self.old.faults self.new.faults) }
     {
         if self.calls.next_fails() {
             self.calls.raise();
             return Err(Failed);
         }
-        Ok(self.bytes.give(room, self.most))
+        Ok(self.bytes.give(room, self.limit))
+    }
+}
+
+impl<'a> Source for MemorySource<'a> {
+    ghost use Rattle.std.specs.Prelude.{Some};
+
+    ghost state = { λ source. record {
+      left = Some source.left;
+      ended = source.ended;
+      faults = source.faults;
+    } };
+
+    fn take(&mut self, room: &mut [u8]) -> Result<usize, Failed> {
+        MemorySource::take(self, room)
     }
 }

@@ -1,8 +1,7 @@
 //! A source that never fails.
 
-ghost use Rattle.std.specs.Prelude.{◌≡◌, ◌⊎◌, ◌<◌, ◌≤◌, ◌↔◌, false, length, take, drop, min, IsTrue, IfOk, OnErr, Ok};
-ghost use Rattle.tfpg_base.specs.Outside.{Takes, IsAtEnd, Rose};
-ghost use Rattle.tfpg_base.specs.Memory.{steady_state, ended_after, filled};
+ghost use Rattle.std.specs.Prelude.{◌≡◌, false, length, drop, min, Ok};
+ghost use Rattle.tfpg_base.specs.Memory.{ended_after, filled};
 
 use super::bytes_left::BytesLeft;
 use crate::{Failed, Source};
@@ -39,30 +38,26 @@ impl<'a> SteadySource<'a> {
     {
         self.bytes.left
     }
-}
 
-impl<'a> Source for SteadySource<'a> {
-    ghost use Rattle.tfpg_base.specs.Memory.{steady_state};
-
-    ghost state = { steady_state };
-
-    fn take(&mut self, room: &mut [u8]) -> Result<usize, Failed>
-        ensures within { IfOk result (λ count. count ≤ length room.old) }
-        ensures taken { IfOk result
-            (λ count. Takes (steady_state self.old) (steady_state self.new) (take count room.new)) }
-        ensures no_fault { IfOk result
-            (λ count. (steady_state self.new).faults ≡ (steady_state self.old).faults) }
-        ensures end { result ≡ Ok 0 → 0 < length room.old → IsAtEnd (steady_state self.new) }
-        ensures ended { IsTrue (steady_state self.new).ended ↔
-            (IsTrue (steady_state self.old).ended ⊎ ((result ≡ Ok 0) × (0 < length room.old))) }
-        ensures failed { OnErr result (Rose (steady_state self.old).faults (steady_state self.new).faults) }
-        ensures nothing_taken { OnErr result ((steady_state self.new).left ≡ (steady_state self.old).left) }
+    /// Fills the first places of the room with the next bytes, and returns how many, as [`Source::take`] does: as many
+    /// as are left and have a place.
+    pub fn take(&mut self, room: &mut [u8]) -> Result<usize, Failed>
         ensures given { result ≡ Ok (min (length self.old.left) (length room.old)) }
         ensures left { self.new.left ≡ drop (length room.old) self.old.left }
-        ensures has_ended { self.new.ended ≡
+        ensures ended { self.new.ended ≡
             ended_after self.old.ended (length self.old.left) (length room.old) }
         ensures room { room.new ≡ filled self.old.left room.old result }
     {
         Ok(self.bytes.give(room, room.len()))
+    }
+}
+
+impl<'a> Source for SteadySource<'a> {
+    ghost use Rattle.std.specs.Prelude.{Some};
+
+    ghost state = { λ source. record { left = Some source.left; ended = source.ended; faults = 0 } };
+
+    fn take(&mut self, room: &mut [u8]) -> Result<usize, Failed> {
+        SteadySource::take(self, room)
     }
 }

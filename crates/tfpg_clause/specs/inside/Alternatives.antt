@@ -1,10 +1,12 @@
 -- The parts of clauses by the numbers of edges, as the code goes through them.
-use Rattle.std.specs.Prelude.{ℕ, List, [], ◌∷◌, map, filter_map, nat_le, Option, option_and_then, slice_get}
+use Rattle.std.specs.Prelude.{ℕ, List, [], ◌∷◌, map, filter_map, nat_le, Option, option_and_then, slice_get, Bool}
 use Rattle.std.specs.Bool.{then_some}
 use Rattle.std.specs.List.{list_all}
 use Rattle.tfpg_base.specs.Choice.{each_of}
 use Rattle.tfpg_base.specs.declared.constraint.Constraint.{Constraint}
-use Rattle.tfpg_graph.specs.Graph.{Tfpg}
+use Rattle.tfpg_graph.specs.declared.edge.Edge.{Edge}
+use Rattle.tfpg_graph.specs.declared.kind.Kind.{Kind}
+use Rattle.tfpg_graph.specs.Graph.{Tfpg, is_kind_at}
 use Rattle.tfpg_log.specs.Log.{Logbook}
 use Rattle.tfpg_log.specs.declared.span.Span.{Span}
 use Rattle.tfpg_clause.specs.Clauses.{arrival, due_over, latest_of}
@@ -36,3 +38,7 @@ dues_over graph log number horizon edges = each_of (map (due_by_number graph log
 -- the latest time at which something is due, where a window that ends here has room for all
 abbrev pub latest_within : ℕ → Option (List Due) → Option ℕ
 latest_within hi dues = option_and_then (λ ds. then_some (list_all (λ (due : Due). nat_le due.by hi) ds) (latest_of ds)) dues
+
+-- the target of an edge, where there is the edge and the target is of this kind
+abbrev pub target_of_kind : (Kind → Bool) → Tfpg → Option Edge → Option ℕ
+target_of_kind test graph edge = option_and_then (λ e. then_some (is_kind_at test graph e.target) e.target) edge

@@ -1,4 +1,4 @@
--- How many frames are left once the finished ones at the end are gone.
+-- How many frames are left once the finished ones at the end are dropped.
 use Rattle.std.specs.Prelude.{◌<◌, ℕ, zero, suc, List, IsSomeAnd, slice_get}
 use Rattle.tfpg_clause.specs.declared.path.Frame.{Frame}
 

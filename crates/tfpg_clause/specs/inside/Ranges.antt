@@ -2,6 +2,7 @@
 use Rattle.std.specs.Prelude.{◌*◌, ◌<◌, ◌≤◌, length, IfSome}
 use Rattle.tfpg_base.specs.Times.{max_time}
 use Rattle.tfpg_graph.specs.declared.edge.Edge.{Edge}
+use Rattle.tfpg_graph.specs.declared.limits.TheConstants.{MAX_NODES}
 use Rattle.tfpg_graph.specs.Graph.{Tfpg}
 use Rattle.tfpg_clause.specs.declared.due.Due.{Due}
 use Rattle.tfpg_log.specs.declared.span.Span.{Span}
@@ -11,7 +12,7 @@ use Rattle.tfpg_log.specs.declared.event.Event.TheVariants.{Alarm, Silent, Sweep
 
 -- an alarm is of a node of the graph, of which there are few, and its time is in range
 abbrev pub IsSmallAlarm : Tfpg → Event → Type 0
-IsSmallAlarm graph (Alarm time node) = (node < length graph.nodes) × (node < 512) × (time ≤ max_time)
+IsSmallAlarm graph (Alarm time node) = (node < length graph.nodes) × (node < MAX_NODES) × (time ≤ max_time)
 IsSmallAlarm graph (Silent time node) = Unit {0}
 IsSmallAlarm graph (Sweep time) = Unit {0}
 IsSmallAlarm graph (Tick time) = Unit {0}
@@ -19,8 +20,8 @@ IsSmallAlarm graph (Mode time mode) = Unit {0}
 
 -- the nodes of an edge are few enough, and its delays in range
 pub record IsSmallEdge (edge : Edge) : Type 0 where
-  pub source : edge.source < 512
-  pub target : edge.target < 512
+  pub source : edge.source < MAX_NODES
+  pub target : edge.target < MAX_NODES
   pub tmin : edge.tmin ≤ max_time
   pub tmax : IfSome edge.tmax (λ tmax. tmax ≤ max_time)
 
@@ -36,7 +37,7 @@ pub record IsSmallWindow (window : Window) : Type 0 where
 
 -- what is due over an edge names few nodes, and its times are in range
 pub record IsSmallDue (due : Due) : Type 0 where
-  pub source : due.source < 512
-  pub target : due.target < 512
+  pub source : due.source < MAX_NODES
+  pub target : due.target < MAX_NODES
   pub tmax : due.tmax ≤ max_time
   pub by : due.by ≤ 2 * max_time

@@ -7,9 +7,10 @@ ghost use Rattle.tfpg_log.specs.Log.{Logbook, GoesOn, IsOrdered};
 ghost use Rattle.tfpg_evidence.specs.declared.clause_name.ClauseName.{ClauseName};
 ghost use Rattle.tfpg_evidence.specs.declared.reason.Reason.{Reason};
 ghost use Rattle.tfpg_evidence.specs.declared.step.Step.TheVariants.{Split, Cycle};
+ghost use Rattle.tfpg_clause.specs.Laws.{FrontsOfPartialTreesArePartial, FrontsOfRefutationsArePartial, TreesBeginAtTheRoot, PresentLeavesStay, PartialTreesStay, RefutationsStay, RefutationsAreNotPartial, LastStepsOfRefutationsAreRight, LastStepsOfPartialTreesAreRight, FramesBeginAtTheRoot, FramesFollowSplits, FramesFollowCycles, FramesEndInRefutations, FramesStayAtTheLeaf, FramesStateWhatPathsState};
 ghost use Rattle.tfpg_clause.specs.Clauses.{count_of};
-ghost use Rattle.tfpg_clause.specs.Trees.{Judged, PathSplit, stated, IsClosedBy, IsClosedLeaf, IsRefutation, IsPartial, IsPresentLeaf};
-ghost use Rattle.tfpg_clause.specs.Paths.{with_step, new_split, next_leaf, IsRightNext, IsFrameOf, AreFramesOf, IsAtLeaf, new_frame, path_after, stated_by};
+ghost use Rattle.tfpg_clause.specs.Trees.{Judged, PathSplit, stated, IsClosedLeaf, IsRefutation, IsPresentLeaf};
+ghost use Rattle.tfpg_clause.specs.Paths.{with_step, new_split, next_leaf, IsFrameOf, AreFramesOf, path_after};
 ghost use Rattle.tfpg_clause.specs.declared.path.Frame.{Frame};
 
 /// A right step makes a partial tree or a refutation of a partial tree.
@@ -19,7 +20,7 @@ ghost use Rattle.tfpg_clause.specs.declared.path.Frame.{Frame};
 /// - `next`: a cycle that closes the present leaf goes on to the next alternative of the deepest split that has one left.
 /// - `closed`: where none has, the steps are a refutation.
 pub fn a_partial_tree_grows()
-    ensures begins { (graph : Tfpg) (log : Logbook) (reach : List ℕ) → IsPresentLeaf graph log reach [] [] }
+    ensures begins { TreesBeginAtTheRoot }
     ensures split { (graph : Tfpg) (log : Logbook) (reach : List ℕ) (steps : List Judged)
         (path : List PathSplit)
         (name : ClauseName) (count : ℕ) →
@@ -42,11 +43,8 @@ pub fn a_partial_tree_grows()
 
 /// The last step of a refutation, or of a partial tree, is right at the present leaf of the steps before it.
 pub fn the_last_step_of_a_tree_is_right()
-    ensures refutation { (graph : Tfpg) (log : Logbook) (reach : List ℕ) (steps : List Judged)
-        (last : Judged) →
-        IsRefutation graph log reach (steps ++ last ∷ []) → IsRightNext graph log reach steps last }
-    ensures partial { (graph : Tfpg) (log : Logbook) (reach : List ℕ) (steps : List Judged) (last : Judged) →
-        IsPartial graph log reach (steps ++ last ∷ []) → IsRightNext graph log reach steps last }
+    ensures refutation { LastStepsOfRefutationsAreRight }
+    ensures partial { LastStepsOfPartialTreesAreRight }
 {}
 
 /// What steps begin with is a partial tree.
@@ -54,32 +52,21 @@ pub fn the_last_step_of_a_tree_is_right()
 /// - `partial`: where the steps are a partial tree.
 /// - `refutation`: where they are a refutation, and at least one step comes after.
 pub fn the_front_of_a_tree_is_a_partial_tree()
-    ensures partial { (graph : Tfpg) (log : Logbook) (reach : List ℕ) (front back : List Judged) →
-        IsPartial graph log reach (front ++ back) → IsPartial graph log reach front }
-    ensures refutation { (graph : Tfpg) (log : Logbook) (reach : List ℕ)
-        (front : List Judged) (next : Judged) (back : List Judged) →
-        IsRefutation graph log reach (front ++ next ∷ back) → IsPartial graph log reach front }
+    ensures partial { FrontsOfPartialTreesArePartial }
+    ensures refutation { FrontsOfRefutationsArePartial }
 {}
 
 /// Steps that are a refutation are no partial tree: none comes after them.
 pub fn a_refutation_is_finished()
-    ensures { (graph : Tfpg) (log : Logbook) (reach : List ℕ) (steps : List Judged) →
-        IsRefutation graph log reach steps → IsPartial graph log reach steps → ⊥ }
+    ensures { RefutationsAreNotPartial }
 {}
 
 /// Trees at a log are trees at each log that goes on from it, and what a reason states on a path stays: also where the later
 /// log has more events by which it is judged.
 pub fn a_tree_stays()
-    ensures leaf { (graph : Tfpg) (earlier later : Logbook) (reach : List ℕ) (steps : List Judged)
-        (path : List PathSplit) →
-        IsOrdered later → GoesOn earlier later →
-        IsPresentLeaf graph earlier reach steps path → IsPresentLeaf graph later reach steps path }
-    ensures partial { (graph : Tfpg) (earlier later : Logbook) (reach : List ℕ) (steps : List Judged) →
-        IsOrdered later → GoesOn earlier later → IsPartial graph earlier reach steps →
-        IsPartial graph later reach steps }
-    ensures refutation { (graph : Tfpg) (earlier later : Logbook) (reach : List ℕ) (steps : List Judged) →
-        IsOrdered later → GoesOn earlier later →
-        IsRefutation graph earlier reach steps → IsRefutation graph later reach steps }
+    ensures leaf { PresentLeavesStay }
+    ensures partial { PartialTreesStay }
+    ensures refutation { RefutationsStay }
     ensures stated { (graph : Tfpg) (earlier later : Logbook) (reach : List ℕ) (path : List PathSplit)
         (seen more : ℕ) (reason : Reason) (constraint : Constraint) →
         IsOrdered later → GoesOn earlier later → seen ≤ more →
@@ -108,41 +95,20 @@ pub fn frames_follow_the_path()
         (frames : List Frame) →
         IsOrdered later → GoesOn earlier later →
         AreFramesOf graph earlier path frames → AreFramesOf graph later path frames }
-    ensures states_same { (graph : Tfpg) (log : Logbook) (reach : List ℕ) (path : List PathSplit)
-        (frames : List Frame)
-        (reason : Reason) →
-        IsOrdered log → AreFramesOf graph log path frames →
-        stated_by graph log reach frames reason ≡ stated graph log reach path (length log.events) reason }
+    ensures states_same { FramesStateWhatPathsState }
 {}
 
 /// Frames that are at the present leaf of some steps follow each step.
 ///
 /// - `begins`: without a step there is no frame.
-/// - `split`: a split on an allowed name puts its frame at the end.
-/// - `next`: reasons that close the leaf by the frames go on to the next leaf.
+/// - `split`: after a split on an allowed name its frame comes at the end.
+/// - `next`: where reasons close the leaf and there is a next one, the frames after that cycle are at it.
 /// - `closed`: where there is none, the steps are a refutation.
 /// - `stays`: at a log that goes on they are at the present leaf of the same steps.
 pub fn frames_are_at_the_present_leaf()
-    ensures begins { (graph : Tfpg) (log : Logbook) (reach : List ℕ) → IsAtLeaf graph log reach [] [] }
-    ensures split { (graph : Tfpg) (log : Logbook) (reach : List ℕ) (frames : List Frame)
-        (steps : List Judged)
-        (name : ClauseName) (count : ℕ) →
-        IsAtLeaf graph log reach frames steps → count_of graph log name ≡ Some count →
-        IsAtLeaf graph log reach (frames ++ new_frame name count ∷ []) (with_step steps log (Split name)) }
-    ensures next { (graph : Tfpg) (log : Logbook) (reach : List ℕ) (frames after : List Frame)
-        (steps : List Judged)
-        (reasons : List Reason) →
-        IsOrdered log → IsAtLeaf graph log reach frames steps →
-        IsClosedBy (stated_by graph log reach frames) reasons → path_after frames ≡ Some after →
-        IsAtLeaf graph log reach after (with_step steps log (Cycle reasons)) }
-    ensures closed { (graph : Tfpg) (log : Logbook) (reach : List ℕ) (frames : List Frame)
-        (steps : List Judged)
-        (reasons : List Reason) →
-        IsOrdered log → IsAtLeaf graph log reach frames steps →
-        IsClosedBy (stated_by graph log reach frames) reasons → path_after frames ≡ None →
-        IsRefutation graph log reach (with_step steps log (Cycle reasons)) }
-    ensures stays { (graph : Tfpg) (earlier later : Logbook) (reach : List ℕ) (frames : List Frame)
-        (steps : List Judged) →
-        IsOrdered later → GoesOn earlier later →
-        IsAtLeaf graph earlier reach frames steps → IsAtLeaf graph later reach frames steps }
+    ensures begins { FramesBeginAtTheRoot }
+    ensures split { FramesFollowSplits }
+    ensures next { FramesFollowCycles }
+    ensures closed { FramesEndInRefutations }
+    ensures stays { FramesStayAtTheLeaf }
 {}

@@ -5,7 +5,7 @@ use Rattle.tfpg_diff.specs.declared.why.Why.{Why}
 use Rattle.tfpg_diff.specs.declared.bounds.Bounds.{Bounds}
 use Rattle.tfpg_diff.specs.declared.pick.Pick.{Pick}
 use Rattle.tfpg_diff.specs.declared.demand.Demand.{Demand}
-use Rattle.tfpg_diff.specs.Demands.{Demands, Demanded, Bounded, picked, ceiling_of}
+use Rattle.tfpg_diff.specs.Demands.{Demands, Demanded, Bounded, demand_of_pick, ceiling_of}
 pub use Rattle.tfpg_diff.specs.Demands.{demands_of}
 use Rattle.tfpg_diff.specs.Solution.{IsBetween, IsSolution}
 use Rattle.tfpg_base.specs.Times.{never}
@@ -73,12 +73,12 @@ pub record IsKept (demands : Demands) (values : List ℕ) (links : List Demand) 
 
 -- Values meet each pick.
 abbrev pub MeetsPicks : List ℕ → List Pick → Type 0
-MeetsPicks values picks = All (λ pick. IsMetBy values (picked pick)) picks
+MeetsPicks values picks = All (λ pick. IsMetBy values (demand_of_pick pick)) picks
 
 -- What testing one pick does to values: where it was broken they sum up to less, else they stay and meet it.
 abbrev pub Relaxes : List Pick → ℕ → List ℕ → Bool → List ℕ → Type 0
 Relaxes picks place before true after = sum after < sum before
-Relaxes picks place before false after = (after ≡ before) × HoldsAt (λ pick. IsMetBy after (picked pick)) picks place
+Relaxes picks place before false after = (after ≡ before) × HoldsAt (λ pick. IsMetBy after (demand_of_pick pick)) picks place
 
 -- What testing some picks does to values: where any was broken they sum up to less, else they stay and meet all.
 abbrev pub Passes : List Pick → List ℕ → Bool → List ℕ → Type 0

@@ -4,8 +4,22 @@ use Rattle.tfpg_graph.specs.Graph.{Tfpg}
 use Rattle.tfpg_log.specs.Log.{Logbook, IsOf}
 use Rattle.tfpg_clause.specs.Trees.{Judged}
 use Rattle.tfpg_hyp.specs.Hypotheses.{Hypotheses, IsTableOf}
+use Rattle.tfpg_engine.specs.declared.engine.Engine.TheInside.{Inside}
 use Rattle.tfpg_engine.specs.declared.slot.Slot.{Slot}
 use Rattle.tfpg_engine.specs.Engining.{Engining, SlotRepresents}
+
+-- what contracts see of an engine
+abbrev pub engining_of : Inside → Engining
+engining_of e =
+    record {
+      graph = e.graph;
+      log = e.log;
+      k = e.k;
+      table = e.table;
+      budget = e.budget;
+      slots = e.slots.items;
+      ended = e.ended;
+    }
 
 -- What is kept of a hypothesis represents some steps.
 abbrev pub CanGoOn : Tfpg → Logbook → List ℕ → List ℕ → Slot → Type 0

@@ -10,7 +10,7 @@ use Rattle.tfpg_clause.specs.Trees.{Judged}
 use Rattle.tfpg_hyp.specs.Hypotheses.{Hypotheses, AreReaches}
 use Rattle.tfpg_hyp.specs.declared.place.Fraction.{Fraction}
 use Rattle.tfpg_hyp.specs.declared.place.Place.{Place}
-use Rattle.tfpg_hyp.specs.Rounds.{HasEvidence, IsRankedPart, IsOrder, counts_of, is_open, place_of_status}
+use Rattle.tfpg_hyp.specs.Rounds.{HasEvidence, IsRankedSubset, IsOrder, counts_of, is_open, place_of_status}
 use Rattle.tfpg_search.specs.Enough.{IsEnough}
 use Rattle.tfpg_search.specs.Searching.{Searching}
 use Rattle.tfpg_search.specs.Searched.{with_steps}
@@ -20,6 +20,7 @@ use Rattle.tfpg_engine.specs.declared.slot.Slot.{Slot}
 use Rattle.tfpg_engine.specs.declared.slot.Slot.TheVariants.{Untouched, Searched, Rejected}
 use Rattle.tfpg_engine.specs.Engining.{SlotRepresents}
 use Rattle.tfpg_engine.specs.Earned.{IsEarned}
+use Rattle.tfpg_engine.specs.inside.Placed.{HasFraction}
 
 -- the test of a slot that is rejected
 abbrev pub is_rejected_slot : Slot → Bool
@@ -27,10 +28,10 @@ is_rejected_slot Untouched = false
 is_rejected_slot (Searched search) = false
 is_rejected_slot Rejected = true
 
--- the least number of a ranked part of the set
-pub record IsLeastPart (findings : List Finding) (set : List ℕ) (by : ℕ) : Type 0 where
-  pub part : IsRankedPart findings set by
-  pub least : (other : ℕ) → IsRankedPart findings set other → by ≤ other
+-- the least number of a ranked proper subset of the set
+pub record IsLeastSubset (findings : List Finding) (set : List ℕ) (by : ℕ) : Type 0 where
+  pub part : IsRankedSubset findings set by
+  pub least : (other : ℕ) → IsRankedSubset findings set other → by ≤ other
 
 -- what is kept of a search that found this
 abbrev pub kept : Searching → Found → Slot
@@ -45,8 +46,8 @@ status_by cost robust found.Closed = status.Rejected
 status_by cost robust found.Spent = status.Open
 
 -- Where the status ranks, its robustness is a fraction.
-abbrev pub IsWhole : ℕ → Status → Type 0
-IsWhole number status = (place : Place) → place_of_status number status ≡ Some place → 1 ≤ place.robust.monitored
+abbrev pub RanksByFraction : ℕ → Status → Type 0
+RanksByFraction number status = (place : Place) → place_of_status number status ≡ Some place → HasFraction place
 
 -- The finding goes on from these steps: what is kept represents the steps with those of the finding, which are its evidence
 -- and are earned.
@@ -59,7 +60,7 @@ pub record GoesOnFrom (graph : Tfpg) (log : Logbook) (budget : ℕ) (set reach :
 pub record IsTurn (graph : Tfpg) (log : Logbook) (budget : ℕ) (set reach : List ℕ) (number : ℕ) (findings : List Finding) (old new : Slot) (finding : Finding) : Type 0 where
   pub number_is : finding.number ≡ number
   pub set_is : finding.set ≡ set
-  pub whole : IsWhole number finding.status
+  pub whole : RanksByFraction number finding.status
   pub settled : IsEnough graph log budget → is_open finding.status ≡ false
   pub goes_on : (earlier : List Judged) → SlotRepresents graph log set reach old earlier → GoesOnFrom graph log budget set reach findings earlier new finding
 
@@ -79,7 +80,7 @@ pub record AreFirstTurns (graph : Tfpg) (log : Logbook) (budget : ℕ) (table : 
 
 -- a table of sets of failure modes of the graph, with what each reaches
 pub record IsOfGraph (graph : Tfpg) (table : Hypotheses) : Type 0 where
-  pub members : All (λ set. All (λ place. place < length (failures graph)) set) table.sets
+  pub members : All (λ set. All (λ position. position < length (failures graph)) set) table.sets
   pub reached : AreReaches graph table.sets table.reaches
 
 -- A finding on each hypothesis was made, they were put in order and counted.

@@ -3,7 +3,7 @@ use Rattle.std.specs.Prelude.{◌≡◌, ℕ, ◌<◌, List, [], ◌∷◌, ◌+
 use Rattle.tfpg_graph.specs.declared.kind.Kind.{Kind}
 use Rattle.tfpg_graph.specs.declared.edge.Edge.{Edge}
 use Rattle.tfpg_graph.specs.declared.declared.Declared.TheInside.{Inside}
-use Rattle.tfpg_graph.specs.Graph.{Tfpg, failures, incoming, place_of_failure}
+use Rattle.tfpg_graph.specs.Graph.{Tfpg, failures, incoming, position_of_failure}
 use Rattle.tfpg_graph.specs.Valid.{IsValidSoFar}
 
 -- before anything is declared
@@ -22,13 +22,13 @@ with_edge graph edge = record { nodes = graph.nodes; edges = graph.edges ++ edge
 abbrev pub with_mode : Tfpg → List ℕ → Tfpg
 with_mode graph name = record { nodes = graph.nodes; edges = graph.edges; modes = graph.modes ++ name ∷ [] }
 
--- For each node the edges into it, the nodes that are failure modes, and for each node its place among these.
-pub record HasIndexes (graph : Tfpg) (rows : List (List ℕ)) (failed : List ℕ) (places : List (Option ℕ)) : Type 0 where
+-- For each node the edges into it, the nodes that are failure modes, and for each node its position among these.
+pub record HasIndexes (graph : Tfpg) (rows : List (List ℕ)) (failed : List ℕ) (positions : List (Option ℕ)) : Type 0 where
   pub row_count : length rows ≡ length graph.nodes
   pub row_is : (node : ℕ) → node < length graph.nodes → slice_get rows node ≡ Some (incoming graph node)
   pub failed_are : failed ≡ failures graph
-  pub place_count : length places ≡ length graph.nodes
-  pub place_is : (node : ℕ) → node < length graph.nodes → slice_get places node ≡ Some (place_of_failure graph node)
+  pub position_count : length positions ≡ length graph.nodes
+  pub position_is : (node : ℕ) → node < length graph.nodes → slice_get positions node ≡ Some (position_of_failure graph node)
 
 -- the graph that is declared
 abbrev pub graph_of : Inside → Tfpg
@@ -40,5 +40,5 @@ graph_of d = record {
 
 -- what holds of all that is declared
 pub record IsDeclared (d : Inside) : Type 0 where
-  pub indexed : HasIndexes (graph_of d) (map (λ row. row.items) d.incoming.items) d.failures.items d.places.items
+  pub indexed : HasIndexes (graph_of d) (map (λ row. row.items) d.incoming.items) d.failures.items d.positions.items
   pub so_far : IsValidSoFar (graph_of d)

@@ -1,4 +1,3 @@
-pub mod ReaderState
 pub mod Turns
 pub mod Answered
 pub mod StatementSeen

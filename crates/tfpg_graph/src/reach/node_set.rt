@@ -4,9 +4,10 @@ ghost use Rattle.std.specs.Prelude.{◌≡◌, ◌<◌, ◌↔◌, [], IsTrue, C
 ghost use Rattle.tfpg_base.specs.Set.{with_member};
 ghost use Rattle.tfpg_graph.specs.NodeSet.{IsNodeSet};
 
+use crate::limits::MAX_NODES;
 use std::marker::Model;
 
-/// A set of nodes, each by its number, which is below 512. It takes no memory.
+/// A set of nodes, each by its number, which is below [`MAX_NODES`]. It takes no memory.
 /// Contracts see it as the rising list of these numbers.
 #[derive(Clone, Copy, Debug)]
 pub struct NodeSet {
@@ -40,7 +41,7 @@ impl NodeSet {
 
     /// The set with this node.
     pub(crate) fn with(self, node: u32) -> NodeSet
-        requires { node < 512 }
+        requires { node < MAX_NODES }
         ensures nodes { result ≡ with_member node self }
         ensures set { IsNodeSet result }
     {
@@ -49,11 +50,11 @@ impl NodeSet {
         NodeSet { words }
     }
 
-    /// Whether the node is in the set. A number from 512 on is in none.
+    /// Whether the node is in the set. A number from [`MAX_NODES`] on is in none.
     pub fn has(&self, node: u32) -> bool
         ensures node { IsTrue result ↔ Contains self.now node }
         ensures set { IsNodeSet self.now }
     {
-        node < 512 && self.words[(node / 64) as usize] >> (node % 64) & 1 == 1
+        node < MAX_NODES && self.words[(node / 64) as usize] >> (node % 64) & 1 == 1
     }
 }

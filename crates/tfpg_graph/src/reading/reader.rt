@@ -20,7 +20,6 @@ use crate::reading::list_modes::listed_modes;
 use crate::reading::statement::{EdgeWords, NodeWords, Statement, is_skipped, statement_of};
 use crate::zero_cycle::first_on_zero_cycle;
 use std::alloc::Global;
-use std::marker::Model;
 use tfpg_base::NoMemory;
 
 /// Which lines may come next.
@@ -88,14 +87,6 @@ pub(crate) struct Reader {
     declared: Declared,
 }
 
-impl Model for Reader {
-    ghost use Rattle.tfpg_graph.specs.inside.reading.ReaderState.{ReaderState};
-
-    ghost Value = { ReaderState };
-
-    ghost view = { λ reader. record { part = reader.part; graph = reader.declared } };
-}
-
 impl Reader {
     ghost use Rattle.tfpg_graph.specs.inside.reading.Turns.{nothing_read};
 
@@ -132,7 +123,7 @@ impl Reader {
         requires stands { ReaderRepresents self (parts_of text.now) }
         requires count { line_count ≡ length (parts_of text.now) }
         requires few { line_count ≤ 2 ^ 63 }
-        ensures graph { IfOk result (λ graph. (graph ≡ self.graph) × (self.part ≡ Part.Ended)) }
+        ensures graph { IfOk result (λ graph. (graph ≡ self.declared) × (self.part ≡ Part.Ended)) }
         ensures valid { IfOk result IsValid }
         ensures fault { IfErr result (IsEndRefusal (parts_of text.now)) }
     {
@@ -192,7 +183,7 @@ impl Reader {
     }
 
     fn with_statement(self, alloc: Global, statement: Statement<'_>) -> Result<Reader, LineRefusal>
-        ensures { IsTurnAnswer (turn_said self.graph (Some (statement_seen statement.entry))) result }
+        ensures { IsTurnAnswer (turn_said self.declared (Some (statement_seen statement.entry))) result }
     {
         match statement {
             Statement::Mode { name } => self.with_mode(alloc, name),
@@ -203,7 +194,7 @@ impl Reader {
     }
 
     fn with_mode(self, alloc: Global, name: &[u8]) -> Result<Reader, LineRefusal>
-        ensures { IsTurnAnswer (turn_said self.graph (Some (DeclaresMode name.now))) result }
+        ensures { IsTurnAnswer (turn_said self.declared (Some (DeclaresMode name.now))) result }
     {
         if let Some(cause) = mode_cause(&self.declared, name) {
             return Err(LineRefusal::Cause(cause));
@@ -221,7 +212,7 @@ impl Reader {
         name: &[u8],
         words: NodeWords<'_>,
     ) -> Result<Reader, LineRefusal>
-        ensures { IsTurnAnswer (turn_said self.graph
+        ensures { IsTurnAnswer (turn_said self.declared
             (Some (DeclaresNode name.now (node_words_of words.entry)))) result }
     {
         let kind = read_node(&self.declared, name, words)?;
@@ -233,7 +224,7 @@ impl Reader {
     }
 
     fn with_edge(self, alloc: Global, words: EdgeWords<'_>) -> Result<Reader, LineRefusal>
-        ensures { IsTurnAnswer (turn_said self.graph (Some (edge_said words.entry))) result }
+        ensures { IsTurnAnswer (turn_said self.declared (Some (edge_said words.entry))) result }
     {
         let modes = listed_modes(alloc, words.modes)?;
         let edge = read_edge(&self.declared, words, modes.as_slice())?;
@@ -245,7 +236,7 @@ impl Reader {
     }
 
     fn with_end(self) -> Result<Reader, LineRefusal>
-        ensures { IsTurnAnswer (turn_said self.graph (Some Ends)) result }
+        ensures { IsTurnAnswer (turn_said self.declared (Some Ends)) result }
     {
         if self.declared.mode_count() == 0 {
             return Err(LineRefusal::Cause(GraphCause::BadLine));

@@ -10,25 +10,25 @@ ghost use Rattle.tfpg_graph.specs.inside.writing.Written.{edge_text};
 
 use crate::edge::Edge;
 use crate::graph::Graph;
-use crate::writing::write_modes::put_modes_word;
+use crate::writing::write_modes::append_modes_word;
 use itoa::Buffer;
-use tfpg_base::{NoMemory, put_words};
+use tfpg_base::{NoMemory, append_words};
 
 /// Appends the line of an edge.
-pub(crate) fn put_edge(graph: &Graph, edge: Edge, into: &mut Vec<u8>) -> Result<(), NoMemory>
+pub(crate) fn append_edge(graph: &Graph, edge: Edge, into: &mut Vec<u8>) -> Result<(), NoMemory>
     requires graph { IsValid graph.now }
     requires edge { IsValidEdge graph.now edge }
     ensures { Appends result into.old.items into.new.items (edge_text graph.now edge) }
 {
-    put_ends_and_delays(graph, edge, into)?;
+    append_ends_and_delays(graph, edge, into)?;
     into.push(b' ')?;
-    put_modes_word(graph, &edge, into)?;
+    append_modes_word(graph, &edge, into)?;
     into.push(b'\n')?;
     Ok(())
 }
 
 /// Appends the words of an edge that stand before the word for its modes.
-fn put_ends_and_delays(graph: &Graph, edge: Edge, into: &mut Vec<u8>) -> Result<(), NoMemory>
+fn append_ends_and_delays(graph: &Graph, edge: Edge, into: &mut Vec<u8>) -> Result<(), NoMemory>
     requires source_in { edge.source < length graph.now.nodes }
     requires target_in { edge.target < length graph.now.nodes }
     ensures { Appends result into.old.items into.new.items
@@ -44,9 +44,9 @@ fn put_ends_and_delays(graph: &Graph, edge: Edge, into: &mut Vec<u8>) -> Result<
         Some(tmax) => {
             let mut tmax_digits = Buffer::new();
             let tmax = tmax_digits.format(tmax).as_bytes();
-            put_words(into, &[b"edge", source, target, tmin, tmax])
+            append_words(into, &[b"edge", source, target, tmin, tmax])
         }
-        None => put_words(into, &[b"edge", source, target, tmin, b"inf"]),
+        None => append_words(into, &[b"edge", source, target, tmin, b"inf"]),
     }
 }
 

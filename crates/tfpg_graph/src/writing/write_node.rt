@@ -7,25 +7,25 @@ ghost use Rattle.tfpg_graph.specs.Text.{node_words, watch_words};
 
 use crate::kind::Kind;
 use itoa::Buffer;
-use tfpg_base::{NoMemory, put_line};
+use tfpg_base::{NoMemory, append_line};
 
 /// Appends the line that declares a node of this name and kind, with its line end. A lag is written in milliseconds.
 /// Where memory runs out, a part of the line may follow the old bytes. Takes time and memory in the length of the line.
-pub fn put_node(name: &[u8], kind: Kind, into: &mut Vec<u8>) -> Result<(), NoMemory>
+pub fn append_node(name: &[u8], kind: Kind, into: &mut Vec<u8>) -> Result<(), NoMemory>
     ensures { Appends result into.old.items into.new.items (text_line (node_words name.now kind)) }
 {
     match kind {
         Kind::Failure { rarity } => {
             let mut digits = Buffer::new();
-            put_line(into, &[b"failure", name, digits.format(rarity).as_bytes()])
+            append_line(into, &[b"failure", name, digits.format(rarity).as_bytes()])
         }
-        Kind::Or { lag } => put_discrepancy(b"or", name, lag, into),
-        Kind::And { lag } => put_discrepancy(b"and", name, lag, into),
+        Kind::Or { lag } => append_discrepancy(b"or", name, lag, into),
+        Kind::And { lag } => append_discrepancy(b"and", name, lag, into),
     }
 }
 
 /// Appends the line of a discrepancy of this keyword.
-fn put_discrepancy(
+fn append_discrepancy(
     keyword: &[u8],
     name: &[u8],
     lag: Option<u64>,
@@ -37,11 +37,11 @@ fn put_discrepancy(
     match lag {
         Some(lag) => {
             let mut digits = Buffer::new();
-            put_line(
+            append_line(
                 into,
                 &[keyword, name, b"watch", digits.format(lag).as_bytes()],
             )
         }
-        None => put_line(into, &[keyword, name, b"hidden"]),
+        None => append_line(into, &[keyword, name, b"hidden"]),
     }
 }

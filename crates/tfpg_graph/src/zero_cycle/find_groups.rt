@@ -1,7 +1,7 @@
 //! The groups of nodes that reach each other, which are the strongly connected components, by two depth-first searches.
 
 ghost use Rattle.std.specs.Prelude.{◌≡◌, ◌<◌, [], None, length, replicate, IfOk, OnOk};
-ghost use Rattle.tfpg_graph.specs.inside.zero_cycle.ZeroSearch.{IsSearched, HasVisited, IsFinishingOrder, AreReversed, AreGroups};
+ghost use Rattle.tfpg_graph.specs.inside.zero_cycle.ZeroSearch.{IsVisited, HasVisited, IsFinishingOrder, AreReversed, AreGroups};
 
 use crate::zero_cycle::steps::ZeroSteps;
 use std::alloc::Global;
@@ -9,20 +9,20 @@ use tfpg_base::NoMemory;
 
 /// What a search has found so far.
 #[derive(Drop)]
-struct Search {
+struct GroupSearch {
     /// For each node its mark, where the search has come to it.
     marks: Vec<Option<usize>>,
     /// The nodes that the search is done with, in the order in which it was done with them.
     order: Vec<u32>,
 }
 
-impl Search {
+impl GroupSearch {
     /// The search has not begun.
-    fn new(alloc: Global, count: u32) -> Result<Search, NoMemory>
+    fn new(alloc: Global, count: u32) -> Result<GroupSearch, NoMemory>
         ensures marks { IfOk result (λ search. search.marks.items ≡ replicate count None) }
         ensures order { IfOk result (λ search. search.order.items ≡ []) }
     {
-        Ok(Search {
+        Ok(GroupSearch {
             marks: vec![in alloc; None; count as usize]?,
             order: Vec::new(alloc),
         })
@@ -31,10 +31,15 @@ impl Search {
 
 /// Searches depth-first: gives a mark to the node and all that it reaches over nodes without one, and is done with each of
 /// these when it is done with those that it reaches. It calls itself as deep as there are nodes.
-fn visit(steps: &ZeroSteps, node: u32, mark: usize, search: &mut Search) -> Result<(), NoMemory>
+fn visit(
+    steps: &ZeroSteps,
+    node: u32,
+    mark: usize,
+    search: &mut GroupSearch,
+) -> Result<(), NoMemory>
     requires node { node < length steps.now }
     requires count { length search.old.marks.items ≡ length steps.now }
-    requires searched { IsSearched steps.now search.old.marks.items search.old.order.items }
+    requires searched { IsVisited steps.now search.old.marks.items search.old.order.items }
     ensures { OnOk result
         (HasVisited steps.now node mark search.old.marks.items search.old.order.items search.new.marks.items
         search.new.order.items) }
@@ -55,11 +60,11 @@ fn finishing_order(alloc: Global, count: u32, steps: &ZeroSteps) -> Result<Vec<u
     requires { count ≡ length steps.now }
     ensures { IfOk result (λ order. IsFinishingOrder steps.now order.items) }
 {
-    let mut search = Search::new(alloc, count)?;
+    let mut search = GroupSearch::new(alloc, count)?;
     for node in 0..count {
         visit(steps, node, 0, &mut search)?;
     }
-    let Search {
+    let GroupSearch {
         marks: _marks,
         order,
     } = search;
@@ -82,12 +87,12 @@ pub(crate) fn groups(
     ensures { IfOk result (λ marks. AreGroups steps.now marks.items) }
 {
     let order = finishing_order(alloc, count, reversed)?;
-    let mut search = Search::new(alloc, count)?;
+    let mut search = GroupSearch::new(alloc, count)?;
     for turn in 0..order.len() {
         let place = order.len() - 1 - turn;
         visit(steps, order[place], place, &mut search)?;
     }
-    let Search {
+    let GroupSearch {
         marks,
         order: _order,
     } = search;

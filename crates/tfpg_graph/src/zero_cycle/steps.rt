@@ -2,7 +2,7 @@
 
 ghost use Rattle.std.specs.Prelude.{◌≡◌, ◌<◌, ◌≤◌, [], length, replicate, All, IfOk};
 ghost use Rattle.tfpg_graph.specs.Valid.{IsValidEdge};
-ghost use Rattle.tfpg_graph.specs.inside.zero_cycle.ZeroSearch.{row, with_step};
+ghost use Rattle.tfpg_graph.specs.inside.zero_cycle.ZeroSearch.{row, with_zero_step};
 
 use crate::declared::Declared;
 use crate::edge::Edge;
@@ -68,17 +68,17 @@ impl ZeroSteps {
             return Ok(self);
         }
         if reversed {
-            self.with_step(edge.target, edge.source)
+            self.with_zero_step(edge.target, edge.source)
         } else {
-            self.with_step(edge.source, edge.target)
+            self.with_zero_step(edge.source, edge.target)
         }
     }
 
     /// The steps with one more.
-    fn with_step(self, from: u32, to: u32) -> Result<ZeroSteps, NoMemory>
+    fn with_zero_step(self, from: u32, to: u32) -> Result<ZeroSteps, NoMemory>
         requires from { from < length self }
         requires to { to < length self }
-        ensures { IfOk result (λ steps. steps ≡ with_step self from to) }
+        ensures { IfOk result (λ steps. steps ≡ with_zero_step self from to) }
     {
         let mut steps = self;
         steps.rows[from as usize].push(to)?;

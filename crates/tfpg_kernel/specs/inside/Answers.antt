@@ -1,4 +1,4 @@
--- What an answer to a step says.
+-- What the result for a step says.
 use Rattle.std.specs.Prelude.{◌≡◌, ◌↔◌, ℕ, List}
 use Rattle.tfpg_graph.specs.Graph.{Tfpg}
 use Rattle.tfpg_log.specs.Log.{Logbook}
@@ -12,7 +12,7 @@ use Rattle.tfpg_kernel.specs.Checking.{Checking}
 use Rattle.tfpg_kernel.specs.Breaks.{IsFirstBroken}
 use Rattle.tfpg_kernel.specs.Represents.{CheckerRepresents, steps_after}
 
--- The result is the answer to a step after these steps, and the checker then represents the steps taken.
+-- The result is right for a step after these steps, and the checker then represents the steps taken.
 pub record IsAnswer (graph : Tfpg) (log : Logbook) (reach : List ℕ) (steps : List Judged) (step : Step) (result : Taken) (after : Checking) : Type 0 where
   pub closed : (result ≡ Closed) ↔ IsRefutation graph log reach (with_step steps log step)
   pub partial : (result ≡ Open) ↔ IsPartial graph log reach (with_step steps log step)

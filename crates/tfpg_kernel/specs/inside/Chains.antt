@@ -2,7 +2,9 @@
 use Rattle.std.specs.Prelude.{ℕ, ◌==◌, ℤ, pos, negsuc, ◌+ℤ◌, ◌≤ℤ◌, neg_ℤ, List, fold, Bool, true, false, ◌&&◌, if◌then◌else◌, Option, Some, None}
 use Rattle.tfpg_base.specs.declared.constraint.Constraint.{Constraint}
 use Rattle.tfpg_kernel.specs.declared.chain.Chain.{Chain}
-use Rattle.tfpg_kernel.specs.declared.chain.Ends.{Ends}
+use Rattle.tfpg_kernel.specs.declared.chain.ChainEnds.{ChainEnds}
+use Rattle.tfpg_kernel.specs.declared.chain.ClosingFault.{ClosingFault}
+use Rattle.tfpg_kernel.specs.declared.chain.ClosingFault.TheVariants as closing
 use Rattle.tfpg_kernel.specs.declared.taken.BadStep.{BadStep}
 use Rattle.tfpg_kernel.specs.declared.taken.BadStep.TheVariants.{Unchained, NotNegative}
 
@@ -16,12 +18,12 @@ abbrev pub new_chain : Chain
 new_chain = record { ends = None; unbroken = true; sum = pos 0 }
 
 -- whether a constraint begins where the ones before it end
-abbrev pub goes_on_from : Option Ends → ℕ → Bool
+abbrev pub goes_on_from : Option ChainEnds → ℕ → Bool
 goes_on_from None left = true
 goes_on_from (Some ends) left = ends.last == left
 
 -- where it ends with one more
-abbrev pub ends_with : Option Ends → Constraint → Ends
+abbrev pub ends_with : Option ChainEnds → Constraint → ChainEnds
 ends_with None constraint = record { first = constraint.left; last = constraint.right }
 ends_with (Some ends) constraint = record { first = ends.first; last = constraint.right }
 
@@ -38,7 +40,7 @@ abbrev pub chain_of : List Constraint → Chain
 chain_of constraints = fold with_constraint new_chain constraints
 
 -- whether the last constraint ends where the first begins
-abbrev pub is_round : Option Ends → Bool
+abbrev pub is_round : Option ChainEnds → Bool
 is_round None = false
 is_round (Some ends) = ends.first == ends.last
 
@@ -47,7 +49,12 @@ abbrev pub is_negative : ℤ → Bool
 is_negative (pos n) = false
 is_negative (negsuc n) = true
 
--- the first condition that the whole cycle breaks
-abbrev pub closing_fault : Chain → Option BadStep
+-- what the whole cycle is at fault for first
+abbrev pub closing_fault : Chain → Option ClosingFault
 closing_fault chain =
-    if chain.unbroken && is_round chain.ends then (if is_negative chain.sum then None else Some NotNegative) else Some Unchained
+    if chain.unbroken && is_round chain.ends then (if is_negative chain.sum then None else Some closing.NotNegative) else Some closing.Unchained
+
+-- the condition that a step breaks with such a cycle
+abbrev pub bad_of : ClosingFault → BadStep
+bad_of closing.Unchained = Unchained
+bad_of closing.NotNegative = NotNegative

@@ -31,9 +31,9 @@ fn look_ups(alloc: Global, graph: &Graph) -> Result<String, Fail> {
     for node in 0..graph.node_count() {
         let kind = graph.kind(node);
         let found = graph.find(graph.name(node));
-        let place = graph.place_of(node);
+        let position = graph.position_of(node);
         let incoming = graph.incoming(node);
-        let line = format!(in alloc; "node {node} {kind:?} {found:?} {place:?} {incoming:?}\n")?;
+        let line = format!(in alloc; "node {node} {kind:?} {found:?} {position:?} {incoming:?}\n")?;
         seen.push_str(line.as_str())?;
     }
     for number in 0..graph.edge_count() {
@@ -45,8 +45,8 @@ fn look_ups(alloc: Global, graph: &Graph) -> Result<String, Fail> {
         let line = format!(in alloc; "mode {mode} {found:?}\n")?;
         seen.push_str(line.as_str())?;
     }
-    for place in 0..graph.failure_count() {
-        let line = format!(in alloc; "failure {place} {}\n", graph.failure_node(place))?;
+    for position in 0..graph.failure_count() {
+        let line = format!(in alloc; "failure {position} {}\n", graph.failure_node(position))?;
         seen.push_str(line.as_str())?;
     }
     let absent = format!(in alloc;
@@ -69,13 +69,17 @@ fn a_graph_and_its_copy_have_the_parts_of_the_text(rt: HostRuntime) -> Result<()
 
 #[test]
 fn the_canonical_text_is_written(rt: HostRuntime) -> Result<(), Fail> {
-    for read_text in &[THREE_MODES, THREE_MODES_WRITTEN] {
-        let graph = read(rt.alloc(), *read_text)?;
+    for (row, read_text) in [
+        ("as it is read", THREE_MODES),
+        ("in its canonical text", THREE_MODES_WRITTEN),
+    ] {
+        let graph = read(rt.alloc(), read_text)?;
         let mut text = Vec::from_slice(rt.alloc(), b"# before\n")?;
         write(&graph, &mut text)?;
         assert_eq!(rt;
             text.as_slice().strip_prefix(b"# before\n".as_slice()),
-            Some(THREE_MODES_WRITTEN)
+            Some(THREE_MODES_WRITTEN),
+            "{row}"
         );
     }
     Ok(())

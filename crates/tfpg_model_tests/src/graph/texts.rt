@@ -18,13 +18,13 @@ use std::test::Fail;
 use whole::WHOLE;
 
 /// A text with its name and its fault.
-type Text = (&'static str, &'static [u8], Fault);
+type TextRow = (&'static str, &'static [u8], Fault);
 
 /// All the texts.
-const TEXTS: [&[Text]; 6] = [&ACCEPTED, &LINES, &NAMES, &NUMBERS, &EDGES, &WHOLE];
+const TEXTS: [&[TextRow]; 6] = [&ACCEPTED, &LINES, &NAMES, &NUMBERS, &EDGES, &WHOLE];
 
 /// The name of the first text of these that has another fault than its row says.
-fn wrong_text(alloc: Global, texts: &[Text]) -> Result<Option<&'static str>, Fail> {
+fn wrong_text(alloc: Global, texts: &[TextRow]) -> Result<Option<&'static str>, Fail> {
     for (name, text, expected) in texts {
         if fault_of(alloc, *text)? != *expected {
             return Ok(Some(*name));
@@ -34,7 +34,7 @@ fn wrong_text(alloc: Global, texts: &[Text]) -> Result<Option<&'static str>, Fai
 }
 
 /// The name of the first text of these groups that has another fault than its row says.
-fn wrong_text_in(alloc: Global, groups: &[&[Text]]) -> Result<Option<&'static str>, Fail> {
+fn wrong_text_in(alloc: Global, groups: &[&[TextRow]]) -> Result<Option<&'static str>, Fail> {
     for texts in groups {
         let wrong = wrong_text(alloc, *texts)?;
         if wrong.is_some() {

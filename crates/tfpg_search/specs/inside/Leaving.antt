@@ -21,7 +21,7 @@ pub record KeepsBounds (old new : Leaf) : Type 0 where
   pub variables : length new.demands.bounds ≡ length old.demands.bounds
   pub stated : (fact stated : Reason → Option Constraint) → IsStated fact stated old → IsStated fact stated new
 
--- Where there is such a number, the picks after so many are gone.
+-- Where there is such a number, the picks after so many are dropped.
 abbrev pub Leaves : Option ℕ → Leaf → Leaf → Type 0
 Leaves None old new = new ≡ old
 Leaves (Some count) old new = KeepsBounds old new × (pick_reasons new ≡ take count (pick_reasons old))

@@ -1,5 +1,5 @@
 -- What the steps of a search do to its path, by the frames that it keeps.
-use Rattle.std.specs.Prelude.{◌≡◌, ℕ, ◌<◌, ◌+◌, ◌-◌, ◌≤◌, List, [], ◌∷◌, ◌++◌, length, Bool, true, false, Option, Some, None, slice_index, Result, Ok, Err}
+use Rattle.std.specs.Prelude.{◌≡◌, ℕ, ◌<◌, ◌+◌, ◌-◌, ◌≤◌, List, [], ◌∷◌, ◌++◌, length, Bool, true, false, Option, Some, None, Result, Ok, Err}
 use Rattle.tfpg_base.specs.declared.constraint.Constraint.{Constraint}
 use Rattle.tfpg_base.specs.Constraint.{Meets}
 use Rattle.tfpg_graph.specs.Graph.{Tfpg}
@@ -18,6 +18,7 @@ use Rattle.tfpg_base.specs.declared.no_memory.NoMemory.{NoMemory}
 use Rattle.tfpg_log.specs.Explains.{Explains}
 use Rattle.tfpg_diff.specs.Solution.{IsSolution}
 use Rattle.tfpg_search.specs.inside.Closing.{IsSimpleCycle}
+use Rattle.tfpg_search.specs.Solutions.{SolvesBy, IsLatestBy}
 use Rattle.tfpg_search.specs.Live.{HasNoNameTwice}
 use Rattle.tfpg_search.specs.Picks.{AreInRange}
 use Rattle.tfpg_search.specs.Searched.{split_count}
@@ -28,16 +29,12 @@ use Rattle.tfpg_search.specs.declared.search.Look.{Look}
 use Rattle.tfpg_search.specs.declared.search.Look.TheVariants.{Violated, Shown, Closed}
 
 -- The times solve what holds at the leaf of these frames.
-pub record SolvesFramed (graph : Tfpg) (log : Logbook) (reach : List ℕ) (frames : List Frame) (times : List ℕ) : Type 0 where
-  pub one_each : length times ≡ length graph.nodes
-  pub facts : (reason : Reason) (constraint : Constraint) → fact graph log reach reason ≡ Some constraint → Meets times constraint
-  pub picks : (split place : ℕ) (constraint : Constraint) → framed graph log frames split place ≡ Some constraint → Meets times constraint
+abbrev pub SolvesFramed : Tfpg → Logbook → List ℕ → List Frame → List ℕ → Type 0
+SolvesFramed graph log reach frames times = SolvesBy graph log reach (framed graph log frames) times
 
 -- They are the latest that do.
-pub record IsLatestFramed (graph : Tfpg) (log : Logbook) (reach : List ℕ) (frames : List Frame) (times : List ℕ) : Type 0 where
-  pub solves : SolvesFramed graph log reach frames times
-  pub latest : (other : List ℕ) → SolvesFramed graph log reach frames other →
-      (node : ℕ) → node < length graph.nodes → slice_index other node ≤ slice_index times node
+abbrev pub IsLatestFramed : Tfpg → Logbook → List ℕ → List Frame → List ℕ → Type 0
+IsLatestFramed graph log reach frames times = IsLatestBy graph log reach (framed graph log frames) times
 
 -- A split on the name would be live at the leaf of these frames.
 pub record IsLiveFramed (graph : Tfpg) (log : Logbook) (reach : List ℕ) (frames : List Frame) (name : ClauseName) : Type 0 where
@@ -130,12 +127,12 @@ Splitting graph log old new before after (Ok done) = IsAtItsLeaf graph log new �
 Splitting graph log old new before after (Err no_memory) = (end : Option (List Frame)) × Grows graph log old.reach old.path before after 0 end
 
 -- What was found, after so many splits, where the steps lead to that leaf.
-abbrev pub Ends : Tfpg → Logbook → ℕ → Searching → ℕ → Option (List Frame) → Result Found NoMemory → Type 0
-Ends graph log budget new splits end (Ok (FoundShown trace)) = Explains graph log new.set trace × IsAtItsLeaf graph log new × HasEnteredAll new × (end ≡ Some new.path)
-Ends graph log budget new splits end (Ok FoundClosed) = end ≡ None
-Ends graph log budget new splits end (Ok Spent) =
+abbrev pub FoundAtLeaf : Tfpg → Logbook → ℕ → Searching → ℕ → Option (List Frame) → Result Found NoMemory → Type 0
+FoundAtLeaf graph log budget new splits end (Ok (FoundShown trace)) = Explains graph log new.set trace × IsAtItsLeaf graph log new × HasEnteredAll new × (end ≡ Some new.path)
+FoundAtLeaf graph log budget new splits end (Ok FoundClosed) = end ≡ None
+FoundAtLeaf graph log budget new splits end (Ok Spent) =
     (splits ≡ budget) × ((name : ClauseName) × IsLiveFramed graph log new.reach new.path name) × IsAtItsLeaf graph log new × HasEnteredAll new × (end ≡ Some new.path)
-Ends graph log budget new splits end (Err no_memory) = Unit {0}
+FoundAtLeaf graph log budget new splits end (Err no_memory) = Unit {0}
 
 -- What searching on comes to.
 pub record SearchesOn (graph : Tfpg) (log : Logbook) (budget : ℕ) (old new : Searching) (before after : List Step) (result : Result Found NoMemory) : Type 0 where
@@ -143,4 +140,4 @@ pub record SearchesOn (graph : Tfpg) (log : Logbook) (budget : ℕ) (old new : S
   pub end : Option (List Frame)
   pub grows : Grows graph log old.reach old.path before after splits end
   pub within : splits ≤ budget
-  pub ends : Ends graph log budget new splits end result
+  pub ends : FoundAtLeaf graph log budget new splits end result

@@ -17,13 +17,10 @@ use crate::clause_laws::clause_laws;
 use crate::search::Search;
 use std::sync::ledger::Ledger;
 use tfpg_base::{NoMemory, Steps};
-use tfpg_clause::picked;
+use tfpg_clause::{MAX_CONSTRAINTS, picked};
 use tfpg_evidence::Reason;
 use tfpg_graph::Graph;
 use tfpg_log::Log;
-
-/// How many constraints an alternative has at most.
-const MAX_CONSTRAINTS: u32 = 3;
 
 impl Search {
     /// Enters the alternative of the last split, where that was not done: adds its constraints. At a conflict none of them

@@ -196,7 +196,7 @@ impl Search {
         Ok(())
     }
 
-    /// Puts a split at the end of the path.
+    /// Appends a split to the path.
     fn descend(&mut self, frame: Frame) -> Result<(), NoMemory>
         ensures ok { OnOk result (self.new ≡ record self.old { path = self.old.path ++ frame ∷ [] }) }
         ensures err { OnErr result (self.new ≡ self.old) }

@@ -9,8 +9,8 @@ use Rattle.tfpg_sim.specs.declared.entry.Entry.TheVariants.{Start, Mode, Sweep, 
 use Rattle.tfpg_sim.specs.Script.{may_follow}
 
 -- a lateness is not too large
-abbrev pub IsSmall : Option ℕ → Type 0
-IsSmall lateness = IfSome lateness (λ late. late ≤ max_time)
+abbrev pub IsLatenessInRange : Option ℕ → Type 0
+IsLatenessInRange lateness = IfSome lateness (λ late. late ≤ max_time)
 
 -- The line names what the graph has, and its time is not too large.
 abbrev pub IsEntryOf : Tfpg → Entry → Type 0

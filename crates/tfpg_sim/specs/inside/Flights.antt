@@ -1,13 +1,13 @@
 -- Flights over the edges into one node, and what is pending of them. No public contract cites this.
-use Rattle.std.specs.Prelude.{◌≡◌, ◌⊎◌, ℕ, suc, ◌+◌, ◌<◌, ◌≤◌, max, List, length, Bool, true, false, ◌==◌, if◌then◌else◌, IsTrue, Option, Some, None, unwrap_or, slice_get, slice_index_or}
-use Rattle.std.specs.Int.{bit_at}
+use Rattle.std.specs.Prelude.{◌≡◌, ◌⊎◌, ℕ, suc, ◌+◌, ◌<◌, ◌≤◌, max, List, length, Bool, true, false, if◌then◌else◌, IsTrue, Option, Some, None, unwrap_or, slice_get, slice_index_or}
+use Rattle.tfpg_graph.specs.Graph.{is_allowed}
 use Rattle.tfpg_log.specs.declared.span.Span.{Span}
 use Rattle.tfpg_log.specs.Log.{Logbook, mode_at}
 use Rattle.tfpg_sim.specs.declared.flight.Flight.{Flight}
 
 -- the edge of the flight is active at the instant
 abbrev pub IsOpen : Logbook → Flight → ℕ → Type 0
-IsOpen log flight instant = IsTrue (bit_at flight.modes (mode_at log instant) == 1)
+IsOpen log flight instant = IsTrue (is_allowed flight.edge (mode_at log instant))
 
 -- The flight has landed by an instant: it has had its delay since its start, and its edge was active all the while.
 pub record Lands (log : Logbook) (instant : ℕ) (flight : Flight) : Type 0 where
@@ -42,7 +42,7 @@ IsFirstIn Holds lo hi (Some first) =
 -- When the flight lands if its edge stays active, by what was pending before the span.
 abbrev pub pending_in : Span → Flight → Option ℕ → Option ℕ
 pending_in span flight pending =
-    if bit_at flight.modes span.mode == 1 then Some (unwrap_or pending (max span.lo flight.start + flight.delay)) else None
+    if is_allowed flight.edge span.mode then Some (unwrap_or pending (max span.lo flight.start + flight.delay)) else None
 
 -- The edge was active from the one instant on to before the other, and not before.
 pub record IsOpenFrom (log : Logbook) (flight : Flight) (upto from : ℕ) : Type 0 where

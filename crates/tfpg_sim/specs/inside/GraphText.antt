@@ -6,11 +6,11 @@ use Rattle.tfpg_graph.specs.declared.edge.Edge.{Edge}
 use Rattle.tfpg_graph.specs.declared.kind.Kind.{Kind}
 use Rattle.tfpg_graph.specs.Text.{tmax_word}
 use Rattle.tfpg_graph.specs.inside.writing.Written.{node_text}
-use Rattle.tfpg_sim.specs.Generated.{node_name, failure_count, failure_kinds, named}
+use Rattle.tfpg_sim.specs.Generated.{node_name, failure_count, failure_kinds, named_nodes}
 
 -- the first line and those of the two modes
-abbrev pub head_text : List ℕ
-head_text = text_line (codes "tfpg" ∷ codes "1" ∷ []) ++ (text_line (codes "mode" ∷ codes "M0" ∷ []) ++ text_line (codes "mode" ∷ codes "M1" ∷ []))
+abbrev pub drawn_head_text : List ℕ
+drawn_head_text = text_line (codes "tfpg" ∷ codes "1" ∷ []) ++ (text_line (codes "mode" ∷ codes "M0" ∷ []) ++ text_line (codes "mode" ∷ codes "M1" ∷ []))
 
 -- the word for the first mode alone, or for both
 abbrev pub modes_text : ℕ → List ℕ
@@ -24,7 +24,7 @@ edge_text_by_number edge =
 -- the text of these discrepancies and edges
 abbrev pub draft_text : List Kind → List Edge → List ℕ
 draft_text kinds edges =
-    head_text ++ flat_map node_text (named 0 (failure_kinds failure_count)) ++ flat_map node_text (named failure_count kinds)
+    drawn_head_text ++ flat_map node_text (named_nodes 0 (failure_kinds failure_count)) ++ flat_map node_text (named_nodes failure_count kinds)
     ++ flat_map edge_text_by_number edges ++ text_line (codes "end" ∷ [])
 
 -- the edge is active in the first mode alone, or in both

@@ -51,8 +51,8 @@ IsEarliestBelow candidates count (Some found) =
     × ((other later : ℕ) → other < count → candidate_at candidates other ≡ Some later → found.1 ≤ later)
 
 -- a failure mode of the graph becomes active up to the stop
-abbrev pub IsStart : Tfpg → ℕ → Activation → Type 0
-IsStart graph stop activation = IsTrue (is_kind_at is_failure graph activation.node) × (activation.time ≤ stop)
+abbrev pub IsFailureStart : Tfpg → ℕ → Activation → Type 0
+IsFailureStart graph stop activation = IsTrue (is_kind_at is_failure graph activation.node) × (activation.time ≤ stop)
 
 -- the trace with the failure mode that a line starts
 abbrev pub with_start : Entry → List Activation → List Activation

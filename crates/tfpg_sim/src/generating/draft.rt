@@ -1,16 +1,14 @@
 //! What is drawn of a graph: the kinds of its discrepancies and the edges.
 
 ghost use Rattle.std.specs.Prelude.{◌≡◌, ◌<◌, ◌≤◌, ◌+◌, ◌++◌, OnOk, IfOk, if◌then◌else◌};
-ghost use Rattle.tfpg_sim.specs.Generated.{failure_count, kind_drawn, lag_drawn, edges_drawn, after_node, after_words, edge_drawn, draft_after};
+ghost use Rattle.tfpg_sim.specs.Generated.{discrepancy_count, kind_drawn, max_size, lag_drawn, edges_drawn, after_node, after_words, edge_drawn, draft_after};
 
 use crate::generating::draws::{draw, draw_edge};
+use crate::limits::FAILURE_COUNT;
 use rand_pcg::Lcg64Xsh32;
 use std::alloc::Global;
 use tfpg_base::NoMemory;
 use tfpg_graph::{Edge, Kind};
-
-/// How many failure modes there are: the first nodes.
-pub(crate) const FAILURE_COUNT: u32 = 16;
 
 /// The kinds of the discrepancies, and the edges.
 #[derive(Drop)]
@@ -25,7 +23,7 @@ pub(crate) fn draw_draft(
     count: u32,
     state: &mut Lcg64Xsh32,
 ) -> Result<Draft, NoMemory>
-    requires { count ≤ 400 }
+    requires { count ≤ discrepancy_count max_size }
     ensures kinds { IfOk result (λ draft. draft.kinds.items ≡ (draft_after state.old count).kinds) }
     ensures edges { IfOk result (λ draft. draft.edges.items ≡ (draft_after state.old count).edges) }
     ensures after { OnOk result (state.new ≡ (draft_after state.old count).state) }

@@ -36,10 +36,10 @@ pub(crate) fn draw_edge(source: u32, target: u32, state: &mut Lcg64Xsh32) -> Edg
 }
 
 /// The greatest delay, which an open edge has not.
-fn greatest(most: u64, is_open: bool) -> Option<u64>
-    ensures { result ≡ (if is_open then None else Some most) }
+fn greatest(delay: u64, is_open: bool) -> Option<u64>
+    ensures { result ≡ (if is_open then None else Some delay) }
 {
-    if is_open { None } else { Some(most) }
+    if is_open { None } else { Some(delay) }
 }
 
 /// The bits of the first mode alone, or of both.

@@ -5,25 +5,26 @@ ghost use Rattle.std.specs.List.{flat_map};
 ghost use Rattle.tfpg_base.specs.Append.{Appends};
 ghost use Rattle.tfpg_graph.specs.Valid.{IsValid};
 ghost use Rattle.tfpg_graph.specs.inside.writing.Written.{node_text};
-ghost use Rattle.tfpg_sim.specs.Generated.{failure_kinds, named, graph_of};
+ghost use Rattle.tfpg_sim.specs.Generated.{discrepancy_count, drawn_graph, failure_count, failure_kinds, max_size, named_nodes};
 ghost use Rattle.tfpg_sim.specs.inside.GraphText.{modes_text, edge_text_by_number, draft_text, HasDrawnModes};
 ghost use Rattle.tfpg_base.specs.TextLine.{text_line};
 ghost use Rattle.tfpg_graph.specs.Text.{node_words};
 ghost use Rattle.tfpg_sim.specs.Generated.{node_name};
 
-use crate::generating::draft::{Draft, FAILURE_COUNT};
+use crate::generating::draft::Draft;
 use crate::generating::node_name::node_name;
+use crate::limits::FAILURE_COUNT;
 use itoa::Buffer;
 use std::alloc::Global;
-use tfpg_base::{NoMemory, put_line};
-use tfpg_graph::{Edge, Graph, GraphRefusal, Kind, put_node, read};
+use tfpg_base::{NoMemory, append_line};
+use tfpg_graph::{Edge, Graph, GraphRefusal, Kind, append_node, read};
 
 /// The graph of the draft, which is valid.
-pub(crate) fn graph_of(alloc: Global, draft: &Draft) -> Result<Graph, NoMemory>
-    requires valid { IsValid (graph_of draft.now.kinds.items draft.now.edges.items) }
-    requires few { length draft.now.kinds.items ≤ 400 }
+pub(crate) fn drawn_graph(alloc: Global, draft: &Draft) -> Result<Graph, NoMemory>
+    requires valid { IsValid (drawn_graph draft.now.kinds.items draft.now.edges.items) }
+    requires few { length draft.now.kinds.items ≤ discrepancy_count max_size }
     requires modes { All HasDrawnModes draft.now.edges.items }
-    ensures { IfOk result (λ graph. graph ≡ graph_of draft.now.kinds.items draft.now.edges.items) }
+    ensures { IfOk result (λ graph. graph ≡ drawn_graph draft.now.kinds.items draft.now.edges.items) }
 {
     let text = draft_text(alloc, &draft.kinds, &draft.edges)?;
     match read(alloc, &text) {
@@ -35,42 +36,44 @@ pub(crate) fn graph_of(alloc: Global, draft: &Draft) -> Result<Graph, NoMemory>
 
 /// The text of the graph of these discrepancies and edges.
 fn draft_text(alloc: Global, kinds: &[Kind], edges: &[Edge]) -> Result<Vec<u8>, NoMemory>
-    requires { length kinds.now ≤ 400 }
+    requires { length kinds.now ≤ discrepancy_count max_size }
     ensures { IfOk result (λ text. text.items ≡ draft_text kinds.now edges.now) }
 {
     let mut text = Vec::new(alloc);
     text.extend_from_slice(b"tfpg 1\nmode M0\nmode M1\n")?;
-    put_failures(alloc, &mut text)?;
-    put_discrepancies(alloc, kinds, &mut text)?;
-    put_edges(alloc, edges, &mut text)?;
+    append_failures(alloc, &mut text)?;
+    append_discrepancies(alloc, kinds, &mut text)?;
+    append_edges(alloc, edges, &mut text)?;
     text.extend_from_slice(b"end\n")?;
     Ok(text)
 }
 
 /// Appends the lines of the failure modes.
-fn put_failures(alloc: Global, into: &mut Vec<u8>) -> Result<(), NoMemory>
-    ensures { Appends result into.old.items into.new.items (flat_map node_text (named 0 (failure_kinds 16))) }
+fn append_failures(alloc: Global, into: &mut Vec<u8>) -> Result<(), NoMemory>
+    ensures { Appends result into.old.items into.new.items
+        (flat_map node_text (named_nodes 0 (failure_kinds failure_count))) }
 {
     for place in 0..FAILURE_COUNT {
         let rarity = u64::from(place) + 1;
-        put_node_by_number(alloc, place, Kind::Failure { rarity }, into)?;
+        append_node_by_number(alloc, place, Kind::Failure { rarity }, into)?;
     }
     Ok(())
 }
 
 /// Appends the lines of the discrepancies.
-fn put_discrepancies(alloc: Global, kinds: &[Kind], into: &mut Vec<u8>) -> Result<(), NoMemory>
-    requires { length kinds.now ≤ 400 }
-    ensures { Appends result into.old.items into.new.items (flat_map node_text (named 16 kinds.now)) }
+fn append_discrepancies(alloc: Global, kinds: &[Kind], into: &mut Vec<u8>) -> Result<(), NoMemory>
+    requires { length kinds.now ≤ discrepancy_count max_size }
+    ensures { Appends result into.old.items into.new.items
+        (flat_map node_text (named_nodes failure_count kinds.now)) }
 {
     for place in 0..kinds.len() {
-        put_node_by_number(alloc, FAILURE_COUNT + place as u32, kinds[place], into)?;
+        append_node_by_number(alloc, FAILURE_COUNT + place as u32, kinds[place], into)?;
     }
     Ok(())
 }
 
 /// Appends the line of a node of this number and kind.
-fn put_node_by_number(
+fn append_node_by_number(
     alloc: Global,
     node: u32,
     kind: Kind,
@@ -79,21 +82,21 @@ fn put_node_by_number(
     ensures { Appends result into.old.items into.new.items (text_line (node_words (node_name node) kind)) }
 {
     let name = node_name(alloc, node)?;
-    put_node(&name, kind, into)
+    append_node(&name, kind, into)
 }
 
 /// Appends the lines of the edges.
-fn put_edges(alloc: Global, edges: &[Edge], into: &mut Vec<u8>) -> Result<(), NoMemory>
+fn append_edges(alloc: Global, edges: &[Edge], into: &mut Vec<u8>) -> Result<(), NoMemory>
     ensures { Appends result into.old.items into.new.items (flat_map edge_text_by_number edges.now) }
 {
     for edge in edges {
-        put_edge(alloc, *edge, into)?;
+        append_edge(alloc, *edge, into)?;
     }
     Ok(())
 }
 
 /// Appends the line of an edge.
-fn put_edge(alloc: Global, edge: Edge, into: &mut Vec<u8>) -> Result<(), NoMemory>
+fn append_edge(alloc: Global, edge: Edge, into: &mut Vec<u8>) -> Result<(), NoMemory>
     ensures { Appends result into.old.items into.new.items (edge_text_by_number edge) }
 {
     let source = node_name(alloc, edge.source)?;
@@ -105,9 +108,9 @@ fn put_edge(alloc: Global, edge: Edge, into: &mut Vec<u8>) -> Result<(), NoMemor
         Some(tmax) => {
             let mut tmax_digits = Buffer::new();
             let tmax = tmax_digits.format(tmax).as_bytes();
-            put_line(into, &[b"edge", &source, &target, tmin, tmax, modes])
+            append_line(into, &[b"edge", &source, &target, tmin, tmax, modes])
         }
-        None => put_line(into, &[b"edge", &source, &target, tmin, b"inf", modes]),
+        None => append_line(into, &[b"edge", &source, &target, tmin, b"inf", modes]),
     }
 }
 

@@ -3,7 +3,7 @@
 ghost use Rattle.std.specs.Prelude.{◌≡◌, ◌∷◌, ◌<◌, ◌^◌, decimal, IfOk};
 ghost use Rattle.tfpg_sim.specs.Generated.{node_name};
 
-use crate::generating::draft::FAILURE_COUNT;
+use crate::limits::FAILURE_COUNT;
 use itoa::Buffer;
 use std::alloc::Global;
 use tfpg_base::NoMemory;

@@ -4,13 +4,13 @@ ghost use Rattle.std.specs.Prelude.{◌≡◌, ◌<◌, ◌^◌, IfOk, [], if◌
 ghost use Rattle.tfpg_base.specs.Append.{Appends};
 ghost use Rattle.tfpg_sim.specs.Generated.{start_text, last_lines, script_drawn};
 
-use crate::generating::draft::FAILURE_COUNT;
 use crate::generating::draws::draw;
 use crate::generating::node_name::node_name;
+use crate::limits::FAILURE_COUNT;
 use itoa::Buffer;
 use rand_pcg::Lcg64Xsh32;
 use std::alloc::Global;
-use tfpg_base::{Bytes, NoMemory, put_line};
+use tfpg_base::{Bytes, NoMemory, append_line};
 
 /// Draws which failure modes start, and gives the script.
 pub(crate) fn draw_script(alloc: Global, state: &mut Lcg64Xsh32) -> Result<Bytes, NoMemory>
@@ -19,35 +19,35 @@ pub(crate) fn draw_script(alloc: Global, state: &mut Lcg64Xsh32) -> Result<Bytes
     let first = draw(state, FAILURE_COUNT);
     let second = draw(state, FAILURE_COUNT);
     let mut text = Vec::new(alloc);
-    put_start(alloc, 0, first, &mut text)?;
-    put_second(alloc, first, second, &mut text)?;
-    put_last_lines(&mut text)?;
+    append_start(alloc, 0, first, &mut text)?;
+    append_second(alloc, first, second, &mut text)?;
+    append_last_lines(&mut text)?;
     Ok(Bytes::from_vec(text))
 }
 
 /// Appends the start of the second failure mode, where it is another one.
-fn put_second(alloc: Global, first: u32, second: u32, into: &mut Vec<u8>) -> Result<(), NoMemory>
+fn append_second(alloc: Global, first: u32, second: u32, into: &mut Vec<u8>) -> Result<(), NoMemory>
     ensures { Appends result into.old.items into.new.items
         (if first == second then [] else start_text 50 second) }
 {
     if first == second {
         Ok(())
     } else {
-        put_start(alloc, 50, second, into)
+        append_start(alloc, 50, second, into)
     }
 }
 
 /// Appends the line by which a failure mode starts.
-fn put_start(alloc: Global, time: u64, failure: u32, into: &mut Vec<u8>) -> Result<(), NoMemory>
+fn append_start(alloc: Global, time: u64, failure: u32, into: &mut Vec<u8>) -> Result<(), NoMemory>
     ensures { Appends result into.old.items into.new.items (start_text time failure) }
 {
     let mut digits = Buffer::new();
     let name = node_name(alloc, failure)?;
-    put_line(into, &[digits.format(time).as_bytes(), b"start", &name])
+    append_line(into, &[digits.format(time).as_bytes(), b"start", &name])
 }
 
 /// Appends the changes of mode, the sweeps and the stop.
-fn put_last_lines(into: &mut Vec<u8>) -> Result<(), NoMemory>
+fn append_last_lines(into: &mut Vec<u8>) -> Result<(), NoMemory>
     ensures { Appends result into.old.items into.new.items last_lines }
 {
     into.extend_from_slice(b"100 mode M1\n140 mode M0\n200 sweep\n300 sweep\n400 stop\n")?;

@@ -29,7 +29,7 @@ IsBroken graph log trace node (verdict.Alarm said time) = ⊥
 IsBroken graph log trace node (verdict.Silence said time) = ⊥
 
 -- This is said of the first node that breaks a rule.
-pub record IsFirstBroken (graph : Tfpg) (log : Logbook) (trace : List Activation) (said : Verdict) : Type 0 where
+pub record IsFirstNodeBroken (graph : Tfpg) (log : Logbook) (trace : List Activation) (said : Verdict) : Type 0 where
   pub node : ℕ
   pub in_graph : node < length graph.nodes
   pub before : KeepRulesBefore graph log trace node

@@ -14,7 +14,7 @@ use Rattle.clap.specs.declared.error.kind.ErrorKind.TheVariants.{MissingRequired
 use Rattle.clap.proofs.FaultLemmas.{leaf_fault}
 use Rattle.clap.specs.declared.parser.matches.ValueSource.TheVariants.{DefaultValue}
 use Rattle.clap.specs.declared.builder.value_parser.Reading.TheVariants as reading
-use Rattle.tfpg_words.specs.Words.{Any, Form, Parts, Word, is_among, no_parts, parts_from}
+use Rattle.tfpg_words.specs.Words.{Any, Form, Parts, Word, is_word_among, no_parts, parts_from}
 use Rattle.tfpg_words.specs.inside.Rows.{AllAmong, Apart, Holds, form_for, hyphened, joined_to, rules_for, built_for}
 use Rattle.tfpg_words.specs.inside.Rules.{LongIs, between, flag_rule, option_rule, shape_with, words_id, words_rule}
 use Rattle.tfpg_words.proofs.walk.Walks.{Outcome}
@@ -33,19 +33,19 @@ Searched rule name true found_rule rest = found_rule ≡ Some (rule name)
 Searched rule name false found_rule rest = found_rule ≡ rest
 
 module _ (rule : Text → Rule) (test : Text → Rule → Bool) (tests : (n name : Text) → test name (rule n) ≡ bytes_eq n name) (rest : List Rule) (name : Text) where
-  searched : (names : List Text) → Searched rule name (is_among (map hyphened names) (hyphened name)) (find (test name) (map rule names ++ rest)) (find (test name) rest)
+  searched : (names : List Text) → Searched rule name (is_word_among (map hyphened names) (hyphened name)) (find (test name) (map rule names ++ rest)) (find (test name) rest)
   searched [] = refl
   searched (n ∷ names) = by (bytes_eq n name) refl (searched names)
     where
       by : (b : Bool) → bytes_eq n name ≡ b
-          → Searched rule name (is_among (map hyphened names) (hyphened name)) (find (test name) (map rule names ++ rest)) (find (test name) rest)
-          → Searched rule name (is_among (map hyphened (n ∷ names)) (hyphened name)) (find (test name) (map rule (n ∷ names) ++ rest)) (find (test name) rest)
+          → Searched rule name (is_word_among (map hyphened names) (hyphened name)) (find (test name) (map rule names ++ rest)) (find (test name) rest)
+          → Searched rule name (is_word_among (map hyphened (n ∷ names)) (hyphened name)) (find (test name) (map rule (n ∷ names) ++ rest)) (find (test name) rest)
       by true e more =
-          subst (λ (t : Bool). Searched rule name (t || is_among (map hyphened names) (hyphened name)) (find (test name) (map rule (n ∷ names) ++ rest)) (find (test name) rest)) (sym e)
+          subst (λ (t : Bool). Searched rule name (t || is_word_among (map hyphened names) (hyphened name)) (find (test name) (map rule (n ∷ names) ++ rest)) (find (test name) rest)) (sym e)
           ((λ i. cond ((tests n name ∙ e) i) (Some (rule n)) (find (test name) (map rule names ++ rest))) ∙ ap (λ (t : Text). Some (rule t)) (same n name e))
       by false e more =
-          subst (λ (t : Bool). Searched rule name (t || is_among (map hyphened names) (hyphened name)) (find (test name) (map rule (n ∷ names) ++ rest)) (find (test name) rest)) (sym e)
-          (subst (λ (o : Option Rule). Searched rule name (is_among (map hyphened names) (hyphened name)) o (find (test name) rest))
+          subst (λ (t : Bool). Searched rule name (t || is_word_among (map hyphened names) (hyphened name)) (find (test name) (map rule (n ∷ names) ++ rest)) (find (test name) rest)) (sym e)
+          (subst (λ (o : Option Rule). Searched rule name (is_word_among (map hyphened names) (hyphened name)) o (find (test name) rest))
           (λ i. cond (sym (tests n name ∙ e) i) (Some (rule n)) (find (test name) (map rule names ++ rest))) more)
 
 or_false : (b : Bool) → (b || false) ≡ b
@@ -58,19 +58,19 @@ passed : (rule : Text → Rule) (test : Rule → Bool) (rest : List Rule) → ((
 passed rule test rest none [] = refl
 passed rule test rest none (n ∷ names) = (λ i. cond (none n i) (Some (rule n)) (find test (map rule names ++ rest))) ∙ passed rule test rest none names
 
-hyphens : (names : List Text) (word : Word) → is_among (map hyphened names) word ≡ true → (name : Text) × (word ≡ hyphened name)
+hyphens : (names : List Text) (word : Word) → is_word_among (map hyphened names) word ≡ true → (name : Text) × (word ≡ hyphened name)
 hyphens [] word e = absurd (true≢false (sym e))
 hyphens (n ∷ names) word e = by (bytes_eq (hyphened n) word) refl (λ rest. hyphens names word rest) e
   where
-    by : (b : Bool) → bytes_eq (hyphened n) word ≡ b → (is_among (map hyphened names) word ≡ true → (name : Text) × (word ≡ hyphened name))
-        → (b || is_among (map hyphened names) word) ≡ true → (name : Text) × (word ≡ hyphened name)
+    by : (b : Bool) → bytes_eq (hyphened n) word ≡ b → (is_word_among (map hyphened names) word ≡ true → (name : Text) × (word ≡ hyphened name))
+        → (b || is_word_among (map hyphened names) word) ≡ true → (name : Text) × (word ≡ hyphened name)
     by true on rest e = (n, sym (same (hyphened n) word on))
     by false on rest e = rest e
 
 module _ (options flags : List Text) (apart : Apart (form_for options flags)) where
-  by_long_name : (name : Text) → LongIs (is_among (map hyphened options) (hyphened name)) (is_among (map hyphened flags) (hyphened name)) name (arg_by_long (rules_for options flags) name)
+  by_long_name : (name : Text) → LongIs (is_word_among (map hyphened options) (hyphened name)) (is_word_among (map hyphened flags) (hyphened name)) name (arg_by_long (rules_for options flags) name)
   by_long_name name = joined (arg_by_long (rules_for options flags) name) (find (by_name name) (map flag_rule flags ++ words_rule ∷ []))
-      (is_among (map hyphened options) (hyphened name)) (is_among (map hyphened flags) (hyphened name))
+      (is_word_among (map hyphened options) (hyphened name)) (is_word_among (map hyphened flags) (hyphened name))
       (searched option_rule by_name (λ n t. or_false (bytes_eq n t)) (map flag_rule flags ++ words_rule ∷ []) name options)
       (searched flag_rule by_name (λ n t. or_false (bytes_eq n t)) (words_rule ∷ []) name flags)
     where
@@ -79,7 +79,7 @@ module _ (options flags : List Text) (apart : Apart (form_for options flags)) wh
       joined rules rest false true here more = here ∙ more
       joined rules rest false false here more = here ∙ more
 
-  among_option : (name : Text) → is_among (map hyphened options) (hyphened name) ≡ true → arg_by_id (rules_for options flags) name ≡ Some (option_rule name)
+  among_option : (name : Text) → is_word_among (map hyphened options) (hyphened name) ≡ true → arg_by_id (rules_for options flags) name ≡ Some (option_rule name)
   among_option name is =
       subst (λ (b : Bool). Searched option_rule name b (arg_by_id (rules_for options flags) name) (find (λ a. bytes_eq a.id name) (map flag_rule flags ++ words_rule ∷ []))) is
       (searched option_rule (λ t a. bytes_eq a.id t) (λ n t. refl) (map flag_rule flags ++ words_rule ∷ []) name options)
@@ -91,10 +91,10 @@ module _ (options flags : List Text) (apart : Apart (form_for options flags)) wh
   words_are : arg_by_id (rules_for options flags) words_id ≡ Some words_rule
   words_are =
       subst (λ (b : Bool). Searched option_rule words_id b (arg_by_id (rules_for options flags) words_id) (find (λ a. bytes_eq a.id words_id) (map flag_rule flags ++ words_rule ∷ [])))
-      (off (is_among (map hyphened options) (hyphened words_id)) apart.no_option)
+      (off (is_word_among (map hyphened options) (hyphened words_id)) apart.no_option)
       (searched option_rule (λ t a. bytes_eq a.id t) (λ n t. refl) (map flag_rule flags ++ words_rule ∷ []) words_id options)
       ∙ subst (λ (b : Bool). Searched flag_rule words_id b (find (λ a. bytes_eq a.id words_id) (map flag_rule flags ++ words_rule ∷ [])) (find (λ a. bytes_eq a.id words_id) (words_rule ∷ [])))
-      (off (is_among (map hyphened flags) (hyphened words_id)) apart.no_flag)
+      (off (is_word_among (map hyphened flags) (hyphened words_id)) apart.no_flag)
       (searched flag_rule (λ t a. bytes_eq a.id t) (λ n t. refl) (words_rule ∷ []) words_id flags)
 
   pub is_for : IsFor (rules_for options flags) (form_for options flags)
@@ -177,10 +177,10 @@ added n (r ∷ rows) e = by (bytes_eq r.id n) refl (λ less. added n rows less) 
     by false on rest none = ap count_in (skipped n r (with_values n reading.WithoutMinus DefaultValue (codes "0" ∷ []) rows) on) ∙ rest none
 
 module _ (form : Form) (apart : Apart form) (parts : Parts) where
-  flag_default : (n : Text) (rows : List Row) → is_among form.flags (hyphened n) ≡ true → Holds form rows parts → Holds form (with_default rows (flag_rule n)) parts
+  flag_default : (n : Text) (rows : List Row) → is_word_among form.flags (hyphened n) ≡ true → Holds form rows parts → Holds form (with_default rows (flag_rule n)) parts
   flag_default n rows is h = by (has_row n rows) refl
     where
-      same_flag : (m : Text) → is_among form.flags (hyphened m) ≡ true → (b : Bool) → bytes_eq n m ≡ b → has_row n rows ≡ false
+      same_flag : (m : Text) → is_word_among form.flags (hyphened m) ≡ true → (b : Bool) → bytes_eq n m ≡ b → has_row n rows ≡ false
           → count_of m (with_values n reading.WithoutMinus DefaultValue (codes "0" ∷ []) rows) ≡ min (count_by (λ used. bytes_eq used.name (hyphened m)) parts.uses) 255
       same_flag m e true on none =
           subst (λ (t : Text). count_of t (with_values n reading.WithoutMinus DefaultValue (codes "0" ∷ []) rows) ≡ count_of t rows) (same n m on)
@@ -191,12 +191,12 @@ module _ (form : Form) (apart : Apart form) (parts : Parts) where
       others : has_row n rows ≡ false → Holds form (with_values n reading.WithoutMinus DefaultValue (codes "0" ∷ []) rows) parts
       others none = record {
         values = λ m e.
-            let off : bytes_eq n m ≡ false = differ (λ t. is_among form.flags (hyphened t) ≡ true) (λ t. is_among form.options (hyphened t) ≡ true) n m is e (λ t f o. apart.kinds t o f) in
+            let off : bytes_eq n m ≡ false = differ (λ t. is_word_among form.flags (hyphened t) ≡ true) (λ t. is_word_among form.options (hyphened t) ≡ true) n m is e (λ t f o. apart.kinds t o f) in
             ap vals_in (other_values m n reading.WithoutMinus DefaultValue rows off (codes "0" ∷ [])) ∙ h.values m e;
         counts = λ m e. same_flag m e (bytes_eq n m) refl none;
         words =
-            let off : bytes_eq n words_id ≡ false = differ (λ t. is_among form.flags (hyphened t) ≡ true) (λ t. t ≡ words_id) n words_id is refl
-            (λ t f e. apart.no_flag (subst (λ (x : Text). is_among form.flags (hyphened x) ≡ true) e f)) in
+            let off : bytes_eq n words_id ≡ false = differ (λ t. is_word_among form.flags (hyphened t) ≡ true) (λ t. t ≡ words_id) n words_id is refl
+            (λ t f e. apart.no_flag (subst (λ (x : Text). is_word_among form.flags (hyphened x) ≡ true) e f)) in
             ap vals_in (other_values words_id n reading.WithoutMinus DefaultValue rows off (codes "0" ∷ [])) ∙ h.words;
       }
 

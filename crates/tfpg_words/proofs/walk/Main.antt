@@ -16,7 +16,7 @@ use Rattle.clap.proofs.ValueTestLemmas.{Accepts-accepts}
 use Rattle.clap.proofs.CountText.{IsSignedIn-count_text}
 use Rattle.std.specs.Prelude.{pos, ◌≤◌}
 use Rattle.clap.specs.Faults.{settle_fault, turn_fault, use_fault, walk_fault, word_fault}
-use Rattle.tfpg_words.specs.Words.{Form, Next, Any, ValueOf, OnlyPositional, Parts, Turn, Divider, Positional, Used, Waits, Wrong, Use, Word, after_turn, is_among, no_parts, option_turn, cut, parts_from, turn_of, with_positional, with_use}
+use Rattle.tfpg_words.specs.Words.{Form, Next, Any, ValueOf, OnlyPositional, Parts, WordUse, Divider, Positional, Used, Waits, Wrong, Use, Word, after_turn, is_word_among, no_parts, option_turn, cut_at_equals, parts_from, use_of_word, with_positional, with_use}
 use Rattle.tfpg_words.specs.inside.Rows.{Apart, Holds, hyphened, joined_to}
 use Rattle.tfpg_words.specs.inside.Rules.{LongIs, between, flag_rule, option_rule, shape_with, words_id, words_rule}
 use Rattle.tfpg_words.proofs.walk.View.{View, plain, divider, long, short, view, cut_long, whole, named, parted}
@@ -27,13 +27,13 @@ use Rattle.tfpg_words.proofs.walk.Rows.{hold_option, hold_flag, hold_word}
 -- The rules stand for the form: each name finds its rule, and no other finds any.
 pub record IsFor (R : List Rule) (form : Form) : Type 0 where
   pub apart : Apart form
-  pub long_name : (name : Text) → LongIs (is_among form.options (hyphened name)) (is_among form.flags (hyphened name)) name (arg_by_long R name)
-  pub by_id : (name : Text) → is_among form.options (hyphened name) ≡ true → arg_by_id R name ≡ Some (option_rule name)
+  pub long_name : (name : Text) → LongIs (is_word_among form.options (hyphened name)) (is_word_among form.flags (hyphened name)) name (arg_by_long R name)
+  pub by_id : (name : Text) → is_word_among form.options (hyphened name) ≡ true → arg_by_id R name ≡ Some (option_rule name)
   pub words_by_id : arg_by_id R words_id ≡ Some words_rule
   pub by_index : arg_by_index R 1 ≡ Some words_rule
   pub by_short : (x : ℕ) → arg_by_short R x ≡ None
-  pub option_names : (word : Word) → is_among form.options word ≡ true → (name : Text) × (word ≡ hyphened name)
-  pub flag_names : (word : Word) → is_among form.flags word ≡ true → (name : Text) × (word ≡ hyphened name)
+  pub option_names : (word : Word) → is_word_among form.options word ≡ true → (name : Text) × (word ≡ hyphened name)
+  pub flag_names : (word : Word) → is_word_among form.flags word ≡ true → (name : Text) × (word ≡ hyphened name)
 
 abbrev pub AreUtf8 : List Word → Type 0
 AreUtf8 [] = Unit {0}
@@ -75,7 +75,7 @@ module _ (R : List Rule) (form : Form) (k : IsFor R form) where
         (hold_word form k.apart rows parts h word);
   }
 
-  value_settled : (parts : Parts) (rows : List Row) (name v : Word) → is_among form.options (hyphened name) ≡ true → Holds form rows parts
+  value_settled : (parts : Parts) (rows : List Row) (name v : Word) → is_word_among form.options (hyphened name) ≡ true → Holds form rows parts
       → Settled R form rows (Some (name, v ∷ [])) (add_use parts (hyphened name) v)
   value_settled parts rows name v is h = record {
     fine = settles R k.by_index name (k.by_id name is) rows v;
@@ -131,7 +131,7 @@ module _ (R : List Rule) (form : Form) (k : IsFor R form) where
     After now rows' p' w' others = Outcome form now others (rest_fault R (between rows' p' w' false) words) (rest_rows R (between rows' p' w' false) words)
 
     took_value : (n v : Text) (others : Option Parts) → arg_by_long R name ≡ Some (option_rule n) → given ≡ Some v
-        → is_among form.options (hyphened n) ≡ true
+        → is_word_among form.options (hyphened n) ≡ true
         → Outcome form (add_use parts (hyphened n) v) others (rest_fault R (between (used (option_rule n) (v ∷ []) (settled_rows R p rows)) None idle false) words) (rest_rows R (between (used (option_rule n) (v ∷ []) (settled_rows R p rows)) None idle false) words)
         → Outcome form parts (option_map (with_use (hyphened n) v) others) (rest_fault R here (word ∷ words)) (rest_rows R here (word ∷ words))
     took_value n v others finds gives is rest =
@@ -186,10 +186,10 @@ module _ (R : List Rule) (form : Form) (k : IsFor R form) where
       let same : (first == 45) ≡ true = ap (λ (n : ℕ). n == 45) is in
       absurd (true≢false (sym same ∙ other))
 
-  no_option : (first : ℕ) (rest : List ℕ) (place : ℕ) → (first == 45) ≡ false → is_among form.options (take place (45 ∷ first ∷ rest)) ≡ false
-  no_option first rest place other = by (is_among form.options (take place (45 ∷ first ∷ rest))) refl
+  no_option : (first : ℕ) (rest : List ℕ) (place : ℕ) → (first == 45) ≡ false → is_word_among form.options (take place (45 ∷ first ∷ rest)) ≡ false
+  no_option first rest place other = by (is_word_among form.options (take place (45 ∷ first ∷ rest))) refl
     where
-      by : (b : Bool) → is_among form.options (take place (45 ∷ first ∷ rest)) ≡ b → is_among form.options (take place (45 ∷ first ∷ rest)) ≡ false
+      by : (b : Bool) → is_word_among form.options (take place (45 ∷ first ∷ rest)) ≡ b → is_word_among form.options (take place (45 ∷ first ∷ rest)) ≡ false
       by true e =
           let n = k.option_names (take place (45 ∷ first ∷ rest)) e in
           absurd (apart_from_hyphens first other (hyphen_second place first rest n.0 n.1))
@@ -198,14 +198,14 @@ module _ (R : List Rule) (form : Form) (k : IsFor R form) where
   whole_word : (first : ℕ) (rest : List ℕ) → take (suc (suc (length rest))) (45 ∷ first ∷ rest) ≡ 45 ∷ first ∷ rest
   whole_word first rest = ap (λ (l : List ℕ). 45 ∷ first ∷ l) (take_all (length rest) rest (omega arith))
 
-  no_option_whole : (first : ℕ) (rest : List ℕ) → (first == 45) ≡ false → is_among form.options (45 ∷ first ∷ rest) ≡ false
+  no_option_whole : (first : ℕ) (rest : List ℕ) → (first == 45) ≡ false → is_word_among form.options (45 ∷ first ∷ rest) ≡ false
   no_option_whole first rest other =
-      subst (λ (l : List ℕ). is_among form.options l ≡ false) (whole_word first rest) (no_option first rest (suc (suc (length rest))) other)
+      subst (λ (l : List ℕ). is_word_among form.options l ≡ false) (whole_word first rest) (no_option first rest (suc (suc (length rest))) other)
 
-  no_flag_whole : (first : ℕ) (rest : List ℕ) → (first == 45) ≡ false → is_among form.flags (45 ∷ first ∷ rest) ≡ false
-  no_flag_whole first rest other = by (is_among form.flags (45 ∷ first ∷ rest)) refl
+  no_flag_whole : (first : ℕ) (rest : List ℕ) → (first == 45) ≡ false → is_word_among form.flags (45 ∷ first ∷ rest) ≡ false
+  no_flag_whole first rest other = by (is_word_among form.flags (45 ∷ first ∷ rest)) refl
     where
-      by : (b : Bool) → is_among form.flags (45 ∷ first ∷ rest) ≡ b → is_among form.flags (45 ∷ first ∷ rest) ≡ false
+      by : (b : Bool) → is_word_among form.flags (45 ∷ first ∷ rest) ≡ b → is_word_among form.flags (45 ∷ first ∷ rest) ≡ false
       by true e =
           let n = k.flag_names (45 ∷ first ∷ rest) e in
           absurd (apart_from_hyphens first other (ap (λ (l : List ℕ). slice_index l 1) n.1))
@@ -219,22 +219,22 @@ module _ (R : List Rule) (form : Form) (k : IsFor R form) where
       (λ i. if no_option first rest place other i then Used (take place (45 ∷ first ∷ rest)) (drop (place + 1) (45 ∷ first ∷ rest)) else Wrong)
 
   -- a word with one hyphen is wrong to the definition too
-  short_wrong : (first : ℕ) (rest : List ℕ) → (first == 45) ≡ false → turn_of form Any (45 ∷ first ∷ rest) ≡ Wrong
+  short_wrong : (first : ℕ) (rest : List ℕ) → (first == 45) ≡ false → use_of_word form Any (45 ∷ first ∷ rest) ≡ Wrong
   short_wrong first rest other =
-      (λ i. if other i && bytes_eq rest [] then Divider else option_turn form (45 ∷ first ∷ rest) (cut (45 ∷ first ∷ rest)))
+      (λ i. if other i && bytes_eq rest [] then Divider else option_turn form (45 ∷ first ∷ rest) (cut_at_equals (45 ∷ first ∷ rest)))
       ∙ cut_wrong first rest other (position (λ byte. byte == 61) (45 ∷ first ∷ rest))
 
   -- a word with two hyphens, by whether it has `=` and what its name finds
   cut_given : (x : ℕ) (xs : List ℕ) → has_byte 61 (x ∷ xs) ≡ true
-      → turn_of form Any (45 ∷ 45 ∷ x ∷ xs) ≡ (if is_among form.options (hyphened (name_and_value (x ∷ xs)).0)
+      → use_of_word form Any (45 ∷ 45 ∷ x ∷ xs) ≡ (if is_word_among form.options (hyphened (name_and_value (x ∷ xs)).0)
       then Used (hyphened (name_and_value (x ∷ xs)).0) (after_first (λ byte. byte == 61) (x ∷ xs)) else Wrong)
   cut_given x xs has =
       ap (option_turn form (45 ∷ 45 ∷ x ∷ xs)) (cut_long (x ∷ xs))
       ∙ (λ i. option_turn form (45 ∷ 45 ∷ x ∷ xs) (named (parted (x ∷ xs) (has i))))
 
   cut_none : (x : ℕ) (xs : List ℕ) → has_byte 61 (x ∷ xs) ≡ false
-      → turn_of form Any (45 ∷ 45 ∷ x ∷ xs) ≡ (if is_among form.options (hyphened (name_and_value (x ∷ xs)).0) then Waits (hyphened (name_and_value (x ∷ xs)).0)
-      else (if is_among form.flags (hyphened (name_and_value (x ∷ xs)).0) then Used (hyphened (name_and_value (x ∷ xs)).0) [] else Wrong))
+      → use_of_word form Any (45 ∷ 45 ∷ x ∷ xs) ≡ (if is_word_among form.options (hyphened (name_and_value (x ∷ xs)).0) then Waits (hyphened (name_and_value (x ∷ xs)).0)
+      else (if is_word_among form.flags (hyphened (name_and_value (x ∷ xs)).0) then Used (hyphened (name_and_value (x ∷ xs)).0) [] else Wrong))
   cut_none x xs has =
       ap (option_turn form (45 ∷ 45 ∷ x ∷ xs)) (cut_long (x ∷ xs))
       ∙ ((λ i. option_turn form (45 ∷ 45 ∷ x ∷ xs) (named (parted (x ∷ xs) (has i))))
@@ -270,21 +270,21 @@ module _ (R : List Rule) (form : Form) (k : IsFor R form) where
 
     -- ---- any word
 
-    as_turn : (parts : Parts) (rows : List Row) (p : Option (Text × List Text)) (b : Bool) (x : ℕ) (xs : List ℕ) (turn : Turn)
-        → turn_of form Any (45 ∷ 45 ∷ x ∷ xs) ≡ turn
+    as_turn : (parts : Parts) (rows : List Row) (p : Option (Text × List Text)) (b : Bool) (x : ℕ) (xs : List ℕ) (turn : WordUse)
+        → use_of_word form Any (45 ∷ 45 ∷ x ∷ xs) ≡ turn
         → Outcome form parts (after_turn Any turn (parts_from form words))
         (rest_fault R (between rows p (quiet b) false) ((45 ∷ 45 ∷ x ∷ xs) ∷ words)) (rest_rows R (between rows p (quiet b) false) ((45 ∷ 45 ∷ x ∷ xs) ∷ words))
-        → Outcome form parts (after_turn Any (turn_of form Any (45 ∷ 45 ∷ x ∷ xs)) (parts_from form words))
+        → Outcome form parts (after_turn Any (use_of_word form Any (45 ∷ 45 ∷ x ∷ xs)) (parts_from form words))
         (rest_fault R (between rows p (quiet b) false) ((45 ∷ 45 ∷ x ∷ xs) ∷ words)) (rest_rows R (between rows p (quiet b) false) ((45 ∷ 45 ∷ x ∷ xs) ∷ words))
     as_turn parts rows p b x xs turn is h =
-        subst (λ (t : Turn). Outcome form parts (after_turn Any t (parts_from form words))
+        subst (λ (t : WordUse). Outcome form parts (after_turn Any t (parts_from form words))
         (rest_fault R (between rows p (quiet b) false) ((45 ∷ 45 ∷ x ∷ xs) ∷ words)) (rest_rows R (between rows p (quiet b) false) ((45 ∷ 45 ∷ x ∷ xs) ∷ words))) (sym is) h
 
     any_long : (parts : Parts) (rows : List Row) (p : Option (Text × List Text)) (b : Bool) (x : ℕ) (xs : List ℕ) → Settled R form rows p parts
         → (has opt flg : Bool) → has_byte 61 (x ∷ xs) ≡ has
-        → is_among form.options (hyphened (name_and_value (x ∷ xs)).0) ≡ opt → is_among form.flags (hyphened (name_and_value (x ∷ xs)).0) ≡ flg
+        → is_word_among form.options (hyphened (name_and_value (x ∷ xs)).0) ≡ opt → is_word_among form.flags (hyphened (name_and_value (x ∷ xs)).0) ≡ flg
         → LongIs opt flg (name_and_value (x ∷ xs)).0 (arg_by_long R (name_and_value (x ∷ xs)).0)
-        → Outcome form parts (after_turn Any (turn_of form Any (45 ∷ 45 ∷ x ∷ xs)) (parts_from form words))
+        → Outcome form parts (after_turn Any (use_of_word form Any (45 ∷ 45 ∷ x ∷ xs)) (parts_from form words))
         (rest_fault R (between rows p (quiet b) false) ((45 ∷ 45 ∷ x ∷ xs) ∷ words)) (rest_rows R (between rows p (quiet b) false) ((45 ∷ 45 ∷ x ∷ xs) ∷ words))
     any_long parts rows p b x xs s true true flg has opt flag_is finds =
         let n = (name_and_value (x ∷ xs)).0 in
@@ -308,7 +308,7 @@ module _ (R : List Rule) (form : Form) (k : IsFor R form) where
     any_long parts rows p b x xs s false true flg has opt flag_is finds =
         let n = (name_and_value (x ∷ xs)).0 in
         let v = after_first (λ byte. byte == 61) (x ∷ xs) in
-        as_turn parts rows p b x xs (Waits (hyphened n)) (cut_none x xs has ∙ (λ i. if opt i then Waits (hyphened n) else (if is_among form.flags (hyphened n) then Used (hyphened n) [] else Wrong)))
+        as_turn parts rows p b x xs (Waits (hyphened n)) (cut_none x xs has ∙ (λ i. if opt i then Waits (hyphened n) else (if is_word_among form.flags (hyphened n) then Used (hyphened n) [] else Wrong)))
         (now_waits parts rows p b x xs words s n (parts_from form words (ValueOf (hyphened n))) finds (λ i. if has i then Some v else None)
         (again (ValueOf (hyphened n)) parts (settled_rows R p rows) (Some (n, [])) (option n) false (n, refl, opt, refl, refl, refl, s.holds)))
     any_long parts rows p b x xs s false false true has opt flag_is finds =
@@ -329,7 +329,7 @@ module _ (R : List Rule) (form : Form) (k : IsFor R form) where
         (rest_fault R (between rows p (quiet b) false) (word ∷ words)) (rest_rows R (between rows p (quiet b) false) (word ∷ words))
     any_by _ (plain word is_plain not_divider not_long not_short) utf8 parts rows p b s =
         subst (λ (o : Option Parts). Outcome form parts o (rest_fault R (between rows p (quiet b) false) (word ∷ words)) (rest_rows R (between rows p (quiet b) false) (word ∷ words)))
-        (λ i. after_turn Any (if sym is_plain i then (if bytes_eq word (codes "--") then Divider else option_turn form word (cut word)) else Positional word) (parts_from form words))
+        (λ i. after_turn Any (if sym is_plain i then (if bytes_eq word (codes "--") then Divider else option_turn form word (cut_at_equals word)) else Positional word) (parts_from form words))
         (to_word parts rows p (quiet b) false word words (parts_from form words Any) s
         (plain_met R k.by_index b word (held rows p) not_divider not_long not_short)
         (plain_fault R k.by_index (quiet b) word (held rows p) (no_sub b word) not_divider not_long not_short)
@@ -371,7 +371,7 @@ module _ (R : List Rule) (form : Form) (k : IsFor R form) where
     long_no_value rows n by_id x xs o gives false false finds e =
         nonempty _ _ (sym (unknown_fault R k.by_index (option n) x xs (held rows (pending n)) refl _ _ refl refl finds) ∙ e)
 
-    value_by : (word : Word) → View word → IsUtf8 word → (parts : Parts) (rows : List Row) (n : Text) → is_among form.options (hyphened n) ≡ true → Holds form rows parts
+    value_by : (word : Word) → View word → IsUtf8 word → (parts : Parts) (rows : List Row) (n : Text) → is_word_among form.options (hyphened n) ≡ true → Holds form rows parts
         → Outcome form parts (parts_from form (word ∷ words) (ValueOf (hyphened n)))
         (rest_fault R (between rows (pending n) (option n) false) (word ∷ words)) (rest_rows R (between rows (pending n) (option n) false) (word ∷ words))
     value_by _ (plain word is_plain not_divider not_long not_short) utf8 parts rows n is h =
@@ -417,7 +417,7 @@ module _ (R : List Rule) (form : Form) (k : IsFor R form) where
         (subst (λ (o' : Word). Comes word (ValueOf o') parts rows (Some (stands.0, [])) (option stands.0) false) (sym stands.1)
         (value_by word (view word) utf8 parts rows stands.0 stands.2 stands.6))))
 
-  -- the definition's answer on the words, and what the walk makes of them
+  -- what the definition makes of the words, and what the walk makes of them
   pub sim : (words : List Word) → AreUtf8 words → Goes words
   sim [] utf8 = ends
   sim (word ∷ words) utf8 = one_more_word words (sim words utf8.1) word utf8.0

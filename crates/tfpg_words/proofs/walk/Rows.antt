@@ -12,7 +12,7 @@ use Rattle.clap.specs.declared.builder.value_parser.Reading.{Reading}
 use Rattle.clap.specs.declared.builder.value_parser.Reading.TheVariants as reading
 use Rattle.clap.specs.declared.parser.matches.ValueSource.{ValueSource}
 use Rattle.clap.specs.declared.parser.matches.ValueSource.TheVariants.{CommandLine}
-use Rattle.tfpg_words.specs.Words.{Form, Parts, Use, Word, is_among}
+use Rattle.tfpg_words.specs.Words.{Form, Parts, Use, Word, is_word_among}
 use Rattle.tfpg_words.specs.inside.Rules.{flag_rule, option_rule, words_id, words_rule}
 use Rattle.tfpg_words.specs.inside.Rows.{Apart, Holds, hyphened, vals, values_of}
 use Rattle.tfpg_words.proofs.walk.Walks.{add_use, add_word}
@@ -135,49 +135,49 @@ capped c = omega arith
 
 module _ (form : Form) (apart : Apart form) where
   module _ (rows : List Row) (parts : Parts) (h : Holds form rows parts) where
-    pub hold_option : (name v : Text) → is_among form.options (hyphened name) ≡ true
+    pub hold_option : (name v : Text) → is_word_among form.options (hyphened name) ≡ true
         → Holds form (used (option_rule name) (v ∷ []) rows) (add_use parts (hyphened name) v)
     hold_option name v is = record {
       values = λ n e. vals_more n name _ _ (v ∷ []) rows ∙ ap (λ (l : List Text). l ++ (if bytes_eq name n then v ∷ [] else [])) (h.values n e)
           ∙ sym (values_more (hyphened n) (hyphened name) v parts.uses);
       counts = λ n e.
-          let off : bytes_eq name n ≡ false = differ (λ t. is_among form.options (hyphened t) ≡ true) (λ t. is_among form.flags (hyphened t) ≡ true) name n is e apart.kinds in
+          let off : bytes_eq name n ≡ false = differ (λ t. is_word_among form.options (hyphened t) ≡ true) (λ t. is_word_among form.flags (hyphened t) ≡ true) name n is e apart.kinds in
           ap count_in (other_values n name _ _ rows off (v ∷ [])) ∙ h.counts n e
           ∙ ap (λ c. min c 255) (sym (counted_more (hyphened n) (hyphened name) v parts.uses ∙ rw off (omega arith)));
       words =
-          let off : bytes_eq name words_id ≡ false = differ (λ t. is_among form.options (hyphened t) ≡ true) (λ t. t ≡ words_id) name words_id is refl
-          (λ t o e. apart.no_option (subst (λ (x : Text). is_among form.options (hyphened x) ≡ true) e o)) in
+          let off : bytes_eq name words_id ≡ false = differ (λ t. is_word_among form.options (hyphened t) ≡ true) (λ t. t ≡ words_id) name words_id is refl
+          (λ t o e. apart.no_option (subst (λ (x : Text). is_word_among form.options (hyphened x) ≡ true) e o)) in
           ap vals_in (other_values words_id name _ _ rows off (v ∷ [])) ∙ h.words;
     }
 
     pub hold_word : (word : Word) → Holds form (used words_rule (word ∷ []) rows) (add_word parts word)
     hold_word word = record {
       values = λ n e.
-          let off : bytes_eq words_id n ≡ false = differ (λ t. t ≡ words_id) (λ t. is_among form.options (hyphened t) ≡ true) words_id n refl e
-          (λ t same o. apart.no_option (subst (λ (x : Text). is_among form.options (hyphened x) ≡ true) same o)) in
+          let off : bytes_eq words_id n ≡ false = differ (λ t. t ≡ words_id) (λ t. is_word_among form.options (hyphened t) ≡ true) words_id n refl e
+          (λ t same o. apart.no_option (subst (λ (x : Text). is_word_among form.options (hyphened x) ≡ true) same o)) in
           ap vals_in (other_values n words_id _ _ rows off (word ∷ [])) ∙ h.values n e;
       counts = λ n e.
-          let off : bytes_eq words_id n ≡ false = differ (λ t. t ≡ words_id) (λ t. is_among form.flags (hyphened t) ≡ true) words_id n refl e
-          (λ t same o. apart.no_flag (subst (λ (x : Text). is_among form.flags (hyphened x) ≡ true) same o)) in
+          let off : bytes_eq words_id n ≡ false = differ (λ t. t ≡ words_id) (λ t. is_word_among form.flags (hyphened t) ≡ true) words_id n refl e
+          (λ t same o. apart.no_flag (subst (λ (x : Text). is_word_among form.flags (hyphened x) ≡ true) same o)) in
           ap count_in (other_values n words_id _ _ rows off (word ∷ [])) ∙ h.counts n e;
       words = same_values words_id _ _ (word ∷ []) rows ∙ ap (λ (l : List Text). l ++ word ∷ []) h.words;
     }
 
-    pub hold_flag : (name : Text) → is_among form.flags (hyphened name) ≡ true
+    pub hold_flag : (name : Text) → is_word_among form.flags (hyphened name) ≡ true
         → Holds form (used (flag_rule name) [] rows) (add_use parts (hyphened name) [])
     hold_flag name is = record {
       values = λ n e.
-          let off : bytes_eq name n ≡ false = differ (λ t. is_among form.flags (hyphened t) ≡ true) (λ t. is_among form.options (hyphened t) ≡ true) name n is e (λ t f o. apart.kinds t o f) in
+          let off : bytes_eq name n ≡ false = differ (λ t. is_word_among form.flags (hyphened t) ≡ true) (λ t. is_word_among form.options (hyphened t) ≡ true) name n is e (λ t f o. apart.kinds t o f) in
           ap vals_in (other_count n name reading.WithoutMinus CommandLine (without name rows) off (min (count_of name rows + 1) 255) ∙ other_without n name reading.WithoutMinus CommandLine rows off) ∙ h.values n e
           ∙ sym (values_more (hyphened n) (hyphened name) [] parts.uses ∙ rw off (append-nil (values_of (hyphened n) parts.uses)));
       counts = λ n e. flags n e (bytes_eq name n) refl;
       words =
-          let off : bytes_eq name words_id ≡ false = differ (λ t. is_among form.flags (hyphened t) ≡ true) (λ t. t ≡ words_id) name words_id is refl
-          (λ t f e. apart.no_flag (subst (λ (x : Text). is_among form.flags (hyphened x) ≡ true) e f)) in
+          let off : bytes_eq name words_id ≡ false = differ (λ t. is_word_among form.flags (hyphened t) ≡ true) (λ t. t ≡ words_id) name words_id is refl
+          (λ t f e. apart.no_flag (subst (λ (x : Text). is_word_among form.flags (hyphened x) ≡ true) e f)) in
           ap vals_in (other_count words_id name reading.WithoutMinus CommandLine (without name rows) off (min (count_of name rows + 1) 255) ∙ other_without words_id name reading.WithoutMinus CommandLine rows off) ∙ h.words;
     }
       where
-        flags : (n : Text) → is_among form.flags (hyphened n) ≡ true → (b : Bool) → bytes_eq name n ≡ b
+        flags : (n : Text) → is_word_among form.flags (hyphened n) ≡ true → (b : Bool) → bytes_eq name n ≡ b
             → count_of n (used (flag_rule name) [] rows) ≡ min (count_by (λ u. bytes_eq u.name (hyphened n)) (parts.uses ++ (record { name = hyphened name; value = [] }) ∷ [])) 255
         flags n e true on =
             let c = count_by (λ (u : Use). bytes_eq u.name (hyphened n)) parts.uses in

@@ -3,7 +3,7 @@ use Rattle.std.proofs.Common.{◌≡◌, ◌∙◌, ◌+◌, ◌==◌, ◌&&◌,
 use Rattle.std.proofs.lemmas.Bool.{cases_lt, lt-ltb, le-ltb}
 use Rattle.std.specs.List.{list_any, position, prefix_len, position_or_len, before_first, after_first}
 use Rattle.clap.specs.Lexer.{has_byte, long_of, short_of}
-use Rattle.tfpg_words.specs.Words.{Word, cut, is_option_word}
+use Rattle.tfpg_words.specs.Words.{Word, cut_at_equals, is_option_word}
 
 pub data View : Word → Type 0 where
   plain : (word : Word) → is_option_word word ≡ false → bytes_eq word (45 ∷ 45 ∷ []) ≡ false → long_of word ≡ None → short_of word ≡ None → View word
@@ -68,7 +68,7 @@ abbrev pub parted : List ℕ → Bool → Option (Word × Word)
 parted xs has = cond has (Some (before_first (λ x. x == 61) xs, after_first (λ x. x == 61) xs)) None
 
 -- the definition cuts an option word where clap cuts what follows its hyphens
-pub cut_long : (xs : List ℕ) → cut (45 ∷ 45 ∷ xs) ≡ named (parted xs (has_byte 61 xs))
+pub cut_long : (xs : List ℕ) → cut_at_equals (45 ∷ 45 ∷ xs) ≡ named (parted xs (has_byte 61 xs))
 cut_long xs =
     let n = position_or_len (λ x. x == 61) xs in
     let place : position (λ x. x == 61) (45 ∷ 45 ∷ xs) ≡ cond (nat_lt n (length xs)) (Some (1 + (1 + n))) None =

@@ -3,7 +3,7 @@ use Rattle.std.proofs.Common.{◌≡◌, refl, sym, subst, Bool, true, false, Li
 use Rattle.clap.specs.Walk.{Row, Rule, Text, Waiting, Walk, option, settled, settled_rows, walked}
 use Rattle.clap.specs.Kinds.{Kinds, or_else}
 use Rattle.clap.specs.Faults.{settle_fault, turn_fault, walk_fault}
-use Rattle.tfpg_words.specs.Words.{Form, Next, Any, ValueOf, OnlyPositional, Parts, Use, Word, is_among, with_positional, with_use}
+use Rattle.tfpg_words.specs.Words.{Form, Next, Any, ValueOf, OnlyPositional, Parts, Use, Word, is_word_among, with_positional, with_use}
 use Rattle.tfpg_words.specs.inside.Rows.{joined_to}
 use Rattle.tfpg_words.specs.inside.Rules.{shape_with}
 use Rattle.tfpg_words.specs.inside.Rows.{Holds, hyphened}
@@ -76,5 +76,5 @@ abbrev pub Stands : List Rule → Form → Next → Parts → List Row → Optio
 Stands R form Any parts rows p w t = Settled R form rows p parts × (t ≡ false) × ((b : Bool) × (w ≡ quiet b))
 Stands R form OnlyPositional parts rows p w t = Settled R form rows p parts × (t ≡ true)
 Stands R form (ValueOf option_word) parts rows p w t =
-    (name : Text) × (option_word ≡ hyphened name) × (is_among form.options (hyphened name) ≡ true)
+    (name : Text) × (option_word ≡ hyphened name) × (is_word_among form.options (hyphened name) ≡ true)
     × (p ≡ Some (name, [])) × (w ≡ option name) × (t ≡ false) × Holds form rows parts

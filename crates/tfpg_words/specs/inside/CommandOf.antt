@@ -1,4 +1,4 @@
--- What the plan of one command answers.
+-- What the plan of one command returns.
 use Rattle.std.specs.Prelude.{◌≡◌, Result, Ok, Err}
 use Rattle.tfpg_words.specs.declared.usage_cause.UsageCause.{UsageCause}
 use Rattle.tfpg_words.specs.declared.plan_fault.PlanFault.{PlanFault}

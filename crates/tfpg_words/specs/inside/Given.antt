@@ -20,7 +20,7 @@ is_used flag rows = nat_lt 0 (count_of flag rows)
 -- the number of an option, by its first value
 abbrev pub number_given : NumberOption → Option Word → Result ℕ UsageCause
 number_given option None = Ok option.default
-number_given option (Some value) = within option.least option.most (number_of value)
+number_given option (Some value) = within option.least option.limit (number_of value)
 
 abbrev pub diagnose_by : Result (ℕ × ℕ) UsageCause → List Word → Result Meaning UsageCause
 diagnose_by numbers [] = Err BadWords

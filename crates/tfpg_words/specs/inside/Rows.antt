@@ -5,7 +5,7 @@ use Rattle.clap.specs.Simple.{App, built, new_rule, new_shape}
 use Rattle.clap.specs.Faults.{is_simple_and_free}
 use Rattle.clap.specs.declared.builder.action.ArgAction.TheVariants.{Append, Count}
 use Rattle.std.specs.Prelude.{codes}
-use Rattle.tfpg_words.specs.Words.{Form, Parts, Use, Word, is_among}
+use Rattle.tfpg_words.specs.Words.{Form, Parts, Use, Word, is_word_among}
 use Rattle.tfpg_words.specs.inside.Rules.{flag_rule, option_rule, shape_with, words_id, words_rule}
 
 abbrev pub hyphened : Text → Word
@@ -20,16 +20,16 @@ values_of name uses = map (λ used. used.value) (filter (λ used. bytes_eq used.
 
 -- the rows have the parts
 pub record Holds (form : Form) (rows : List Row) (parts : Parts) : Type 0 where
-  pub values : (name : Text) → is_among form.options (hyphened name) ≡ true → vals name rows ≡ values_of (hyphened name) parts.uses
-  pub counts : (name : Text) → is_among form.flags (hyphened name) ≡ true
+  pub values : (name : Text) → is_word_among form.options (hyphened name) ≡ true → vals name rows ≡ values_of (hyphened name) parts.uses
+  pub counts : (name : Text) → is_word_among form.flags (hyphened name) ≡ true
       → count_of name rows ≡ min (count_by (λ used. bytes_eq used.name (hyphened name)) parts.uses) 255
   pub words : vals words_id rows ≡ parts.positional
 
 -- names of options, names of flags, and the positional words are apart
 pub record Apart (form : Form) : Type 0 where
-  pub kinds : (name : Text) → is_among form.options (hyphened name) ≡ true → is_among form.flags (hyphened name) ≡ true → ⊥
-  pub no_option : is_among form.options (hyphened words_id) ≡ true → ⊥
-  pub no_flag : is_among form.flags (hyphened words_id) ≡ true → ⊥
+  pub kinds : (name : Text) → is_word_among form.options (hyphened name) ≡ true → is_word_among form.flags (hyphened name) ≡ true → ⊥
+  pub no_option : is_word_among form.options (hyphened words_id) ≡ true → ⊥
+  pub no_flag : is_word_among form.flags (hyphened words_id) ≡ true → ⊥
 
 abbrev pub joined_to : Parts → Parts → Parts
 joined_to parts more = record { uses = parts.uses ++ more.uses; positional = parts.positional ++ more.positional }
@@ -47,7 +47,7 @@ built_for options flags = record { top = shape_with (rules_for options flags); s
 -- each of these names is among the words, with its hyphens
 abbrev pub AllAmong : List Word → List Text → Type 0
 AllAmong words [] = Unit {0}
-AllAmong words (name ∷ names) = (is_among words (hyphened name) ≡ true) × AllAmong words names
+AllAmong words (name ∷ names) = (is_word_among words (hyphened name) ≡ true) × AllAmong words names
 
 abbrev pub option_arg : Text → Rule
 option_arg name = record (new_rule name) { long = Some name; action = Some Append }

@@ -12,9 +12,9 @@ returns c =
         there = subst (λ (findings : List Finding). Contains findings finding) c.as_slice.ensures c.finding_on-finding.ensures.there;
         on_set = c.finding_on-finding.ensures.on_set;
       };
-      text_is = c.in_ok-put_truth.ensures
+      text_is = c.in_ok-append_truth.ensures
           ∙ ap (λ (t : List ℕ). t ++ truth_text c.args.graph.now c.args.set finding.status)
-          (c.in_ok-put_rounds.ensures
+          (c.in_ok-append_rounds.ensures
           ∙ ap (λ (t : List ℕ). t ++ rounds_text c.args.rounds c.args.last.now.counts)
-          (c.in_ok-put_drawn.ensures ∙ ap (λ (t : List ℕ). t ++ drawn_text c.args.number c.args.size c.args.graph.now c.args.rounds) c.new-text.ensures.items));
+          (c.in_ok-append_drawn.ensures ∙ ap (λ (t : List ℕ). t ++ drawn_text c.args.number c.args.size c.args.graph.now c.args.rounds) c.new-text.ensures.items));
     }

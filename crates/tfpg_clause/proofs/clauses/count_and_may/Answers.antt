@@ -1,19 +1,20 @@
 use Rattle.std.proofs.Common.{[], length, slice_get, sym, ap, ◌∙◌}
 use Rattle.std.specs.Prelude.{option_map}
+use Rattle.tfpg_graph.specs.Graph.{is_and}
 use Rattle.tfpg_clause.proofs.Families.{and_may_over}
-use Rattle.tfpg_clause.proofs.Found.{no_may_of_edge}
+use Rattle.tfpg_clause.proofs.Found.{target_there, no_may_of_edge}
 use Rattle.tfpg_clause.proofs.clauses.count_and_may.Goals as goal
 
-pub returns-then-not-is_and : goal.returns-then-not-is_and
-returns-then-not-is_and c =
-    let graph = c.args.graph.now in
-    sym (ap (option_map length)
-    (no_may_of_edge graph c.args.log.now c.args.number c.args.horizon c.in_ok-target.target (slice_get graph.edges c.args.edge) c.in_ok-target.ensures.value (sym c.is_and.ensures.value ∙ c.if-not-is_and.true)))
+pub returns-in_err-target : goal.returns-in_err-target
+returns-in_err-target c =
+    rw c.from_residual.ensures
+    (sym (ap (option_map length)
+    (no_may_of_edge c.args.graph.now c.args.log.now c.args.number c.args.horizon (slice_get c.args.graph.now.edges c.args.edge) c.in_err-target.ensures.value)))
 
 pub returns : goal.returns
 returns c =
     let graph = c.args.graph.now in
-    let log = c.args.log.now in
+    let there = target_there is_and graph c.in_ok-target.target (slice_get graph.edges c.args.edge) c.in_ok-target.ensures.value in
     c.may_count.ensures c.in_ok-target.target
     ∙ sym (ap (option_map length)
-    (and_may_over graph log [] c.args.horizon c.args.edge c.in_ok-target.target c.args.number (slice_get graph.edges c.args.edge) c.in_ok-target.ensures.value (sym c.is_and.ensures.value ∙ c.if-not-is_and.false)))
+    (and_may_over graph c.args.log.now [] c.args.horizon c.args.edge c.in_ok-target.target c.args.number (slice_get graph.edges c.args.edge) there.0 there.1))

@@ -1,7 +1,7 @@
 use Rattle.std.proofs.Common.{◌<◌, length, nat_eq}
 use Rattle.std.proofs.lemmas.List.Elements.{All-same}
 use Rattle.tfpg_graph.specs.Graph.{incoming}
-use Rattle.tfpg_graph.proofs.Numbered.{All-below-numbers_from}
+use Rattle.tfpg_base.proofs.lists.Numbered.{All-below-numbers_from}
 use Rattle.tfpg_clause.proofs.clauses.edges_into.Goals as goal
 
 pub returns-clause-edges : goal.returns-clause-edges

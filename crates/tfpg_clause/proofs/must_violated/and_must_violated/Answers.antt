@@ -1,5 +1,6 @@
 use Rattle.std.proofs.Common.{◌≡◌, ◌≤◌, length, ap, sym, ◌∙◌, arith}
 use Rattle.tfpg_graph.specs.Graph.{incoming}
+use Rattle.tfpg_graph.specs.declared.limits.TheConstants.{MAX_INCOMING}
 use Rattle.tfpg_log.specs.Log.{now_of}
 use Rattle.tfpg_log.specs.Spans.{span_number}
 use Rattle.tfpg_clause.specs.Clauses.{and_must}
@@ -11,17 +12,17 @@ use Rattle.tfpg_clause.proofs.must_violated.and_must_violated.Goals as goal
 
 pub loop-until-init : goal.loop-until-init
 loop-until-init c =
-    let few : length (incoming c.args.graph.now c.args.node) ≤ 32 = c.node_count-few.ensures.valid.so_far.few_incoming c.args.node in
+    let few : length (incoming c.args.graph.now c.args.node) ≤ MAX_INCOMING = c.node_count-few.ensures.valid.so_far.few_incoming c.args.node in
     record {
       in_range = omega arith;
       met = λ other below. absurd (omega (arith, below));
-      known = none_known c.args.graph.now c.args.log.now (now_of c.args.log.now) (incoming c.args.graph.now c.args.node) 32 few;
+      known = none_known c.args.graph.now c.args.log.now (now_of c.args.log.now) (incoming c.args.graph.now c.args.node) MAX_INCOMING few;
       room = omega arith;
     }
 
 pub and_must_met_up_to-requires-clause-room : goal.and_must_met_up_to-requires-clause-room
 and_must_met_up_to-requires-clause-room c =
-    let few : length (incoming c.args.graph.now c.args.node) ≤ 32 = c.node_count-few.ensures.valid.so_far.few_incoming c.args.node in
+    let few : length (incoming c.args.graph.now c.args.node) ≤ MAX_INCOMING = c.node_count-few.ensures.valid.so_far.few_incoming c.args.node in
     omega (arith, few, c.loop-until.invariant.room)
 
 pub returns-then-until-last : goal.returns-then-until-last

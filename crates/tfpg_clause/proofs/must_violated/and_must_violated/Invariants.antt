@@ -1,5 +1,6 @@
 use Rattle.std.proofs.Common.{◌≡◌, ℕ, ◌<◌, ◌≤◌, ◌-◌, length}
 use Rattle.tfpg_graph.specs.Graph.{incoming}
+use Rattle.tfpg_graph.specs.declared.limits.TheConstants.{MAX_INCOMING}
 use Rattle.tfpg_log.specs.Log.{now_of}
 use Rattle.tfpg_clause.specs.Clauses.{and_must}
 use Rattle.tfpg_clause.specs.inside.FirstSpan.{MeetsIfAny}
@@ -14,5 +15,5 @@ invariant-loop-until l = record {
   in_range : l.number ≤ l.last;
   met : (other : ℕ) → other < l.number → MeetsIfAny l.times (and_must l.graph l.log l.node other (now_of l.log));
   known : AreKnown l.graph l.log (now_of l.log) (incoming l.graph l.node) l.known;
-  room : length l.known ≡ 32;
+  room : length l.known ≡ MAX_INCOMING;
 }

@@ -27,10 +27,10 @@ begin_cycle-requires-clause-labelled c =
     (Labelled-kept (demands_of c.args.bounds.now c.args.picks.now) c.args.labels.now.values.items c.args.labels.now.links.items c.requires.kept)
 
 -- the pick is broken
-broken : (c : Else-not-is_broken) → IsBroken (demands_of c.args.bounds.now c.args.picks.now) c.args.labels.now.values.items c.picked-demand.result
+broken : (c : Else-not-is_broken) → IsBroken (demands_of c.args.bounds.now c.args.picks.now) c.args.labels.now.values.items c.demand_of_pick-demand.result
 broken c =
     IsBroken-pick (demands_of c.args.bounds.now c.args.picks.now) c.requires.sound c.args.labels.now.values.items c.args.place no_pick
-    c.picked-demand.result c.deref.result.now c.requires.place c.picked-demand.ensures c.deref.ensures.value
+    c.demand_of_pick-demand.result c.deref.result.now c.requires.place c.demand_of_pick-demand.ensures c.deref.ensures.value
     (c.is_broken.ensures.broken c.if-not-is_broken.false)
 
 -- the walk that began the cycle was along the links
@@ -41,16 +41,16 @@ walked links now from sought stands before after same w = subst (λ (xs : List D
 pub returns-then-begin_cycle-clause-cycle : goal.returns-then-begin_cycle-clause-cycle
 returns-then-begin_cycle-clause-cycle c =
     cycle_from_met (demands_of c.args.bounds.now c.args.picks.now) c.args.labels.now.values.items c.args.labels.now.links.items c.requires.kept
-    c.picked-demand.result c.begin_cycle.new.cycle.items (broken (goal.at.returns-then-begin_cycle-clause-cycle c).Else-not-is_broken)
-    (walked c.args.labels.now.links.items c.deref-2.result.now c.picked-demand.result.constraint.right c.picked-demand.result.constraint.left c.picked-demand.result.constraint.left
-    (c.picked-demand.result.why ∷ []) c.begin_cycle.new.cycle.items c.deref-2.ensures.value c.if-begin_cycle.ensures.walked)
+    c.demand_of_pick-demand.result c.begin_cycle.new.cycle.items (broken (goal.at.returns-then-begin_cycle-clause-cycle c).Else-not-is_broken)
+    (walked c.args.labels.now.links.items c.deref-2.result.now c.demand_of_pick-demand.result.constraint.right c.demand_of_pick-demand.result.constraint.left c.demand_of_pick-demand.result.constraint.left
+    (c.demand_of_pick-demand.result.why ∷ []) c.begin_cycle.new.cycle.items c.deref-2.ensures.value c.if-begin_cycle.ensures.walked)
 
 -- the left side is a variable, since the walk did not end at it
-up : (c : Else-begin_cycle) → 0 < c.picked-demand.result.constraint.left
+up : (c : Else-begin_cycle) → 0 < c.demand_of_pick-demand.result.constraint.left
 up c = ⊎_elim
-    (λ (zero : c.picked-demand.result.constraint.left ≡ 0). absurd (false≢true (sym c.if-begin_cycle.false ∙ c.begin_cycle.ensures.found zero)))
-    (λ (other : c.picked-demand.result.constraint.left ≢ 0). omega arith)
-    (cases_eq c.picked-demand.result.constraint.left 0)
+    (λ (zero : c.demand_of_pick-demand.result.constraint.left ≡ 0). absurd (false≢true (sym c.if-begin_cycle.false ∙ c.begin_cycle.ensures.found zero)))
+    (λ (other : c.demand_of_pick-demand.result.constraint.left ≢ 0). omega arith)
+    (cases_eq c.demand_of_pick-demand.result.constraint.left 0)
 
 pub allowed-requires-clause-small : goal.allowed-requires-clause-small
 allowed-requires-clause-small c =
@@ -60,40 +60,40 @@ allowed-requires-clause-small c =
 pub allowed-requires-clause-low : goal.allowed-requires-clause-low
 allowed-requires-clause-low c =
     let b = broken (goal.at.allowed-requires-clause-low c).Else-not-is_broken in
-    let read = Bounded-read (demands_of c.args.bounds.now c.args.picks.now) c.picked-demand.result.constraint.left (up (goal.at.allowed-requires-clause-low c).Else-begin_cycle) b.left in
+    let read = Bounded-read (demands_of c.args.bounds.now c.args.picks.now) c.demand_of_pick-demand.result.constraint.left (up (goal.at.allowed-requires-clause-low c).Else-begin_cycle) b.left in
     floor-kept (demands_of c.args.bounds.now c.args.picks.now) c.requires.sound c.args.labels.now.values.items c.args.labels.now.links.items c.requires.kept
-    (c.picked-demand.result.constraint.left - 1) (get_or c.args.bounds.now (c.picked-demand.result.constraint.left - 1) no_bounds) read.0
+    (c.demand_of_pick-demand.result.constraint.left - 1) (get_or c.args.bounds.now (c.demand_of_pick-demand.result.constraint.left - 1) no_bounds) read.0
 
 pub note-requires : goal.note-requires
 note-requires c =
     let few = length-cycle (demands_of c.args.bounds.now c.args.picks.now) c.args.labels.now.values.items c.args.labels.now.links.items c.requires.kept
-    c.picked-demand.result.constraint.right c.picked-demand.result.constraint.left c.picked-demand.result.why c.begin_cycle.new.cycle.items
-    (walked c.args.labels.now.links.items c.deref-2.result.now c.picked-demand.result.constraint.right c.picked-demand.result.constraint.left 0
-    (c.picked-demand.result.why ∷ []) c.begin_cycle.new.cycle.items c.deref-2.ensures.value c.if-begin_cycle.ensures.walked) in
+    c.demand_of_pick-demand.result.constraint.right c.demand_of_pick-demand.result.constraint.left c.demand_of_pick-demand.result.why c.begin_cycle.new.cycle.items
+    (walked c.args.labels.now.links.items c.deref-2.result.now c.demand_of_pick-demand.result.constraint.right c.demand_of_pick-demand.result.constraint.left 0
+    (c.demand_of_pick-demand.result.why ∷ []) c.begin_cycle.new.cycle.items c.deref-2.ensures.value c.if-begin_cycle.ensures.walked) in
     omega (arith, few, c.begin_cycle.new.cycle.ok.0)
 
 pub returns-in_default-clause-cycle : goal.returns-in_default-clause-cycle
 returns-in_default-clause-cycle c =
     let b = broken (goal.at.returns-in_default-clause-cycle c).Else-not-is_broken in
-    let read = Bounded-read (demands_of c.args.bounds.now c.args.picks.now) c.picked-demand.result.constraint.left (up (goal.at.returns-in_default-clause-cycle c).Else-begin_cycle) b.left in
+    let read = Bounded-read (demands_of c.args.bounds.now c.args.picks.now) c.demand_of_pick-demand.result.constraint.left (up (goal.at.returns-in_default-clause-cycle c).Else-begin_cycle) b.left in
     rw c.note.ensures.items (cycle_from_floor (demands_of c.args.bounds.now c.args.picks.now) c.args.labels.now.values.items c.args.labels.now.links.items c.requires.kept
-    c.picked-demand.result c.begin_cycle.new.cycle.items (c.picked-demand.result.constraint.left - 1) (get_or c.args.bounds.now (c.picked-demand.result.constraint.left - 1) no_bounds) b
-    (walked c.args.labels.now.links.items c.deref-2.result.now c.picked-demand.result.constraint.right c.picked-demand.result.constraint.left 0
-    (c.picked-demand.result.why ∷ []) c.begin_cycle.new.cycle.items c.deref-2.ensures.value c.if-begin_cycle.ensures.walked)
+    c.demand_of_pick-demand.result c.begin_cycle.new.cycle.items (c.demand_of_pick-demand.result.constraint.left - 1) (get_or c.args.bounds.now (c.demand_of_pick-demand.result.constraint.left - 1) no_bounds) b
+    (walked c.args.labels.now.links.items c.deref-2.result.now c.demand_of_pick-demand.result.constraint.right c.demand_of_pick-demand.result.constraint.left 0
+    (c.demand_of_pick-demand.result.why ∷ []) c.begin_cycle.new.cycle.items c.deref-2.ensures.value c.if-begin_cycle.ensures.walked)
     read.0 read.1
-    (subst (λ (xs : List ℕ). (pos (slice_index xs c.picked-demand.result.constraint.right) +ℤ c.picked-demand.result.constraint.most) <ℤ pos (get_or c.args.bounds.now (c.picked-demand.result.constraint.left - 1) no_bounds).floor)
+    (subst (λ (xs : List ℕ). (pos (slice_index xs c.demand_of_pick-demand.result.constraint.right) +ℤ c.demand_of_pick-demand.result.constraint.most) <ℤ pos (get_or c.args.bounds.now (c.demand_of_pick-demand.result.constraint.left - 1) no_bounds).floor)
     c.deref-3.ensures.value (c.in_default.ensures.below refl)))
 
 pub returns-clause-kept : goal.returns-clause-kept
 returns-clause-kept c =
     let b = broken (goal.at.returns-clause-kept c).Else-not-is_broken in
-    let read = Bounded-read (demands_of c.args.bounds.now c.args.picks.now) c.picked-demand.result.constraint.left (up (goal.at.returns-clause-kept c).Else-begin_cycle) b.left in
+    let read = Bounded-read (demands_of c.args.bounds.now c.args.picks.now) c.demand_of_pick-demand.result.constraint.left (up (goal.at.returns-clause-kept c).Else-begin_cycle) b.left in
     IsKept-lowered (demands_of c.args.bounds.now c.args.picks.now) c.args.labels.now.values.items c.args.labels.now.links.items c.requires.kept
-    c.picked-demand.result c.in-Some.value (c.picked-demand.result.constraint.left - 1) (get_or c.args.bounds.now (c.picked-demand.result.constraint.left - 1) no_bounds)
-    (c.picked-demand.result.why ∷ []) c.begin_cycle.new.cycle.items b
-    (walked c.args.labels.now.links.items c.deref-2.result.now c.picked-demand.result.constraint.right c.picked-demand.result.constraint.left 0
-    (c.picked-demand.result.why ∷ []) c.begin_cycle.new.cycle.items c.deref-2.ensures.value c.if-begin_cycle.ensures.walked)
+    c.demand_of_pick-demand.result c.in-Some.value (c.demand_of_pick-demand.result.constraint.left - 1) (get_or c.args.bounds.now (c.demand_of_pick-demand.result.constraint.left - 1) no_bounds)
+    (c.demand_of_pick-demand.result.why ∷ []) c.begin_cycle.new.cycle.items b
+    (walked c.args.labels.now.links.items c.deref-2.result.now c.demand_of_pick-demand.result.constraint.right c.demand_of_pick-demand.result.constraint.left 0
+    (c.demand_of_pick-demand.result.why ∷ []) c.begin_cycle.new.cycle.items c.deref-2.ensures.value c.if-begin_cycle.ensures.walked)
     read.0 read.1
-    (subst (λ (xs : List ℕ). pos c.in-Some.value ≡ (pos (slice_index xs c.picked-demand.result.constraint.right) +ℤ c.picked-demand.result.constraint.most))
+    (subst (λ (xs : List ℕ). pos c.in-Some.value ≡ (pos (slice_index xs c.demand_of_pick-demand.result.constraint.right) +ℤ c.demand_of_pick-demand.result.constraint.most))
     c.deref-3.ensures.value c.in-Some.ensures.value)
     c.in-Some.ensures.above

@@ -11,12 +11,11 @@ loop-number-init g c =
     subst (λ fs. AreFirstTurns c.args.asked.now.graph.now c.args.asked.now.log.now c.args.asked.now.budget c.args.table.now c.args.slots.now c.args.slots.now fs 0) (sym c.in_ok-findings.ensures.items)
     (none_turned c.args.asked.now.graph.now c.args.asked.now.log.now c.args.asked.now.budget c.args.table.now c.args.slots.now)
 
-pub find-requires-clause-members : goal.find-requires-clause-members
-find-requires-clause-members g c =
-    All-at (λ set. All (λ place. place < length (failures c.args.asked.now.graph.now)) set) c.args.table.now.sets c.loop-number.number c.set.result c.requires.table.members c.set.ensures
-
-pub find-requires-clause-reach : goal.find-requires-clause-reach
-find-requires-clause-reach g c = c.requires.table.reached.exact c.loop-number.number c.set.result c.reach.result.now c.set.ensures c.reach.ensures
+pub find-requires-clause-hypothesis : goal.find-requires-clause-hypothesis
+find-requires-clause-hypothesis g c = record {
+  members = All-at (λ set. All (λ position. position < length (failures c.args.asked.now.graph.now)) set) c.args.table.now.sets c.loop-number.number c.set.result c.requires.table.members c.set.ensures;
+  reach = c.requires.table.reached.exact c.loop-number.number c.set.result c.reach.result.now c.set.ensures c.reach.ensures;
+}
 
 pub find-requires-clause-few : goal.find-requires-clause-few
 find-requires-clause-few g c =

@@ -41,17 +41,17 @@ pub same_graph : (d copy : Inside) → map node_of copy.nodes.entries ≡ map no
 same_graph d copy nodes edges modes = λ i. record { nodes = nodes i; edges = edges i; modes = modes i }
 
 -- what is indexed stays so, where graph and indexes are the same
-same_indexes : (graph now : Tfpg) (rows rows_now : List (List ℕ)) (failed failed_now : List ℕ) (places places_now : List (Option ℕ))
-    → now ≡ graph → rows_now ≡ rows → failed_now ≡ failed → places_now ≡ places → HasIndexes graph rows failed places → HasIndexes now rows_now failed_now places_now
-same_indexes graph now rows rows_now failed failed_now places places_now g r f p is =
-    subst (λ (x : Tfpg). HasIndexes x rows_now failed_now places_now) (sym g)
-    (subst (λ (x : List (List ℕ)). HasIndexes graph x failed_now places_now) (sym r)
-    (subst (λ (x : List ℕ). HasIndexes graph rows x places_now) (sym f)
+same_indexes : (graph now : Tfpg) (rows rows_now : List (List ℕ)) (failed failed_now : List ℕ) (positions positions_now : List (Option ℕ))
+    → now ≡ graph → rows_now ≡ rows → failed_now ≡ failed → positions_now ≡ positions → HasIndexes graph rows failed positions → HasIndexes now rows_now failed_now positions_now
+same_indexes graph now rows rows_now failed failed_now positions positions_now g r f p is =
+    subst (λ (x : Tfpg). HasIndexes x rows_now failed_now positions_now) (sym g)
+    (subst (λ (x : List (List ℕ)). HasIndexes graph x failed_now positions_now) (sym r)
+    (subst (λ (x : List ℕ). HasIndexes graph rows x positions_now) (sym f)
     (subst (λ (x : List (Option ℕ)). HasIndexes graph rows failed x) (sym p) is)))
 
 -- a copy with the same graph and the same indexes
 pub IsDeclared-copy : (d copy : Inside) → graph_of copy ≡ graph_of d → map (λ row. row.items) copy.incoming.items ≡ map (λ row. row.items) d.incoming.items
-    → copy.failures.items ≡ d.failures.items → copy.places.items ≡ d.places.items → IsDeclared d → IsDeclared copy
+    → copy.failures.items ≡ d.failures.items → copy.positions.items ≡ d.positions.items → IsDeclared d → IsDeclared copy
 IsDeclared-copy d copy g r f p is = record {
   indexed = same_indexes (graph_of d) (graph_of copy) _ _ _ _ _ _ g r f p is.indexed;
   so_far = subst (λ (x : Tfpg). IsValidSoFar x) (sym g) is.so_far;

@@ -9,36 +9,37 @@ use Rattle.tfpg_base.specs.Words.{is_name}
 use Rattle.tfpg_graph.specs.declared.declared.Declared.TheInside.{Inside}
 use Rattle.tfpg_graph.specs.declared.kind.Kind.{Kind}
 use Rattle.tfpg_graph.specs.declared.edge.Edge.{Edge}
-use Rattle.tfpg_graph.specs.Graph.{Tfpg, Node, numbers_from, is_failure, failures, incoming, place_of_failure, node_named, mode_named, edge_from_to}
+use Rattle.tfpg_graph.specs.Graph.{Tfpg, Node, is_failure, failures, incoming, position_of_failure, node_named, mode_named, edge_from_to}
+use Rattle.tfpg_base.specs.Choice.{numbers_from}
 use Rattle.tfpg_graph.specs.Valid.{HasValidNumber, IsValidEdge, IsSamePair, IsValidSoFar}
 use Rattle.tfpg_graph.specs.inside.Indexes.{graph_of, with_mode, with_node, with_edge, HasIndexes, IsDeclared}
-use Rattle.tfpg_graph.proofs.Numbered.{numbers_from-push, All-below-numbers_from}
+use Rattle.tfpg_base.proofs.lists.Numbered.{numbers_from-push, All-below-numbers_from}
 use Rattle.tfpg_base.proofs.lists.Positions.{All-none, position-push_no, position-push_yes, position-All_fail}
 use Rattle.tfpg_base.proofs.lists.SameBytes.{bytes_eq-false}
 use Rattle.tfpg_base.proofs.lists.Written.{slice_get-push_before, slice_get-push_at, slice_get-set_same, slice_get-set_other}
 
 module _ (d : Inside) (graph : Tfpg) (seen : graph_of d ≡ graph) where
   -- what holds of what is declared, said of the graph as which it is seen
-  pub IsDeclared-seen_as : IsDeclared d → HasIndexes graph (map (λ row. row.items) d.incoming.items) d.failures.items d.places.items × IsValidSoFar graph
+  pub IsDeclared-seen_as : IsDeclared d → HasIndexes graph (map (λ row. row.items) d.incoming.items) d.failures.items d.positions.items × IsValidSoFar graph
   IsDeclared-seen_as is =
-      (subst (λ g. HasIndexes g (map (λ row. row.items) d.incoming.items) d.failures.items d.places.items) seen is.indexed, subst IsValidSoFar seen is.so_far)
+      (subst (λ g. HasIndexes g (map (λ row. row.items) d.incoming.items) d.failures.items d.positions.items) seen is.indexed, subst IsValidSoFar seen is.so_far)
 
   -- and the other way round
-  pub IsDeclared-seen : HasIndexes graph (map (λ row. row.items) d.incoming.items) d.failures.items d.places.items → IsValidSoFar graph → IsDeclared d
+  pub IsDeclared-seen : HasIndexes graph (map (λ row. row.items) d.incoming.items) d.failures.items d.positions.items → IsValidSoFar graph → IsDeclared d
   IsDeclared-seen indexed so_far = record {
-    indexed = subst (λ g. HasIndexes g (map (λ row. row.items) d.incoming.items) d.failures.items d.places.items) (sym seen) indexed;
+    indexed = subst (λ g. HasIndexes g (map (λ row. row.items) d.incoming.items) d.failures.items d.positions.items) (sym seen) indexed;
     so_far = subst IsValidSoFar (sym seen) so_far;
   }
 
 -- ---- a mode
 
-pub HasIndexes-with_mode : (graph : Tfpg) (name : List ℕ) (rows : List (List ℕ)) (failed : List ℕ) (places : List (Option ℕ)) → HasIndexes graph rows failed places → HasIndexes (with_mode graph name) rows failed places
-HasIndexes-with_mode graph name rows failed places is = record {
+pub HasIndexes-with_mode : (graph : Tfpg) (name : List ℕ) (rows : List (List ℕ)) (failed : List ℕ) (positions : List (Option ℕ)) → HasIndexes graph rows failed positions → HasIndexes (with_mode graph name) rows failed positions
+HasIndexes-with_mode graph name rows failed positions is = record {
   row_count = is.row_count;
   row_is = is.row_is;
   failed_are = is.failed_are;
-  place_count = is.place_count;
-  place_is = is.place_is;
+  position_count = is.position_count;
+  position_is = is.position_is;
 }
 
 pub IsValidSoFar-with_mode : (graph : Tfpg) (name : List ℕ) → graph.edges ≡ [] → IsTrue (is_name name) → mode_named graph name ≡ None → length graph.modes < 64 → IsValidSoFar graph → IsValidSoFar (with_mode graph name)
@@ -69,18 +70,18 @@ failures-with_node graph name kind =
     numbers_from-push (λ node. is_failure node.kind) 0 graph.nodes (record { name = name; kind = kind })
     ∙ ap (λ n. with_failure (is_failure kind) n (failures graph)) (omega arith)
 
--- an old node keeps its place
-old_place : (failure : Bool) (node other : ℕ) (failed : List ℕ) → other < node → position (λ f. f == other) (with_failure failure node failed) ≡ position (λ f. f == other) failed
-old_place true node other failed before = position-push_no (λ f. f == other) failed node (ne_eqb node other (λ e. omega (arith, e, before)))
-old_place false node other failed before = ap (position (λ f. f == other)) (append-nil failed)
+-- an old node keeps its position
+old_position : (failure : Bool) (node other : ℕ) (failed : List ℕ) → other < node → position (λ f. f == other) (with_failure failure node failed) ≡ position (λ f. f == other) failed
+old_position true node other failed before = position-push_no (λ f. f == other) failed node (ne_eqb node other (λ e. omega (arith, e, before)))
+old_position false node other failed before = ap (position (λ f. f == other)) (append-nil failed)
 
--- the new node has the next place where it is a failure mode
-new_place : (failure : Bool) (node : ℕ) (failed : List ℕ) → All (λ f. f < node) failed → position (λ f. f == node) (with_failure failure node failed) ≡ cond failure (Some (length failed)) None
-new_place true node failed below =
+-- the new node has the next position where it is a failure mode
+new_position : (failure : Bool) (node : ℕ) (failed : List ℕ) → All (λ f. f < node) failed → position (λ f. f == node) (with_failure failure node failed) ≡ cond failure (Some (length failed)) None
+new_position true node failed below =
     position-push_yes (λ f. f == node) failed node
     (position-All_fail (λ f. f == node) failed (All-weaker (λ f. f < node) (λ f. (f == node) ≡ false) (λ f lt. ne_eqb f node (λ e. omega (arith, e, lt))) failed below))
     (eq-eqb node node refl)
-new_place false node failed below =
+new_position false node failed below =
     ap (position (λ f. f == node)) (append-nil failed)
     ∙ position-All_fail (λ f. f == node) failed (All-weaker (λ f. f < node) (λ f. (f == node) ≡ false) (λ f lt. ne_eqb f node (λ e. omega (arith, e, lt))) failed below)
 
@@ -92,27 +93,27 @@ module _ (graph : Tfpg) (name : List ℕ) (kind : Kind) where
   abbrev new_node : Node
   new_node = record { name = name; kind = kind }
 
-  pub HasIndexes-with_node : (rows : List (List ℕ)) (failed : List ℕ) (places : List (Option ℕ)) → graph.edges ≡ [] → HasIndexes graph rows failed places
-      → HasIndexes (with_node graph name kind) (rows ++ [] ∷ []) (with_failure (is_failure kind) (length graph.nodes) failed) (places ++ cond (is_failure kind) (Some (length failed)) None ∷ [])
-  HasIndexes-with_node rows failed places none is = record {
+  pub HasIndexes-with_node : (rows : List (List ℕ)) (failed : List ℕ) (positions : List (Option ℕ)) → graph.edges ≡ [] → HasIndexes graph rows failed positions
+      → HasIndexes (with_node graph name kind) (rows ++ [] ∷ []) (with_failure (is_failure kind) (length graph.nodes) failed) (positions ++ cond (is_failure kind) (Some (length failed)) None ∷ [])
+  HasIndexes-with_node rows failed positions none is = record {
     row_count = length_push rows [] ∙ ap (λ n. n + 1) is.row_count ∙ sym (length_push graph.nodes new_node);
     row_is = λ node within. ⊎_elim
         (λ lt. slice_get-push_before rows [] node (omega (arith, is.row_count)) ∙ is.row_is node lt)
         (λ ge. slice_get-push_at rows [] node (omega (arith, is.row_count, length_push graph.nodes new_node)) ∙ ap Some (sym (ap (numbers_from 0 (λ edge. edge.target == node)) none)))
         (cases_lt node (length graph.nodes));
     failed_are = ap (with_failure (is_failure kind) (length graph.nodes)) is.failed_are ∙ sym (failures-with_node graph name kind);
-    place_count = length_push places _ ∙ ap (λ n. n + 1) is.place_count ∙ sym (length_push graph.nodes new_node);
-    place_is = λ node within. ⊎_elim
-        (λ lt. slice_get-push_before places _ node (omega (arith, is.place_count)) ∙ is.place_is node lt
-        ∙ ap Some (sym (ap (position (λ f. f == node)) (failures-with_node graph name kind) ∙ old_place (is_failure kind) (length graph.nodes) node (failures graph) lt)))
-        (λ ge. slice_get-push_at places _ node (omega (arith, is.place_count, length_push graph.nodes new_node)) ∙ ap Some (last_place node (omega (arith, length_push graph.nodes new_node))))
+    position_count = length_push positions _ ∙ ap (λ n. n + 1) is.position_count ∙ sym (length_push graph.nodes new_node);
+    position_is = λ node within. ⊎_elim
+        (λ lt. slice_get-push_before positions _ node (omega (arith, is.position_count)) ∙ is.position_is node lt
+        ∙ ap Some (sym (ap (position (λ f. f == node)) (failures-with_node graph name kind) ∙ old_position (is_failure kind) (length graph.nodes) node (failures graph) lt)))
+        (λ ge. slice_get-push_at positions _ node (omega (arith, is.position_count, length_push graph.nodes new_node)) ∙ ap Some (last_position node (omega (arith, length_push graph.nodes new_node))))
         (cases_lt node (length graph.nodes));
   }
     where
-      last_place : (node : ℕ) → node ≡ length graph.nodes → cond (is_failure kind) (Some (length failed)) None ≡ place_of_failure (with_node graph name kind) node
-      last_place node last =
+      last_position : (node : ℕ) → node ≡ length graph.nodes → cond (is_failure kind) (Some (length failed)) None ≡ position_of_failure (with_node graph name kind) node
+      last_position node last =
           (λ i. cond (is_failure kind) (Some (length (is.failed_are i))) None)
-          ∙ sym (new_place (is_failure kind) (length graph.nodes) (failures graph) (All-below-numbers_from (λ n. is_failure n.kind) graph.nodes))
+          ∙ sym (new_position (is_failure kind) (length graph.nodes) (failures graph) (All-below-numbers_from (λ n. is_failure n.kind) graph.nodes))
           ∙ (λ i. position (λ f. f == sym last i) (with_failure (is_failure kind) (length graph.nodes) (failures graph)))
           ∙ sym (ap (position (λ f. f == node)) (failures-with_node graph name kind))
 
@@ -139,13 +140,13 @@ module _ (d e : Inside) (graph : Tfpg) (name : List ℕ) (kind : Kind) (before :
   pub IsDeclared-with_node : IsDeclared d
       → map (λ row. row.items) e.incoming.items ≡ map (λ row. row.items) d.incoming.items ++ [] ∷ []
       → e.failures.items ≡ with_failure (is_failure kind) (length graph.nodes) d.failures.items
-      → e.places.items ≡ d.places.items ++ cond (is_failure kind) (Some (length d.failures.items)) None ∷ []
+      → e.positions.items ≡ d.positions.items ++ cond (is_failure kind) (Some (length d.failures.items)) None ∷ []
       → graph.edges ≡ [] → IsTrue (is_name name) → node_named graph name ≡ None → HasValidNumber kind → length graph.nodes < 512
       → (IsTrue (is_failure kind) → length (failures graph) < 64) → IsDeclared e
-  IsDeclared-with_node is rows failed places none named new number room failure_room =
+  IsDeclared-with_node is rows failed positions none named new number room failure_room =
       let was = IsDeclared-seen_as d graph before is in
-      let more = HasIndexes-with_node graph name kind (map (λ row. row.items) d.incoming.items) d.failures.items d.places.items none was.0 in
-      IsDeclared-seen e (with_node graph name kind) after (coe 1 0 (i. HasIndexes (with_node graph name kind) (rows i) (failed i) (places i)) more)
+      let more = HasIndexes-with_node graph name kind (map (λ row. row.items) d.incoming.items) d.failures.items d.positions.items none was.0 in
+      IsDeclared-seen e (with_node graph name kind) after (coe 1 0 (i. HasIndexes (with_node graph name kind) (rows i) (failed i) (positions i)) more)
       (IsValidSoFar-with_node graph name kind none named new number room failure_room was.1)
 
 -- ---- an edge
@@ -167,17 +168,17 @@ module _ (graph : Tfpg) (edge : Edge) where
       ∙ ap (λ b. incoming graph node ++ cond b (length graph.edges ∷ []) []) (ne_eqb edge.target node (λ same. differs (sym same)))
       ∙ append-nil (incoming graph node)
 
-  pub HasIndexes-with_edge : (rows : List (List ℕ)) (failed : List ℕ) (places : List (Option ℕ)) → edge.target < length graph.nodes → HasIndexes graph rows failed places
-      → HasIndexes (with_edge graph edge) (set rows edge.target (incoming graph edge.target ++ length graph.edges ∷ [])) failed places
-  HasIndexes-with_edge rows failed places target is = record {
+  pub HasIndexes-with_edge : (rows : List (List ℕ)) (failed : List ℕ) (positions : List (Option ℕ)) → edge.target < length graph.nodes → HasIndexes graph rows failed positions
+      → HasIndexes (with_edge graph edge) (set rows edge.target (incoming graph edge.target ++ length graph.edges ∷ [])) failed positions
+  HasIndexes-with_edge rows failed positions target is = record {
     row_count = length-set rows edge.target _ ∙ is.row_count;
     row_is = λ node within. ⊎_elim
         (λ same. ap (λ n. slice_get (set rows edge.target (incoming graph edge.target ++ length graph.edges ∷ [])) n) same ∙ slice_get-set_same rows edge.target _ (omega (arith, is.row_count)) ∙ ap Some (sym (incoming-target node same)))
         (λ differs. slice_get-set_other rows edge.target node _ differs ∙ is.row_is node within ∙ ap Some (sym (incoming-other node differs)))
         (cases_eq node edge.target);
     failed_are = is.failed_are;
-    place_count = is.place_count;
-    place_is = is.place_is;
+    position_count = is.position_count;
+    position_is = is.position_is;
   }
 
   -- an edge is as valid with one edge more
@@ -225,10 +226,10 @@ module _ (graph : Tfpg) (edge : Edge) where
 module _ (d e : Inside) (graph : Tfpg) (edge : Edge) (before : graph_of d ≡ graph) (after : graph_of e ≡ with_edge graph edge) where
   pub IsDeclared-with_edge : IsDeclared d
       → map (λ row. row.items) e.incoming.items ≡ set (map (λ row. row.items) d.incoming.items) edge.target (incoming graph edge.target ++ length graph.edges ∷ [])
-      → e.failures.items ≡ d.failures.items → e.places.items ≡ d.places.items
+      → e.failures.items ≡ d.failures.items → e.positions.items ≡ d.positions.items
       → IsValidEdge graph edge → edge_from_to graph edge.source edge.target ≡ None → length graph.edges < 2048 → length (incoming graph edge.target) < 32 → IsDeclared e
-  IsDeclared-with_edge is rows failed places valid new room incoming_room =
+  IsDeclared-with_edge is rows failed positions valid new room incoming_room =
       let was = IsDeclared-seen_as d graph before is in
-      let more = HasIndexes-with_edge graph edge (map (λ row. row.items) d.incoming.items) d.failures.items d.places.items valid.target was.0 in
-      IsDeclared-seen e (with_edge graph edge) after (coe 1 0 (i. HasIndexes (with_edge graph edge) (rows i) (failed i) (places i)) more)
+      let more = HasIndexes-with_edge graph edge (map (λ row. row.items) d.incoming.items) d.failures.items d.positions.items valid.target was.0 in
+      IsDeclared-seen e (with_edge graph edge) after (coe 1 0 (i. HasIndexes (with_edge graph edge) (rows i) (failed i) (positions i)) more)
       (IsValidSoFar-with_edge graph edge valid new room incoming_room was.1)

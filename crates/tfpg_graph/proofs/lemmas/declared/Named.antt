@@ -41,9 +41,9 @@ module _ (d : Inside) where
       ∙ sym (slice_get-map (λ entry. entry.1) d.nodes.entries node) ∙ at
 
 -- the row of a node has the edges into it
-pub row-incoming : (graph : Tfpg) (rows : List (Vec ℕ Global)) (failed : List ℕ) (places : List (Option ℕ)) → HasIndexes graph (map (λ r. r.items) rows) failed places
+pub row-incoming : (graph : Tfpg) (rows : List (Vec ℕ Global)) (failed : List ℕ) (positions : List (Option ℕ)) → HasIndexes graph (map (λ r. r.items) rows) failed positions
     → (node : ℕ) (row : Vec ℕ Global) → node < length graph.nodes → row ≡ get_or rows node row → row.items ≡ incoming graph node
-row-incoming graph rows failed places is node row within read =
+row-incoming graph rows failed positions is node row within read =
     let among : node < length rows = omega (arith, is.row_count, length-map rows (λ r. r.items)) in
     same_Some row.items (incoming graph node)
     (ap (option_map (λ r. r.items)) (sym (slice_get_read rows (length rows) node row refl among read)) ∙ sym (slice_get-map (λ r. r.items) rows node) ∙ is.row_is node within)
@@ -56,7 +56,7 @@ module _ (graph : Tfpg) (name : List ℕ) where
       let is = position-Some (λ n. bytes_eq n.name name) graph.nodes node other found in
       (is.0, ap (option_map (λ n. n.name)) (slice_get-get_or graph.nodes node other is.0) ∙ ap Some ((bytes_eq-Decides (get_or graph.nodes node other).name name).0 is.1))
 
-  -- the same of a look-up's answer
+  -- the same of a look-up's result
   pub IfSome-named : (r : Option ℕ) → r ≡ node_named graph name → IfSome r (λ node. (node < length graph.nodes) × (name_at graph node ≡ Some name))
   IfSome-named None is = tt
   IfSome-named (Some node) is = named_found node (sym is)

@@ -19,7 +19,7 @@ use Rattle.tfpg_graph.specs.NodeSet.{IsNodeSet}
 use Rattle.tfpg_graph.specs.Reach.{IsClosed, Reaches, IsReach, is_among}
 use Rattle.tfpg_graph.specs.Valid.{IsValid}
 use Rattle.tfpg_graph.specs.inside.reach.Reaching.{IsFedAs, IsFed, IsFullBefore, AreReached, Widens}
-use Rattle.tfpg_graph.proofs.Numbered.{All-below-numbers_from}
+use Rattle.tfpg_base.proofs.lists.Numbered.{All-below-numbers_from}
 use Rattle.tfpg_graph.proofs.lemmas.reach.NodeSets.{IsNodeSet-nil, IsNodeSet-with, length-with_member}
 
 -- ---- the kind of a node
@@ -138,7 +138,7 @@ pub AreReached-widened : (graph : Tfpg) (set old new : List ℕ) → Widens grap
     → AreReached graph set new
 AreReached-widened graph set old new widens are = record {
   is_set = widens.is_set are.is_set;
-  own = λ place node member at. widens.keeps node (are.own place node member at);
+  own = λ position node member at. widens.keeps node (are.own position node member at);
   reached = widens.reached set are.reached;
 }
 
@@ -165,7 +165,7 @@ IsFullBefore-more graph old new node same here before other within fed =
 -- among these are the nodes of the set's failure modes before a position, and all are reached
 pub record AreReachedBefore (graph : Tfpg) (set : List ℕ) (end : ℕ) (nodes : List ℕ) : Type 0 where
   pub is_set : IsNodeSet nodes
-  pub own : (place node : ℕ) → place < end → Contains set place → failure_at graph place ≡ Some node → Contains nodes node
+  pub own : (position node : ℕ) → position < end → Contains set position → failure_at graph position ≡ Some node → Contains nodes node
   pub reached : All (Reaches graph set) nodes
 
 module _ (graph : Tfpg) (set : List ℕ) where
@@ -173,23 +173,23 @@ module _ (graph : Tfpg) (set : List ℕ) where
   pub AreReachedBefore-none : AreReachedBefore graph set 0 []
   AreReachedBefore-none = record {
     is_set = IsNodeSet-nil;
-    own = λ place node before. absurd (omega arith);
+    own = λ position node before. absurd (omega arith);
     reached = All-nil (Reaches graph set);
   }
 
   -- the node of a failure mode in the set is reached
-  own_is_reached : (place node : ℕ) → Contains set place → failure_at graph place ≡ Some node → Reaches graph set node
-  own_is_reached place node member at test closed =
+  own_is_reached : (position node : ℕ) → Contains set position → failure_at graph position ≡ Some node → Reaches graph set node
+  own_is_reached position node member at test closed =
       subst (λ (own : Option ℕ). IfSome own (λ n. IsTrue (test n))) at
-      (All-contains (λ p. IfSome (failure_at graph p) (λ n. IsTrue (test n))) set place closed.members member)
+      (All-contains (λ p. IfSome (failure_at graph p) (λ n. IsTrue (test n))) set position closed.members member)
 
   -- the number of such a node is small
-  pub own_small : IsValid graph → (place node : ℕ) → failure_at graph place ≡ Some node → node < 512
-  own_small valid place node at =
-      let within = slice_get_within (failures graph) place node at in
+  pub own_small : IsValid graph → (position node : ℕ) → failure_at graph position ≡ Some node → node < 512
+  own_small valid position node at =
+      let within = slice_get_within (failures graph) position node at in
       let below : node < length graph.nodes = subst (λ (n : ℕ). n < length graph.nodes)
-      (get_or_from_slice_get (failures graph) place node 0 at)
-      (All-get_or (λ number. number < length graph.nodes) (failures graph) place 0 within
+      (get_or_from_slice_get (failures graph) position node 0 at)
+      (All-get_or (λ number. number < length graph.nodes) (failures graph) position 0 within
       (All-below-numbers_from (λ n. is_failure n.kind) graph.nodes)) in
       omega (arith, below, valid.so_far.few_nodes)
 
@@ -199,13 +199,13 @@ module _ (graph : Tfpg) (set : List ℕ) where
         → AreReachedBefore graph set (end + 1) (with_member node nodes)
     AreReachedBefore-with node small member at = record {
       is_set = IsNodeSet-with node nodes small are.is_set;
-      own = λ place other before within there. ⊎_elim
-          (λ earlier. with_member-keeps node nodes other (are.own place other earlier within there))
-          (λ last. let same : place ≡ end = omega (arith, before, last) in
+      own = λ position other before within there. ⊎_elim
+          (λ earlier. with_member-keeps node nodes other (are.own position other earlier within there))
+          (λ last. let same : position ≡ end = omega (arith, before, last) in
           subst (λ (n : ℕ). Contains (with_member node nodes) n)
           (same_Some node other (sym at ∙ ap (failure_at graph) (sym same) ∙ there))
           (Contains-with_member node nodes))
-          (cases_lt place end);
+          (cases_lt position end);
       reached = reached-with graph set nodes are.reached node (own_is_reached end node member at);
     }
 
@@ -213,11 +213,11 @@ module _ (graph : Tfpg) (set : List ℕ) where
     pub AreReachedBefore-without : (Contains set end → ⊥) → AreReachedBefore graph set (end + 1) nodes
     AreReachedBefore-without lacks = record {
       is_set = are.is_set;
-      own = λ place other before within there. ⊎_elim
-          (λ earlier. are.own place other earlier within there)
-          (λ last. let same : place ≡ end = omega (arith, before, last) in
+      own = λ position other before within there. ⊎_elim
+          (λ earlier. are.own position other earlier within there)
+          (λ last. let same : position ≡ end = omega (arith, before, last) in
           absurd (lacks (subst (Contains set) same within)))
-          (cases_lt place end);
+          (cases_lt position end);
       reached = are.reached;
     }
 
@@ -232,7 +232,7 @@ module _ (graph : Tfpg) (set : List ℕ) where
     pub AreReachedBefore-all : length (failures graph) ≤ end → AreReached graph set nodes
     AreReachedBefore-all all = record {
       is_set = are.is_set;
-      own = λ place node within there. are.own place node (omega (arith, all, slice_get_within (failures graph) place node there)) within there;
+      own = λ position node within there. are.own position node (omega (arith, all, slice_get_within (failures graph) position node there)) within there;
       reached = are.reached;
     }
 
@@ -241,10 +241,10 @@ module _ (graph : Tfpg) (set : List ℕ) where
 module _ (graph : Tfpg) (set nodes : List ℕ) (are : AreReached graph set nodes)
     (full : IsFullBefore graph nodes (length graph.nodes)) where
   -- the test of being one of the nodes passes the set's own
-  own_passes : (place : ℕ) → Contains set place → (own : Option ℕ) → failure_at graph place ≡ own
+  own_passes : (position : ℕ) → Contains set position → (own : Option ℕ) → failure_at graph position ≡ own
       → IfSome own (λ node. IsTrue (is_among nodes node))
-  own_passes place member None at = tt
-  own_passes place member (Some node) at = among-from_Contains nodes node (are.own place node member at)
+  own_passes position member None at = tt
+  own_passes position member (Some node) at = among-from_Contains nodes node (are.own position node member at)
 
   -- and what they feed
   fed_passes_too : (node : ℕ) (kind : Kind) → kind_at graph node ≡ Some kind → IsFedAs graph nodes node kind
@@ -256,8 +256,8 @@ module _ (graph : Tfpg) (set nodes : List ℕ) (are : AreReached graph set nodes
   -- where nothing more is fed, the test of being one of the nodes is closed
   is_among-closed : IsClosed graph set (is_among nodes)
   is_among-closed = record {
-    members = All-from_members (λ place. IfSome (failure_at graph place) (λ node. IsTrue (is_among nodes node))) set
-        (λ place member. own_passes place member (failure_at graph place) refl);
+    members = All-from_members (λ position. IfSome (failure_at graph position) (λ node. IsTrue (is_among nodes node))) set
+        (λ position member. own_passes position member (failure_at graph position) refl);
     or_nodes = λ node is edge into passes. let kind = kind_from_is_or graph node is in
         fed_passes_too node (Or kind.0) kind.1 (edge, into, Contains-from_among nodes edge.source passes);
     and_nodes = λ node is all. let kind = kind_from_is_and graph node is in
@@ -281,17 +281,17 @@ module _ (graph : Tfpg) (set nodes : List ℕ) (are : AreReached graph set nodes
 
 module _ (graph : Tfpg) (set nodes : List ℕ) (is : IsReach graph set nodes) where
   -- the set's own nodes are in its reach
-  own_is_among : (place : ℕ) → Contains set place → (own : Option ℕ) → failure_at graph place ≡ own
+  own_is_among : (position : ℕ) → Contains set position → (own : Option ℕ) → failure_at graph position ≡ own
       → IfSome own (λ node. IsTrue (is_among nodes node))
-  own_is_among place member None at = tt
-  own_is_among place member (Some node) at = among-from_Contains nodes node
-      ((is.exact node).1 (own_is_reached graph set place node member at))
+  own_is_among position member None at = tt
+  own_is_among position member (Some node) at = among-from_Contains nodes node
+      ((is.exact node).1 (own_is_reached graph set position node member at))
 
   -- The reach is closed.
   pub reach_is_closed : IsClosed graph set (is_among nodes)
   reach_is_closed = record {
-    members = All-from_members (λ place. IfSome (failure_at graph place) (λ node. IsTrue (is_among nodes node))) set
-        (λ place member. own_is_among place member (failure_at graph place) refl);
+    members = All-from_members (λ position. IfSome (failure_at graph position) (λ node. IsTrue (is_among nodes node))) set
+        (λ position member. own_is_among position member (failure_at graph position) refl);
     or_nodes = λ node kind edge into passes. among-from_Contains nodes node
         ((is.exact node).1 (λ test closed. closed.or_nodes node kind edge into
         ((is.exact edge.source).0 (Contains-from_among nodes edge.source passes) test closed)));

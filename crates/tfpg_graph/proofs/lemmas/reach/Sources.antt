@@ -6,9 +6,10 @@ use Rattle.std.proofs.lemmas.List.Elements.{All-get_or, All-same, All-more, All-
 use Rattle.std.proofs.lemmas.Option.{same_Some}
 use Rattle.tfpg_base.proofs.lists.Elements.{All-from_members}
 use Rattle.tfpg_graph.specs.declared.edge.Edge.{Edge}
-use Rattle.tfpg_graph.specs.Graph.{Tfpg, numbers_from, incoming, edges_into}
+use Rattle.tfpg_graph.specs.Graph.{Tfpg, incoming, edges_into}
+use Rattle.tfpg_base.specs.Choice.{numbers_from}
 use Rattle.tfpg_graph.specs.inside.reach.Reaching.{HasSourceIn, HasAllSourcesIn}
-use Rattle.tfpg_graph.proofs.Numbered.{All-below-numbers_from}
+use Rattle.tfpg_base.proofs.lists.Numbered.{All-below-numbers_from}
 use Rattle.tfpg_base.proofs.lists.Images.{Contains-map, Contains-map_only}
 
 module _ {X : Type 0} (p : X → Bool) where
@@ -34,7 +35,7 @@ module _ (graph : Tfpg) (node : ℕ) where
       (λ i edge at. ap (slice_get graph.edges) (zero-add i) ∙ at)
 
   -- the edge of such a number is one of these
-  edge_of_number : (number : ℕ) (edge : Edge) → Contains (incoming graph node) number
+  pub edge_of_number : (number : ℕ) (edge : Edge) → Contains (incoming graph node) number
       → slice_get graph.edges number ≡ Some edge → Contains (edges_into graph node) edge
   edge_of_number number edge member at =
       let image = subst (λ (images : List (Option Edge)). Contains images
@@ -44,7 +45,7 @@ module _ (graph : Tfpg) (node : ℕ) where
       subst (λ (e : Edge). Contains (edges_into graph node) e) (same_Some own.0 edge (own.2 ∙ at)) own.1
 
   -- each of these has such a number
-  number_of_edge : (edge : Edge) → Contains (edges_into graph node) edge
+  pub number_of_edge : (edge : Edge) → Contains (edges_into graph node) edge
       → (number : ℕ) × Contains (incoming graph node) number × (slice_get graph.edges number ≡ Some edge)
   number_of_edge edge member =
       let image = subst (λ (images : List (Option Edge)). Contains images (Some edge)) (sym read_incoming)

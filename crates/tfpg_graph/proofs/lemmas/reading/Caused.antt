@@ -12,7 +12,7 @@ use Rattle.tfpg_graph.specs.Declares.{kind_of_words, edge_declared, declared_by}
 use Rattle.tfpg_graph.specs.Causes.{cause_at}
 use Rattle.tfpg_graph.specs.declared.reading.reader.Part.{Part}
 use Rattle.tfpg_graph.specs.declared.reading.reader.Part.TheVariants.{Header, Declarations, Ended}
-use Rattle.tfpg_graph.specs.inside.reading.ReaderState.{ReaderState}
+use Rattle.tfpg_graph.specs.declared.reading.reader.Reader.{Reader}
 use Rattle.tfpg_graph.specs.inside.reading.Turns.{is_misplaced, progress_with, cause_or_value, turn_said, turn_of, turn, part_after, HasValue, ReaderRepresents}
 use Rattle.tfpg_base.proofs.lists.Valued.{is_some-option_map}
 use Rattle.tfpg_graph.proofs.lemmas.reading.DeclaredBy.{AllHaveValues}
@@ -20,8 +20,8 @@ use Rattle.tfpg_graph.proofs.lemmas.reading.CauseAt.{cause-ended, cause-unended}
 use Rattle.tfpg_graph.proofs.lemmas.reading.CausedSaid.{HasValue-no_cause, cause_declared, cause-said}
 use Rattle.tfpg_graph.proofs.lemmas.reading.PartAfter.{part-declarations, part-ended, no_header}
 
--- what has a cause is cause_or_value by it, where all else has a value
-is_caused : (first : Option GraphCause) (value : Option ReaderState) (cause : GraphCause)
+-- what has a cause is judged by it, where all else has a value
+is_caused : (first : Option GraphCause) (value : Option Reader) (cause : GraphCause)
     → (first ≡ None → is_some value ≡ true) → cause_or_value first value ≡ Err cause → first ≡ Some cause
 is_caused (Some other) value cause valued failed = cc
 is_caused None (Some value) cause valued failed = absurd cc
@@ -41,7 +41,7 @@ module _ (cause : GraphCause) where
   caused_header graph line failed = by (bytes_eq line header) failed
     where
       by : (same : Bool)
-          → cond {A = Result ReaderState GraphCause} same (Ok (record { part = Declarations; graph = graph })) (Err BadHeader) ≡ Err cause
+          → cond {A = Result Reader GraphCause} same (Ok (record { part = Declarations; declared = graph })) (Err BadHeader) ≡ Err cause
           → cond same None (Some BadHeader) ≡ Some cause
       by true failed_so = absurd cc
       by false failed_so = cc
@@ -66,7 +66,7 @@ module _ (cause : GraphCause) where
         before = part-declarations lines at
 
         by : (passed : Bool) → is_skipped line ≡ passed
-            → cond {A = Result ReaderState GraphCause} passed (Ok (record { part = Declarations; graph = declared_by lines })) (turn_said (declared_by lines) (statement_of line)) ≡ Err cause
+            → cond {A = Result Reader GraphCause} passed (Ok (record { part = Declarations; declared = declared_by lines })) (turn_said (declared_by lines) (statement_of line)) ≡ Err cause
             → cause_at (lines ++ line ∷ []) (length lines) ≡ Some cause
         by true passed failed_so = absurd cc
         by false read failed_so = caused_said (statement_of line) before.0 before.1 read refl failed_so
@@ -80,7 +80,7 @@ module _ (cause : GraphCause) where
         before = part-ended lines at
 
         by : (passed : Bool) → is_skipped line ≡ passed
-            → cond {A = Result ReaderState GraphCause} passed (Ok (record { part = Ended; graph = declared_by lines })) (Err AfterEnd) ≡ Err cause
+            → cond {A = Result Reader GraphCause} passed (Ok (record { part = Ended; declared = declared_by lines })) (Err AfterEnd) ≡ Err cause
             → cause_at (lines ++ line ∷ []) (length lines) ≡ Some cause
         by true passed failed_so = absurd cc
         by false read failed_so = cause-ended lines line before.0 before.1 read ∙ cc
@@ -95,7 +95,7 @@ module _ (cause : GraphCause) where
   caused_after Ended lines line values at failed = caused_ended lines line values at failed
 
 -- A line by which a turn fails has this cause.
-pub ReaderRepresents-err : (progress : ReaderState) (lines : List (List ℕ)) (line : List ℕ) (cause : GraphCause)
+pub ReaderRepresents-err : (progress : Reader) (lines : List (List ℕ)) (line : List ℕ) (cause : GraphCause)
     → ReaderRepresents progress lines → turn progress line ≡ Err cause
     → cause_at (lines ++ line ∷ []) (length lines) ≡ Some cause
 ReaderRepresents-err progress lines line cause stands failed =

@@ -7,18 +7,20 @@ use Rattle.std.proofs.lemmas.List.{append-nil}
 use Rattle.std.proofs.lemmas.List.Elements.{All-nil, All-cons, All-weaker}
 use Rattle.tfpg_base.specs.Words.{is_name}
 use Rattle.tfpg_graph.specs.declared.edge.Edge.{Edge}
-use Rattle.tfpg_graph.specs.Graph.{Tfpg, Node, numbers_from, is_failure}
+use Rattle.tfpg_graph.specs.Graph.{Tfpg, Node, is_failure}
+use Rattle.tfpg_base.specs.Choice.{numbers_from}
 use Rattle.tfpg_graph.specs.Text.{SpellsModes}
 use Rattle.tfpg_graph.specs.Valid.{IsValid, IsValidEdge, IsSamePair, HasValidNumber}
 use Rattle.tfpg_graph.specs.Statements.{Statement, DeclaresMode, Ends, ends_text}
 use Rattle.tfpg_graph.specs.Declares.{edge_declared, graph_said}
 use Rattle.tfpg_base.specs.Choice.{first_of}
 use Rattle.tfpg_graph.specs.Causes.{is_out_of_order, causes, cause_of_said}
+use Rattle.tfpg_base.proofs.lists.Elements.{All-front}
 use Rattle.tfpg_base.proofs.lists.Positions.{position-All_fail}
 use Rattle.tfpg_graph.proofs.lemmas.reading.SpelledValues.{bytes_eq-differ}
 use Rattle.tfpg_graph.proofs.lemmas.reading.SpelledEdges.{name_of, edge_said, is_name-name_of, node_named-name_of, IsModesWord-spelled, edge_declared-said}
 use Rattle.tfpg_graph.proofs.lemmas.reading.NoCause.{HasNoCause, first_of-none, HasNoCause-mode, HasNoCause-node, HasNoCause-edge, HasNoCause-end, IsEdgeRight}
-use Rattle.tfpg_graph.proofs.lemmas.reading.SaidSoFar.{All-left, All-middle, AllPairs-middle, length-middle, numbers_from-middle, node_said, said_so_far, IsOfEdge, filter_map-related, not_ended-so_far, graph_said-so_far, modes_only-so_far, no_edges-so_far, has_mode-so_far, said_so_far-mode, said_so_far-node, said_so_far-edge}
+use Rattle.tfpg_graph.proofs.lemmas.reading.SaidSoFar.{All-middle, AllPairs-middle, length-middle, numbers_from-middle, node_said, said_so_far, IsOfEdge, filter_map-related, not_ended-so_far, graph_said-so_far, modes_only-so_far, no_edges-so_far, has_mode-so_far, said_so_far-mode, said_so_far-node, said_so_far-edge}
 
 -- None of the later statements has a cause by those before it, and none of those ends the text.
 abbrev pub Runs : List Statement → List Statement → Type 0
@@ -93,7 +95,7 @@ Runs-nodes modes nodes (node ∷ later) some are = (
   not_ended-so_far modes nodes [] no_edge,
   cause-none (said_so_far modes nodes []) (record { nodes = nodes; edges = []; modes = modes }) (node_said node)
       (graph_said-so_far modes nodes [] no_edge
-      (All-left (λ n. HasValidNumber n.kind) nodes (node ∷ later) are.numbers) [] refl)
+      (All-front (λ n. HasValidNumber n.kind) nodes (node ∷ later) are.numbers) [] refl)
       (HasNoCause-node (is_out_of_order (said_so_far modes nodes []) (node_said node))
       (record { nodes = nodes; edges = []; modes = modes }) node.name node.kind
       (λ i. not (has_mode-so_far modes nodes [] some i) || no_edges-so_far modes nodes i)

@@ -13,7 +13,7 @@ use Rattle.tfpg_graph.specs.Statements.{declares_node, declares_edge}
 use Rattle.tfpg_graph.specs.Faults.{IsLineSaying, LacksIncoming, HasIncomingBefore}
 use Rattle.tfpg_graph.specs.declared.reading.reader.Part.{Part}
 use Rattle.tfpg_graph.specs.declared.reading.reader.Part.TheVariants.{Header, Declarations, Ended}
-use Rattle.tfpg_graph.specs.inside.reading.ReaderState.{ReaderState}
+use Rattle.tfpg_graph.specs.declared.reading.reader.Reader.{Reader}
 use Rattle.tfpg_graph.specs.inside.reading.Turns.{part_after, ReaderRepresents}
 use Rattle.tfpg_graph.specs.inside.reading.Answered.{refusal_at, IsEndRefusal}
 use Rattle.tfpg_graph.proofs.lemmas.reading.PartAfter.{no_header}
@@ -43,7 +43,7 @@ IfNone-none (Some edge) none holds = absurd (none edge refl)
 pub edge_within : (graph : Tfpg) (number : ℕ) → LiesOnZeroCycle graph number → number < length graph.edges
 edge_within graph number lies = slice_get_within graph.edges number lies.edge lies.numbered
 
-module _ (progress : ReaderState) (bytes : List ℕ) (stands : ReaderRepresents progress (parts_of bytes)) where
+module _ (progress : Reader) (bytes : List ℕ) (stands : ReaderRepresents progress (parts_of bytes)) where
   -- after a part the header is read
   read : progress.part ≢ Header
   read at = by (parts_of bytes) (some_part bytes) (sym at ∙ stands.part)
@@ -53,8 +53,8 @@ module _ (progress : ReaderState) (bytes : List ℕ) (stands : ReaderRepresents 
       by (first ∷ others) some header = no_header first others header
 
   -- The first discrepancy with no edge into it.
-  pub IsEndRefusal-incoming : (node line : ℕ) (refusal : GraphRefusal) → LacksIncoming progress.graph node
-      → HasIncomingBefore progress.graph node → IsLineSaying declares_node (parts_of bytes) node line
+  pub IsEndRefusal-incoming : (node line : ℕ) (refusal : GraphRefusal) → LacksIncoming progress.declared node
+      → HasIncomingBefore progress.declared node → IsLineSaying declares_node (parts_of bytes) node line
       → refusal ≡ refusal_at (Cause NoIncoming) line → IsEndRefusal (parts_of bytes) refusal
   IsEndRefusal-incoming node line refusal lacks first says is =
       subst (IsEndRefusal (parts_of bytes)) (sym is)
@@ -62,8 +62,8 @@ module _ (progress : ReaderState) (bytes : List ℕ) (stands : ReaderRepresents 
 
   -- The first edge on a cycle that may take no time.
   pub IsEndRefusal-cycle : (edge line : ℕ) (refusal : GraphRefusal)
-      → HasIncomingBefore progress.graph (length progress.graph.nodes) → LiesOnZeroCycle progress.graph edge
-      → ((earlier : ℕ) → earlier < edge → LiesOnZeroCycle progress.graph earlier → ⊥)
+      → HasIncomingBefore progress.declared (length progress.declared.nodes) → LiesOnZeroCycle progress.declared edge
+      → ((earlier : ℕ) → earlier < edge → LiesOnZeroCycle progress.declared earlier → ⊥)
       → IsLineSaying declares_edge (parts_of bytes) edge line
       → refusal ≡ refusal_at (Cause ZeroCycle) line → IsEndRefusal (parts_of bytes) refusal
   IsEndRefusal-cycle edge line refusal incoming lies first says is =
@@ -81,10 +81,10 @@ module _ (progress : ReaderState) (bytes : List ℕ) (stands : ReaderRepresents 
 
   -- No end.
   pub IsEndRefusal-unended : (count : ℕ) (refusal : GraphRefusal)
-      → HasIncomingBefore progress.graph (length progress.graph.nodes) → HasZeroOrder progress.graph
+      → HasIncomingBefore progress.declared (length progress.declared.nodes) → HasZeroOrder progress.declared
       → progress.part ≢ Ended → count ≡ length (parts_of bytes)
       → refusal ≡ refusal_at (Cause MissingEnd) (count + 1) → IsEndRefusal (parts_of bytes) refusal
   IsEndRefusal-unended count refusal incoming order goes_on counted is =
       subst (IsEndRefusal (parts_of bytes)) (sym (is ∙ ap (λ n. refusal_at (Cause MissingEnd) (n + 1)) counted))
       (whole_fault-end progress (parts_of bytes) stands (unended goes_on) incoming
-      (λ number lies. HasZeroOrder-none_lies progress.graph number order lies))
+      (λ number lies. HasZeroOrder-none_lies progress.declared number order lies))

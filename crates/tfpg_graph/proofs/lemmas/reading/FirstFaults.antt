@@ -7,14 +7,14 @@ use Rattle.tfpg_graph.specs.ZeroCycle.{LiesOnZeroCycle}
 use Rattle.tfpg_graph.specs.Statements.{declares_node, declares_edge}
 use Rattle.tfpg_graph.specs.Faults.{IsClean, IsLineFault, IsLineSaying, LacksIncoming, HasIncomingBefore, HasNoZeroCycle, IsWholeFault}
 use Rattle.tfpg_graph.specs.declared.reading.reader.Part.TheVariants.{Header, Declarations}
-use Rattle.tfpg_graph.specs.inside.reading.ReaderState.{ReaderState}
+use Rattle.tfpg_graph.specs.declared.reading.reader.Reader.{Reader}
 use Rattle.tfpg_graph.specs.inside.reading.Turns.{turn, part_after, ReaderRepresents}
 use Rattle.tfpg_graph.proofs.lemmas.reading.CauseAt.{cause_at-append, cause_at-after}
 use Rattle.tfpg_graph.proofs.lemmas.reading.PartAfter.{part-declarations}
 use Rattle.tfpg_graph.proofs.lemmas.reading.Caused.{ReaderRepresents-err}
 
 -- A line by which a turn fails is the first fault, whatever stands after it.
-pub IsLineFault-err : (progress : ReaderState) (before after : List (List ℕ)) (line : List ℕ) (cause : GraphCause)
+pub IsLineFault-err : (progress : Reader) (before after : List (List ℕ)) (line : List ℕ) (cause : GraphCause)
     → ReaderRepresents progress before → turn progress line ≡ Err cause
     → IsLineFault (before ++ line ∷ after) (record { line = length before + 1; cause = cause })
 IsLineFault-err progress before after line cause stands failed = record {
@@ -29,7 +29,7 @@ IsLineFault-err progress before after line cause stands failed = record {
 pub IsLineFault-empty : IsLineFault [] (record { line = 1; cause = BadHeader })
 IsLineFault-empty = record { index = 0; number = refl; tested = inl refl; cause = refl; first = λ earlier within. absurd (omega arith) }
 
-module _ (progress : ReaderState) (lines : List (List ℕ)) (stands : ReaderRepresents progress lines) where
+module _ (progress : Reader) (lines : List (List ℕ)) (stands : ReaderRepresents progress lines) where
   -- Where a line was read, none has a cause.
   pub IsClean-some : 0 < length lines → IsClean lines
   IsClean-some some index tested = stands.clean index (⊎_elim (λ first. omega (arith, first)) (λ within. within) tested)
@@ -48,7 +48,7 @@ module _ (progress : ReaderState) (lines : List (List ℕ)) (stands : ReaderRepr
 
   module _ (read : progress.part ≢ Header) where
     -- The first discrepancy with no edge into it is the fault.
-    pub whole_fault-incoming : (node line : ℕ) → LacksIncoming progress.graph node → HasIncomingBefore progress.graph node
+    pub whole_fault-incoming : (node line : ℕ) → LacksIncoming progress.declared node → HasIncomingBefore progress.declared node
         → IsLineSaying declares_node lines node line
         → IsClean lines × IsWholeFault lines (record { line = line; cause = NoIncoming })
     whole_fault-incoming node line lacks first says = (
@@ -63,9 +63,9 @@ module _ (progress : ReaderState) (lines : List (List ℕ)) (stands : ReaderRepr
     )
 
     -- Where none is, the first edge on a cycle that may take no time is.
-    pub whole_fault-cycle : (edge line : ℕ) → HasIncomingBefore progress.graph (length progress.graph.nodes)
-        → LiesOnZeroCycle progress.graph edge
-        → ((earlier : ℕ) → earlier < edge → LiesOnZeroCycle progress.graph earlier → ⊥)
+    pub whole_fault-cycle : (edge line : ℕ) → HasIncomingBefore progress.declared (length progress.declared.nodes)
+        → LiesOnZeroCycle progress.declared edge
+        → ((earlier : ℕ) → earlier < edge → LiesOnZeroCycle progress.declared earlier → ⊥)
         → IsLineSaying declares_edge lines edge line
         → IsClean lines × IsWholeFault lines (record { line = line; cause = ZeroCycle })
     whole_fault-cycle edge line incoming lies first says = (
@@ -81,8 +81,8 @@ module _ (progress : ReaderState) (lines : List (List ℕ)) (stands : ReaderRepr
     )
 
   -- And where neither is, a missing end is.
-  pub whole_fault-end : progress.part ≡ Declarations → HasIncomingBefore progress.graph (length progress.graph.nodes)
-      → HasNoZeroCycle progress.graph
+  pub whole_fault-end : progress.part ≡ Declarations → HasIncomingBefore progress.declared (length progress.declared.nodes)
+      → HasNoZeroCycle progress.declared
       → IsClean lines × IsWholeFault lines (record { line = length lines + 1; cause = MissingEnd })
   whole_fault-end unended incoming no_cycle =
       let before = part-declarations lines (sym unended ∙ stands.part) in (

@@ -3,8 +3,7 @@ use Rattle.std.proofs.Common.{◌≡◌, ℕ, ◌<◌, Bool, true, false, not, L
 use Rattle.std.specs.List.{list_any, filter_map, cons_option}
 use Rattle.std.specs.Option.{option_map}
 use Rattle.std.proofs.lemmas.Bool.{or_parts}
-use Rattle.std.proofs.lemmas.List.{append-nil}
-use Rattle.std.proofs.lemmas.List.Elements.{filter_map-append}
+use Rattle.tfpg_base.proofs.lists.Valued.{filter_map-push_some, filter_map-push_none}
 use Rattle.tfpg_graph.specs.declared.kind.Kind.{Kind}
 use Rattle.tfpg_graph.specs.declared.edge.Edge.{Edge}
 use Rattle.tfpg_graph.specs.Graph.{Tfpg, Node}
@@ -17,21 +16,12 @@ use Rattle.tfpg_graph.specs.Causes.{is_out_of_order}
 
 module _ {X Y : Type 0} (h : X → Option Y) where
   -- items that all fail a test without which there is no value have none
-  filter_map-none : (p : X → Bool) → ((x : X) → p x ≡ false → h x ≡ None) → (xs : List X) → list_any p xs ≡ false
+  filter_map-unlike : (p : X → Bool) → ((x : X) → p x ≡ false → h x ≡ None) → (xs : List X) → list_any p xs ≡ false
       → filter_map h xs ≡ []
-  filter_map-none p fails [] all = refl
-  filter_map-none p fails (x ∷ xs) all =
+  filter_map-unlike p fails [] all = refl
+  filter_map-unlike p fails (x ∷ xs) all =
       let parts = or_parts (p x) (list_any p xs) all in
-      λ i. cons_option (fails x parts.0 i) (filter_map-none p fails xs parts.1 i)
-
-  -- an item with no value more changes nothing
-  filter_map-push_none : (xs : List X) (x : X) → h x ≡ None → filter_map h (xs ++ x ∷ []) ≡ filter_map h xs
-  filter_map-push_none xs x none =
-      filter_map-append h xs (x ∷ []) ∙ ap (λ o. filter_map h xs ++ cons_option o []) none ∙ append-nil (filter_map h xs)
-
-  -- an item with a value more has its value after the others
-  filter_map-push_some : (xs : List X) (x : X) (y : Y) → h x ≡ Some y → filter_map h (xs ++ x ∷ []) ≡ filter_map h xs ++ y ∷ []
-  filter_map-push_some xs x y some = filter_map-append h xs (x ∷ []) ∙ ap (λ o. filter_map h xs ++ cons_option o []) some
+      λ i. cons_option (fails x parts.0 i) (filter_map-unlike p fails xs parts.1 i)
 
 -- ---- what statements declare
 
@@ -66,8 +56,8 @@ module _ (before : List Statement) where
   pub nothing_before_mode : (name : List ℕ) → is_out_of_order before (DeclaresMode name) ≡ false
       → ((graph_said before).nodes ≡ []) × ((graph_said before).edges ≡ [])
   nothing_before_mode name in_order = (
-    filter_map-none node_declared (λ said. not (declares_mode said)) no_mode_no_node before in_order,
-    filter_map-none (edge_declared (named_by before)) (λ said. not (declares_mode said)) (no_mode_no_edge (named_by before)) before in_order,
+    filter_map-unlike node_declared (λ said. not (declares_mode said)) no_mode_no_node before in_order,
+    filter_map-unlike (edge_declared (named_by before)) (λ said. not (declares_mode said)) (no_mode_no_edge (named_by before)) before in_order,
   )
 
   -- before a node there is no edge
@@ -75,7 +65,7 @@ module _ (before : List Statement) where
       → is_out_of_order before (DeclaresNode name words) ≡ false → (graph_said before).edges ≡ []
   no_edge_before_node name words in_order =
       let unlike = or_parts _ (list_any declares_edge before) in_order in
-      filter_map-none (edge_declared (named_by before)) declares_edge (no_edge (named_by before)) before unlike.1
+      filter_map-unlike (edge_declared (named_by before)) declares_edge (no_edge (named_by before)) before unlike.1
 
   -- One mode more.
   pub graph_said-mode : (name : List ℕ) → is_out_of_order before (DeclaresMode name) ≡ false
@@ -83,7 +73,7 @@ module _ (before : List Statement) where
   graph_said-mode name in_order =
       let after : Tfpg = named_by (before ++ DeclaresMode name ∷ []) in
       let none : filter_map (edge_declared after) before ≡ [] =
-      filter_map-none (edge_declared after) (λ said. not (declares_mode said)) (no_mode_no_edge after) before in_order in
+      filter_map-unlike (edge_declared after) (λ said. not (declares_mode said)) (no_mode_no_edge after) before in_order in
       let edges : filter_map (edge_declared after) (before ++ DeclaresMode name ∷ []) ≡ (graph_said before).edges =
       filter_map-push_none (edge_declared after) before (DeclaresMode name) refl ∙ none ∙ sym (nothing_before_mode name in_order).1 in
       λ i. record {
@@ -100,7 +90,7 @@ module _ (before : List Statement) where
       let node : Node = record { name = name; kind = kind } in
       let after : Tfpg = named_by (before ++ DeclaresNode name words ∷ []) in
       let unlike = or_parts _ (list_any declares_edge before) in_order in
-      let none : filter_map (edge_declared after) before ≡ [] = filter_map-none (edge_declared after) declares_edge (no_edge after) before unlike.1 in
+      let none : filter_map (edge_declared after) before ≡ [] = filter_map-unlike (edge_declared after) declares_edge (no_edge after) before unlike.1 in
       let edges : filter_map (edge_declared after) (before ++ DeclaresNode name words ∷ []) ≡ (graph_said before).edges =
       filter_map-push_none (edge_declared after) before (DeclaresNode name words) refl ∙ none ∙ sym (no_edge_before_node name words in_order) in
       λ i. record {

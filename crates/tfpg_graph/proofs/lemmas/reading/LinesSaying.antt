@@ -7,7 +7,7 @@ use Rattle.std.proofs.lemmas.List.{take_all}
 use Rattle.std.proofs.lemmas.List.Sums.{sum_by-cons, count_by_more_yes, count_by_more_no}
 use Rattle.tfpg_graph.specs.Statements.{Statement, statement_of, statements_of, declares_mode, declares_node, declares_edge}
 use Rattle.tfpg_graph.specs.Faults.{says, IsLineSaying}
-use Rattle.tfpg_graph.specs.inside.reading.ReaderState.{ReaderState}
+use Rattle.tfpg_graph.specs.declared.reading.reader.Reader.{Reader}
 use Rattle.tfpg_graph.specs.inside.reading.Turns.{ReaderRepresents}
 use Rattle.tfpg_graph.proofs.lemmas.reading.DeclaredBy.{count-modes, count-nodes, count-edges}
 
@@ -84,35 +84,35 @@ module _ (test : Statement → Bool) (lines : List (List ℕ)) where
       let found = passes_after (says test) lines count [] more in
       (found.0 + 1, IsLineSaying-here found.0 count found.1 found.2 found.3)
 
-module _ (progress : ReaderState) (lines : List (List ℕ)) (stands : ReaderRepresents progress lines) where
+module _ (progress : Reader) (lines : List (List ℕ)) (stands : ReaderRepresents progress lines) where
   -- There are as many modes as lines that declare one.
-  pub count-mode_lines : count_by (says declares_mode) lines ≡ length progress.graph.modes
+  pub count-mode_lines : count_by (says declares_mode) lines ≡ length progress.declared.modes
   count-mode_lines = count-says declares_mode lines ∙ count-modes (statements_of lines) stands.values ∙ ap (λ graph. length graph.modes) (sym stands.graph)
 
   -- As many nodes.
-  pub count-node_lines : count_by (says declares_node) lines ≡ length progress.graph.nodes
+  pub count-node_lines : count_by (says declares_node) lines ≡ length progress.declared.nodes
   count-node_lines = count-says declares_node lines ∙ count-nodes (statements_of lines) stands.values ∙ ap (λ graph. length graph.nodes) (sym stands.graph)
 
   -- And as many edges.
-  pub count-edge_lines : count_by (says declares_edge) lines ≡ length progress.graph.edges
+  pub count-edge_lines : count_by (says declares_edge) lines ≡ length progress.declared.edges
   count-edge_lines = count-says declares_edge lines ∙ count-edges (statements_of lines) stands.values ∙ ap (λ graph. length graph.edges) (sym stands.graph)
 
   -- Each node has its line.
-  pub line_of_node : (node : ℕ) → node < length progress.graph.nodes
+  pub line_of_node : (node : ℕ) → node < length progress.declared.nodes
       → (line : ℕ) × IsLineSaying declares_node lines node line
   line_of_node node within = line_saying declares_node lines node (omega (arith, count-node_lines))
 
   -- Each edge has its line.
-  pub line_of_edge : (edge : ℕ) → edge < length progress.graph.edges
+  pub line_of_edge : (edge : ℕ) → edge < length progress.declared.edges
       → (line : ℕ) × IsLineSaying declares_edge lines edge line
   line_of_edge edge within = line_saying declares_edge lines edge (omega (arith, count-edge_lines))
 
   -- While the lines counted declare no more nodes than come before this one, lines are ahead.
-  pub node_ahead : (node index : ℕ) → node < length progress.graph.nodes
+  pub node_ahead : (node index : ℕ) → node < length progress.declared.nodes
       → count_by (says declares_node) (take index lines) ≤ node → index < length lines
   node_ahead node index within counted = lines_ahead declares_node lines index (omega (arith, count-node_lines))
 
   -- The same of an edge.
-  pub edge_ahead : (edge index : ℕ) → edge < length progress.graph.edges
+  pub edge_ahead : (edge index : ℕ) → edge < length progress.declared.edges
       → count_by (says declares_edge) (take index lines) ≤ edge → index < length lines
   edge_ahead edge index within counted = lines_ahead declares_edge lines index (omega (arith, count-edge_lines))

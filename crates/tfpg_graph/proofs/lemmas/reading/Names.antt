@@ -1,7 +1,8 @@
 -- Names in a list, as references to their bytes.
 use Rattle.std.proofs.Common.{◌≡◌, ℕ, ◌-◌, Bool, true, false, ◌||◌, ◌&&◌, List, ◌∷◌, map, length, take, drop, refl, sym, ap, ◌∙◌, arith}
 use Rattle.std.proofs.lemmas.List.{take_all, length-drop}
-use Rattle.tfpg_base.proofs.lists.Images.{list_any-map, list_all-map}
+use Rattle.std.proofs.lemmas.List.Folds.{list_all-map}
+use Rattle.tfpg_base.proofs.lists.Images.{list_any-map}
 use Rattle.std.specs.List.{list_any, list_all}
 use Rattle.std.specs.Borrow.{Bor}
 use Rattle.std.specs.Str.{bytes_eq}

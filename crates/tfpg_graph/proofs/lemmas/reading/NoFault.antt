@@ -1,11 +1,12 @@
 -- A text that spells a valid graph has no fault.
-use Rattle.std.proofs.Common.{◌≡◌, ℕ, suc, zero, ◌<◌, ◌≤◌, ◌==◌, ◌&&◌, Bool, true, false, cond, not, nat_lt, nat_le, List, [], ◌∷◌, ◌++◌, length, map, get_or, take, filter, slice_get, All, Option, Some, None, codes, refl, ap, sym, ◌∙◌, subst, arith, append_assoc, ⊎_elim}
-use Rattle.std.specs.List.{AllZip, Contains, list_any, filter_map, cons_option, onto_first}
+use Rattle.std.proofs.Common.{◌≡◌, ℕ, suc, zero, ◌<◌, ◌≤◌, ◌==◌, ◌&&◌, Bool, true, false, cond, not, nat_lt, nat_le, List, [], ◌∷◌, ◌++◌, length, map, get_or, take, filter, All, Option, Some, None, codes, refl, ap, sym, ◌∙◌, subst, arith, append_assoc, ⊎_elim}
+use Rattle.std.specs.List.{AllZip, list_any, filter_map, cons_option, onto_first}
 use Rattle.std.proofs.lemmas.Bool.{eqb-true, le-leb, or_right, false≢true}
 use Rattle.std.proofs.lemmas.List.{append-nil}
 use Rattle.std.proofs.lemmas.List.Elements.{All-head, All-tail, All-same, All-filter, filter_map-append}
 use Rattle.std.proofs.lemmas.List.Folds.{list_any-append}
-use Rattle.std.proofs.lemmas.Option.{none-some, slice_get_within, get_or_from_slice_get}
+use Rattle.std.proofs.lemmas.Option.{none-some}
+use Rattle.tfpg_base.proofs.lists.Elements.{All-front, All-back, Contains-at}
 use Rattle.tfpg_base.specs.Words.{words_of}
 use Rattle.tfpg_base.specs.Lines.{lines_of, longest_line}
 use Rattle.tfpg_graph.specs.declared.cause.GraphCause.TheVariants.{AfterEnd}
@@ -21,7 +22,7 @@ use Rattle.tfpg_graph.specs.Causes.{cause_of_said, cause_after}
 use Rattle.tfpg_graph.specs.Faults.{LacksIncoming, IsClean, IsLineFault, IsIncomingFault, IsCycleFault, IsEndFault, IsWholeFault, IsFirstFault}
 use Rattle.tfpg_graph.proofs.lemmas.reading.LinesSay.{statement_of-mode, statement_of-node, statement_of-end}
 use Rattle.tfpg_graph.proofs.lemmas.reading.SpelledEdges.{edge_said, statement_of-edge_line}
-use Rattle.tfpg_graph.proofs.lemmas.reading.SaidSoFar.{All-left, All-right, node_said, said_so_far}
+use Rattle.tfpg_graph.proofs.lemmas.reading.SaidSoFar.{node_said, said_so_far}
 use Rattle.tfpg_graph.proofs.lemmas.reading.CleanRuns.{Runs, IsEdgeSaid, edges_declared, Runs-whole}
 
 -- ---- lines that are skipped
@@ -230,8 +231,8 @@ module _ (text : List ℕ) (graph : Tfpg) (spells : Spells text graph) (valid : 
   short_edges : All IsShort spells.said.edge_lines
   short_edges =
       let modes_and_nodes = map mode_line graph.modes ++ map node_line graph.nodes in
-      All-right IsShort modes_and_nodes spells.said.edge_lines
-      (All-left IsShort (modes_and_nodes ++ spells.said.edge_lines) (codes "end" ∷ [])
+      All-back IsShort modes_and_nodes spells.said.edge_lines
+      (All-front IsShort (modes_and_nodes ++ spells.said.edge_lines) (codes "end" ∷ [])
       (All-same IsShort (modes_and_nodes ++ spells.said.edge_lines ++ codes "end" ∷ []) (kept spells.after)
       (sym spells.said.all)
       (All-filter (λ line. not (is_empty_or_comment line)) IsShort spells.after short_after)))
@@ -248,15 +249,11 @@ module _ (text : List ℕ) (graph : Tfpg) (spells : Spells text graph) (valid : 
 
 -- ---- no fault
 
--- what stands at a number is among all
-Contains-from_slice_get : {X : Type 0} (xs : List X) (number : ℕ) (x : X) → slice_get xs number ≡ Some x → Contains xs x
-Contains-from_slice_get xs number x at = (number, slice_get_within xs number x at, get_or_from_slice_get xs number x x at)
-
 -- no edge of a valid graph lies on a cycle that takes no time
 pub IsValid-no_zero_cycle : (graph : Tfpg) → IsValid graph → (number : ℕ) → LiesOnZeroCycle graph number → ⊥
 IsValid-no_zero_cycle graph valid number lies =
     valid.no_zero_cycle lies.edge.source lies.steps
-    (lies.edge, Contains-from_slice_get graph.edges number lies.edge lies.numbered, refl, lies.no_time, lies.back)
+    (lies.edge, Contains-at graph.edges number lies.edge lies.numbered, refl, lies.no_time, lies.back)
 
 module _ (lines : List (List ℕ)) (graph : Tfpg) (valid : IsValid graph) (fault : GraphFault) where
   no_line_fault : IsClean lines → IsLineFault lines fault → ⊥

@@ -116,7 +116,7 @@ IsFirstFault-one text one other (inl is) (inr so) = absurd (clean_or_fault (line
 IsFirstFault-one text one other (inr is) (inl so) = absurd (clean_or_fault (lines_of text) other is.0 so)
 IsFirstFault-one text one other (inr is) (inr so) = whole_faults (lines_of text) one other is.1 so.1
 
--- What is answered to a text with a first fault, where each answer has its cause.
+-- What is returned for a text with a first fault, where each result has its cause.
 pub IsFaultAnswer-from : (text : List ℕ) (result : Result Tfpg GraphRefusal) → IfOk result (Spells text) → IfOk result IsValid
     → IfErr result (IsRefusalOf text) → (fault : GraphFault) → IsFirstFault text fault → IsFaultAnswer fault result
 IsFaultAnswer-from text (Ok graph) spelled valid refused fault is = Spells-no_fault text graph spelled valid fault is

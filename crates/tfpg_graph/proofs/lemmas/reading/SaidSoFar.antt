@@ -5,9 +5,11 @@ use Rattle.std.specs.List.{AllZip, list_any, filter_map, cons_option}
 use Rattle.std.proofs.lemmas.List.{append-nil, map_push, length-append, get_or_at, get_or_append_left}
 use Rattle.std.proofs.lemmas.List.Elements.{All-head, All-tail, All-nil, All-append, All-map, All-contains, Contains-append_right, filter_map-append}
 use Rattle.std.proofs.lemmas.List.Folds.{list_any_none}
-use Rattle.tfpg_base.proofs.lists.Elements.{Contains-head, All-from_members}
+use Rattle.tfpg_base.proofs.lists.Elements.{Contains-head}
+use Rattle.tfpg_base.proofs.lists.Valued.{filter_map-none}
 use Rattle.tfpg_graph.specs.declared.edge.Edge.{Edge}
-use Rattle.tfpg_graph.specs.Graph.{Tfpg, Node, numbers_from}
+use Rattle.tfpg_graph.specs.Graph.{Tfpg, Node}
+use Rattle.tfpg_base.specs.Choice.{numbers_from}
 use Rattle.tfpg_graph.specs.Valid.{HasValidNumber}
 use Rattle.tfpg_graph.specs.Statements.{Statement, DeclaresMode, DeclaresNode, declares_mode, declares_edge, ends_text}
 use Rattle.tfpg_graph.specs.Declares.{mode_declared, node_declared, edge_declared, graph_said}
@@ -31,16 +33,6 @@ module _ {X : Type 0} (xs : List X) (y : X) (ys : List X) where
       coe 0 1 (i. R (get_or_append_left xs (y ∷ ys) d k within i) (get_or_at xs y ys d (length xs) refl i))
       (pairs k (length xs) d within length-middle)
 
--- what holds of each item of two lists in a row holds of each of the first
-pub All-left : {X : Type 0} (P : X → Type 0) (xs ys : List X) → All P (xs ++ ys) → All P xs
-All-left P xs ys all k d within =
-    subst P (get_or_append_left xs ys d k within) (all k d (omega (arith, length-append xs ys)))
-
--- and of each of the second
-pub All-right : {X : Type 0} (P : X → Type 0) (xs ys : List X) → All P (xs ++ ys) → All P ys
-All-right P xs ys all =
-    All-from_members P ys (λ y member. All-contains P (xs ++ ys) y all (Contains-append_right xs ys y member))
-
 -- where it passes, fewer before it pass than do
 pub numbers_from-middle : {X : Type 0} (p : X → Bool) (n : ℕ) (xs : List X) (y : X) (ys : List X) → p y ≡ true
     → length (numbers_from n p xs) < length (numbers_from n p (xs ++ y ∷ ys))
@@ -58,13 +50,6 @@ numbers_from-middle p n (x ∷ xs) y ys passes = by (p x) (numbers_from-middle p
 -- ---- what each of a list gives
 
 module _ {X Y : Type 0} (f : X → Option Y) where
-  -- where each gives nothing
-  pub filter_map-none : (xs : List X) → All (λ x. f x ≡ None) xs → filter_map f xs ≡ []
-  filter_map-none [] none = refl
-  filter_map-none (x ∷ xs) none =
-      λ i. cons_option (All-head (λ y. f y ≡ None) x xs none i)
-      (filter_map-none xs (All-tail (λ y. f y ≡ None) x xs none) i)
-
   -- where each gives what it was made of
   pub filter_map-made : (make : Y → X) (ys : List Y) → All (λ y. f (make y) ≡ Some y) ys
       → filter_map f (map make ys) ≡ ys

@@ -2,9 +2,9 @@
 use Rattle.std.proofs.Common.{◌≡◌, ℕ, ◌≤◌, Bool, true, false, cond, List, [], ◌∷◌, length, Option, Some, None, codes, refl, ap, sym, ◌∙◌}
 use Rattle.std.specs.Str.{bytes_eq}
 use Rattle.std.specs.List.{onto_first}
-use Rattle.std.specs.Option.{option_map}
 use Rattle.std.proofs.lemmas.Bool.{ltb-false, eqb-true}
 use Rattle.std.proofs.lemmas.Option.{cond_some}
+use Rattle.tfpg_base.proofs.lists.Choices.{option_map-some}
 use Rattle.std.proofs.lemmas.Slice.Eq.{bytes_eq-Decides}
 use Rattle.tfpg_base.specs.Words.{line_of, words_of}
 use Rattle.tfpg_base.specs.Lines.{longest_line}
@@ -13,12 +13,6 @@ use Rattle.tfpg_graph.specs.Text.{is_empty_or_comment}
 use Rattle.tfpg_graph.specs.Statements.{FailureWords, OrWords, AndWords, Statement, DeclaresMode, DeclaresNode, DeclaresEdge, Ends, words_of_watch, words_of_statement, lag_in, mode_in, failure_in, or_in, and_in, edge_in, end_in, statement_in, statement_of}
 
 -- ---- laws of choices
-
--- a value in a mapped option is the image of one
-pub option_map_some : {X Y : Type 0} (f : X → Y) (o : Option X) (y : Y) → option_map f o ≡ Some y
-    → (x : X) × (o ≡ Some x) × (f x ≡ y)
-option_map_some f None y some = absurd cc
-option_map_some f (Some x) y some = (x, refl, cc)
 
 -- where the first way gives nothing, a value comes from the second
 pub cond_second : {X : Type 0} (b : Bool) (o : Option X) (x : X) → cond b None o ≡ Some x → (b ≡ false) × (o ≡ Some x)
@@ -62,13 +56,13 @@ failure_in_words (name ∷ rarity ∷ more ∷ others) said some = absurd cc
 or_in_words : (words : List (List ℕ)) (said : Statement) → or_in words ≡ Some said → codes "or" ∷ words ≡ words_of_statement said
 or_in_words [] said some = absurd cc
 or_in_words (name ∷ others) said some =
-    let is = option_map_some (λ lag. DeclaresNode name (OrWords lag)) (lag_in others) said some in
+    let is = option_map-some (λ lag. DeclaresNode name (OrWords lag)) (lag_in others) said some in
     ap (λ words. codes "or" ∷ name ∷ words) (lag_in_words others is.0 is.1) ∙ ap words_of_statement is.2
 
 and_in_words : (words : List (List ℕ)) (said : Statement) → and_in words ≡ Some said → codes "and" ∷ words ≡ words_of_statement said
 and_in_words [] said some = absurd cc
 and_in_words (name ∷ others) said some =
-    let is = option_map_some (λ lag. DeclaresNode name (AndWords lag)) (lag_in others) said some in
+    let is = option_map-some (λ lag. DeclaresNode name (AndWords lag)) (lag_in others) said some in
     ap (λ words. codes "and" ∷ name ∷ words) (lag_in_words others is.0 is.1) ∙ ap words_of_statement is.2
 
 edge_in_words : (words : List (List ℕ)) (said : Statement) → edge_in words ≡ Some said → codes "edge" ∷ words ≡ words_of_statement said

@@ -18,7 +18,7 @@ use Rattle.tfpg_graph.specs.Statements.{Statement, statement_of, statements_of, 
 use Rattle.tfpg_graph.specs.Declares.{graph_said}
 use Rattle.tfpg_graph.specs.Causes.{is_out_of_order, cause_of_said, cause_after}
 use Rattle.tfpg_graph.specs.declared.reading.reader.Part.TheVariants.{Declarations, Ended}
-use Rattle.tfpg_graph.specs.inside.reading.ReaderState.{ReaderState}
+use Rattle.tfpg_graph.specs.declared.reading.reader.Reader.{Reader}
 use Rattle.tfpg_graph.specs.inside.reading.Turns.{ReaderRepresents}
 use Rattle.tfpg_graph.proofs.lemmas.reading.WithoutCause.{HasNoCause-from_none}
 use Rattle.tfpg_graph.proofs.lemmas.reading.NoCause.{HasNoCause}
@@ -175,8 +175,8 @@ record IsReadWhole (graph : Tfpg) (lines : List (List ℕ)) : Type 0 where
   declared : graph ≡ graph_said (statements_of after)
   ended : list_any ends_text (statements_of after) ≡ true
 
-read_whole : (progress : ReaderState) (lines : List (List ℕ)) → ReaderRepresents progress lines → progress.part ≡ Ended
-    → IsReadWhole progress.graph lines
+read_whole : (progress : Reader) (lines : List (List ℕ)) → ReaderRepresents progress lines → progress.part ≡ Ended
+    → IsReadWhole progress.declared lines
 read_whole progress [] stands ended = absurd cc
 read_whole progress (first ∷ after) stands ended =
     record {
@@ -209,11 +209,11 @@ whole_spelled graph lines whole =
     (subst (λ b. SpellsSoFar (graph_said (statements_of whole.after)) b (kept whole.after)) whole.ended spelled)
 
 -- A text that is read to its end without a cause spells its graph.
-pub Spells-read : (text : List ℕ) (progress : ReaderState) → ReaderRepresents progress (lines_of text) → progress.part ≡ Ended
-    → Spells text progress.graph
+pub Spells-read : (text : List ℕ) (progress : Reader) → ReaderRepresents progress (lines_of text) → progress.part ≡ Ended
+    → Spells text progress.declared
 Spells-read text progress stands ended =
     let whole = read_whole progress (lines_of text) stands ended in
-    let spelled = whole_spelled progress.graph (lines_of text) whole in
+    let spelled = whole_spelled progress.declared (lines_of text) whole in
     record {
       after = whole.after;
       lines = whole.begins;
@@ -223,6 +223,6 @@ Spells-read text progress stands ended =
     }
 
 -- Lines that are read to their end without a cause declare a mode.
-pub has_mode : (lines : List (List ℕ)) (progress : ReaderState) → ReaderRepresents progress lines → progress.part ≡ Ended
-    → 0 < length progress.graph.modes
-has_mode lines progress stands ended = (whole_spelled progress.graph lines (read_whole progress lines stands ended)).some_mode refl
+pub has_mode : (lines : List (List ℕ)) (progress : Reader) → ReaderRepresents progress lines → progress.part ≡ Ended
+    → 0 < length progress.declared.modes
+has_mode lines progress stands ended = (whole_spelled progress.declared lines (read_whole progress lines stands ended)).some_mode refl

@@ -14,7 +14,7 @@ use Rattle.tfpg_graph.specs.Declares.{kind_of_words, edge_declared, graph_said, 
 use Rattle.tfpg_graph.specs.Causes.{cause_at, is_out_of_order}
 use Rattle.tfpg_graph.specs.declared.reading.reader.Part.{Part}
 use Rattle.tfpg_graph.specs.declared.reading.reader.Part.TheVariants.{Header, Declarations, Ended}
-use Rattle.tfpg_graph.specs.inside.reading.ReaderState.{ReaderState}
+use Rattle.tfpg_graph.specs.declared.reading.reader.Reader.{Reader}
 use Rattle.tfpg_graph.specs.inside.reading.Turns.{nothing_read, is_misplaced, progress_with, cause_or_value, turn_said, turn_of, turn, part_after, HasValue, ReaderRepresents}
 use Rattle.tfpg_graph.proofs.lemmas.reading.SaidBy.{statement_of-skipped, statement_of-header, statements_of-push, statements_of-silent}
 use Rattle.tfpg_graph.proofs.lemmas.reading.DeclaredBy.{AllHaveValues, is_misplaced-said, graph_said-mode, graph_said-node, graph_said-edge, graph_said-end, values-mode, values-node, values-edge, values-end}
@@ -31,7 +31,7 @@ pub ReaderRepresents-nothing : ReaderRepresents nothing_read []
 ReaderRepresents-nothing = record { clean = all_clean-none; graph = refl; part = refl; values = All-nil (HasValue (declared_by [])) }
 
 -- what is taken has no cause and a value
-is_taken : (first : Option GraphCause) (value : Option ReaderState) (next : ReaderState) → cause_or_value first value ≡ Ok next
+is_taken : (first : Option GraphCause) (value : Option Reader) (next : Reader) → cause_or_value first value ≡ Ok next
     → (first ≡ None) × (value ≡ Some next)
 is_taken (Some cause) value next taken = absurd cc
 is_taken None (Some value) next taken = (refl, cc)
@@ -41,7 +41,7 @@ module _ (lines : List (List ℕ)) (line : List ℕ) (clean : AllClean lines) (v
   -- one line more that says nothing and has no cause
   stands_silent : (part : Part) → statement_of line ≡ None → cause_at (lines ++ line ∷ []) (length lines) ≡ None
       → part ≡ part_after (lines ++ line ∷ [])
-      → ReaderRepresents (record { part = part; graph = declared_by lines }) (lines ++ line ∷ [])
+      → ReaderRepresents (record { part = part; declared = declared_by lines }) (lines ++ line ∷ [])
   stands_silent part says none at = record {
     clean = clean-push lines line clean none;
     graph = sym (ap graph_said (statements_of-silent lines line says));
@@ -49,16 +49,16 @@ module _ (lines : List (List ℕ)) (line : List ℕ) (clean : AllClean lines) (v
     values = subst AllHaveValues (sym (statements_of-silent lines line says)) values;
   }
 
-  module _ (some : 0 < length lines) (unended : list_any ends_text (statements_of lines) ≡ false) (read : is_skipped line ≡ false) (next : ReaderState) where
+  module _ (some : 0 < length lines) (unended : list_any ends_text (statements_of lines) ≡ false) (read : is_skipped line ≡ false) (next : Reader) where
     -- what was declared with a statement that has no cause represents one line more
-    stands_grown : (said : Statement) (declared : ReaderState) → statement_of line ≡ Some said
+    stands_grown : (said : Statement) (after : Reader) → statement_of line ≡ Some said
         → cause_declared (declared_by lines) said ≡ None
-        → declared ≡ next → declared.part ≡ cond (ends_text said || false) Ended Declarations
-        → declared.graph ≡ graph_said (statements_of lines ++ said ∷ []) → AllHaveValues (statements_of lines ++ said ∷ [])
+        → after ≡ next → after.part ≡ cond (ends_text said || false) Ended Declarations
+        → after.declared ≡ graph_said (statements_of lines ++ said ∷ []) → AllHaveValues (statements_of lines ++ said ∷ [])
         → ReaderRepresents next (lines ++ line ∷ [])
-    stands_grown said declared says none is at grown values_after = record {
+    stands_grown said after says none is at grown values_after = record {
       clean = clean-push lines line clean (cause-said lines line said values some unended read says ∙ none);
-      graph = sym (ap (λ p. p.graph) is) ∙ grown ∙ sym (ap graph_said (statements_of-push lines line said says));
+      graph = sym (ap (λ p. p.declared) is) ∙ grown ∙ sym (ap graph_said (statements_of-push lines line said says));
       part = sym (ap (λ p. p.part) is) ∙ at ∙ sym (part_after-said lines line said says unended);
       values = subst AllHaveValues (sym (statements_of-push lines line said says)) values_after;
     }
@@ -76,30 +76,30 @@ module _ (lines : List (List ℕ)) (line : List ℕ) (clean : AllClean lines) (v
         → progress_with (declared_by lines) said ≡ Some next → ReaderRepresents next (lines ++ line ∷ [])
     stands_taken (DeclaresMode name) says none with_it =
         let in_turn = ordered (DeclaresMode name) none in
-        stands_grown (DeclaresMode name) (record { part = Declarations; graph = with_mode (declared_by lines) name }) says none (cc) refl
+        stands_grown (DeclaresMode name) (record { part = Declarations; declared = with_mode (declared_by lines) name }) says none (cc) refl
         (graph_said-mode (statements_of lines) name in_turn) (values-mode (statements_of lines) values name in_turn)
     stands_taken (DeclaresNode name words) says none with_it = by (kind_of_words words) refl with_it
       where
         by : (kind : Option Kind) → kind_of_words words ≡ kind
-            → option_map (λ k. record { part = Declarations; graph = with_node (declared_by lines) name k }) kind ≡ Some next
+            → option_map (λ k. record { part = Declarations; declared = with_node (declared_by lines) name k }) kind ≡ Some next
             → ReaderRepresents next (lines ++ line ∷ [])
         by None is grown = absurd cc
         by (Some kind) is grown =
             let in_turn = ordered (DeclaresNode name words) none in
-            stands_grown (DeclaresNode name words) (record { part = Declarations; graph = with_node (declared_by lines) name kind }) says none (cc) refl
+            stands_grown (DeclaresNode name words) (record { part = Declarations; declared = with_node (declared_by lines) name kind }) says none (cc) refl
             (graph_said-node (statements_of lines) name words kind in_turn is) (values-node (statements_of lines) values name words in_turn (ap is_some is))
     stands_taken (DeclaresEdge source target tmin tmax modes) says none with_it = by (edge_declared (declared_by lines) (DeclaresEdge source target tmin tmax modes)) refl with_it
       where
         by : (edge : Option GraphEdge)
             → edge_declared (declared_by lines) (DeclaresEdge source target tmin tmax modes) ≡ edge
-            → option_map (λ e. record { part = Declarations; graph = with_edge (declared_by lines) e }) edge ≡ Some next
+            → option_map (λ e. record { part = Declarations; declared = with_edge (declared_by lines) e }) edge ≡ Some next
             → ReaderRepresents next (lines ++ line ∷ [])
         by None is grown = absurd cc
         by (Some edge) is grown =
-            stands_grown (DeclaresEdge source target tmin tmax modes) (record { part = Declarations; graph = with_edge (declared_by lines) edge }) says none (cc) refl
+            stands_grown (DeclaresEdge source target tmin tmax modes) (record { part = Declarations; declared = with_edge (declared_by lines) edge }) says none (cc) refl
             (graph_said-edge (statements_of lines) source target tmin tmax modes edge is) (values-edge (statements_of lines) values source target tmin tmax modes (ap is_some is))
     stands_taken Ends says none with_it =
-        stands_grown Ends (record { part = Ended; graph = declared_by lines }) says none (cc) refl (graph_said-end (statements_of lines)) (values-end (statements_of lines) values)
+        stands_grown Ends (record { part = Ended; declared = declared_by lines }) says none (cc) refl (graph_said-end (statements_of lines)) (values-end (statements_of lines) values)
 
     -- a line before the end that is not skipped
     stands_said : (said : Option Statement) → statement_of line ≡ said → turn_said (declared_by lines) said ≡ Ok next
@@ -110,14 +110,14 @@ module _ (lines : List (List ℕ)) (line : List ℕ) (clean : AllClean lines) (v
         stands_taken said says taken.0 taken.1
 
   -- a line that is skipped
-  stands_passed : (part : Part) (next : ReaderState) → 0 < length lines → is_skipped line ≡ true
+  stands_passed : (part : Part) (next : Reader) → 0 < length lines → is_skipped line ≡ true
       → part ≡ part_after (lines ++ line ∷ [])
-      → record { part = part; graph = declared_by lines } ≡ next → ReaderRepresents next (lines ++ line ∷ [])
+      → record { part = part; declared = declared_by lines } ≡ next → ReaderRepresents next (lines ++ line ∷ [])
   stands_passed part next some passed at is =
       subst (λ p. ReaderRepresents p (lines ++ line ∷ [])) is (stands_silent part (statement_of-skipped line passed) (cause-skipped lines line some passed) at)
 
   -- a line before the end
-  stands_declarations : (next : ReaderState) → Declarations ≡ part_after lines
+  stands_declarations : (next : Reader) → Declarations ≡ part_after lines
       → turn_of Declarations (declared_by lines) line ≡ Ok next → ReaderRepresents next (lines ++ line ∷ [])
   stands_declarations next at turned = by (is_skipped line) refl turned
     where
@@ -125,13 +125,13 @@ module _ (lines : List (List ℕ)) (line : List ℕ) (clean : AllClean lines) (v
       before = part-declarations lines at
 
       by : (passed : Bool) → is_skipped line ≡ passed
-          → cond passed (Ok (record { part = Declarations; graph = declared_by lines })) (turn_said (declared_by lines) (statement_of line)) ≡ Ok next
+          → cond passed (Ok (record { part = Declarations; declared = declared_by lines })) (turn_said (declared_by lines) (statement_of line)) ≡ Ok next
           → ReaderRepresents next (lines ++ line ∷ [])
       by true passed turned_so = stands_passed Declarations next before.0 passed (sym (part_after-silent lines line false (statement_of-skipped line passed) before.1)) cc
       by false read turned_so = stands_said before.0 before.1 read next (statement_of line) refl turned_so
 
   -- a line after the end
-  stands_ended : (next : ReaderState) → Ended ≡ part_after lines → turn_of Ended (declared_by lines) line ≡ Ok next
+  stands_ended : (next : Reader) → Ended ≡ part_after lines → turn_of Ended (declared_by lines) line ≡ Ok next
       → ReaderRepresents next (lines ++ line ∷ [])
   stands_ended next at turned = by (is_skipped line) refl turned
     where
@@ -139,21 +139,21 @@ module _ (lines : List (List ℕ)) (line : List ℕ) (clean : AllClean lines) (v
       before = part-ended lines at
 
       by : (passed : Bool) → is_skipped line ≡ passed
-          → cond passed (Ok (record { part = Ended; graph = declared_by lines })) (Err AfterEnd) ≡ Ok next
+          → cond passed (Ok (record { part = Ended; declared = declared_by lines })) (Err AfterEnd) ≡ Ok next
           → ReaderRepresents next (lines ++ line ∷ [])
       by true passed turned_so = stands_passed Ended next before.0 passed (sym (part_after-silent lines line true (statement_of-skipped line passed) before.1)) cc
       by false read turned_so = absurd cc
 
 -- the first line
-stands_header : (line : List ℕ) (next : ReaderState) → turn_of Header (declared_by []) line ≡ Ok next
+stands_header : (line : List ℕ) (next : Reader) → turn_of Header (declared_by []) line ≡ Ok next
     → ReaderRepresents next (line ∷ [])
 stands_header line next turned = by (bytes_eq line header) refl turned
   where
     by : (same : Bool) → bytes_eq line header ≡ same
-        → cond same (Ok (record { part = Declarations; graph = declared_by [] })) (Err BadHeader) ≡ Ok next
+        → cond same (Ok (record { part = Declarations; declared = declared_by [] })) (Err BadHeader) ≡ Ok next
         → ReaderRepresents next (line ∷ [])
     by true same turned_so =
-        let is : record { part = Declarations; graph = declared_by [] } ≡ next = cc in
+        let is : record { part = Declarations; declared = declared_by [] } ≡ next = cc in
         subst (λ p. ReaderRepresents p (line ∷ [])) is
         (stands_silent [] line all_clean-none (All-nil (HasValue (declared_by []))) Declarations (statement_of-header line same)
         (ap (λ b. cond b None (Some BadHeader)) same)
@@ -161,7 +161,7 @@ stands_header line next turned = by (bytes_eq line header) refl turned
     by false same turned_so = absurd cc
 
 -- a line of each part
-stands_after : (part : Part) (next : ReaderState) (lines : List (List ℕ)) (line : List ℕ) → AllClean lines
+stands_after : (part : Part) (next : Reader) (lines : List (List ℕ)) (line : List ℕ) → AllClean lines
     → AllHaveValues (statements_of lines) → part ≡ part_after lines
     → turn_of part (declared_by lines) line ≡ Ok next → ReaderRepresents next (lines ++ line ∷ [])
 stands_after Header next [] line clean values at turned = stands_header line next turned
@@ -170,7 +170,7 @@ stands_after Declarations next lines line clean values at turned = stands_declar
 stands_after Ended next lines line clean values at turned = stands_ended lines line clean values next at turned
 
 -- What is read after a line represents one line more.
-pub ReaderRepresents-ok : (progress next : ReaderState) (lines : List (List ℕ)) (line : List ℕ) → ReaderRepresents progress lines
+pub ReaderRepresents-ok : (progress next : Reader) (lines : List (List ℕ)) (line : List ℕ) → ReaderRepresents progress lines
     → turn progress line ≡ Ok next → ReaderRepresents next (lines ++ line ∷ [])
 ReaderRepresents-ok progress next lines line stands turned =
     stands_after progress.part next lines line stands.clean stands.values stands.part

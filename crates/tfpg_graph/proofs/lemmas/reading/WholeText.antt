@@ -13,7 +13,7 @@ use Rattle.tfpg_graph.specs.Valid.{IsValid}
 use Rattle.tfpg_graph.specs.Causes.{cause_at}
 use Rattle.tfpg_graph.specs.Faults.{IsTested, IsClean, IsLineFault, IsWholeFault, IsRefusalOf, IsAnswerOf}
 use Rattle.tfpg_graph.specs.declared.reading.reader.Part.TheVariants.{Ended}
-use Rattle.tfpg_graph.specs.inside.reading.ReaderState.{ReaderState}
+use Rattle.tfpg_graph.specs.declared.reading.reader.Reader.{Reader}
 use Rattle.tfpg_graph.specs.inside.reading.Turns.{turn, ReaderRepresents}
 use Rattle.tfpg_graph.specs.inside.reading.Answered.{IsTurnAnswer, refusal_at, IsEndRefusal}
 use Rattle.tfpg_graph.proofs.lemmas.reading.FirstFaults.{IsLineFault-err}
@@ -68,7 +68,7 @@ module _ (body : List ℕ) where
 
 module _ (text body : List ℕ) (is : IsBody text body) where
   -- The refusal of a line is that of the text.
-  pub IsRefusalOf-line : (progress : ReaderState) (before after : List (List ℕ)) (line : List ℕ) (refusal : LineRefusal)
+  pub IsRefusalOf-line : (progress : Reader) (before after : List (List ℕ)) (line : List ℕ) (refusal : LineRefusal)
       → ReaderRepresents progress before → IsTurnAnswer (turn progress line) (Err refusal)
       → parts_of body ≡ before ++ line ∷ after
       → IsRefusalOf text (refusal_at refusal (length before + 1))
@@ -91,14 +91,14 @@ module _ (text body : List ℕ) (is : IsBody text body) where
   IsAnswerOf-refused graph (Fault fault) refused spells valid = Spells-no_fault text graph spells valid fault refused
   IsAnswerOf-refused graph NoMemory refused spells valid = tt
 
-  module _ (progress : ReaderState) (stands : ReaderRepresents progress (parts_of body)) (some : 0 < length (parts_of body)) where
+  module _ (progress : Reader) (stands : ReaderRepresents progress (parts_of body)) (some : 0 < length (parts_of body)) where
     -- what represents the parts represents the lines
     stands_lines : ReaderRepresents progress (lines_of text)
     stands_lines = subst (ReaderRepresents progress) (sym (lines-clean body text is (stands.clean 0 some))) stands
 
-    -- The text spells the graph that is answered.
+    -- The text spells the graph that is returned.
     pub IfOk-spelled : (result : Result Tfpg GraphRefusal)
-        → IfOk result (λ graph. (graph ≡ progress.graph) × (progress.part ≡ Ended))
+        → IfOk result (λ graph. (graph ≡ progress.declared) × (progress.part ≡ Ended))
         → IfOk result (λ graph. Spells text graph)
     IfOk-spelled (Ok graph) read = subst (Spells text) (sym read.0) (Spells-read text progress stands_lines read.1)
     IfOk-spelled (Err refusal) read = tt
@@ -109,9 +109,9 @@ module _ (text body : List ℕ) (is : IsBody text body) where
     IfErr-refused (Ok graph) refused = tt
     IfErr-refused (Err refusal) refused = IsRefusalOf-end refusal refused
 
-    -- The answer to a text that spells a valid graph is that graph.
+    -- The result for a text that spells a valid graph is that graph.
     pub IsAnswerOf-end : (result : Result Tfpg GraphRefusal)
-        → IfOk result (λ graph. (graph ≡ progress.graph) × (progress.part ≡ Ended))
+        → IfOk result (λ graph. (graph ≡ progress.declared) × (progress.part ≡ Ended))
         → IfErr result (IsEndRefusal (parts_of body)) → (graph : Tfpg) → Spells text graph → IsValid graph
         → IsAnswerOf graph result
     IsAnswerOf-end (Ok answer) read refused graph spells valid =

@@ -15,7 +15,7 @@ use Rattle.tfpg_graph.specs.Graph.{Tfpg}
 use Rattle.tfpg_graph.specs.Text.{header, mode_line, node_line, edge_line, modes_word, canonical_text}
 use Rattle.tfpg_graph.specs.inside.writing.Written.{mode_text, node_text, edge_text}
 
--- four texts that were appended, and a last call whose answer is handed on
+-- four texts that were appended, and a last call whose result is handed on
 pub Appends-after_four : (result : Result (Unit {0}) NoMemory) (old m1 m2 m3 m4 new a b c d e : List ℕ)
     → m1 ≡ old ++ a → m2 ≡ m1 ++ b → m3 ≡ m2 ++ c → m4 ≡ m3 ++ d → Appends result m4 new e → Appends result old new (a ++ b ++ c ++ d ++ e)
 Appends-after_four result old m1 m2 m3 m4 new a b c d e h1 h2 h3 h4 h5 =

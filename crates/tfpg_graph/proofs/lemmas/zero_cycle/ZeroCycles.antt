@@ -1,7 +1,8 @@
 -- Which edges lie on a cycle of edges that may take no time.
 use Rattle.std.proofs.Common.{◌≡◌, ◌≢◌, ℕ, zero, suc, ◌+◌, ◌<◌, ◌≤◌, List, length, get_or, Option, Some, unwrap_or, slice_get, All, Contains, refl, sym, ap, ◌∙◌, subst, arith, below_more}
-use Rattle.std.proofs.lemmas.Option.{slice_get-get_or, slice_get_within, get_or_from_slice_get}
+use Rattle.std.proofs.lemmas.Option.{slice_get-get_or, slice_get_within}
 use Rattle.std.proofs.lemmas.List.Elements.{All-contains}
+use Rattle.tfpg_base.proofs.lists.Elements.{Contains-at}
 use Rattle.tfpg_graph.specs.declared.edge.Edge.{Edge}
 use Rattle.tfpg_graph.specs.Graph.{Tfpg}
 use Rattle.tfpg_graph.specs.Valid.{IsValidEdge, WalksInNoTime}
@@ -24,17 +25,11 @@ pub HasZeroOrder-no_cycle : (graph : Tfpg) → HasZeroOrder graph → (node step
     → WalksInNoTime graph node node (suc steps) → ⊥
 HasZeroOrder-no_cycle graph is node steps walk = omega (arith, rank_rises graph is (suc steps) node node walk)
 
--- an edge of a number is among the edges
-numbered_among : (edges : List Edge) (number : ℕ) (edge : Edge) → slice_get edges number ≡ Some edge
-    → Contains edges edge
-numbered_among edges number edge at =
-    (number, slice_get_within edges number edge at, get_or_from_slice_get edges number edge edge at)
-
 -- and no edge lies on such a cycle
 pub HasZeroOrder-none_lies : (graph : Tfpg) (number : ℕ) → HasZeroOrder graph → LiesOnZeroCycle graph number → ⊥
 HasZeroOrder-none_lies graph number is lies =
     HasZeroOrder-no_cycle graph is lies.edge.source lies.steps
-    (lies.edge, numbered_among graph.edges number lies.edge lies.numbered, refl, lies.no_time, lies.back)
+    (lies.edge, Contains-at graph.edges number lies.edge lies.numbered, refl, lies.no_time, lies.back)
 
 -- on each cycle that takes no time lies an edge
 pub LiesOnZeroCycle-some : (graph : Tfpg) (node steps : ℕ) → WalksInNoTime graph node node (suc steps)
@@ -56,7 +51,7 @@ module _ (graph : Tfpg) (marks : List (Option ℕ)) (valid : All (IsValidEdge gr
     (groups : AreZeroGroups graph marks) where
   valid_at : (number : ℕ) (edge : Edge) → slice_get graph.edges number ≡ Some edge → IsValidEdge graph edge
   valid_at number edge at = All-contains (IsValidEdge graph) graph.edges edge valid
-      (numbered_among graph.edges number edge at)
+      (Contains-at graph.edges number edge at)
 
   pub source_within : (number : ℕ) (edge : Edge) → slice_get graph.edges number ≡ Some edge → edge.source < length marks
   source_within number edge at = let is = valid_at number edge at in omega (arith, is.source, groups.count)
@@ -81,7 +76,7 @@ module _ (graph : Tfpg) (marks : List (Option ℕ)) (valid : All (IsValidEdge gr
       let is = valid_at number edge lies.numbered in
       let source : IsMarked marks edge.source = groups.all edge.source is.source in
       let target = groups.rises edge source.0
-      (numbered_among graph.edges number edge lies.numbered) lies.no_time source.1 in
+      (Contains-at graph.edges number edge lies.numbered) lies.no_time source.1 in
       let again = marks_rise lies.steps edge.target edge.source target.0 lies.back target.1 in
       let one : Some again.0 ≡ Some source.0 = sym again.1 ∙ source.1 in
       let equal : again.0 ≡ source.0 = cc in
@@ -109,7 +104,7 @@ module _ (graph : Tfpg) (marks : List (Option ℕ)) (valid : All (IsValidEdge gr
   edge_rises none number edge at no_time =
       let is = valid_at number edge at in
       let source : IsMarked marks edge.source = groups.all edge.source is.source in
-      let target = groups.rises edge source.0 (numbered_among graph.edges number edge at) no_time source.1 in
+      let target = groups.rises edge source.0 (Contains-at graph.edges number edge at) no_time source.1 in
       let differ : source.0 ≢ target.0 =
       λ same. none number (slice_get_within graph.edges number edge at) edge at
       (no_time, source.1 ∙ ap Some same ∙ sym target.1) in

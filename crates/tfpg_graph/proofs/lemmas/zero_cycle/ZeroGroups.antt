@@ -3,7 +3,7 @@ use Rattle.std.proofs.Common.{◌≡◌, ℕ, zero, suc, ◌+◌, ◌-◌, ◌<�
 use Rattle.std.proofs.lemmas.Bool.{cases_lt}
 use Rattle.std.proofs.lemmas.List.{get_or-replicate, length-replicate, get_or_past, get_or_default, get_or_read}
 use Rattle.std.proofs.lemmas.List.Elements.{Contains-append_left}
-use Rattle.tfpg_graph.specs.inside.zero_cycle.ZeroSearch.{IsStep, mark_of, IsMarked, AreReversed, WalksUnmarked, ReachesUnmarked, ClosesGroup, IsSearched, HasVisited, HasSwept, IsFinishingOrder, IsGroupedFrom, AreGroups}
+use Rattle.tfpg_graph.specs.inside.zero_cycle.ZeroSearch.{IsStep, mark_of, IsMarked, AreReversed, WalksUnmarked, ReachesUnmarked, ClosesGroup, IsVisited, HasVisited, HasSwept, IsFinishingOrder, IsGroupedFrom, AreGroups}
 use Rattle.tfpg_graph.proofs.lemmas.zero_cycle.StepRows.{IsStep-begin}
 use Rattle.tfpg_graph.proofs.lemmas.zero_cycle.ZeroWalks.{mark_cases, not_both, ReachesUnmarked-any, ReachesUnmarked-trans, ReachesUnmarked-reversed}
 
@@ -15,8 +15,8 @@ no_mark count node = ⊎_elim
     (omega (arith, length-replicate count (let none : Option ℕ = None in none))))
     (cases_lt node count)
 
-pub IsSearched-none : (rows : List (List ℕ)) (marks : List (Option ℕ)) → IsSearched rows marks []
-IsSearched-none rows marks = record {
+pub IsVisited-none : (rows : List (List ℕ)) (marks : List (Option ℕ)) → IsVisited rows marks []
+IsVisited-none rows marks = record {
   marked = λ node has. absurd (omega (arith, has.1));
   followed = λ from to has leads. absurd (omega (arith, has.1));
   settled = λ place within. absurd (omega (arith, within));
@@ -49,7 +49,7 @@ HasSwept-none rows count same = record {
   count = length-replicate count (let none : Option ℕ = None in none) ∙ same;
   marked = λ node lt. absurd (omega (arith, lt));
   finished = λ node has. absurd (not_both (mark_of (replicate count None) node) has.0 has.1 (no_mark count node));
-  searched = IsSearched-none rows (replicate count None);
+  searched = IsVisited-none rows (replicate count None);
 }
 
 -- one search more
@@ -95,7 +95,7 @@ IsGroupedFrom-none rows reversed order count same =
       back = λ node mark e. absurd (none node mark e);
       rises = λ from to mark e leads. absurd (none from mark e);
       finished = λ node has. absurd (none node has.0 has.1);
-      searched = IsSearched-none rows (replicate count None);
+      searched = IsVisited-none rows (replicate count None);
     }
 
 module _ (rows reversed : List (List ℕ)) (order : List ℕ) (place : ℕ) (m₀ : List (Option ℕ)) (o₀ : List ℕ)

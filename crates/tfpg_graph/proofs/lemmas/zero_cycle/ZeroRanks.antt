@@ -1,11 +1,11 @@
 -- Ranks of the nodes of a valid graph, by which each edge that may take no time goes upwards. The rank of a node is the
 -- number of nodes from which one can walk to it over some such edges.
-use Rattle.std.proofs.Common.{◌≡◌, ℕ, zero, suc, ◌+◌, ◌<◌, ◌≤◌, ◌&&◌, ◌||◌, Bool, true, false, cond, ◌⊎◌, ⊎_elim, inl, inr, List, [], ◌∷◌, length, nat_eq, Contains, refl, sym, ap, ◌∙◌, subst, arith}
+use Rattle.std.proofs.Common.{◌≡◌, ℕ, zero, suc, ◌+◌, ◌<◌, ◌≤◌, ◌&&◌, ◌||◌, Bool, true, false, cond, ◌⊎◌, ⊎_elim, inl, inr, length, nat_eq, Contains, refl, sym, ap, ◌∙◌, subst, arith}
 use Rattle.std.specs.List.{list_any}
-use Rattle.std.proofs.lemmas.Bool.{and_parts, or_cases, eqb-true, eq-eqb, false≢true, false_from_ne_true, cases_lt}
+use Rattle.std.proofs.lemmas.Bool.{and_parts, and_from, or_left, or_right, or_cases, eqb-true, eq-eqb, false≢true, false_from_ne_true, cases_lt}
 use Rattle.std.proofs.lemmas.List.Elements.{All-contains}
 use Rattle.std.proofs.lemmas.List.Folds.{list_any_at}
-use Rattle.tfpg_base.proofs.lists.Elements.{Contains-head, All-from_members}
+use Rattle.tfpg_base.proofs.lists.Elements.{All-from_members, list_any-found}
 use Rattle.tfpg_graph.specs.declared.edge.Edge.{Edge}
 use Rattle.tfpg_graph.specs.Graph.{Tfpg}
 use Rattle.tfpg_graph.specs.Valid.{IsValid, IsValidEdge, WalksInNoTime}
@@ -25,31 +25,6 @@ walks graph (suc below) from to = walks graph below from to || (walks graph belo
 abbrev passing : (ℕ → Bool) → ℕ → ℕ
 passing test zero = 0
 passing test (suc number) = cond (test number) 1 0 + passing test number
-
--- some item passes
-passes_some : (test : Edge → Bool) (edges : List Edge) → list_any test edges ≡ true
-    → (edge : Edge) × Contains edges edge × (test edge ≡ true)
-passes_some test [] is = absurd (false≢true is)
-passes_some test (edge ∷ edges) is = by (or_cases (test edge) (list_any test edges) is) (λ later. passes_some test edges later)
-  where
-    by : (test edge ≡ true) ⊎ (list_any test edges ≡ true)
-        → (list_any test edges ≡ true → (e : Edge) × Contains edges e × (test e ≡ true))
-        → (e : Edge) × Contains (edge ∷ edges) e × (test e ≡ true)
-    by (inl here) rest = (edge, Contains-head edge edges, here)
-    by (inr later) rest =
-        let found = rest later in
-        (found.0, (suc found.1.0, omega (arith, found.1.1), found.1.2), found.2)
-
--- the parts of a test of two, and what two that hold make
-both_hold : (x y : Bool) → x ≡ true → y ≡ true → (x && y) ≡ true
-both_hold x y one other = λ i. (one i && other i)
-
-first_holds : (x y : Bool) → x ≡ true → (x || y) ≡ true
-first_holds x y one = ap (λ b. b || y) one
-
-second_holds : (x y : Bool) → y ≡ true → (x || y) ≡ true
-second_holds true y other = refl
-second_holds false y other = other
 
 module _ (graph : Tfpg) where
   -- a walk of as many steps
@@ -72,7 +47,7 @@ module _ (graph : Tfpg) where
   -- what the test says is so
   walks-true : (below from to : ℕ) → walks graph below from to ≡ true → WalksSome from to
   walks-true zero from to is =
-      let found = passes_some (is_zero_edge from to) graph.edges is in
+      let found = list_any-found (is_zero_edge from to) graph.edges is in
       let source = and_parts (nat_eq found.0.source from) (nat_eq found.0.target to && nat_eq found.0.tmin 0) found.2 in
       let target = and_parts (nat_eq found.0.target to) (nat_eq found.0.tmin 0) source.1 in
       (0, (found.0, found.1, eqb-true found.0.source from source.0, eqb-true found.0.tmin 0 target.1, eqb-true found.0.target to target.0))
@@ -95,7 +70,7 @@ module _ (graph : Tfpg) where
 
   -- more nodes may stand between
   walks-suc : (below from to : ℕ) → walks graph below from to ≡ true → walks graph (suc below) from to ≡ true
-  walks-suc below from to is = first_holds _ _ is
+  walks-suc below from to is = or_left _ _ is
 
   -- along an edge that may take no time
   walks-edge : (below : ℕ) (edge : Edge) → Contains graph.edges edge → edge.tmin ≡ 0
@@ -103,8 +78,8 @@ module _ (graph : Tfpg) where
   walks-edge zero edge among no_time =
       let test = is_zero_edge edge.source edge.target in
       let here : test edge ≡ true =
-      both_hold _ _ (eq-eqb edge.source edge.source refl)
-      (both_hold _ _ (eq-eqb edge.target edge.target refl) (eq-eqb edge.tmin 0 no_time)) in
+      and_from _ _ (eq-eqb edge.source edge.source refl)
+      (and_from _ _ (eq-eqb edge.target edge.target refl) (eq-eqb edge.tmin 0 no_time)) in
       list_any_at test graph.edges among.0 edge among.1 (ap test among.2 ∙ here)
   walks-edge (suc below) edge among no_time = walks-suc below edge.source edge.target (walks-edge below edge among no_time)
 
@@ -128,7 +103,7 @@ module _ (graph : Tfpg) where
     where
       through : walks graph below from below ≡ true → walks graph below below to ≡ true
           → walks graph (suc below) from to ≡ true
-      through up down = second_holds _ _ (both_hold _ _ up down)
+      through up down = or_right _ _ (and_from _ _ up down)
 
       last : (node : ℕ) → node ≡ below → walks graph (suc below) from node ≡ true → walks graph (suc below) node to ≡ true
           → walks graph (suc below) from to ≡ true

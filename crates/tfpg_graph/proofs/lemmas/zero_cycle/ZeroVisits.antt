@@ -3,7 +3,7 @@ use Rattle.std.proofs.Common.{◌≡◌, ◌≢◌, ℕ, zero, ◌+◌, ◌-◌,
 use Rattle.std.proofs.lemmas.Bool.{cases_lt, cases_eq}
 use Rattle.std.proofs.lemmas.List.{append-nil, length-set, length_push, get_or_append_left, get_or-append_right, get_or_push}
 use Rattle.std.proofs.lemmas.List.Elements.{Contains-get_or, Contains-append_left, Contains-append_right, Contains-append_cases, Contains-push, Contains-push_cases}
-use Rattle.tfpg_graph.specs.inside.zero_cycle.ZeroSearch.{IsStep, mark_of, IsMarked, unmarked_count, ReachesUnmarked, ClosesGroup, IsSearched, HasGrown, HasVisited}
+use Rattle.tfpg_graph.specs.inside.zero_cycle.ZeroSearch.{IsStep, mark_of, IsMarked, unmarked_count, ReachesUnmarked, ClosesGroup, IsVisited, HasGrown, HasVisited}
 use Rattle.tfpg_graph.proofs.lemmas.zero_cycle.ZeroWalks.{mark_cases, not_both, unmarked_before, ReachesUnmarked-weaker, ReachesUnmarked-any, ReachesUnmarked-step}
 
 -- what is settled stays so when the order goes on
@@ -31,10 +31,10 @@ ClosesGroup-append rows order more place within is = record {
 }
 
 -- marks that are kept keep what is searched
-pub IsSearched-kept : (rows : List (List ℕ)) (old new : List (Option ℕ)) (order : List ℕ)
+pub IsVisited-kept : (rows : List (List ℕ)) (old new : List (Option ℕ)) (order : List ℕ)
     → ((other given : ℕ) → mark_of old other ≡ Some given → mark_of new other ≡ Some given)
-    → IsSearched rows old order → IsSearched rows new order
-IsSearched-kept rows old new order kept is = record {
+    → IsVisited rows old order → IsVisited rows new order
+IsVisited-kept rows old new order kept is = record {
   marked = λ node has. let was = is.marked node has in (was.0, kept node was.0 was.1);
   followed = λ from to has leads. let was = is.followed from to has leads in (was.0, kept to was.0 was.1);
   settled = is.settled;
@@ -42,7 +42,7 @@ IsSearched-kept rows old new order kept is = record {
 
 -- a search from a node that has a mark does nothing
 pub HasVisited-already : (rows : List (List ℕ)) (node mark : ℕ) (marks : List (Option ℕ)) (order : List ℕ)
-    → IsSearched rows marks order → IsMarked marks node
+    → IsVisited rows marks order → IsMarked marks node
     → HasVisited rows node mark marks order marks order
 HasVisited-already rows node mark marks order is marked = record {
   grown = record {
@@ -77,7 +77,7 @@ module _ (rows : List (List ℕ)) (node mark : ℕ) (marks : List (Option ℕ)) 
       (cases_eq other node)
 
   -- the node has got its mark
-  pub HasGrown-begin : IsSearched rows marks order
+  pub HasGrown-begin : IsVisited rows marks order
       → HasGrown rows node mark marks order (set marks node (Some mark)) order
   HasGrown-begin is = record {
     count = length-set marks node (Some mark);
@@ -93,7 +93,7 @@ module _ (rows : List (List ℕ)) (node mark : ℕ) (marks : List (Option ℕ)) 
     more = [];
     order_is = sym (append-nil order);
     more_new = λ other has. absurd (omega (arith, has.1));
-    searched = IsSearched-kept rows marks (set marks node (Some mark)) order begin_kept is;
+    searched = IsVisited-kept rows marks (set marks node (Some mark)) order begin_kept is;
   }
 
   pub begin_marked : IsMarked (set marks node (Some mark)) node
@@ -148,7 +148,7 @@ module _ (rows : List (List ℕ)) (node mark next : ℕ) (m₀ : List (Option �
 
 module _ (rows : List (List ℕ)) (node mark : ℕ) (m₀ : List (Option ℕ)) (o₀ : List ℕ) (m₁ : List (Option ℕ))
     (o₁ : List ℕ)
-    (was : IsSearched rows m₀ o₀) (grown : HasGrown rows node mark m₀ o₀ m₁ o₁) (none : mark_of m₀ node ≡ None)
+    (was : IsVisited rows m₀ o₀) (grown : HasGrown rows node mark m₀ o₀ m₁ o₁) (none : mark_of m₀ node ≡ None)
     (marked : IsMarked m₁ node)
     (followed : (to : ℕ) → IsStep rows node to → IsMarked m₁ to) where
   abbrev whole : List ℕ
@@ -213,7 +213,7 @@ module _ (rows : List (List ℕ)) (node mark : ℕ) (m₀ : List (Option ℕ)) (
         not_both (mark_of m₀ (get_or whole other 0)) given.0 given.1 (unmarked_at other from (omega arith));
   }
 
-  searched_whole : IsSearched rows m₁ whole
+  searched_whole : IsVisited rows m₁ whole
   searched_whole = record {
     marked = λ other has. ⊎_elim (grown.searched.marked other) (λ same. subst (λ (x : ℕ). IsMarked m₁ x) same marked)
         (Contains-push_cases o₁ node other has);

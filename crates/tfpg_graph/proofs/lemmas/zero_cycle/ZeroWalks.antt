@@ -1,8 +1,8 @@
 -- Walks along steps to nodes without marks.
 use Rattle.std.proofs.Common.{◌≡◌, ℕ, zero, suc, ◌<◌, ◌≤◌, ◌⊎◌, inl, inr, ⊎_elim, true, false, cond, List, [], length, get_or, set, Option, Some, None, is_some, is_none, Contains, refl, sym, ap, ◌∙◌, subst, arith}
-use Rattle.std.proofs.lemmas.Bool.{false≢true}
 use Rattle.std.proofs.lemmas.List.{get_or_read, get_or_default}
 use Rattle.std.proofs.lemmas.List.Sums.{sum_by-set}
+use Rattle.tfpg_base.proofs.lists.Choices.{is_some-there, is_some-none}
 use Rattle.tfpg_graph.specs.inside.zero_cycle.ZeroSearch.{IsStep, mark_of, IsMarked, unmarked_count, WalksUnmarked, ReachesUnmarked}
 
 pub mark_cases : (o : Option ℕ) → (o ≡ None) ⊎ ((mark : ℕ) × (o ≡ Some mark))
@@ -77,26 +77,18 @@ fewer-set marks node mark within none =
     let f : Option ℕ → ℕ = λ o. cond (is_none o) 1 0 in
     omega (arith, sum_by-set f marks node (Some mark) None within, ap f none)
 
-some_is : (read : Option ℕ) → is_some read ≡ true → (mark : ℕ) × (read ≡ Some mark)
-some_is None test = absurd (false≢true test)
-some_is (Some mark) test = (mark, refl)
-
-none_is : (read : Option ℕ) → is_some read ≡ false → read ≡ None
-none_is None test = refl
-none_is (Some mark) test = absurd (false≢true (sym test))
-
 -- what the code reads of a mark
 pub marked_read : (marks : List (Option ℕ)) (node : ℕ) (read : Option ℕ) → node < length marks
     → read ≡ get_or marks node read
     → is_some read ≡ true → IsMarked marks node
 marked_read marks node read within at test =
-    let some = some_is read test in
+    let some = is_some-there read test in
     (some.0, sym (get_or_read marks node read within at None) ∙ some.1)
 
 pub unmarked_read : (marks : List (Option ℕ)) (node : ℕ) (read : Option ℕ) → node < length marks
     → read ≡ get_or marks node read
     → is_some read ≡ false → mark_of marks node ≡ None
-unmarked_read marks node read within at test = sym (get_or_read marks node read within at None) ∙ none_is read test
+unmarked_read marks node read within at test = sym (get_or_read marks node read within at None) ∙ is_some-none read test
 
 -- what is marked up to the end of a list is all of it
 pub marked_all : (marks : List (Option ℕ)) (items : List ℕ) (end : ℕ) → length items ≤ end

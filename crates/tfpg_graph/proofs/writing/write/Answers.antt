@@ -4,23 +4,23 @@ use Rattle.tfpg_graph.proofs.lemmas.writing.Spelled.{Spells-canonical}
 use Rattle.tfpg_graph.proofs.lemmas.writing.TextPieces.{Appends-after_four, canonical_text-pieces}
 use Rattle.tfpg_graph.proofs.writing.write.Goals as goal
 
-pub returns-in_err-put_line-clause-spelled : goal.returns-in_err-put_line-clause-spelled
-returns-in_err-put_line-clause-spelled c = Spells-canonical c.args.graph.now c.node_count-nodes.ensures.valid
+pub returns-in_err-append_line-clause-spelled : goal.returns-in_err-append_line-clause-spelled
+returns-in_err-append_line-clause-spelled c = Spells-canonical c.args.graph.now c.node_count-nodes.ensures.valid
 
-pub returns-in_err-put_modes-clause-spelled : goal.returns-in_err-put_modes-clause-spelled
-returns-in_err-put_modes-clause-spelled c = Spells-canonical c.args.graph.now c.node_count-nodes.ensures.valid
+pub returns-in_err-append_modes-clause-spelled : goal.returns-in_err-append_modes-clause-spelled
+returns-in_err-append_modes-clause-spelled c = Spells-canonical c.args.graph.now c.node_count-nodes.ensures.valid
 
-pub returns-in_err-put_nodes-clause-spelled : goal.returns-in_err-put_nodes-clause-spelled
-returns-in_err-put_nodes-clause-spelled c = Spells-canonical c.args.graph.now c.node_count-nodes.ensures.valid
+pub returns-in_err-append_nodes-clause-spelled : goal.returns-in_err-append_nodes-clause-spelled
+returns-in_err-append_nodes-clause-spelled c = Spells-canonical c.args.graph.now c.node_count-nodes.ensures.valid
 
-pub returns-in_err-put_edges-clause-spelled : goal.returns-in_err-put_edges-clause-spelled
-returns-in_err-put_edges-clause-spelled c = Spells-canonical c.args.graph.now c.node_count-nodes.ensures.valid
+pub returns-in_err-append_edges-clause-spelled : goal.returns-in_err-append_edges-clause-spelled
+returns-in_err-append_edges-clause-spelled c = Spells-canonical c.args.graph.now c.node_count-nodes.ensures.valid
 
 pub returns-clause-text : goal.returns-clause-text
 returns-clause-text c =
-    subst (Appends c.put_line-2.result c.args.into.now.items c.put_line-2.new.into.items) (sym (canonical_text-pieces c.args.graph.now))
+    subst (Appends c.append_line-2.result c.args.into.now.items c.append_line-2.new.into.items) (sym (canonical_text-pieces c.args.graph.now))
     (Appends-after_four _ c.args.into.now.items _ _ _ _ _ _ _ _ _ _
-    c.in_ok-put_line.ensures c.in_ok-put_modes.ensures c.in_ok-put_nodes.ensures c.in_ok-put_edges.ensures c.put_line-2.ensures)
+    c.in_ok-append_line.ensures c.in_ok-append_modes.ensures c.in_ok-append_nodes.ensures c.in_ok-append_edges.ensures c.append_line-2.ensures)
 
 pub returns-clause-spelled : goal.returns-clause-spelled
 returns-clause-spelled c = Spells-canonical c.args.graph.now c.node_count-nodes.ensures.valid

@@ -33,7 +33,7 @@ IsFullBefore graph nodes end = (node : ℕ) → node < end → IsFed graph nodes
 -- These nodes are reached by the set, and the set's own failure modes are among them.
 pub record AreReached (graph : Tfpg) (set nodes : List ℕ) : Type 0 where
   pub is_set : IsNodeSet nodes
-  pub own : (place node : ℕ) → Contains set place → failure_at graph place ≡ Some node → Contains nodes node
+  pub own : (position node : ℕ) → Contains set position → failure_at graph position ≡ Some node → Contains nodes node
   pub reached : All (Reaches graph set) nodes
 
 -- Nodes were added to a set of nodes, each of which is reached by all that reaches the old ones.

@@ -1,4 +1,4 @@
--- What the reader answers to a line, beside the turn that the line makes. Out of memory may come in place of each.
+-- What the reader returns for a line, beside what the line makes of its state. Out of memory may come in place of each.
 use Rattle.std.specs.Prelude.{◌≡◌, ℕ, List, Result, Ok, Err}
 use Rattle.tfpg_graph.specs.declared.cause.GraphCause.{GraphCause}
 use Rattle.tfpg_graph.specs.declared.cause.GraphRefusal.{GraphRefusal}
@@ -6,10 +6,10 @@ use Rattle.tfpg_graph.specs.declared.cause.GraphRefusal.TheVariants as text
 use Rattle.tfpg_graph.specs.declared.reading.reader.LineRefusal.{LineRefusal}
 use Rattle.tfpg_graph.specs.declared.reading.reader.LineRefusal.TheVariants as line
 use Rattle.tfpg_graph.specs.Faults.{IsClean, IsWholeFault}
-use Rattle.tfpg_graph.specs.inside.reading.ReaderState.{ReaderState}
+use Rattle.tfpg_graph.specs.declared.reading.reader.Reader.{Reader}
 
--- The reader's answer to a line is that of the line's turn, unless memory ran out.
-abbrev pub IsTurnAnswer : Result ReaderState GraphCause → Result ReaderState LineRefusal → Type 0
+-- The reader's result for a line is what the line makes of its state, unless memory ran out.
+abbrev pub IsTurnAnswer : Result Reader GraphCause → Result Reader LineRefusal → Type 0
 IsTurnAnswer turned (Ok progress) = turned ≡ Ok progress
 IsTurnAnswer turned (Err (line.Cause cause)) = turned ≡ Err cause
 IsTurnAnswer turned (Err line.NoMemory) = Unit {0}

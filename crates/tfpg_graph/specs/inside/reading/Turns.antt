@@ -11,12 +11,12 @@ use Rattle.tfpg_graph.specs.inside.Indexes.{nothing_declared, with_node, with_ed
 use Rattle.tfpg_graph.specs.Statements.{Statement, DeclaresMode, DeclaresNode, DeclaresEdge, Ends, statement_of, statements_of, is_skipped, ends_text}
 use Rattle.tfpg_graph.specs.Declares.{kind_of_words, edge_declared, declared_by}
 use Rattle.tfpg_base.specs.Choice.{first_of}
-use Rattle.tfpg_graph.specs.inside.reading.ReaderState.{ReaderState}
+use Rattle.tfpg_graph.specs.declared.reading.reader.Reader.{Reader}
 use Rattle.tfpg_graph.specs.Causes.{causes, cause_at}
 
 -- before the first line
-abbrev pub nothing_read : ReaderState
-nothing_read = record { part = Header; graph = nothing_declared }
+abbrev pub nothing_read : Reader
+nothing_read = record { part = Header; declared = nothing_declared }
 
 -- A statement is out of its order, as what is declared shows.
 abbrev pub is_misplaced : Tfpg → Statement → Bool
@@ -26,12 +26,12 @@ is_misplaced graph (DeclaresEdge source target tmin tmax modes) = length graph.m
 is_misplaced graph Ends = length graph.modes == 0
 
 -- the progress with what a statement declares
-abbrev pub progress_with : Tfpg → Statement → Option ReaderState
-progress_with graph (DeclaresMode name) = Some (record { part = Declarations; graph = with_mode graph name })
-progress_with graph (DeclaresNode name words) = option_map (λ kind. record { part = Declarations; graph = with_node graph name kind }) (kind_of_words words)
+abbrev pub progress_with : Tfpg → Statement → Option Reader
+progress_with graph (DeclaresMode name) = Some (record { part = Declarations; declared = with_mode graph name })
+progress_with graph (DeclaresNode name words) = option_map (λ kind. record { part = Declarations; declared = with_node graph name kind }) (kind_of_words words)
 progress_with graph (DeclaresEdge source target tmin tmax modes) =
-    option_map (λ edge. record { part = Declarations; graph = with_edge graph edge }) (edge_declared graph (DeclaresEdge source target tmin tmax modes))
-progress_with graph Ends = Some (record { part = Ended; graph = graph })
+    option_map (λ edge. record { part = Declarations; declared = with_edge graph edge }) (edge_declared graph (DeclaresEdge source target tmin tmax modes))
+progress_with graph Ends = Some (record { part = Ended; declared = graph })
 
 -- The cause, or else the value. What has no cause has a value.
 abbrev pub cause_or_value : {X : Type 0} → Option GraphCause → Option X → Result X GraphCause
@@ -45,19 +45,19 @@ ReadAs first value (Ok x) = (first ≡ None) × (value ≡ Some x)
 ReadAs first value (Err cause) = first ≡ Some cause
 
 -- a statement is taken where it has no cause
-abbrev pub turn_said : Tfpg → Option Statement → Result ReaderState GraphCause
+abbrev pub turn_said : Tfpg → Option Statement → Result Reader GraphCause
 turn_said graph None = Err BadLine
 turn_said graph (Some said) = cause_or_value (first_of (causes (is_misplaced graph said) graph said)) (progress_with graph said)
 
 -- a line of each part
-abbrev pub turn_of : Part → Tfpg → List ℕ → Result ReaderState GraphCause
-turn_of Header graph line = if bytes_eq line header then Ok (record { part = Declarations; graph = graph }) else Err BadHeader
-turn_of Declarations graph line = if is_skipped line then Ok (record { part = Declarations; graph = graph }) else turn_said graph (statement_of line)
-turn_of Ended graph line = if is_skipped line then Ok (record { part = Ended; graph = graph }) else Err AfterEnd
+abbrev pub turn_of : Part → Tfpg → List ℕ → Result Reader GraphCause
+turn_of Header graph line = if bytes_eq line header then Ok (record { part = Declarations; declared = graph }) else Err BadHeader
+turn_of Declarations graph line = if is_skipped line then Ok (record { part = Declarations; declared = graph }) else turn_said graph (statement_of line)
+turn_of Ended graph line = if is_skipped line then Ok (record { part = Ended; declared = graph }) else Err AfterEnd
 
 -- One line.
-abbrev pub turn : ReaderState → List ℕ → Result ReaderState GraphCause
-turn progress line = turn_of progress.part progress.graph line
+abbrev pub turn : Reader → List ℕ → Result Reader GraphCause
+turn progress line = turn_of progress.part progress.declared line
 
 -- which lines may come after these
 abbrev pub part_after : List (List ℕ) → Part
@@ -72,8 +72,8 @@ HasValue graph (DeclaresEdge source target tmin tmax modes) = IsTrue (is_some (e
 HasValue graph Ends = Unit {0}
 
 -- The lines were read, none of them has a cause, and they declare what is declared.
-pub record ReaderRepresents (progress : ReaderState) (lines : List (List ℕ)) : Type 0 where
+pub record ReaderRepresents (progress : Reader) (lines : List (List ℕ)) : Type 0 where
   pub clean : (index : ℕ) → index < length lines → cause_at lines index ≡ None
-  pub graph : progress.graph ≡ declared_by lines
+  pub graph : progress.declared ≡ declared_by lines
   pub part : progress.part ≡ part_after lines
   pub values : All (HasValue (declared_by lines)) (statements_of lines)

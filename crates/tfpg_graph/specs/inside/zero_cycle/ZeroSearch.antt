@@ -11,8 +11,8 @@ abbrev pub IsStep : List (List ℕ) → ℕ → ℕ → Type 0
 IsStep rows from to = Contains (row rows from) to
 
 -- the steps with one more
-abbrev pub with_step : List (List ℕ) → ℕ → ℕ → List (List ℕ)
-with_step rows from to = set rows from (row rows from ++ to ∷ [])
+abbrev pub with_zero_step : List (List ℕ) → ℕ → ℕ → List (List ℕ)
+with_zero_step rows from to = set rows from (row rows from ++ to ∷ [])
 
 -- each step leads to a node
 abbrev pub AreWithin : List (List ℕ) → Type 0
@@ -57,7 +57,7 @@ pub record ClosesGroup (rows : List (List ℕ)) (order : List ℕ) (place : ℕ)
       → IsStep rows (slice_index order before) (slice_index order other) → ⊥
 
 -- The search is done with the nodes of the order, whose every step leads to a node with a mark.
-pub record IsSearched (rows : List (List ℕ)) (marks : List (Option ℕ)) (order : List ℕ) : Type 0 where
+pub record IsVisited (rows : List (List ℕ)) (marks : List (Option ℕ)) (order : List ℕ) : Type 0 where
   pub marked : (node : ℕ) → Contains order node → IsMarked marks node
   pub followed : (from to : ℕ) → Contains order from → IsStep rows from to → IsMarked marks to
   pub settled : (place : ℕ) → place < length order → ClosesGroup rows order place
@@ -80,7 +80,7 @@ pub record HasGrown (rows : List (List ℕ)) (node mark : ℕ) (old_marks : List
   pub more : List ℕ
   pub order_is : order ≡ old_order ++ more
   pub more_new : (other : ℕ) → Contains more other → mark_of old_marks other ≡ None
-  pub searched : IsSearched rows marks order
+  pub searched : IsVisited rows marks order
 
 -- What a whole search from a node has done.
 pub record HasVisited (rows : List (List ℕ)) (node mark : ℕ) (old_marks : List (Option ℕ)) (old_order : List ℕ)
@@ -95,7 +95,7 @@ pub record HasSwept (rows : List (List ℕ)) (marks : List (Option ℕ)) (order 
   pub count : length marks ≡ length rows
   pub marked : (node : ℕ) → node < end → IsMarked marks node
   pub finished : (node : ℕ) → IsMarked marks node → Contains order node
-  pub searched : IsSearched rows marks order
+  pub searched : IsVisited rows marks order
 
 -- The order in which searches from all nodes were done with them.
 pub record IsFinishingOrder (rows : List (List ℕ)) (order : List ℕ) : Type 0 where
@@ -114,7 +114,7 @@ pub record IsGroupedFrom (rows reversed : List (List ℕ)) (order : List ℕ) (m
   pub rises : (from to mark : ℕ) → mark_of marks from ≡ Some mark → IsStep rows from to
       → (above : ℕ) × (mark_of marks to ≡ Some above) × (mark ≤ above)
   pub finished : (node : ℕ) → IsMarked marks node → Contains done node
-  pub searched : IsSearched rows marks done
+  pub searched : IsVisited rows marks done
 
 -- Each node has a mark, by which no step goes down; nodes with one mark reach each other.
 pub record AreGroups (rows : List (List ℕ)) (marks : List (Option ℕ)) : Type 0 where

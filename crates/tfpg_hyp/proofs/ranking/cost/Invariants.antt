@@ -3,5 +3,5 @@ use Rattle.tfpg_hyp.specs.Ranking.{cost_of}
 use Rattle.tfpg_base.proofs.lists.Below.{below}
 use Rattle.tfpg_hyp.proofs.ranking.cost.Given as goal
 
-abbrev pub invariant-loop-place : goal.invariant-loop-place
-invariant-loop-place l = (l.cost ≡ cost_of l.graph (below l.place l.set)) × (l.cost ≤ l.place * 1000000)
+abbrev pub invariant-loop-position : goal.invariant-loop-position
+invariant-loop-position l = (l.cost ≡ cost_of l.graph (below l.position l.set)) × (l.cost ≤ l.position * 1000000)

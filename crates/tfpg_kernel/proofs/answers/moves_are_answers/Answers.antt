@@ -1,9 +1,9 @@
-use Rattle.tfpg_kernel.proofs.Answering.{TreeLaws, refused, moved}
+use Rattle.tfpg_kernel.proofs.Answering.{AnswerLaws, refused, moved}
 use Rattle.tfpg_kernel.proofs.answers.moves_are_answers.Goals as goal
 
 pub returns : goal.returns
 returns c =
-    let laws : TreeLaws = record {
+    let laws : AnswerLaws = record {
       only_one = c.a_partial_tree_has_one_present_leaf.ensures.only_one;
       finished = c.a_refutation_is_finished.ensures;
       last_of_refutation = c.the_last_step_of_a_tree_is_right.ensures.refutation;

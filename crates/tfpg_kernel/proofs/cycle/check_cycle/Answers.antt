@@ -1,4 +1,4 @@
-use Rattle.std.proofs.Common.{◌≡◌, ℕ, suc, ◌+◌, ◌<◌, ◌≤◌, length, take, get_or, List, [], Some, ap, sym, ◌∙◌, refl, arith, ◌++◌, ◌∷◌, None, drop, inl, inr}
+use Rattle.std.proofs.Common.{◌≡◌, ℕ, suc, ◌+◌, ◌<◌, ◌≤◌, length, take, get_or, List, [], Some, ap, sym, ◌∙◌, refl, arith, ◌++◌, ◌∷◌, None, drop, inl, inr, subst}
 use Rattle.std.specs.Prelude.{map, Ok, Err, Option}
 use Rattle.std.specs.Option.{ok_or}
 use Rattle.std.proofs.lemmas.Int.{ints}
@@ -12,7 +12,7 @@ use Rattle.std.proofs.lemmas.Result.{err_from_is_err_and}
 use Rattle.tfpg_kernel.specs.declared.chain.Chain.{Chain}
 use Rattle.tfpg_kernel.specs.declared.taken.BadStep.{BadStep}
 use Rattle.tfpg_kernel.specs.Breaks.{fault_of, reasons_fault, CycleBreaks}
-use Rattle.tfpg_kernel.specs.inside.Chains.{chain_of, with_constraint, closing_fault}
+use Rattle.tfpg_kernel.specs.inside.Chains.{chain_of, with_constraint, closing_fault, bad_of}
 use Rattle.tfpg_clause.specs.Paths.{stated_by}
 use Rattle.tfpg_kernel.proofs.Chained.{chain_push, closes, breaks, first_fault, each_more}
 use Rattle.tfpg_kernel.proofs.cycle.check_cycle.Goals as goal
@@ -87,9 +87,8 @@ pub returns-in-Some : goal.returns-in-Some
 returns-in-Some c =
     let constraints = c.loop-reason.invariant.constraints in
     let chain = c.loop-reason.invariant.chain in
-    let some : closing_fault (chain_of constraints) ≡ Some c.in-Some.bad = ap closing_fault (sym chain) ∙ sym c.in-Some.ensures in
-    inr (
-      constraints,
-      all_hold (stated_by c.args.graph.now c.args.log.now c.args.reach.now c.args.path.now) c.args.reasons.now c.loop-reason.reason-index constraints (omega arith) c.loop-reason.invariant.hold,
-      breaks constraints c.in-Some.bad some,
-    )
+    let states : Reason → Option Constraint = stated_by c.args.graph.now c.args.log.now c.args.reach.now c.args.path.now in
+    let some : closing_fault (chain_of constraints) ≡ Some c.in-Some.fault = ap closing_fault (sym chain) ∙ sym c.in-Some.ensures in
+    let broken : CycleBreaks states c.args.reasons.now (bad_of c.in-Some.fault) =
+    inr (constraints, all_hold states c.args.reasons.now c.loop-reason.reason-index constraints (omega arith) c.loop-reason.invariant.hold, breaks constraints c.in-Some.fault some) in
+    subst (CycleBreaks states c.args.reasons.now) (sym c.from.ensures) broken

@@ -1,6 +1,7 @@
 use Rattle.std.proofs.Common.{sym, ap, ◌∙◌}
 use Rattle.tfpg_log.specs.LogStatements.{log_statement_in}
-use Rattle.tfpg_log.proofs.LogLines.{has_empty, log_statement_of-empty, log_statement_of-words}
+use Rattle.tfpg_base.proofs.WordLengths.{has_empty}
+use Rattle.tfpg_log.proofs.LogLines.{log_statement_of-empty, log_statement_of-words}
 use Rattle.tfpg_log.proofs.log_line.read_line.Goals as goal
 
 pub returns-then-has_empty_word : goal.returns-then-has_empty_word

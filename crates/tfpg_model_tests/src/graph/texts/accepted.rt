@@ -1,13 +1,13 @@
 //! Texts that are read.
 
-use super::Text;
+use super::TextRow;
 
 /// Texts without a fault.
-pub(crate) const ACCEPTED: [Text; 10] = [
+pub(crate) const ACCEPTED: [TextRow; 10] = [
     ("no line end at the end", b"tfpg 1\nmode N\nend", None),
     (
         "comments and empty lines, also after end",
-        b"tfpg 1\n#mode\n\nmode N\n#\nend\n\n#\n# behind\n",
+        b"tfpg 1\n#mode\n\nmode N\n#\nend\n\n#\n# after it\n",
         None,
     ),
     (

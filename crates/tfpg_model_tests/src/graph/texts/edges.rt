@@ -1,10 +1,10 @@
 //! Texts with edges that no graph may have.
 
-use super::Text;
+use super::TextRow;
 use tfpg_graph::GraphCause;
 
 /// Edges into failure modes, edges of a node to itself, second edges, and edges without modes.
-pub(crate) const EDGES: [Text; 10] = [
+pub(crate) const EDGES: [TextRow; 10] = [
     (
         "an edge into a failure mode",
         b"tfpg 1\nmode N\nfailure F 1\nfailure G 1\nedge F G 1 1 *\nend\n",

@@ -1,10 +1,10 @@
 //! Texts with lines that are not of the form.
 
-use super::Text;
+use super::TextRow;
 use tfpg_graph::GraphCause;
 
 /// Headers and lines that are not of the form.
-pub(crate) const LINES: [Text; 21] = [
+pub(crate) const LINES: [TextRow; 21] = [
     ("no byte", b"", Some((1, GraphCause::BadHeader))),
     (
         "an empty line first",

@@ -1,10 +1,10 @@
 //! Texts with names that are bad, or that stand twice or nowhere.
 
-use super::Text;
+use super::TextRow;
 use tfpg_graph::GraphCause;
 
 /// Names that are bad, that are declared twice, and that are declared nowhere.
-pub(crate) const NAMES: [Text; 18] = [
+pub(crate) const NAMES: [TextRow; 18] = [
     (
         "a mode that begins with a digit",
         b"tfpg 1\nmode 1\nend\n",

@@ -1,10 +1,10 @@
 //! Texts with numbers that are bad or too large.
 
-use super::Text;
+use super::TextRow;
 use tfpg_graph::GraphCause;
 
 /// Numbers that are bad or too large, and least delays above the greatest.
-pub(crate) const NUMBERS: [Text; 14] = [
+pub(crate) const NUMBERS: [TextRow; 14] = [
     (
         "a rarity with two zeros",
         b"tfpg 1\nmode N\nfailure F 00\nend\n",

@@ -1,10 +1,10 @@
 //! Texts with faults of the whole: its end, nodes that nothing enters, and cycles.
 
-use super::Text;
+use super::TextRow;
 use tfpg_graph::GraphCause;
 
 /// Lines after `end`, nodes that nothing enters, cycles that take no time, and texts without `end`.
-pub(crate) const WHOLE: [Text; 15] = [
+pub(crate) const WHOLE: [TextRow; 15] = [
     (
         "a second end",
         b"tfpg 1\nmode N\nend\nend\n",

@@ -10,7 +10,7 @@ use Rattle.tfpg_sim.proofs.candidates.candidates_after.Given as goal
 abbrev pub invariant-loop-node : goal.invariant-loop-node
 invariant-loop-node l = record {
   count : length l.next.items ≡ l.node;
-  each : (log : Logbook) (limit : ℕ) (before : List Activation) (time : ℕ) → AreSpans log (limit + 1) 0 l.spans
-      → l.trace ≡ with_time l.settled time before → time_of before l.settled ≡ None → AreCandidates l.graph log l.delays limit before l.candidates
-      → (k : ℕ) → k < l.node → IsCandidate l.graph log l.delays limit l.trace k (candidate_at l.next.items k);
+  each : (log : Logbook) (limit : ℕ) (before : List Activation) (time : ℕ) → AreSpans log (limit + 1) 0 l.delayed.spans.now
+      → l.trace ≡ with_time l.settled time before → time_of before l.settled ≡ None → AreCandidates l.delayed.graph.now log l.delayed.delays.now limit before l.candidates
+      → (k : ℕ) → k < l.node → IsCandidate l.delayed.graph.now log l.delayed.delays.now limit l.trace k (candidate_at l.next.items k);
 }

@@ -8,6 +8,6 @@ use Rattle.tfpg_sim.proofs.candidates.first_candidates.Given as goal
 abbrev pub invariant-loop-node : goal.invariant-loop-node
 invariant-loop-node l = record {
   count : length l.candidates.items ≡ l.node;
-  each : (log : Logbook) (limit : ℕ) → AreSpans log (limit + 1) 0 l.spans
-      → (k : ℕ) → k < l.node → IsCandidate l.graph log l.delays limit l.trace k (candidate_at l.candidates.items k);
+  each : (log : Logbook) (limit : ℕ) → AreSpans log (limit + 1) 0 l.delayed.spans.now
+      → (k : ℕ) → k < l.node → IsCandidate l.delayed.graph.now log l.delayed.delays.now limit l.trace k (candidate_at l.candidates.items k);
 }

@@ -1,25 +1,10 @@
-use Rattle.std.proofs.Common.{◌≡◌, ℕ, zero, suc, ◌+◌, ◌≤◌, ◌∙◌, ◌∷◌, [], List, length, drop, get_or, Option, Some, None, true, false, refl, sym, ap, subst, arith, add-one}
+use Rattle.std.proofs.Common.{◌+◌, ◌∙◌, ◌∷◌, drop, get_or, sym, ap, subst, add-one}
 use Rattle.std.proofs.Math.Seq.{drop-cons}
-use Rattle.std.specs.Option.{is_some}
 use Rattle.tfpg_log.specs.declared.span.Span.{Span}
 use Rattle.tfpg_sim.proofs.Landing.{IsBefore, goes_on, ends_at, at_first, at_last}
 use Rattle.tfpg_sim.proofs.flight.landing_in.Goals as goal
-
--- nothing is left past the end
-drop_past : {X : Type 0} (xs : List X) (n : ℕ) → length xs ≤ n → drop n xs ≡ []
-drop_past [] zero past = refl
-drop_past [] (suc n) past = refl
-drop_past (x ∷ xs) zero past = absurd (omega arith)
-drop_past (x ∷ xs) (suc n) past = drop_past xs n (omega arith)
-
--- what an option has, by its test
-none_there : (first : Option ℕ) → is_some first ≡ false → first ≡ None
-none_there None is = refl
-none_there (Some x) is = cc
-
-some_there : (first : Option ℕ) → is_some first ≡ true → (x : ℕ) × (first ≡ Some x)
-some_there None is = absurd (cc)
-some_there (Some x) is = (x, refl)
+use Rattle.tfpg_base.proofs.lists.Choices.{is_some-none, is_some-there}
+use Rattle.std.proofs.lemmas.List.{drop_all}
 
 -- no span
 abbrev no_span : Span
@@ -44,7 +29,7 @@ loop-span-preserved c = record {
         span.hi + 1,
         goes_on log limit c.args.flights.now c.args.needs_all before.0 span rest c.loop-span.pendings c.enter.new.pendings
             c.reached.result c.first_in-first.result now (c.enter.auto.pendings ∙ c.loop-span.invariant.room) c.enter.ensures c.reached.ensures c.first_in-first.ensures
-            (none_there c.first_in-first.result (sym c.is_some.ensures ∙ c.if-is_some.false)),
+            (is_some-none c.first_in-first.result (sym c.is_some.ensures ∙ c.if-is_some.false)),
       );
 }
 
@@ -56,7 +41,7 @@ returns-then-is_some c log limit are =
     let rest = drop (c.loop-span.span-index + 1) spans in
     let now = subst (λ left. IsBefore log limit c.args.flights.now c.args.needs_all before.0 left c.loop-span.pendings)
     (drop-cons spans c.loop-span.span-index no_span c.loop-span-test.true ∙ ap (λ n. span ∷ drop n spans) (sym (add-one c.loop-span.span-index))) before.1 in
-    let some = some_there c.first_in-first.result (sym c.is_some.ensures ∙ c.if-is_some.true) in
+    let some = is_some-there c.first_in-first.result (sym c.is_some.ensures ∙ c.if-is_some.true) in
     ends_at log limit c.args.flights.now c.args.needs_all before.0 span rest c.loop-span.pendings c.enter.new.pendings
     c.reached.result c.first_in-first.result now (c.enter.auto.pendings ∙ c.loop-span.invariant.room) c.enter.ensures c.reached.ensures c.first_in-first.ensures some.0 some.1
 
@@ -65,4 +50,4 @@ returns c log limit are =
     let before = c.loop-span.invariant.before log limit are in
     at_last log limit c.args.flights.now c.args.needs_all before.0 c.loop-span.pendings
     (subst (λ left. IsBefore log limit c.args.flights.now c.args.needs_all before.0 left c.loop-span.pendings)
-    (drop_past c.args.spans.now c.loop-span.span-index c.loop-span-test.false) before.1)
+    (drop_all c.loop-span.span-index c.args.spans.now c.loop-span-test.false) before.1)

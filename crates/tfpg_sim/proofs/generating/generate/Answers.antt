@@ -1,27 +1,27 @@
 use Rattle.std.proofs.Common.{◌*◌, length, All, ap, subst, sym, ◌∙◌, arith}
 use Rattle.tfpg_graph.specs.Valid.{IsValid}
-use Rattle.tfpg_sim.specs.Generated.{draft_after, draft_of, graph_of, script_drawn}
+use Rattle.tfpg_sim.specs.Generated.{draft_after, draft_of, drawn_graph, script_drawn}
 use Rattle.tfpg_sim.specs.inside.GraphText.{HasDrawnModes}
 use Rattle.tfpg_sim.proofs.GeneratedGraphs.{generated_valid, generated_kinds, generated_modes}
 use Rattle.tfpg_sim.proofs.generating.generate.Goals as goal
 
-pub graph_of-requires-clause-valid : goal.graph_of-requires-clause-valid
-graph_of-requires-clause-valid c =
+pub drawn_graph-requires-clause-valid : goal.drawn_graph-requires-clause-valid
+drawn_graph-requires-clause-valid c =
     let size = c.args.size in
     let kinds = c.in_ok-draft.ensures.kinds ∙ ap (λ s. (draft_after s (4 * size)).kinds) c.new-state.ensures in
     let edges = c.in_ok-draft.ensures.edges ∙ ap (λ s. (draft_after s (4 * size)).edges) c.new-state.ensures in
-    subst (λ ks. IsValid (graph_of ks c.in_ok-draft.draft.edges.items)) (sym kinds)
-    (subst (λ es. IsValid (graph_of (draft_of c.args.number size).kinds es)) (sym edges) (generated_valid c.args.number size c.requires.some c.requires.few))
+    subst (λ ks. IsValid (drawn_graph ks c.in_ok-draft.draft.edges.items)) (sym kinds)
+    (subst (λ es. IsValid (drawn_graph (draft_of c.args.number size).kinds es)) (sym edges) (generated_valid c.args.number size c.requires.some c.requires.few))
 
-pub graph_of-requires-clause-few : goal.graph_of-requires-clause-few
-graph_of-requires-clause-few c =
+pub drawn_graph-requires-clause-few : goal.drawn_graph-requires-clause-few
+drawn_graph-requires-clause-few c =
     let size = c.args.size in
     let few = c.requires.few in
     let kinds = c.in_ok-draft.ensures.kinds ∙ ap (λ s. (draft_after s (4 * size)).kinds) c.new-state.ensures in
     omega (arith, ap length kinds, generated_kinds c.args.number size)
 
-pub graph_of-requires-clause-modes : goal.graph_of-requires-clause-modes
-graph_of-requires-clause-modes c =
+pub drawn_graph-requires-clause-modes : goal.drawn_graph-requires-clause-modes
+drawn_graph-requires-clause-modes c =
     let edges = c.in_ok-draft.ensures.edges ∙ ap (λ s. (draft_after s (4 * c.args.size)).edges) c.new-state.ensures in
     subst (All HasDrawnModes) (sym edges) (generated_modes c.args.number c.args.size)
 
@@ -30,7 +30,7 @@ returns-clause-graph c =
     let size = c.args.size in
     let kinds = c.in_ok-draft.ensures.kinds ∙ ap (λ s. (draft_after s (4 * size)).kinds) c.new-state.ensures in
     let edges = c.in_ok-draft.ensures.edges ∙ ap (λ s. (draft_after s (4 * size)).edges) c.new-state.ensures in
-    c.in_ok-graph.ensures ∙ (λ i. graph_of (kinds i) (edges i))
+    c.in_ok-graph.ensures ∙ (λ i. drawn_graph (kinds i) (edges i))
 
 pub returns-clause-valid : goal.returns-clause-valid
 returns-clause-valid c = subst IsValid (sym (returns-clause-graph c)) (generated_valid c.args.number c.args.size c.requires.some c.requires.few)

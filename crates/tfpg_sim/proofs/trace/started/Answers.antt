@@ -4,7 +4,7 @@ use Rattle.std.proofs.lemmas.Option.{slice_get-get_or}
 use Rattle.tfpg_base.specs.Trace.{time_of}
 use Rattle.tfpg_sim.specs.declared.entry.Entry.TheVariants.{Start}
 use Rattle.tfpg_sim.specs.Simulation.{start_of}
-use Rattle.tfpg_sim.specs.inside.Settling.{IsStart}
+use Rattle.tfpg_sim.specs.inside.Settling.{IsFailureStart}
 use Rattle.tfpg_sim.proofs.ScriptOrder.{start_step, own_step}
 use Rattle.tfpg_sim.proofs.trace.started.Goals as goal
 
@@ -14,7 +14,7 @@ loop-entry-preserved c =
     record {
       times = λ graph script node. ap (λ trace. time_of trace node) c.in_ok-start.ensures
           ∙ start_step graph c.args.entries.now script c.loop-entry.entry-index _ at c.loop-entry.trace (c.loop-entry.invariant.times graph script) node;
-      own = λ graph stop script all. subst (All (IsStart graph stop)) (sym c.in_ok-start.ensures)
+      own = λ graph stop script all. subst (All (IsFailureStart graph stop)) (sym c.in_ok-start.ensures)
           (own_step graph c.args.entries.now script c.loop-entry.entry-index _ at c.loop-entry.trace stop all (c.loop-entry.invariant.own graph stop script all));
     }
 

@@ -66,11 +66,11 @@ pub loop-node-preserved : goal.loop-node-preserved
 loop-node-preserved c =
     let at = goal.at.loop-node-preserved c in
     let earliest = found at.In-Some in
-    let spans = subst (AreSpans (script_log c.args.entries.now) (c.last_time-stop.result + 1) 0) (sym c.deref-in-Some.ensures.value) c.in_ok-spans.ensures.spans in
+    let spans = subst (AreSpans (script_log c.args.entries.now) (c.last_time-stop.result + 1) 0) (sym c.deref.ensures.value) c.in_ok-spans.ensures.spans in
     let absent = is_absent c.args.graph.now (script_log c.args.entries.now) c.args.delays.now c.last_time-stop.result (start_of c.args.entries.now) c.loop-node.trace c.loop-node.candidates.items
     c.loop-node.invariant c.in-Some.node c.in-Some.time earliest in
     let known = c.in_ok-candidates-2.ensures (script_log c.args.entries.now) c.last_time-stop.result c.loop-node.trace c.in-Some.time spans c.in_ok-set.ensures.list absent
-    (subst (AreCandidates c.args.graph.now (script_log c.args.entries.now) c.args.delays.now c.last_time-stop.result c.loop-node.trace) (sym c.deref-in-Some-2.ensures.value) c.loop-node.invariant.known) in
+    (subst (AreCandidates c.args.graph.now (script_log c.args.entries.now) c.args.delays.now c.last_time-stop.result c.loop-node.trace) (sym c.deref-in-Some.ensures.value) c.loop-node.invariant.known) in
     subst (λ trace. IsUnderWay c.args.graph.now (script_log c.args.entries.now) c.args.delays.now c.last_time-stop.result (start_of c.args.entries.now) trace c.in_ok-candidates-2.candidates.items)
     (sym c.in_ok-set.ensures.list)
     (goes_on c.args.graph.now c.args.entries.now c.args.delays.now c.last_time-stop.result c.loop-node.trace c.loop-node.candidates.items c.in_ok-candidates-2.candidates.items

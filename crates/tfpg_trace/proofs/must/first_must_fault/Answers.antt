@@ -1,15 +1,16 @@
 use Rattle.std.proofs.Common.{◌+◌, ◌≤◌, length, arith}
 use Rattle.tfpg_graph.specs.Graph.{incoming}
+use Rattle.tfpg_graph.specs.declared.limits.TheConstants.{MAX_INCOMING}
 use Rattle.tfpg_trace.proofs.GapsOver.{no_gaps}
 use Rattle.tfpg_trace.proofs.FirstMustFaults.{one_span_more, first_of_all, none_at_all}
 use Rattle.tfpg_trace.proofs.must.first_must_fault.Goals as goal
 
 pub loop-number-init : goal.loop-number-init
 loop-number-init c =
-    let few : length (incoming c.args.graph.now c.args.node) ≤ 32 = c.node_count-nodes.ensures.valid.so_far.few_incoming c.args.node in
+    let few : length (incoming c.args.graph.now c.args.node) ≤ MAX_INCOMING = c.node_count-nodes.ensures.valid.so_far.few_incoming c.args.node in
     record {
       keeps = λ instant within before. absurd (omega (arith, before));
-      gaps = no_gaps c.args.graph.now c.args.log.now c.args.node 32 few;
+      gaps = no_gaps c.args.graph.now c.args.log.now c.args.node MAX_INCOMING few;
       room = omega arith;
     }
 

@@ -1,4 +1,4 @@
-use Rattle.tfpg_words.proofs.Limits.{meaning_within, size_within}
+use Rattle.tfpg_words.proofs.WithinLimits.{meaning_within, size_within}
 use Rattle.tfpg_words.proofs.laws.numbers_are_within_their_limits.Goals as goal
 
 pub returns-clause-diagnose : goal.returns-clause-diagnose

@@ -3,7 +3,7 @@ use Rattle.std.specs.String.{string_bytes}
 use Rattle.tfpg_words.specs.declared.usage_cause.UsageCause.{UsageCause}
 use Rattle.tfpg_words.specs.Meaning.{Meaning, simulate_form}
 use Rattle.tfpg_words.specs.inside.CommandOf.{IsCommandOf}
-use Rattle.tfpg_words.specs.Words.{parts_of}
+use Rattle.tfpg_words.specs.Words.{parts_of_words}
 use Rattle.tfpg_words.specs.inside.Parts.{rows_in}
 use Rattle.tfpg_words.proofs.Commands.{simulate_is}
 use Rattle.tfpg_words.proofs.planning.simulate.Goals as goal
@@ -11,4 +11,4 @@ use Rattle.tfpg_words.proofs.planning.simulate.Goals as goal
 pub returns : goal.returns
 returns c =
     subst (λ (meant : Result Meaning UsageCause). IsCommandOf meant c.simulate_by.result)
-    (simulate_is (parts_of simulate_form (map string_bytes c.args.words.now)) (rows_in c.in_ok-parts.parts) c.in_ok-parts.ensures) c.simulate_by.ensures
+    (simulate_is (parts_of_words simulate_form (map string_bytes c.args.words.now)) (rows_in c.in_ok-parts.parts) c.in_ok-parts.ensures) c.simulate_by.ensures

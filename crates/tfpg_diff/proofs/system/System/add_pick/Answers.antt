@@ -1,11 +1,11 @@
--- A pick that the values meet is put on the stack, and any other lowers values or is taken off again.
+-- A pick that the values meet is pushed on the stack, and any other lowers values or is taken off again.
 use Rattle.std.proofs.Common.{◌≡◌, ℕ, ◌-◌, ◌≤◌, true, List, ◌∷◌, ◌++◌, [], length, take, refl, sym, ◌∙◌, ap, subst, arith, length-append}
 use Rattle.std.specs.Prelude.{vec_capacity, vec_len, is_ok}
 use Rattle.std.proofs.lemmas.List.{take_at}
 use Rattle.std.proofs.lemmas.List.Elements.{All-same}
 use Rattle.tfpg_diff.specs.declared.demand.Demand.{Demand}
 use Rattle.tfpg_diff.specs.declared.pick.Pick.{Pick}
-use Rattle.tfpg_diff.specs.Demands.{Demands, picked, demands_of}
+use Rattle.tfpg_diff.specs.Demands.{Demands, demand_of_pick, demands_of}
 use Rattle.tfpg_diff.specs.Solution.{HasSolution}
 use Rattle.tfpg_diff.specs.Cycle.{NamesNegativeCycle}
 use Rattle.tfpg_base.specs.Times.{never}
@@ -36,9 +36,9 @@ is_broken-requires-clause-small c =
     (small-kept (demands_of c.self.inside.bounds.items c.self.inside.picks.items) c.self.invariant.sound c.self.inside.labels.values.items c.self.inside.labels.links.items c.self.invariant.kept)
 
 -- the values meet the pick where the test says so
-met : (c : After-is_broken) → IsMetBy c.deref.result.now c.picked.result → IsMetBy c.self.inside.labels.values.items (picked c.args.pick)
-met c m = subst (λ (values : List ℕ). IsMetBy values (picked c.args.pick)) c.deref.ensures.value
-    (subst (λ (e : Demand). IsMetBy c.deref.result.now e) c.picked.ensures m)
+met : (c : After-is_broken) → IsMetBy c.deref.result.now c.demand_of_pick.result → IsMetBy c.self.inside.labels.values.items (demand_of_pick c.args.pick)
+met c m = subst (λ (values : List ℕ). IsMetBy values (demand_of_pick c.args.pick)) c.deref.ensures.value
+    (subst (λ (e : Demand). IsMetBy c.deref.result.now e) c.demand_of_pick.ensures m)
 
 pub invariant_of-self : goal.invariant_of-self
 invariant_of-self c =

@@ -12,7 +12,7 @@ invariant_of-result c =
       modes = c.in_ok-modes.modes;
       incoming = c.in_ok-incoming.incoming;
       failures = c.in_ok-failures.failures;
-      places = c.in_ok-places.places;
+      positions = c.in_ok-positions.positions;
     } in
     IsDeclared-copy c.self.inside copy
     (same_graph c.self.inside copy
@@ -21,7 +21,7 @@ invariant_of-result c =
     (copied_rows _ (λ x y same. same) c.self.inside.modes.keys copy.modes.keys c.in_ok-modes.ensures.cases))
     (copied_rows _ (λ x y same. same) c.self.inside.incoming.items copy.incoming.items c.in_ok-incoming.ensures.cases.0)
     (same_from_all_zip _ _ _ c.in_ok-failures.ensures.cases.0 (λ x y same. same))
-    (same_from_all_zip _ _ _ c.in_ok-places.ensures.cases.0 (λ x y same. search (rules, same)))
+    (same_from_all_zip _ _ _ c.in_ok-positions.ensures.cases.0 (λ x y same. search (rules, same)))
     c.self.invariant
 
 pub returns : goal.returns
@@ -32,7 +32,7 @@ returns c =
       modes = c.in_ok-modes.modes;
       incoming = c.in_ok-incoming.incoming;
       failures = c.in_ok-failures.failures;
-      places = c.in_ok-places.places;
+      positions = c.in_ok-positions.positions;
     } in
     same_graph c.self.inside copy
     (copied_nodes _ (λ x y same. same) _ (λ x y same. same) c.self.inside.nodes.entries copy.nodes.entries c.in_ok-nodes.ensures.cases)

@@ -23,16 +23,16 @@ more_rows c =
 number : (c : In_ok-push-2) → c.len.result ≡ length c.args.self.nodes
 number c = c.len.ensures.len ∙ sym (length-map c.self.inside.nodes.entries _) ∙ ap (λ graph. length graph.nodes) c.self.view_is
 
-more_failed : (c : In_ok-push-2) → c.give_place.new.failures.items ≡ with_failure (is_failure c.args.kind) (length c.args.self.nodes) c.self.inside.failures.items
-more_failed c = c.in_ok-place.ensures.failures ∙ ap (λ n. with_failure (is_failure c.args.kind) n c.self.inside.failures.items) (number c)
+more_failed : (c : In_ok-push-2) → c.give_position.new.failures.items ≡ with_failure (is_failure c.args.kind) (length c.args.self.nodes) c.self.inside.failures.items
+more_failed c = c.in_ok-position.ensures.failures ∙ ap (λ n. with_failure (is_failure c.args.kind) n c.self.inside.failures.items) (number c)
 
-more_places : (c : In_ok-push-2) → c.push-2.new.self.items ≡ c.self.inside.places.items ++ cond (is_failure c.args.kind) (Some (length c.self.inside.failures.items)) None ∷ []
-more_places c = c.in_ok-push-2.ensures.items ∙ ap (λ place. c.self.inside.places.items ++ place ∷ []) c.in_ok-place.ensures.place
+more_positions : (c : In_ok-push-2) → c.push-2.new.self.items ≡ c.self.inside.positions.items ++ cond (is_failure c.args.kind) (Some (length c.self.inside.failures.items)) None ∷ []
+more_positions c = c.in_ok-push-2.ensures.items ∙ ap (λ position. c.self.inside.positions.items ++ position ∷ []) c.in_ok-position.ensures.position
 
 pub returns : goal.returns
 returns c = λ i. record { nodes = nodes_seen c i; edges = (c.self.view_is i).edges; modes = (c.self.view_is i).modes }
 
 pub invariant_of-result : goal.invariant_of-result
 invariant_of-result c =
-    IsDeclared-with_node c.self.inside _ c.args.self c.args.name.now c.args.kind c.self.view_is (returns c) c.self.invariant (more_rows c) (more_failed c) (more_places c)
+    IsDeclared-with_node c.self.inside _ c.args.self c.args.name.now c.args.kind c.self.view_is (returns c) c.self.invariant (more_rows c) (more_failed c) (more_positions c)
     c.requires.before_edges c.requires.name c.requires.new c.requires.number c.requires.room c.requires.failure_room

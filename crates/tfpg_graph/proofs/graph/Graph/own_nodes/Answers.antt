@@ -4,22 +4,22 @@ use Rattle.tfpg_graph.proofs.lemmas.reach.Reaches.{AreReachedBefore-none, AreRea
 use Rattle.tfpg_graph.proofs.graph.Graph.own_nodes.Goals as goal
 use Rattle.tfpg_graph.proofs.graph.Graph.own_nodes.Goals.{then-has, else-has}
 
-pub loop-place-init : goal.loop-place-init
-loop-place-init c = rw c.empty-nodes.ensures (AreReachedBefore-none c.args.self.now c.args.set)
+pub loop-position-init : goal.loop-position-init
+loop-position-init c = rw c.empty-nodes.ensures (AreReachedBefore-none c.args.self.now c.args.set)
 
 pub with-nodes-requires : goal.with-nodes-requires
-with-nodes-requires c = own_small c.args.self.now c.args.set c.node_count-count.ensures.valid c.loop-place.place c.failure_node.result c.failure_node.ensures.node
+with-nodes-requires c = own_small c.args.self.now c.args.set c.node_count-count.ensures.valid c.loop-position.position c.failure_node.result c.failure_node.ensures.node
 
-pub loop-place-preserved : goal.loop-place-preserved
-loop-place-preserved c =
+pub loop-position-preserved : goal.loop-position-preserved
+loop-position-preserved c =
     elim c.if-has.branch [
       | then-has w ↦ rw w.nodes-is
-          (AreReachedBefore-to c.args.self.now c.args.set c.loop-place.place c.loop-place.nodes c.loop-place.invariant w.with-nodes.result w.failure_node.result
+          (AreReachedBefore-to c.args.self.now c.args.set c.loop-position.position c.loop-position.nodes c.loop-position.invariant w.with-nodes.result w.failure_node.result
           c.node_count-count.ensures.valid w.with-nodes.ensures.nodes (c.has.ensures.member.0 w.if-has.true) w.failure_node.ensures.node)
       | else-has w ↦ rw w.nodes-is
-          (AreReachedBefore-without c.args.self.now c.args.set c.loop-place.place c.loop-place.nodes c.loop-place.invariant
+          (AreReachedBefore-without c.args.self.now c.args.set c.loop-position.position c.loop-position.nodes c.loop-position.invariant
           (λ member. false≢true (sym w.if-has.false ∙ c.has.ensures.member.1 member)))
     ]
 
 pub returns : goal.returns
-returns c = AreReachedBefore-all c.args.self.now c.args.set c.loop-place.place c.loop-place.nodes c.loop-place.invariant (omega arith)
+returns c = AreReachedBefore-all c.args.self.now c.args.set c.loop-position.position c.loop-position.nodes c.loop-position.invariant (omega arith)

@@ -2,7 +2,8 @@ use Rattle.std.proofs.Common.{◌≡◌, false, nat_lt, length, sym, ap, ◌∙�
 use Rattle.std.proofs.lemmas.Bool.Decides.{nat_tests}
 use Rattle.tfpg_base.specs.Lines.{longest_line}
 use Rattle.tfpg_graph.specs.Statements.{statement_in}
-use Rattle.tfpg_graph.proofs.lemmas.reading.StatementLines.{has_empty, statement_of-empty, statement_of-words}
+use Rattle.tfpg_base.proofs.WordLengths.{has_empty}
+use Rattle.tfpg_graph.proofs.lemmas.reading.StatementLines.{statement_of-empty, statement_of-words}
 use Rattle.tfpg_graph.proofs.reading.statement.statement_of.Goals as goal
 
 pub returns-then-has_empty_word : goal.returns-then-has_empty_word

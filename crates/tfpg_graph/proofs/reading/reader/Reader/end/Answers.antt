@@ -1,4 +1,4 @@
-use Rattle.std.proofs.Common.{◌≢◌, ℕ, ◌<◌, Some, IfSome, sym, subst, arith}
+use Rattle.std.proofs.Common.{◌≢◌, ℕ, ◌<◌, Some, IfSome, subst, arith}
 use Rattle.tfpg_base.specs.Lines.{parts_of}
 use Rattle.tfpg_graph.specs.inside.reading.Turns.{ReaderRepresents}
 use Rattle.tfpg_graph.specs.ZeroCycle.{HasZeroOrder, LiesOnZeroCycle}
@@ -8,18 +8,18 @@ use Rattle.tfpg_graph.proofs.lemmas.reading.Ending.{edge_within, IfNone-none, Is
 use Rattle.tfpg_graph.proofs.reading.reader.Reader.end.Goals as goal
 use Rattle.tfpg_graph.proofs.reading.reader.Reader.end.Goals.{After-without_incoming, In_ok-edge, In-Some-2}
 
--- what is read represents the parts, seen by its fields
+-- what is read represents the parts
 stands : (c : After-without_incoming)
-    → ReaderRepresents (record { part = c.self.inside.part; graph = c.self.inside.declared }) (parts_of c.args.text.now)
-stands c = subst (λ progress. ReaderRepresents progress (parts_of c.args.text.now)) (sym c.self.view_is) c.requires.stands
+    → ReaderRepresents c.args.self (parts_of c.args.text.now)
+stands c = c.requires.stands
 
 -- where no edge was found, no cycle takes no time
-order : (c : In_ok-edge) → ((edge : ℕ) → c.in_ok-edge.field-0 ≢ Some edge) → HasZeroOrder c.self.inside.declared
+order : (c : In_ok-edge) → ((edge : ℕ) → c.in_ok-edge.field-0 ≢ Some edge) → HasZeroOrder c.args.self.declared
 order c none = IfNone-none c.in_ok-edge.field-0 none c.in_ok-edge.ensures.order
 
 -- the edge that was found lies on a cycle that takes no time
-lies : (c : In-Some-2) → LiesOnZeroCycle c.self.inside.declared c.in-Some-2.edge
-lies c = subst (λ o. IfSome o (LiesOnZeroCycle c.self.inside.declared)) c.in-Some-2.is c.in_ok-edge.ensures.lies
+lies : (c : In-Some-2) → LiesOnZeroCycle c.args.self.declared c.in-Some-2.edge
+lies c = subst (λ o. IfSome o (LiesOnZeroCycle c.args.self.declared)) c.in-Some-2.is c.in_ok-edge.ensures.lies
 
 pub line_declaring-requires : goal.line_declaring-requires
 line_declaring-requires c =
@@ -29,14 +29,14 @@ line_declaring-requires c =
 pub line_declaring-requires-in-Some-2 : goal.line_declaring-requires-in-Some-2
 line_declaring-requires-in-Some-2 c =
     let read = stands (goal.at.line_declaring-requires-in-Some-2 c).After-without_incoming in
-    let within = edge_within c.self.inside.declared c.in-Some-2.edge (lies c) in
+    let within = edge_within c.args.self.declared c.in-Some-2.edge (lies c) in
     record { there = omega (arith, within, count-edge_lines _ (parts_of c.args.text.now) read) }
 
 pub returns-in-Some-2-clause-fault : goal.returns-in-Some-2-clause-fault
 returns-in-Some-2-clause-fault c =
     let at = goal.at.returns-in-Some-2-clause-fault c in
     let first = subst
-    (λ o. IfSome o (λ n. (earlier : ℕ) → earlier < n → LiesOnZeroCycle c.self.inside.declared earlier → ⊥))
+    (λ o. IfSome o (λ n. (earlier : ℕ) → earlier < n → LiesOnZeroCycle c.args.self.declared earlier → ⊥))
     c.in-Some-2.is c.in_ok-edge.ensures.first in
     IsEndRefusal-cycle _ c.args.text.now (stands at.After-without_incoming) c.in-Some-2.edge
     c.line_declaring-in-Some-2.result c.fault-in-Some-2.result c.in_default.ensures.all (lies at.In-Some-2) first
@@ -45,7 +45,7 @@ returns-in-Some-2-clause-fault c =
 pub new-requires : goal.new-requires
 new-requires c =
     let at = goal.at.new-requires c in
-    IsValid-whole c.self.inside.declared c.in_default.ensures.so_far c.in_default.ensures.all
+    IsValid-whole c.args.self.declared c.in_default.ensures.so_far c.in_default.ensures.all
     (order at.In_ok-edge c.in_default-2.not-Some)
     (has_mode (parts_of c.args.text.now) _ (stands at.After-without_incoming) c.in-Ended.is)
 

@@ -4,21 +4,20 @@ use Rattle.tfpg_graph.specs.declared.kind.Kind.{Kind}
 use Rattle.tfpg_graph.specs.declared.reading.reader.Part.TheVariants.{Declarations}
 use Rattle.tfpg_graph.specs.Graph.{Tfpg}
 use Rattle.tfpg_graph.specs.inside.Indexes.{with_node}
-use Rattle.tfpg_graph.specs.inside.reading.ReaderState.{ReaderState}
+use Rattle.tfpg_graph.specs.declared.reading.reader.Reader.{Reader}
 use Rattle.tfpg_graph.proofs.lemmas.reading.Judged.{cause_or_value-caused, cause_or_value-valued}
 use Rattle.tfpg_graph.proofs.reading.reader.Reader.with_node.Goals as goal
 
 pub returns-in_err-kind : goal.returns-in_err-kind
 returns-in_err-kind c =
     let p = err_from_is_err_and c.from_residual.result c.from_residual.ensures.1 in
-    rw (p.1, p.2, ← c.self.view_is) (cause_or_value-caused _ _ c.in_err-kind.field-0.0 c.in_err-kind.ensures.first)
+    rw (p.1, p.2) (cause_or_value-caused _ _ c.in_err-kind.field-0.0 c.in_err-kind.ensures.first)
 
 -- the progress with this graph
-abbrev with_graph : Tfpg → ReaderState
-with_graph graph = record { part = Declarations; graph = graph }
+abbrev with_graph : Tfpg → Reader
+with_graph graph = record { part = Declarations; declared = graph }
 
 pub returns : goal.returns
 returns c =
-    rw (← c.self.view_is)
-    (cause_or_value-valued (λ (kind : Kind). with_graph (with_node c.self.inside.declared c.args.name.now kind)) _ _ c.in_ok-kind.kind c.in_ok-kind.ensures.first.0 c.in_ok-kind.ensures.first.1
-    ∙ ap (λ graph. Ok (with_graph graph)) (sym c.in_ok-declared.ensures))
+    cause_or_value-valued (λ (kind : Kind). with_graph (with_node c.args.self.declared c.args.name.now kind)) _ _ c.in_ok-kind.kind c.in_ok-kind.ensures.first.0 c.in_ok-kind.ensures.first.1
+    ∙ ap (λ graph. Ok (with_graph graph)) (sym c.in_ok-declared.ensures)

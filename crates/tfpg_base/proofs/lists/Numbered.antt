@@ -1,0 +1,155 @@
+-- The numbers of the items that pass a test.
+use Rattle.std.proofs.Common.{◌≡◌, ℕ, zero, suc, ◌+◌, ◌<◌, ◌≤◌, Bool, true, false, cond, List, [], ◌∷◌, ◌++◌, length, filter, All, Option, Some, None, position, slice_get, refl, ap, sym, ◌∙◌, arith, ◌&&◌}
+use Rattle.std.specs.Prelude.{map, filter_map, option_and_then, option_map}
+use Rattle.std.specs.List.{find, cons_option, AllByRecursion}
+use Rattle.std.proofs.lemmas.List.Elements.{All-from_recursion}
+use Rattle.std.proofs.lemmas.Option.{slice_get_within}
+use Rattle.tfpg_base.specs.Choice.{numbers_from}
+use Rattle.tfpg_base.proofs.lists.Positions.{position-cons}
+
+module _ {X : Type 0} (p : X → Bool) where
+  -- one more item that passes has the next number
+  pub numbers_from-push : (n : ℕ) (xs : List X) (y : X) → numbers_from n p (xs ++ y ∷ []) ≡ numbers_from n p xs ++ cond (p y) ((n + length xs) ∷ []) []
+  numbers_from-push n [] y = by (p y)
+    where
+      by : (b : Bool) → cond b (n ∷ []) [] ≡ cond b ((n + 0) ∷ []) []
+      by true = ap (λ m. m ∷ []) (omega arith)
+      by false = refl
+  numbers_from-push n (x ∷ xs) y = by (p x) (numbers_from-push (n + 1) xs y ∙ ap (λ m. numbers_from (n + 1) p xs ++ cond (p y) (m ∷ []) []) (omega arith))
+    where
+      by : (b : Bool) → numbers_from (n + 1) p (xs ++ y ∷ []) ≡ numbers_from (n + 1) p xs ++ cond (p y) ((n + suc (length xs)) ∷ []) []
+          → cond b (n ∷ numbers_from (n + 1) p (xs ++ y ∷ [])) (numbers_from (n + 1) p (xs ++ y ∷ [])) ≡ cond b (n ∷ numbers_from (n + 1) p xs) (numbers_from (n + 1) p xs) ++ cond (p y) ((n + suc (length xs)) ∷ []) []
+      by true e = ap (λ ms. n ∷ ms) e
+      by false e = e
+
+  below_by_recursion : (n m : ℕ) (xs : List X) → n + length xs ≤ m → AllByRecursion (λ number. number < m) (numbers_from n p xs)
+  below_by_recursion n m [] fits = tt
+  below_by_recursion n m (x ∷ xs) fits = by (p x) (omega arith) (below_by_recursion (n + 1) m xs (omega arith))
+    where
+      by : (b : Bool) → n < m → AllByRecursion (λ number. number < m) (numbers_from (n + 1) p xs)
+          → AllByRecursion (λ number. number < m) (cond b (n ∷ numbers_from (n + 1) p xs) (numbers_from (n + 1) p xs))
+      by true here rest = (here, rest)
+      by false here rest = rest
+
+  -- each number is that of an item
+  pub All-below-numbers_from : (xs : List X) → All (λ number. number < length xs) (numbers_from 0 p xs)
+  All-below-numbers_from xs = All-from_recursion _ (numbers_from 0 p xs) (below_by_recursion 0 (length xs) xs (omega arith))
+
+  -- the first of these numbers to pass a test of the items is that of the first item to pass both
+  pub find-numbers_from : (t : X → Bool) (q : ℕ → Bool) (n : ℕ) (xs : List X) → ((i : ℕ) (x : X) → slice_get xs i ≡ Some x → q (n + i) ≡ t x)
+      → find q (numbers_from n p xs) ≡ option_map (λ i. n + i) (position (λ x. t x && p x) xs)
+  find-numbers_from t q n [] same = refl
+  find-numbers_from t q n (x ∷ xs) same =
+      by (p x) (t x) (ap q (omega arith) ∙ same 0 x refl)
+      (find-numbers_from t q (n + 1) xs (λ i y at. ap q (omega arith) ∙ same (suc i) y at) ∙ shifted (position (λ y. t y && p y) xs))
+      ∙ ap (option_map (λ i. n + i)) (sym (position-cons (λ y. t y && p y) x xs))
+    where
+      shifted : (o : Option ℕ) → option_map (λ i. n + 1 + i) o ≡ option_map (λ i. n + i) (option_map suc o)
+      shifted None = refl
+      shifted (Some i) = ap Some (omega arith)
+
+      by : (b c : Bool) → q n ≡ c → find q (numbers_from (n + 1) p xs) ≡ option_map (λ i. n + i) (option_map suc (position (λ y. t y && p y) xs))
+          → find q (cond b (n ∷ numbers_from (n + 1) p xs) (numbers_from (n + 1) p xs)) ≡ option_map (λ i. n + i) (cond (c && b) (Some 0) (option_map suc (position (λ y. t y && p y) xs)))
+      by true true e rest = ap (λ d. cond d (Some n) (find q (numbers_from (n + 1) p xs))) e ∙ ap Some (omega arith)
+      by true false e rest = ap (λ d. cond d (Some n) (find q (numbers_from (n + 1) p xs))) e ∙ rest
+      by false true e rest = rest
+      by false false e rest = rest
+
+-- The item of a number that is counted from another one, and passes.
+pub record IsItemOf {X : Type 0} (p : X → Bool) (first : ℕ) (xs : List X) (number : ℕ) : Type 0 where
+  pub item : X
+  pub place : ℕ
+  pub counted : number ≡ first + place
+  pub at : slice_get xs place ≡ Some item
+  pub passes : p item ≡ true
+
+module _ {X : Type 0} (p : X → Bool) where
+  -- an item of the rest is an item of the whole
+  later : (first : ℕ) (x : X) (xs : List X) (number : ℕ) → IsItemOf p (first + 1) xs number → IsItemOf p first (x ∷ xs) number
+  later first x xs number of = record { item = of.item; place = suc of.place; counted = omega (arith, of.counted); at = of.at; passes = of.passes }
+
+  -- each of the numbers is that of an item that passes
+  pub item_of : (first : ℕ) (xs : List X) (k number : ℕ) → slice_get (numbers_from first p xs) k ≡ Some number → IsItemOf p first xs number
+  item_of first [] k number at = absurd (omega (arith, slice_get_within {A = ℕ} [] k number at))
+  item_of first (x ∷ xs) k number at = by (p x) refl k at (λ place there. later first x xs number (item_of (first + 1) xs place number there))
+    where
+      by : (b : Bool) → p x ≡ b → (place : ℕ) → slice_get (cond b (first ∷ numbers_from (first + 1) p xs) (numbers_from (first + 1) p xs)) place ≡ Some number
+          → ((place : ℕ) → slice_get (numbers_from (first + 1) p xs) place ≡ Some number → IsItemOf p first (x ∷ xs) number)
+          → IsItemOf p first (x ∷ xs) number
+      by true passes zero there rest =
+          let same : first ≡ number = cc in
+          record { item = x; place = 0; counted = omega arith; at = refl; passes = passes }
+      by true passes (suc place) there rest = rest place there
+      by false fails place there rest = rest place there
+
+  -- no number stands twice
+  pub one_place : (first : ℕ) (xs : List X) (one other number : ℕ) → slice_get (numbers_from first p xs) one ≡ Some number
+      → slice_get (numbers_from first p xs) other ≡ Some number → one ≡ other
+  one_place first [] one other number at there = absurd (omega (arith, slice_get_within {A = ℕ} [] one number at))
+  one_place first (x ∷ xs) one other number at there = by (p x) one other at there (one_place (first + 1) xs)
+    where
+      above : (place : ℕ) → slice_get (numbers_from (first + 1) p xs) place ≡ Some number → Some first ≡ Some number → ⊥
+      above place more is =
+          let same : first ≡ number = cc in
+          let of = item_of (first + 1) xs place number more in
+          omega (arith, of.counted, same)
+
+      by : (b : Bool) (one other : ℕ) → slice_get (cond b (first ∷ numbers_from (first + 1) p xs) (numbers_from (first + 1) p xs)) one ≡ Some number
+          → slice_get (cond b (first ∷ numbers_from (first + 1) p xs) (numbers_from (first + 1) p xs)) other ≡ Some number
+          → ((one other number : ℕ) → slice_get (numbers_from (first + 1) p xs) one ≡ Some number → slice_get (numbers_from (first + 1) p xs) other ≡ Some number → one ≡ other)
+          → one ≡ other
+      by true zero zero here there rest = refl
+      by true zero (suc other) here there rest = absurd (above other there here)
+      by true (suc one) zero here there rest = absurd (above one here there)
+      by true (suc one) (suc other) here there rest = ap suc (rest one other number here there)
+      by false one other here there rest = rest one other number here there
+
+  -- the number of each item that passes is among them
+  pub number_of : (first : ℕ) (xs : List X) (place : ℕ) (x : X) → slice_get xs place ≡ Some x → p x ≡ true
+      → (k : ℕ) × (slice_get (numbers_from first p xs) k ≡ Some (first + place))
+  number_of first [] place x at passes = absurd (omega (arith, slice_get_within {A = X} [] place x at))
+  number_of first (y ∷ ys) zero x at passes = by (p y) (ap p same ∙ passes)
+    where
+      same : y ≡ x
+      same = cc
+
+      by : (b : Bool) → b ≡ true → (k : ℕ) × (slice_get (cond b (first ∷ numbers_from (first + 1) p ys) (numbers_from (first + 1) p ys)) k ≡ Some (first + 0))
+      by true is = (0, ap Some (omega arith))
+      by false is = cc
+  number_of first (y ∷ ys) (suc place) x at passes = by (p y) (number_of (first + 1) ys place x at passes)
+    where
+      by : (b : Bool) → (k : ℕ) × (slice_get (numbers_from (first + 1) p ys) k ≡ Some (first + 1 + place))
+          → (k : ℕ) × (slice_get (cond b (first ∷ numbers_from (first + 1) p ys) (numbers_from (first + 1) p ys)) k ≡ Some (first + suc place))
+      by true more = (suc more.0, more.1 ∙ ap Some (omega arith))
+      by false more = (more.0, more.1 ∙ ap Some (omega arith))
+
+-- values that there are are those of the optional values
+filter_map-of_map : {X Y : Type 0} (f : X → Option Y) (xs : List X) → filter_map f xs ≡ filter_map (λ (o : Option Y). o) (map f xs)
+filter_map-of_map f [] = refl
+filter_map-of_map f (x ∷ xs) = λ i. cons_option (f x) (filter_map-of_map f xs i)
+
+module _ {X Y : Type 0} (p : X → Bool) (f : X → Option Y) where
+  mapped_from : (n : ℕ) (xs : List X) (h : ℕ → Option X) → ((i : ℕ) → h (n + i) ≡ slice_get xs i)
+      → map f (filter p xs) ≡ map (λ number. option_and_then f (h number)) (numbers_from n p xs)
+  mapped_from n [] h same = refl
+  mapped_from n (x ∷ xs) h same =
+      by (p x) (let start : n ≡ n + 0 = omega arith in ap (option_and_then f) (sym (ap h start ∙ same 0)))
+      (mapped_from (n + 1) xs h (λ i. let next : n + 1 + i ≡ n + suc i = omega arith in ap h next ∙ same (suc i)))
+    where
+      by : (b : Bool) → f x ≡ option_and_then f (h n) → map f (filter p xs) ≡ map (λ number. option_and_then f (h number)) (numbers_from (n + 1) p xs)
+          → map f (cond b (x ∷ filter p xs) (filter p xs)) ≡ map (λ number. option_and_then f (h number)) (cond b (n ∷ numbers_from (n + 1) p xs) (numbers_from (n + 1) p xs))
+      by true here rest = λ i. here i ∷ rest i
+      by false here rest = rest
+
+  by_zero : (xs : List X) (i : ℕ) → slice_get xs (0 + i) ≡ slice_get xs i
+  by_zero xs i = let same : 0 + i ≡ i = omega arith in ap (slice_get xs) same
+
+  -- what is had of each, and where it is not
+  pub mapped_by_number : (xs : List X) → map f (filter p xs) ≡ map (λ number. option_and_then f (slice_get xs number)) (numbers_from 0 p xs)
+  mapped_by_number xs = mapped_from 0 xs (slice_get xs) (by_zero xs)
+
+  -- what is had of each, where it is
+  pub filtered_by_number : (xs : List X) → filter_map f (filter p xs) ≡ filter_map (λ number. option_and_then f (slice_get xs number)) (numbers_from 0 p xs)
+  filtered_by_number xs =
+      filter_map-of_map f (filter p xs) ∙ ap (filter_map (λ (o : Option Y). o)) (mapped_by_number xs)
+      ∙ sym (filter_map-of_map (λ number. option_and_then f (slice_get xs number)) (numbers_from 0 p xs))

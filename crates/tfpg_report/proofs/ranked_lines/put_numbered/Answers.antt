@@ -1,9 +1,0 @@
-use Rattle.std.proofs.Common.{sym}
-use Rattle.tfpg_evidence.specs.RoundOf.{IsFindingOf}
-use Rattle.tfpg_report.specs.Blocks.{sizes_of}
-use Rattle.tfpg_report.proofs.Findings.{finding_numbered-all}
-use Rattle.tfpg_report.proofs.ranked_lines.put_numbered.Goals as goal
-
-pub put_ranked-requires : goal.put_ranked-requires
-put_ranked-requires c =
-    finding_numbered-all (IsFindingOf (sizes_of c.args.graph.now)) c.args.findings.now c.args.number _ c.requires.findings (sym c.in-Some.ensures)

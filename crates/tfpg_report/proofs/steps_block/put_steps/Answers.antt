@@ -1,5 +1,0 @@
-use Rattle.tfpg_base.proofs.Appended.{Appends-err_after}
-use Rattle.tfpg_report.proofs.steps_block.put_steps.Goals as goal
-
-pub returns-in_err-put_step : goal.returns-in_err-put_step
-returns-in_err-put_step c = Appends-err_after _ _ _ _ _ _ c.from_residual.ensures.0 c.loop-step.invariant c.in_err-put_step.ensures

@@ -1,9 +1,0 @@
-use Rattle.std.proofs.Common.{◌≡◌, ◌++◌, take}
-use Rattle.std.specs.List.{flat_map}
-use Rattle.tfpg_graph.specs.inside.writing.Written.{node_text}
-use Rattle.tfpg_sim.specs.Generated.{named}
-use Rattle.tfpg_sim.proofs.generating.graph_text.put_discrepancies.Given as goal
-
--- the lines of the discrepancies so far stand after the old bytes
-abbrev pub invariant-loop-place : goal.invariant-loop-place
-invariant-loop-place l = l.into.items ≡ l.fn.into.items ++ flat_map node_text (named 16 (take l.place l.kinds))

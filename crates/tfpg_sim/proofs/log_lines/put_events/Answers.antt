@@ -1,5 +1,0 @@
-use Rattle.tfpg_base.proofs.Appended.{Appends-err_after}
-use Rattle.tfpg_sim.proofs.log_lines.put_events.Goals as goal
-
-pub returns-in_err-put_event : goal.returns-in_err-put_event
-returns-in_err-put_event c = Appends-err_after _ _ _ _ _ _ c.from_residual.ensures.0 c.loop-event.invariant c.in_err-put_event.ensures
