@@ -57,14 +57,13 @@ const FAULTS: [(&str, &[u8], u64); 18] = [
 
 /// How the simulation of the files `g` and `s` of these texts ends, what it writes, and how many files were asked for, where the
 /// output goes in pieces of at most so many bytes and fails at these calls.
-fn simulated(
+fn simulated<'a>(
     alloc: Global,
-    files: &[(&str, &[u8])],
-    trace: bool,
+    files: &'a [(&'a str, &'a [u8])],
+    options: &[&str],
     most: usize,
-    output_fails: &[u64],
+    output_fails: &'a [u64],
 ) -> Result<(End, Vec<u8>, usize), AllocError> {
-    let options: &[&str] = if trace { &["--trace"] } else { &[] };
     let words = words_of(alloc, &["simulate", "g", "s"], options)?;
     let memory = InMemory {
         most,
@@ -82,8 +81,8 @@ fn first_wrong_text(
 ) -> Result<Option<&'static str>, AllocError> {
     for (name, script, log, map) in rows {
         let files = [("g", TWO_MODES), ("s", *script)];
-        let (log_end, log_written, _) = simulated(alloc, &files, false, most, &[])?;
-        let (map_end, map_written, _) = simulated(alloc, &files, true, most, &[])?;
+        let (log_end, log_written, _) = simulated(alloc, &files, &[], most, &[])?;
+        let (map_end, map_written, _) = simulated(alloc, &files, &["--trace"], most, &[])?;
         if log_end != End::Done
             || map_end != End::Done
             || log_written.as_slice() != *log
@@ -106,7 +105,7 @@ fn first_wrong_refusal(
             cause: CheckCause::BadScript,
         };
         let files = [("g", TWO_MODES), ("s", *script)];
-        let (end, written, _) = simulated(alloc, &files, false, 4096, &[])?;
+        let (end, written, _) = simulated(alloc, &files, &[], 4096, &[])?;
         if end != refused || !written.is_empty() {
             return Ok(Some(*name));
         }
@@ -122,7 +121,7 @@ fn end_of_many(alloc: Global, line: &[u8], count: usize) -> Result<End, AllocErr
     }
     script.extend_from_slice(b"9 stop\n")?;
     let files = [("g", TWO_MODES), ("s", script.as_slice())];
-    let (end, _, _) = simulated(alloc, &files, false, 4096, &[])?;
+    let (end, _, _) = simulated(alloc, &files, &[], 4096, &[])?;
     Ok(end)
 }
 
@@ -162,11 +161,11 @@ fn fetches_graph_and_script_first(rt: HostRuntime) -> Result<(), Fail> {
     let none: [(&str, &[u8]); 0] = [];
     let one = [("g", faulty)];
     let both = [("g", faulty), ("s", b"x\n".as_slice())];
-    let (end, written, asked) = simulated(rt.alloc(), &none, false, 4096, &[])?;
+    let (end, written, asked) = simulated(rt.alloc(), &none, &[], 4096, &[])?;
     assert_eq!(rt; (end, written.len(), asked), (End::ReadFault, 0, 1));
-    let (end, written, asked) = simulated(rt.alloc(), &one, false, 4096, &[])?;
+    let (end, written, asked) = simulated(rt.alloc(), &one, &[], 4096, &[])?;
     assert_eq!(rt; (end, written.len(), asked), (End::ReadFault, 0, 2));
-    let (end, written, asked) = simulated(rt.alloc(), &both, false, 4096, &[])?;
+    let (end, written, asked) = simulated(rt.alloc(), &both, &[], 4096, &[])?;
     assert_eq!(rt; (end, written.len(), asked), (fault, 0, 2));
     Ok(())
 }
@@ -177,7 +176,7 @@ fn ends_where_the_output_fails(rt: HostRuntime) -> Result<(), Fail> {
         ("g", TWO_MODES),
         ("s", b"25 start F2\n40 stop\n".as_slice()),
     ];
-    let (end, written, _) = simulated(rt.alloc(), &files, false, 7, &[2])?;
+    let (end, written, _) = simulated(rt.alloc(), &files, &[], 7, &[2])?;
     assert_eq!(rt; end, End::WriteFault);
     assert_eq!(rt; written.as_slice(), b"30 alar".as_slice());
     Ok(())
