@@ -3,8 +3,8 @@ use Rattle.std.proofs.Common.{◌≡◌, ◌⊎◌, ℕ, ◌+◌, ◌<◌, ◌�
 use Rattle.std.specs.Prelude.{OnOk, IfErr}
 use Rattle.std.proofs.lemmas.List.{length-append}
 use Rattle.std.proofs.lemmas.Option.{same_Some}
-use Rattle.tfpg_base.specs.Lines.{max_bytes}
-use Rattle.tfpg_base.specs.Outside.{SourceState, ShelfState, Rose, Gives, PassesLimit, Takes, file_of, longest_file}
+use Rattle.tfpg_base.specs.declared.limits.TheConstants.{MAX_BYTES, LONGEST_FILE}
+use Rattle.tfpg_base.specs.Outside.{SourceState, ShelfState, Rose, Gives, PassesLimit, Takes, file_of}
 use Rattle.tfpg_graph.specs.declared.cause.GraphFault.{GraphFault}
 use Rattle.tfpg_graph.specs.Graph.{Tfpg}
 use Rattle.tfpg_graph.specs.Text.{Spells}
@@ -49,7 +49,7 @@ module _ (shelf : ShelfState) (files : List (List ℕ × List ℕ)) (known : she
   gives_is name text gives = subst (λ (fs : Option (List (List ℕ × List ℕ))). IfSome fs (λ them. file_of them name ≡ Some text)) known gives
 
   -- a file that is short enough is not too long
-  not_too_long : (name text : List ℕ) → Gives shelf name text → length text ≤ longest_file → IsTooLong shelf name → ⊥
+  not_too_long : (name text : List ℕ) → Gives shelf name text → length text ≤ LONGEST_FILE → IsTooLong shelf name → ⊥
   not_too_long name text gives small long =
       let front = long.0 in
       let there = subst (λ (fs : Option (List (List ℕ × List ℕ))). IfSome fs (λ them. (more : List ℕ) × (0 < length more) × (file_of them name ≡ Some (front ++ more)))) known long.1.1 in
@@ -61,13 +61,13 @@ module _ (shelf : ShelfState) (files : List (List ℕ × List ℕ)) (known : she
     -- a graph that is there has no fault
     no_graph_fault : (fault : GraphFault) → HasFaultyGraph shelf name fault → ⊥
     no_graph_fault fault faulty =
-        let same : faulty.text ≡ gives.text = same_Some _ _ (sym (gives_is name faulty.text faulty.file.gives) ∙ gives_is name gives.text gives.gives) in
+        let same : faulty.text ≡ gives.text = same_Some _ _ (sym (gives_is name faulty.text faulty.file.gives) ∙ gives_is name gives.text gives.file.gives) in
         law gives.text graph gives.spells gives.valid fault (subst (λ (t : List ℕ). IsFirstFault t fault) same faulty.first)
 
     -- where it is not fetched, memory ran out
     fetched : (now : ShelfState) (fault : FetchFault) → (Rose shelf.faults now.faults → ⊥) → IsFetchFault shelf now name fault → fault ≡ NoMemory
     fetched now Failed calm is = absurd (calm is)
-    fetched now TooLong calm is = absurd (not_too_long name gives.text gives.gives gives.small is)
+    fetched now TooLong calm is = absurd (not_too_long name gives.text gives.file.gives gives.file.small is)
     fetched now (Graph fault) calm is = absurd (no_graph_fault fault is)
     fetched now NoMemory calm is = refl
 
@@ -75,7 +75,7 @@ module _ (shelf : ShelfState) (files : List (List ℕ × List ℕ)) (known : she
     both_fetched : (now : ShelfState) (other text : List ℕ) → HasFile shelf other text → (fault : FetchFault) → (Rose shelf.faults now.faults → ⊥)
         → IsFilesFault shelf now name other fault → fault ≡ NoMemory
     both_fetched now other text file Failed calm is = absurd (calm is)
-    both_fetched now other text file TooLong calm (inl long) = absurd (not_too_long name gives.text gives.gives gives.small long)
+    both_fetched now other text file TooLong calm (inl long) = absurd (not_too_long name gives.text gives.file.gives gives.file.small long)
     both_fetched now other text file TooLong calm (inr long) = absurd (not_too_long other text file.gives file.small long.2)
     both_fetched now other text file (Graph fault) calm is = absurd (no_graph_fault fault is.2)
     both_fetched now other text file NoMemory calm is = refl
@@ -83,7 +83,7 @@ module _ (shelf : ShelfState) (files : List (List ℕ × List ℕ)) (known : she
 -- ---- input that is short
 
 -- what was taken of it is no more than it had
-few_taken : (before now : SourceState) (taken : List ℕ) → IsShort before → Takes before now taken → length taken ≤ max_bytes
+few_taken : (before now : SourceState) (taken : List ℕ) → IsShort before → Takes before now taken → length taken ≤ MAX_BYTES
 few_taken before now taken short takes =
     let there = subst (λ (left : Option (List ℕ)). IfSome left (λ had. (rest : List ℕ) × (now.left ≡ Some rest) × (had ≡ taken ++ rest))) short.left takes in
     let same : length short.known ≡ length (taken ++ there.0) = ap length there.2 in
@@ -92,7 +92,7 @@ few_taken before now taken short takes =
 without_memory : (end : End) (fault : FetchFault) → fault ≡ NoMemory → end ≡ end_of_fetch_fault fault → end ≡ ends.NoMemory
 without_memory end fault is e = e ∙ ap end_of_fetch_fault is
 
-not_more : (count : ℕ) → count ≤ max_bytes → count ≡ max_bytes + 1 → ⊥
+not_more : (count : ℕ) → count ≤ MAX_BYTES → count ≡ MAX_BYTES + 1 → ⊥
 not_more count few more = omega (arith, few, more)
 
 -- ---- each command

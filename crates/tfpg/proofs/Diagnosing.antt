@@ -17,13 +17,14 @@ use Rattle.tfpg_hyp.specs.Rounds.{IsRound}
 use Rattle.tfpg_engine.specs.Earned.{AreEarned}
 use Rattle.tfpg_engine.specs.Engining.{EngineRepresents, GivesRound}
 use Rattle.tfpg_sim.specs.AcceptedLog.{AreAccepted, IsAccepted}
-use Rattle.tfpg_sim.proofs.DrawLists.{take-next}
+use Rattle.tfpg_base.proofs.lists.Cuts.{take-next}
 use Rattle.tfpg.specs.declared.diagnosis.Diagnosis.{Diagnosis}
+use Rattle.tfpg.specs.declared.limits.TheConstants.{GENERATED_K, GENERATED_BUDGET}
 use Rattle.tfpg.specs.Diagnosed.{IsRoundOfLine}
 use Rattle.tfpg.specs.inside.Diagnosed.{HasDiagnosed}
 
 -- a new diagnosis has taken no line
-pub nothing_diagnosed : (graph : Tfpg) (d : Diagnosis) → d.engine.graph ≡ graph → d.engine.k ≡ 2 → d.engine.budget ≡ 50 → d.engine.log ≡ new_log → EngineRepresents d.engine []
+pub nothing_diagnosed : (graph : Tfpg) (d : Diagnosis) → d.engine.graph ≡ graph → d.engine.k ≡ GENERATED_K → d.engine.budget ≡ GENERATED_BUDGET → d.engine.log ≡ new_log → EngineRepresents d.engine []
     → d.last ≡ None → HasDiagnosed graph [] d
 nothing_diagnosed graph d graph_is k_is budget_is log_is represents last = record {
   graph_is = graph_is;
@@ -83,32 +84,32 @@ module _ (graph : Tfpg) (lines : List (List ℕ)) (line : List ℕ) (before now 
   log_now = gives.log ∙ ap (λ (l : Logbook). with_event l gives.event) has.log_is ∙ sym log_more
 
   -- the round is that of the line
-  round_of_line : IsRoundOfLine graph 2 50 (lines ++ line ∷ []) (length lines) has.rounds round
+  round_of_line : IsRoundOfLine graph GENERATED_K GENERATED_BUDGET (lines ++ line ∷ []) (length lines) has.rounds round
   round_of_line =
       let all : take (length lines + 1) (lines ++ line ∷ []) ≡ lines ++ line ∷ [] = take_all (length lines + 1) (lines ++ line ∷ []) (omega (arith, length_push lines line)) in
       let log : now.engine.log ≡ log_of_lines graph (take (length lines + 1) (lines ++ line ∷ [])) = log_now ∙ ap (log_of_lines graph) (sym all) in
       let counted = has.counted in
       record {
-        round_is = round_moved before.engine.graph graph before.engine.k 2 before.engine.budget 50 now.engine.log _ number (length lines + 1) has.rounds round
+        round_is = round_moved before.engine.graph graph before.engine.k GENERATED_K before.engine.budget GENERATED_BUDGET now.engine.log _ number (length lines + 1) has.rounds round
             has.graph_is has.k_is has.budget_is log (omega (arith, number_is, counted)) gives.round_is;
-        earned = earned_moved before.engine.graph graph before.engine.budget 50 now.engine.log _ has.rounds round has.graph_is has.budget_is log gives.earned;
+        earned = earned_moved before.engine.graph graph before.engine.budget GENERATED_BUDGET now.engine.log _ has.rounds round has.graph_is has.budget_is log gives.earned;
       }
 
   -- the rounds before it are those of the lines before it
-  earlier_round : (place : ℕ) (other : Round) → place < length lines → IsRoundOfLine graph 2 50 lines place (take place has.rounds) other
-      → IsRoundOfLine graph 2 50 (lines ++ line ∷ []) place (take place (has.rounds ++ round ∷ [])) other
+  earlier_round : (place : ℕ) (other : Round) → place < length lines → IsRoundOfLine graph GENERATED_K GENERATED_BUDGET lines place (take place has.rounds) other
+      → IsRoundOfLine graph GENERATED_K GENERATED_BUDGET (lines ++ line ∷ []) place (take place (has.rounds ++ round ∷ [])) other
   earlier_round place other within is =
       let one_each = has.rounds_are.one_each in
       let rounds : take place (has.rounds ++ round ∷ []) ≡ take place has.rounds = take-append-le place has.rounds (round ∷ []) (omega arith) in
       let front : take (place + 1) (lines ++ line ∷ []) ≡ take (place + 1) lines = take-append-le (place + 1) lines (line ∷ []) (omega arith) in
-      subst (λ (rs : List Round). IsRoundOfLine graph 2 50 (lines ++ line ∷ []) place rs other) (sym rounds)
+      subst (λ (rs : List Round). IsRoundOfLine graph GENERATED_K GENERATED_BUDGET (lines ++ line ∷ []) place rs other) (sym rounds)
       (record {
-        round_is = subst (λ (ls : List (List ℕ)). IsRound graph 2 50 (take place has.rounds) (log_of_lines graph ls) (place + 1) other) (sym front) is.round_is;
-        earned = subst (λ (ls : List (List ℕ)). AreEarned graph (log_of_lines graph ls) 50 (take place has.rounds) other) (sym front) is.earned;
+        round_is = subst (λ (ls : List (List ℕ)). IsRound graph GENERATED_K GENERATED_BUDGET (take place has.rounds) (log_of_lines graph ls) (place + 1) other) (sym front) is.round_is;
+        earned = subst (λ (ls : List (List ℕ)). AreEarned graph (log_of_lines graph ls) GENERATED_BUDGET (take place has.rounds) other) (sym front) is.earned;
       })
 
   each_round : (place : ℕ) (other : Round) → slice_get (has.rounds ++ round ∷ []) place ≡ Some other
-      → IsRoundOfLine graph 2 50 (lines ++ line ∷ []) place (take place (has.rounds ++ round ∷ [])) other
+      → IsRoundOfLine graph GENERATED_K GENERATED_BUDGET (lines ++ line ∷ []) place (take place (has.rounds ++ round ∷ [])) other
   each_round place other at =
       let one_each = has.rounds_are.one_each in
       let within = slice_get_within (has.rounds ++ round ∷ []) place other at in
@@ -120,9 +121,9 @@ module _ (graph : Tfpg) (lines : List (List ℕ)) (line : List ℕ) (before now 
       let same : round ≡ other = same_Some round other (sym (slice_get-push_at has.rounds round place last) ∙ at) in
       let front : take place (has.rounds ++ round ∷ []) ≡ has.rounds =
       take-append-le place has.rounds (round ∷ []) (omega (arith, last)) ∙ take_all place has.rounds (omega (arith, last)) in
-      subst (λ (r : Round). IsRoundOfLine graph 2 50 (lines ++ line ∷ []) place (take place (has.rounds ++ round ∷ [])) r) same
-      (subst (λ (rs : List Round). IsRoundOfLine graph 2 50 (lines ++ line ∷ []) place rs round) (sym front)
-      (subst (λ (n : ℕ). IsRoundOfLine graph 2 50 (lines ++ line ∷ []) n has.rounds round) (sym (last ∙ one_each)) round_of_line)))
+      subst (λ (r : Round). IsRoundOfLine graph GENERATED_K GENERATED_BUDGET (lines ++ line ∷ []) place (take place (has.rounds ++ round ∷ [])) r) same
+      (subst (λ (rs : List Round). IsRoundOfLine graph GENERATED_K GENERATED_BUDGET (lines ++ line ∷ []) place rs round) (sym front)
+      (subst (λ (n : ℕ). IsRoundOfLine graph GENERATED_K GENERATED_BUDGET (lines ++ line ∷ []) n has.rounds round) (sym (last ∙ one_each)) round_of_line)))
       (cases_lt place (length has.rounds))
 
   -- The diagnosis has taken one line more.

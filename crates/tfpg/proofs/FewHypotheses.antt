@@ -1,11 +1,12 @@
 -- Of 16 failure modes there are 137 sets of at most 2.
 use Rattle.std.proofs.Common.{◌≡◌, ℕ, ◌<◌, length, refl, sym, arith}
 use Rattle.tfpg_graph.specs.Graph.{Tfpg, failures}
-use Rattle.tfpg_hyp.specs.Hypotheses.{max_hypotheses, HasHypotheses}
+use Rattle.tfpg_hyp.specs.Hypotheses.{HasHypotheses}
+use Rattle.tfpg_hyp.specs.declared.limits.TheConstants.{MAX_HYPOTHESES}
 use Rattle.tfpg_hyp.proofs.Tables.{one_count, HasHypotheses-counted}
 
 -- they are not too many
-pub few_hypotheses : (graph : Tfpg) (count : ℕ) → length (failures graph) ≡ 16 → max_hypotheses < count → HasHypotheses graph 2 count → ⊥
+pub few_hypotheses : (graph : Tfpg) (count : ℕ) → length (failures graph) ≡ 16 → MAX_HYPOTHESES < count → HasHypotheses graph 2 count → ⊥
 few_hypotheses graph count failing many has =
     let same : count ≡ 137 = one_count graph 2 count 137 has (HasHypotheses-counted graph 2 16 137 (sym failing) refl) in
     omega (arith, same, many)

@@ -4,13 +4,14 @@ use Rattle.std.specs.Prelude.{IfSome, unwrap_or, slice_get}
 use Rattle.std.specs.List.{slice_split}
 use Rattle.std.proofs.lemmas.List.Splits.{length-slice_split}
 use Rattle.std.proofs.lemmas.List.Sums.{count_by-le-length}
-use Rattle.std.proofs.lemmas.List.{take-append-le, append-nil, length-append, length-take, take_at, take_all, take-take}
+use Rattle.std.proofs.lemmas.List.{take-append-le, append-nil, length-append, length-take, take_all}
 use Rattle.std.proofs.lemmas.Option.{slice_get_within}
 use Rattle.tfpg_base.specs.declared.line.Line.{Line}
 use Rattle.tfpg_base.specs.declared.line.Line.TheVariants as line
 use Rattle.tfpg_base.specs.declared.line.LineFault.{LineFault}
 use Rattle.tfpg_base.specs.Outside.{SourceState, Takes, IsAtEnd}
-use Rattle.tfpg_base.specs.Lines.{Reading, Buffered, LinesRepresent, Continues, IsNext, next_whole, lines_of, whole_lines, line_of_part, last_part, ends_line, max_bytes}
+use Rattle.tfpg_base.specs.Lines.{Reading, Buffered, LinesRepresent, Continues, IsNext, next_whole, lines_of, whole_lines, line_of_part, last_part, ends_line}
+use Rattle.tfpg_base.specs.declared.limits.TheConstants.{MAX_BYTES}
 use Rattle.tfpg_base.proofs.LinesOf.{lines_of-append}
 use Rattle.tfpg_base.proofs.Taking.{Takes-nothing}
 use Rattle.tfpg.specs.Streams.{HasLeft}
@@ -41,7 +42,7 @@ module _ (reading : Reading) (first : List ℕ) (input : SourceState) (next : Is
   -- a line that has come whole is a line of the bytes whatever follows
   front_of_whole_line : (rest : List ℕ) → next_whole reading ≡ Some first → take (length reading.given + 1) (lines_of (reading.taken ++ rest)) ≡ reading.given ++ first ∷ []
   front_of_whole_line rest whole =
-      let all : take max_bytes reading.taken ≡ reading.taken = take_all max_bytes reading.taken next.few in
+      let all : take MAX_BYTES reading.taken ≡ reading.taken = take_all MAX_BYTES reading.taken next.few in
       let there : slice_get (whole_lines reading.taken) (length reading.given) ≡ Some first = sym (ap (λ (bytes : List ℕ). slice_get (whole_lines bytes) (length reading.given)) all) ∙ whole in
       let within : length reading.given + 1 ≤ length (whole_lines reading.taken) = omega (arith, slice_get_within (whole_lines reading.taken) (length reading.given) first there) in
       ap (take (length reading.given + 1)) (lines_of-append reading.taken rest)
@@ -58,19 +59,16 @@ module _ (reading : Reading) (first : List ℕ) (input : SourceState) (next : Is
       by (inr end) = ap (λ (rest : List ℕ). take (length reading.given + 1) (lines_of (reading.taken ++ rest))) (rest_at_end input end)
           ∙ ap (λ (bytes : List ℕ). take (length reading.given + 1) (lines_of bytes)) (append-nil reading.taken) ∙ next.front
 
-pub front_is_within : (lines given : List (List ℕ)) → take (length given) lines ≡ given → length given ≤ length lines
-front_is_within lines given e = let same : length (take (length given) lines) ≡ length given = ap length e in omega (arith, same, length-take (length given) lines)
-
 -- What holds where a call has found the end, after which no more was taken than may be.
 pub record CameToEnd (reading : Reading) (before after : SourceState) : Type 0 where
   pub more : List ℕ
   pub takes : Takes before after more
-  pub few : length (reading.taken ++ more) ≤ max_bytes
+  pub few : length (reading.taken ++ more) ≤ MAX_BYTES
   pub all : lines_of (reading.taken ++ more) ≡ reading.given
   pub end : IsAtEnd after
   pub no_fault : after.faults ≡ before.faults
 
-pub came_to_end : (reading : Reading) (before after : SourceState) (old reader : Buffered) → length reading.taken ≤ max_bytes
+pub came_to_end : (reading : Reading) (before after : SourceState) (old reader : Buffered) → length reading.taken ≤ MAX_BYTES
     → (reading.ended ≡ None) ⊎ ((reading.ended ≡ Some (Ok line.End)) × IsAtEnd before) → LinesRepresent old reading → Continues reading reading.ended before after (Ok line.End) reader
     → CameToEnd reading before after
 came_to_end reading before after old reader few goes_on represents continues = go reading.ended refl goes_on continues
@@ -87,16 +85,6 @@ came_to_end reading before after old reader few goes_on represents continues = g
       end = subst IsAtEnd (sym turn.1) is.1;
       no_fault = ap (λ (source : SourceState). source.faults) turn.1;
     }
-
-pub front_before : (lines given : List (List ℕ)) (first : List ℕ) → take (length given + 1) lines ≡ given ++ first ∷ [] → take (length given) lines ≡ given
-front_before lines given first e =
-    let shorter : take (length given) (take (length given + 1) lines) ≡ take (length given) lines = take-take (length given) (length given + 1) lines (omega arith) in
-    sym shorter ∙ ap (take (length given)) e ∙ take_at given (first ∷ []) (length given) refl
-
-pub front_with : (lines given : List (List ℕ)) (first : List ℕ) → take (length given + 1) lines ≡ given ++ first ∷ [] → take (length (given ++ first ∷ [])) lines ≡ given ++ first ∷ []
-front_with lines given first e =
-    let more : length (given ++ first ∷ []) ≡ length given + 1 = omega (arith, length-append given (first ∷ [])) in
-    ap (λ (n : ℕ). take n lines) more ∙ e
 
 short_part : (part : List ℕ) → length (line_of_part part) ≤ 1
 short_part [] = omega arith

@@ -1,24 +1,18 @@
 -- The log of a text, whose last part may be empty.
-use Rattle.std.proofs.Common.{◌≡◌, ℕ, ◌-◌, ◌<◌, List, [], ◌∷◌, ◌++◌, length, take, get_or, refl, ap, sym, ◌∙◌, arith}
-use Rattle.std.proofs.lemmas.List.{append-nil}
+use Rattle.std.proofs.Common.{◌≡◌, ℕ, ◌+◌, ◌-◌, ◌<◌, List, [], ◌∷◌, ◌++◌, length, refl, ap, sym, ◌∙◌, arith}
+use Rattle.std.proofs.lemmas.List.{append-nil, take_all, take_more}
 use Rattle.std.proofs.lemmas.List.Splits.{length-slice_split}
 use Rattle.tfpg_base.specs.Lines.{ends_line, parts_of, whole_lines, last_part, line_of_part, lines_of}
 use Rattle.tfpg_graph.specs.Graph.{Tfpg}
 use Rattle.tfpg_log.specs.LogOfLines.{log_of_lines}
 use Rattle.tfpg_log.proofs.LogsOfLines.{log_of_lines-push}
 
--- a list is all but its last element, and the last
-front_and_last : (first : List ℕ) (others : List (List ℕ)) → first ∷ others ≡ take (length others) (first ∷ others) ++ get_or (first ∷ others) (length others) [] ∷ []
-front_and_last first [] = refl
-front_and_last first (second ∷ others) = ap (λ (xs : List (List ℕ)). first ∷ xs) (front_and_last second others)
-
 -- the parts are the whole lines and the last part
 parts_are : (bytes : List ℕ) → parts_of bytes ≡ whole_lines bytes ++ last_part bytes ∷ []
-parts_are bytes = by (parts_of bytes) (omega (arith, length-slice_split ends_line bytes))
-  where
-    by : (parts : List (List ℕ)) → 0 < length parts → parts ≡ take (length parts - 1) parts ++ get_or parts (length parts - 1) [] ∷ []
-    by [] some = absurd (omega arith)
-    by (first ∷ others) some = let e : length (first ∷ others) - 1 ≡ length others = omega arith in rw e (front_and_last first others)
+parts_are bytes =
+    let parts = parts_of bytes in
+    let some : 0 < length parts = omega (arith, length-slice_split ends_line bytes) in
+    sym (take_all (length parts - 1 + 1) parts (omega (arith, some))) ∙ take_more parts (length parts - 1) [] (omega (arith, some))
 
 -- an empty part leaves no trace
 without_part : (graph : Tfpg) (lines : List (List ℕ)) (part : List ℕ) → log_of_lines graph (lines ++ part ∷ []) ≡ log_of_lines graph (lines ++ line_of_part part)

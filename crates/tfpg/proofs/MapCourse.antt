@@ -1,6 +1,6 @@
 -- Reading the map of the input, one turn after another.
 use Rattle.std.proofs.Common.{◌^◌, ◌≡◌, ◌==◌, ℕ, zero, suc, ◌+◌, ◌<◌, ◌≤◌, Bool, true, false, cond, List, [], ◌∷◌, ◌++◌, length, take, get_or, All, Option, Some, None, Result, Ok, Err, refl, sym, ap, subst, ◌∙◌, arith, inl, inr}
-use Rattle.std.specs.Prelude.{IfOk, IfErr, IsErrAnd}
+use Rattle.std.specs.Prelude.{IfOk, IfErr}
 use Rattle.std.proofs.lemmas.Bool.{eqb-true, eq-eqb}
 use Rattle.std.proofs.lemmas.List.{append-nil, length-append}
 use Rattle.std.proofs.lemmas.List.Elements.{All-head, All-tail}
@@ -9,7 +9,8 @@ use Rattle.tfpg_base.specs.declared.line.Line.{Line}
 use Rattle.tfpg_base.specs.declared.line.Line.TheVariants as line
 use Rattle.tfpg_base.specs.declared.line.LineFault.{LineFault}
 use Rattle.tfpg_base.specs.declared.line.LineFault.TheVariants as fault
-use Rattle.tfpg_base.specs.Lines.{Buffered, LinesRepresent, Continues, lines_of, longest_line, new_reading, with_bytes, with_line}
+use Rattle.tfpg_base.specs.Lines.{Buffered, LinesRepresent, Continues, lines_of, new_reading, with_bytes, with_line}
+use Rattle.tfpg_base.specs.declared.limits.TheConstants.{LONGEST_LINE}
 use Rattle.tfpg_base.specs.Outside.{SourceState, Rose}
 use Rattle.tfpg_base.specs.Trace.{time_of}
 use Rattle.tfpg_base.proofs.ReadingOn.{GaveLine, Continues-turn, Continues-text, Continues-too_long}
@@ -23,7 +24,8 @@ use Rattle.tfpg.specs.declared.map.NoMap.TheVariants as none
 use Rattle.tfpg.specs.inside.Faults.{no_map_of_lines}
 use Rattle.tfpg.specs.inside.MapLines.{HasRead, MapRepresents}
 use Rattle.tfpg.specs.inside.MapReading.{IsReadingMap, HasReadAll, ReadsMap, ReturnsMap, LacksMap}
-use Rattle.tfpg.proofs.InputLines.{rest_of, rest_is_left, rest_at_end, front_of_input, front_is_within, came_to_end, front_before, front_with, few_lines}
+use Rattle.tfpg_base.proofs.lists.Cuts.{front_is_within, front_before, front_with}
+use Rattle.tfpg.proofs.InputLines.{rest_of, rest_is_left, rest_at_end, front_of_input, came_to_end, few_lines}
 use Rattle.tfpg.proofs.MapTexts.{HasRead-begins, no_map-long}
 
 -- ---- the beginning
@@ -160,19 +162,19 @@ module _ (graph : Tfpg) (before now : SourceState) (lines lines' : Buffered) (ma
 
   -- a text
   module _ (text : List ℕ) (map' : MapReader) (e : l ≡ line.Text) (text_is : text ≡ lines'.text) where
-    met_text : (gave : GaveLine under.reading now input lines') × (length gave.first ≤ longest_line) × (lines'.text ≡ gave.first)
+    met_text : (gave : GaveLine under.reading now input lines') × (length gave.first ≤ LONGEST_LINE) × (lines'.text ≡ gave.first)
     met_text = Continues-text under.reading now input lines' under.goes_on (subst (λ (x : Line). Continues under.reading under.reading.ended now input (Ok x) lines') e continues)
 
     along : met_text.0.first ≡ text
     along = sym (text_is ∙ met_text.2)
 
     -- that is read
-    pub met_read : ((given : List (List ℕ)) → MapRepresents graph map given → length text ≤ longest_line → MapRepresents graph map' (given ++ text ∷ []))
+    pub met_read : ((given : List (List ℕ)) → MapRepresents graph map given → length text ≤ LONGEST_LINE → MapRepresents graph map' (given ++ text ∷ []))
         → IsReadingMap graph before input lines' map' × (lines'.number ≡ lines.number + 1)
     met_read reads =
         reads_line graph before now lines lines' map input under met_text.0 map'
         (subst (λ (t : List ℕ). MapRepresents graph map' (under.reading.given ++ t ∷ [])) (sym along)
-        (reads under.reading.given under.read (subst (λ (t : List ℕ). length t ≤ longest_line) along met_text.1)))
+        (reads under.reading.given under.read (subst (λ (t : List ℕ). length t ≤ LONGEST_LINE) along met_text.1)))
 
     -- that is faulty
     pub met_faulty : ((given : List (List ℕ)) → MapRepresents graph map given → BeginsMap graph (given ++ text ∷ []) → ⊥) → (f : NoMap) → f ≡ none.Refused lines'.number
@@ -256,9 +258,3 @@ pub map_in_graph : (graph : Tfpg) (before now : SourceState) (result : Result Ma
     → IfOk result (λ map. All (λ activation. activation.node < length graph.nodes) map.trace)
 map_in_graph graph before now (Ok map) reads = spelled_in_graph graph (lines_of reads.taken) map.set map.trace reads.gives.spells
 map_in_graph graph before now (Err fault) reads = tt
-
--- what holds at the exit of a `?`
-pub lacks_is : {T : Type 0} (graph : Tfpg) (before now : SourceState) (result : Result T NoMap) (e : NoMap) → IsErrAnd result (λ x. x ≡ e) → LacksMap graph before now e
-    → IfErr result (LacksMap graph before now)
-lacks_is graph before now (Ok x) e h lacks = absurd h
-lacks_is graph before now (Err x) e h lacks = subst (LacksMap graph before now) (sym h) lacks

@@ -5,13 +5,14 @@ use Rattle.std.proofs.lemmas.List.{append-nil, map-append}
 use Rattle.std.proofs.lemmas.List.Elements.{All-nil, All-cons, All-head, All-tail, All-append, All-contains}
 use Rattle.std.proofs.lemmas.List.Quantifiers.{all_pairs_push}
 use Rattle.tfpg_base.specs.declared.activation.Activation.{Activation}
-use Rattle.tfpg_base.specs.Lines.{longest_line}
+use Rattle.tfpg_base.specs.declared.limits.TheConstants.{LONGEST_LINE}
 use Rattle.tfpg_base.specs.Trace.{time_of, with_time}
-use Rattle.tfpg_base.proofs.lists.Elements.{Contains-head, Contains-tail, AllPairs-head, AllPairs-tail}
+use Rattle.tfpg_base.proofs.lists.Elements.{Contains-head, Contains-middle, Contains-tail, AllPairs-head, AllPairs-tail}
 use Rattle.tfpg_base.proofs.Traces.{time_of-with_time, time_of-with_time_other, IsRisingByNode-with_time}
-use Rattle.tfpg_graph.specs.Graph.{Tfpg}
+use Rattle.tfpg_graph.specs.Graph.{Tfpg, IsSetOf}
 use Rattle.tfpg_graph.specs.Valid.{IsValid}
-use Rattle.tfpg.specs.Map.{IsSetOf, IsActivationOf, SpellsMap, BeginsMap, set_line, at_line}
+use Rattle.tfpg_report.specs.Blocks.{activation_line}
+use Rattle.tfpg.specs.Map.{IsActivationOf, SpellsMap, BeginsMap, set_line}
 use Rattle.tfpg.specs.inside.MapLines.{HasRead, TakesActivation, IsNoActivation}
 use Rattle.tfpg.proofs.MapWords.{one_node}
 
@@ -49,21 +50,21 @@ time_of-push (first ∷ others) activation node e = by (first.node == activation
 -- ---- a line more
 
 -- the line of a set begins a map
-pub SpellsMap-set : (graph : Tfpg) (line set : List ℕ) → IsSetOf graph set → line ≡ set_line graph set → length line ≤ longest_line → SpellsMap graph (line ∷ []) set []
+pub SpellsMap-set : (graph : Tfpg) (line set : List ℕ) → IsSetOf graph set → line ≡ set_line graph set → length line ≤ LONGEST_LINE → SpellsMap graph (line ∷ []) set []
 SpellsMap-set graph line set of spelled short = record {
   of_graph = of;
   listed = [];
   of_nodes = All-nil (IsActivationOf graph);
   once = λ i j d lt below. absurd (omega arith);
   spelled = ap (λ (l : List ℕ). l ∷ []) spelled;
-  short = All-cons (λ l. length l ≤ longest_line) line [] short (All-nil _);
+  short = All-cons (λ l. length l ≤ LONGEST_LINE) line [] short (All-nil _);
   rising = λ i j d lt below. absurd (omega arith);
   same_times = λ node. refl;
 }
 
 -- and the line of a further activation goes on with one
 pub SpellsMap-more : (graph : Tfpg) (lines : List (List ℕ)) (set : List ℕ) (trace now : List Activation) (line : List ℕ) → SpellsMap graph lines set trace
-    → TakesActivation graph trace line now → length line ≤ longest_line → SpellsMap graph (lines ++ line ∷ []) set now
+    → TakesActivation graph trace line now → length line ≤ LONGEST_LINE → SpellsMap graph (lines ++ line ∷ []) set now
 SpellsMap-more graph lines set trace now line spells takes short =
     let activation = takes.activation in
     let nowhere : time_of spells.listed activation.node ≡ None = sym (spells.same_times activation.node) ∙ takes.new_node in
@@ -73,9 +74,9 @@ SpellsMap-more graph lines set trace now line spells takes short =
       of_nodes = All-append (IsActivationOf graph) spells.listed (activation ∷ []) spells.of_nodes (All-cons (IsActivationOf graph) activation [] takes.of_graph (All-nil _));
       once = all_pairs_push (λ earlier later. earlier.node ≢ later.node) spells.listed activation spells.once (listed_nowhere spells.listed activation.node nowhere);
       spelled = ap (λ (ls : List (List ℕ)). ls ++ line ∷ []) spells.spelled
-          ∙ ap (λ (l : List ℕ). (set_line graph set ∷ map (at_line graph) spells.listed) ++ l ∷ []) takes.spelled
-          ∙ ap (λ (ls : List (List ℕ)). set_line graph set ∷ ls) (sym (map-append (at_line graph) spells.listed (activation ∷ [])));
-      short = All-append (λ l. length l ≤ longest_line) lines (line ∷ []) spells.short (All-cons (λ l. length l ≤ longest_line) line [] short (All-nil _));
+          ∙ ap (λ (l : List ℕ). (set_line graph set ∷ map (activation_line graph) spells.listed) ++ l ∷ []) takes.spelled
+          ∙ ap (λ (ls : List (List ℕ)). set_line graph set ∷ ls) (sym (map-append (activation_line graph) spells.listed (activation ∷ [])));
+      short = All-append (λ l. length l ≤ LONGEST_LINE) lines (line ∷ []) spells.short (All-cons (λ l. length l ≤ LONGEST_LINE) line [] short (All-nil _));
       rising = subst (λ (t : List Activation). AllPairs (λ earlier later. earlier.node < later.node) t) (sym takes.now_is) (IsRisingByNode-with_time trace activation.node activation.time spells.rising);
       same_times = λ node.
           ap (λ (t : List Activation). time_of t node) takes.now_is ∙ times activation node nowhere (spells.same_times node);
@@ -99,17 +100,17 @@ SpellsMap-more graph lines set trace now line spells takes short =
 record IsNext (graph : Tfpg) (listed others : List Activation) (line : List ℕ) : Type 0 where
   activation : Activation
   among : Contains others activation
-  spelled : line ≡ at_line graph activation
+  spelled : line ≡ activation_line graph activation
   nowhere : time_of listed activation.node ≡ None
 
 next_listed : (graph : Tfpg) → IsValid graph → (listed others : List Activation) (line : List ℕ) (more : List (List ℕ)) → All (IsActivationOf graph) listed → All (IsActivationOf graph) others
-    → AllPairs (λ earlier later. earlier.node ≢ later.node) others → map (at_line graph) listed ++ line ∷ more ≡ map (at_line graph) others → IsNext graph listed others line
+    → AllPairs (λ earlier later. earlier.node ≢ later.node) others → map (activation_line graph) listed ++ line ∷ more ≡ map (activation_line graph) others → IsNext graph listed others line
 next_listed graph valid [] [] line more these those once e = absurd cc
 next_listed graph valid [] (activation ∷ others) line more these those once e = record { activation = activation; among = Contains-head activation others; spelled = cc; nowhere = refl }
 next_listed graph valid (first ∷ listed) [] line more these those once e = absurd cc
 next_listed graph valid (first ∷ listed) (other ∷ others) line more these those once e =
-    let head : at_line graph first ≡ at_line graph other = cc in
-    let tail : map (at_line graph) listed ++ line ∷ more ≡ map (at_line graph) others = cc in
+    let head : activation_line graph first ≡ activation_line graph other = cc in
+    let tail : map (activation_line graph) listed ++ line ∷ more ≡ map (activation_line graph) others = cc in
     let same : first.node ≡ other.node = one_node graph valid first other (All-head (IsActivationOf graph) first listed these) (All-head (IsActivationOf graph) other others those) head in
     let next = next_listed graph valid listed others line more (All-tail (IsActivationOf graph) first listed these) (All-tail (IsActivationOf graph) other others those)
     (AllPairs-tail (λ earlier later. earlier.node ≢ later.node) other others once) tail in
@@ -127,9 +128,9 @@ pub no_map-activation : (graph : Tfpg) → IsValid graph → (lines : List (List
     → IsNoActivation graph trace line → BeginsMap graph (lines ++ line ∷ []) → ⊥
 no_map-activation graph valid lines set trace line spells none begins =
     let whole = begins.3 in
-    let same : set_line graph set ∷ (map (at_line graph) spells.listed ++ line ∷ begins.0) ≡ set_line graph begins.1 ∷ map (at_line graph) whole.listed =
+    let same : set_line graph set ∷ (map (activation_line graph) spells.listed ++ line ∷ begins.0) ≡ set_line graph begins.1 ∷ map (activation_line graph) whole.listed =
     sym (append_assoc lines (line ∷ []) begins.0 ∙ ap (λ (ls : List (List ℕ)). ls ++ line ∷ begins.0) spells.spelled) ∙ whole.spelled in
-    let tail : map (at_line graph) spells.listed ++ line ∷ begins.0 ≡ map (at_line graph) whole.listed = cc in
+    let tail : map (activation_line graph) spells.listed ++ line ∷ begins.0 ≡ map (activation_line graph) whole.listed = cc in
     let next = next_listed graph valid spells.listed whole.listed line begins.0 spells.of_nodes whole.of_nodes whole.once tail in
     none next.activation (All-contains (IsActivationOf graph) whole.listed next.activation whole.of_nodes next.among) next.spelled (spells.same_times next.activation.node ∙ next.nowhere)
 
@@ -137,21 +138,17 @@ no_map-activation graph valid lines set trace line spells none begins =
 pub no_map-set : (graph : Tfpg) (line : List ℕ) → ((set : List ℕ) → IsSetOf graph set → line ≡ set_line graph set → ⊥) → BeginsMap graph (line ∷ []) → ⊥
 no_map-set graph line none begins =
     let whole = begins.3 in
-    let head : line ≡ set_line graph begins.1 = first_same line (set_line graph begins.1) begins.0 (map (at_line graph) whole.listed) whole.spelled in
+    let head : line ≡ set_line graph begins.1 = first_same line (set_line graph begins.1) begins.0 (map (activation_line graph) whole.listed) whole.spelled in
     none begins.1 whole.of_graph head
   where
     first_same : (one other : List ℕ) (ones others : List (List ℕ)) → one ∷ ones ≡ other ∷ others → one ≡ other
     first_same one other ones others e = cc
 
 -- nor does one go on with a line that is too long
-pub no_map-long : (graph : Tfpg) (lines : List (List ℕ)) (line : List ℕ) → longest_line < length line → BeginsMap graph (lines ++ line ∷ []) → ⊥
+pub no_map-long : (graph : Tfpg) (lines : List (List ℕ)) (line : List ℕ) → LONGEST_LINE < length line → BeginsMap graph (lines ++ line ∷ []) → ⊥
 no_map-long graph lines line long begins =
-    let short = All-contains (λ l. length l ≤ longest_line) _ line begins.3.short (in_middle lines) in
+    let short = All-contains (λ l. length l ≤ LONGEST_LINE) _ line begins.3.short (subst (λ (ls : List (List ℕ)). Contains ls line) (sym (append_assoc lines (line ∷ []) begins.0)) (Contains-middle lines line begins.0)) in
     omega (arith, long, short)
-  where
-    in_middle : (before : List (List ℕ)) → Contains ((before ++ line ∷ []) ++ begins.0) line
-    in_middle [] = Contains-head line begins.0
-    in_middle (first ∷ others) = Contains-tail first ((others ++ line ∷ []) ++ begins.0) line (in_middle others)
 
 -- ---- as the code comes to it
 
@@ -168,7 +165,7 @@ HasRead-begins graph (Some set) trace lines read = ([], set, trace, subst (λ (l
 
 -- one more line
 pub HasRead-more : (graph : Tfpg) (set : List ℕ) (seen : Option (List ℕ)) (trace now : List Activation) (lines : List (List ℕ)) (line : List ℕ) → seen ≡ Some set → HasRead graph seen trace lines
-    → TakesActivation graph trace line now → length line ≤ longest_line → HasRead graph (Some set) now (lines ++ line ∷ [])
+    → TakesActivation graph trace line now → length line ≤ LONGEST_LINE → HasRead graph (Some set) now (lines ++ line ∷ [])
 HasRead-more graph set seen trace now lines line is read takes short =
     SpellsMap-more graph lines set trace now line (subst (λ (s : Option (List ℕ)). HasRead graph s trace lines) is read) takes short
 

@@ -9,25 +9,25 @@ use Rattle.std.proofs.lemmas.Bool.Decides.{nat_tests}
 use Rattle.std.proofs.lemmas.List.Elements.{All-nil, All-cons, All-head, All-tail, All-weaker, All-append}
 use Rattle.std.proofs.lemmas.List.Quantifiers.{position-Some}
 use Rattle.std.proofs.lemmas.List.Splits.{join_with_byte-slice_split, length-slice_split}
-use Rattle.std.proofs.lemmas.Option.{slice_get-get_or, slice_get_within}
+use Rattle.std.proofs.lemmas.Option.{slice_get-get_or}
 use Rattle.std.proofs.lemmas.Slice.Eq.{bytes_eq-Decides}
 use Rattle.tfpg_base.specs.declared.activation.Activation.{Activation}
 use Rattle.tfpg_base.specs.declared.word.Number.TheVariants.{Value, TooLarge}
 use Rattle.tfpg_base.specs.Set.{with_member}
-use Rattle.tfpg_base.specs.Times.{max_time}
+use Rattle.tfpg_base.specs.declared.limits.TheConstants.{MAX_TIME}
 use Rattle.tfpg_base.specs.Words.{words_of, line_of, is_name, is_name_byte, number_of, number_up_to}
 use Rattle.tfpg_base.proofs.lists.Elements.{AllPairs-head, AllPairs-tail, AllPairs-cons}
 use Rattle.tfpg_base.proofs.Numbers.{number_of-decimal, decimal-number_of}
 use Rattle.tfpg_base.proofs.Separators.{Lacks, lacks_checked, name_lacks, decimal_lacks, join_with_byte-words_of, slice_split-join}
-use Rattle.tfpg_graph.specs.Graph.{Tfpg, name_at, node_named, failures, failure_at, position_of_failure, is_failure}
+use Rattle.tfpg_graph.specs.Graph.{Tfpg, name_at, name_word, node_named, failures, failure_at, position_of_failure, is_failure, IsSetOf}
 use Rattle.tfpg_graph.specs.Valid.{IsValid}
 use Rattle.tfpg_graph.proofs.lemmas.declared.Named.{named_found}
 use Rattle.tfpg_base.proofs.lists.Positions.{position-at}
 use Rattle.tfpg_graph.proofs.lemmas.reading.SpelledEdges.{is_name-name_of, node_named-name_of}
-use Rattle.tfpg_base.proofs.lists.Numbered.{item_of, one_place}
-use Rattle.tfpg_report.specs.Blocks.{set_word, name_word}
-use Rattle.tfpg.specs.Map.{IsSetOf, IsActivationOf, set_line, at_line}
-use Rattle.tfpg.specs.inside.MapLines.{word_after_set, words_after_at, position_named, failure_name, AreFrom}
+use Rattle.tfpg_base.proofs.lists.Numbered.{one_place}
+use Rattle.tfpg_report.specs.Blocks.{set_word, activation_line, failure_word}
+use Rattle.tfpg.specs.Map.{IsActivationOf, set_line}
+use Rattle.tfpg.specs.inside.MapLines.{word_after_set, words_after_at, position_named, AreFrom}
 use Rattle.std.proofs.lemmas.Option.{same_Some}
 use Rattle.tfpg_graph.proofs.Numbered.{failure_at-below}
 
@@ -68,37 +68,37 @@ pub line_is-set : (line word : List ℕ) → word_after_set (words_of line) ≡ 
 line_is-set line word e = sym (join_with_byte-words_of line) ∙ ap (join_with_byte 32) (words_are-set (words_of line) word e)
 
 -- the time of an activation is small
-small_time : (time : ℕ) → time ≤ max_time → time < 2 ^ 64
+small_time : (time : ℕ) → time ≤ MAX_TIME → time < 2 ^ 64
 small_time time within = omega (arith, within)
 
 -- a number up to the greatest time is read as it is
-pub time_read : (time : ℕ) → time ≤ max_time → number_up_to max_time (number_of (decimal time)) ≡ Value time
-time_read time within = ap (number_up_to max_time) (number_of-decimal time (small_time time within)) ∙ by (leb time max_time) refl
+pub time_read : (time : ℕ) → time ≤ MAX_TIME → number_up_to MAX_TIME (number_of (decimal time)) ≡ Value time
+time_read time within = ap (number_up_to MAX_TIME) (number_of-decimal time (small_time time within)) ∙ by (leb time MAX_TIME) refl
   where
-    by : (b : Bool) → leb time max_time ≡ b → cond b (Value time) TooLarge ≡ Value time
+    by : (b : Bool) → leb time MAX_TIME ≡ b → cond b (Value time) TooLarge ≡ Value time
     by true is = refl
     by false is = absurd (grind (arith, nat_tests))
 
-value_read : (word : List ℕ) (time : ℕ) (read : Option ℕ) → number_of word ≡ read → number_up_to max_time read ≡ Value time → (number_of word ≡ Some time) × (time ≤ max_time)
+value_read : (word : List ℕ) (time : ℕ) (read : Option ℕ) → number_of word ≡ read → number_up_to MAX_TIME read ≡ Value time → (number_of word ≡ Some time) × (time ≤ MAX_TIME)
 value_read word time None is e = absurd cc
-value_read word time (Some value) is e = by (leb value max_time) refl e
+value_read word time (Some value) is e = by (leb value MAX_TIME) refl e
   where
-    by : (b : Bool) → leb value max_time ≡ b → cond b (Value value) TooLarge ≡ Value time → (number_of word ≡ Some time) × (time ≤ max_time)
+    by : (b : Bool) → leb value MAX_TIME ≡ b → cond b (Value value) TooLarge ≡ Value time → (number_of word ≡ Some time) × (time ≤ MAX_TIME)
     by true small same =
         let value_is : value ≡ time = cc in
-        (is ∙ ap Some value_is, subst (λ n. n ≤ max_time) value_is (grind (arith, nat_tests)))
+        (is ∙ ap Some value_is, subst (λ n. n ≤ MAX_TIME) value_is (grind (arith, nat_tests)))
     by false small same = absurd cc
 
 -- a word that is read as a time up to the greatest one
-pub time_spelled : (word : List ℕ) (time : ℕ) → number_up_to max_time (number_of word) ≡ Value time → (word ≡ decimal time) × (time ≤ max_time)
+pub time_spelled : (word : List ℕ) (time : ℕ) → number_up_to MAX_TIME (number_of word) ≡ Value time → (word ≡ decimal time) × (time ≤ MAX_TIME)
 time_spelled word time e =
     let read = value_read word time (number_of word) refl e in
     (decimal-number_of word time read.0 (small_time time read.1), read.1)
 
 module _ (graph : Tfpg) (valid : IsValid graph) where
   -- the line of an activation is read so
-  pub at_line-read : (activation : Activation) → IsActivationOf graph activation → words_after_at (words_of (at_line graph activation)) ≡ Some (name_word graph activation.node, decimal activation.time)
-  at_line-read activation of =
+  pub activation_line-read : (activation : Activation) → IsActivationOf graph activation → words_after_at (words_of (activation_line graph activation)) ≡ Some (name_word graph activation.node, decimal activation.time)
+  activation_line-read activation of =
       ap words_after_at (slice_split-join 32 (codes "at" ∷ name_word graph activation.node ∷ decimal activation.time ∷ []) (omega arith) (
         lacks_checked 32 (codes "at") refl,
         (
@@ -112,9 +112,9 @@ module _ (graph : Tfpg) (valid : IsValid graph) where
   node_of_word node within = node_named-name_of graph node within valid.so_far.nodes_differ
 
   -- two lines of activations that are the same are of one node
-  pub one_node : (one other : Activation) → IsActivationOf graph one → IsActivationOf graph other → at_line graph one ≡ at_line graph other → one.node ≡ other.node
+  pub one_node : (one other : Activation) → IsActivationOf graph one → IsActivationOf graph other → activation_line graph one ≡ activation_line graph other → one.node ≡ other.node
   one_node one other of too same =
-      let words = same_Some _ _ (sym (at_line-read one of) ∙ ap (λ line. words_after_at (words_of line)) same ∙ at_line-read other too) in
+      let words = same_Some _ _ (sym (activation_line-read one of) ∙ ap (λ line. words_after_at (words_of line)) same ∙ activation_line-read other too) in
       same_Some one.node other.node (sym (node_of_word one.node of.in_graph) ∙ ap (λ (words : List ℕ × List ℕ). node_named graph words.0) words ∙ node_of_word other.node too.in_graph)
 
 -- the word of a node that was found by its name
@@ -124,8 +124,8 @@ word_of_named graph name node found = let is = named_found graph name node found
 -- ---- names of failure modes
 
 -- its name is that of the node
-failure_name-node : (graph : Tfpg) (place node : ℕ) → failure_at graph place ≡ Some node → failure_name graph place ≡ name_word graph node
-failure_name-node graph place node at = ap (λ o. unwrap_or (option_and_then (name_at graph) o) []) at
+failure_word-node : (graph : Tfpg) (place node : ℕ) → failure_at graph place ≡ Some node → failure_word graph place ≡ name_word graph node
+failure_word-node graph place node at = ap (λ o. unwrap_or (option_and_then (name_at graph) o) []) at
 
 -- a failure mode stands at its position, and at no earlier one
 place_of-failure : (graph : Tfpg) (place node : ℕ) → place < length (failures graph) → failure_at graph place ≡ Some node → position_of_failure graph node ≡ Some place
@@ -141,31 +141,31 @@ place_of-failure graph place node within at =
 
 module _ (graph : Tfpg) (valid : IsValid graph) where
   -- the name of a failure mode names its position
-  pub position_named-name : (place : ℕ) → place < length (failures graph) → position_named graph (failure_name graph place) ≡ Some place
+  pub position_named-name : (place : ℕ) → place < length (failures graph) → position_named graph (failure_word graph place) ≡ Some place
   position_named-name place within =
       let node = get_or (failures graph) place 0 in
       let at : failure_at graph place ≡ Some node = slice_get-get_or (failures graph) place 0 within in
-      ap (position_named graph) (failure_name-node graph place node at)
+      ap (position_named graph) (failure_word-node graph place node at)
       ∙ ap (λ o. option_and_then (position_of_failure graph) o) (node_of_word graph valid node (failure_at-below graph place node at))
       ∙ place_of-failure graph place node within at
 
   -- and is a name
-  pub failure_name-is_name : (place : ℕ) → place < length (failures graph) → IsTrue (is_name (failure_name graph place))
-  failure_name-is_name place within =
+  pub failure_word-is_name : (place : ℕ) → place < length (failures graph) → IsTrue (is_name (failure_word graph place))
+  failure_word-is_name place within =
       let node = get_or (failures graph) place 0 in
       let at : failure_at graph place ≡ Some node = slice_get-get_or (failures graph) place 0 within in
-      ap is_name (failure_name-node graph place node at) ∙ is_name-name_of graph node (failure_at-below graph place node at) valid.so_far.node_names
+      ap is_name (failure_word-node graph place node at) ∙ is_name-name_of graph node (failure_at-below graph place node at) valid.so_far.node_names
 
 -- a position that a name names is of a failure mode of that name
-pub place_named : (graph : Tfpg) (name : List ℕ) (place : ℕ) → position_named graph name ≡ Some place → (place < length (failures graph)) × (failure_name graph place ≡ name)
+pub place_named : (graph : Tfpg) (name : List ℕ) (place : ℕ) → position_named graph name ≡ Some place → (place < length (failures graph)) × (failure_word graph place ≡ name)
 place_named graph name place e = by (node_named graph name) refl e
   where
-    by : (o : Option ℕ) → node_named graph name ≡ o → option_and_then (position_of_failure graph) o ≡ Some place → (place < length (failures graph)) × (failure_name graph place ≡ name)
+    by : (o : Option ℕ) → node_named graph name ≡ o → option_and_then (position_of_failure graph) o ≡ Some place → (place < length (failures graph)) × (failure_word graph place ≡ name)
     by None is same = absurd cc
     by (Some node) is same =
         let found = position-Some (λ failure. failure == node) (failures graph) place 0 same in
         let at : failure_at graph place ≡ Some node = slice_get-get_or (failures graph) place 0 found.0 ∙ ap Some (eqb-true _ _ found.1) in
-        (found.0, failure_name-node graph place node at ∙ sym (word_of_named graph name node is).1)
+        (found.0, failure_word-node graph place node at ∙ sym (word_of_named graph name node is).1)
 
 -- ---- the positions of names
 
@@ -195,58 +195,58 @@ module _ (graph : Tfpg) (least : ℕ) where
 
   -- with a first name of no failure mode, there are no positions of these names
   pub no_places-unknown : IsValid graph → (name : List ℕ) (names : List (List ℕ)) (places : List ℕ) → position_named graph name ≡ None → AreFrom graph least places
-      → map (failure_name graph) places ≡ name ∷ names → ⊥
+      → map (failure_word graph) places ≡ name ∷ names → ⊥
   no_places-unknown valid name names [] none are e = absurd cc
   no_places-unknown valid name names (place ∷ places) none are e =
-      let head : failure_name graph place ≡ name = cc in
+      let head : failure_word graph place ≡ name = cc in
       let found = position_named-name graph valid place (All-head (λ p. p < length (failures graph)) place places are.members) in
       let same = sym found ∙ ap (position_named graph) head ∙ none in
       cc
 
   -- nor with one of a failure mode that is too early
   pub no_places-early : IsValid graph → (name : List ℕ) (names : List (List ℕ)) (first : ℕ) (places : List ℕ) → position_named graph name ≡ Some first → first < least → AreFrom graph least places
-      → map (failure_name graph) places ≡ name ∷ names → ⊥
+      → map (failure_word graph) places ≡ name ∷ names → ⊥
   no_places-early valid name names first [] some early are e = absurd cc
   no_places-early valid name names first (place ∷ places) some early are e =
-      let head : failure_name graph place ≡ name = cc in
+      let head : failure_word graph place ≡ name = cc in
       let found = position_named-name graph valid place (All-head (λ p. p < length (failures graph)) place places are.members) in
       let same = same_Some _ _ (sym found ∙ ap (position_named graph) head ∙ some) in
       omega (arith, same, early, All-head (λ other. least ≤ other) place places are.not_before)
 
   -- nor where there are none of the others
   pub no_places-others : IsValid graph → (name : List ℕ) (names : List (List ℕ)) (first : ℕ) (places : List ℕ) → position_named graph name ≡ Some first
-      → ((others : List ℕ) → AreFrom graph (first + 1) others → map (failure_name graph) others ≡ names → ⊥) → AreFrom graph least places
-      → map (failure_name graph) places ≡ name ∷ names → ⊥
+      → ((others : List ℕ) → AreFrom graph (first + 1) others → map (failure_word graph) others ≡ names → ⊥) → AreFrom graph least places
+      → map (failure_word graph) places ≡ name ∷ names → ⊥
   no_places-others valid name names first [] some none are e = absurd cc
   no_places-others valid name names first (place ∷ places) some none are e =
-      let head : failure_name graph place ≡ name = cc in
-      let tail : map (failure_name graph) places ≡ names = cc in
+      let head : failure_word graph place ≡ name = cc in
+      let tail : map (failure_word graph) places ≡ names = cc in
       let found = position_named-name graph valid place (All-head (λ p. p < length (failures graph)) place places are.members) in
       let same = same_Some _ _ (sym found ∙ ap (position_named graph) head ∙ some) in
       none places (subst (λ (p : ℕ). AreFrom graph (p + 1) places) same (AreFrom-others place places are)) tail
 
   -- with one more name, there is one more position
   pub places-more : (name : List ℕ) (names : List (List ℕ)) (first : ℕ) (others : List ℕ) → position_named graph name ≡ Some first → least ≤ first → AreFrom graph (first + 1) others
-      → map (failure_name graph) others ≡ names → AreFrom graph least (with_member first others) × (map (failure_name graph) (with_member first others) ≡ name ∷ names)
+      → map (failure_word graph) others ≡ names → AreFrom graph least (with_member first others) × (map (failure_word graph) (with_member first others) ≡ name ∷ names)
   places-more name names first others some from are e =
       let named = place_named graph name first some in
       let is : with_member first others ≡ first ∷ others = with_first first others are.not_before in (
         subst (AreFrom graph least) (sym is) (AreFrom-first first others from named.0 are),
-        ap (map (failure_name graph)) is ∙ ap (λ (n : List ℕ). n ∷ map (failure_name graph) others) named.1 ∙ ap (λ (ns : List (List ℕ)). name ∷ ns) e,
+        ap (map (failure_word graph)) is ∙ ap (λ (n : List ℕ). n ∷ map (failure_word graph) others) named.1 ∙ ap (λ (ns : List (List ℕ)). name ∷ ns) e,
       )
 
 -- ---- the word of a set
 
 pub names_lack : (graph : Tfpg) → IsValid graph → (byte : ℕ) → is_name_byte byte ≡ false → (places : List ℕ) → All (λ place. place < length (failures graph)) places
-    → AllByRecursion (Lacks byte) (map (failure_name graph) places)
+    → AllByRecursion (Lacks byte) (map (failure_word graph) places)
 names_lack graph valid byte other_byte [] are = tt
 names_lack graph valid byte other_byte (place ∷ places) are = (
-  name_lacks byte (failure_name graph place) other_byte (failure_name-is_name graph valid place (All-head (λ p. p < length (failures graph)) place places are)),
+  name_lacks byte (failure_word graph place) other_byte (failure_word-is_name graph valid place (All-head (λ p. p < length (failures graph)) place places are)),
   names_lack graph valid byte other_byte places (All-tail (λ p. p < length (failures graph)) place places are),
 )
 
 -- a word whose parts are the names of some positions spells their set
-pub set_spelled : (graph : Tfpg) (word : List ℕ) (places : List ℕ) → AreFrom graph 0 places → map (failure_name graph) places ≡ slice_split (λ byte. byte == 44) word
+pub set_spelled : (graph : Tfpg) (word : List ℕ) (places : List ℕ) → AreFrom graph 0 places → map (failure_word graph) places ≡ slice_split (λ byte. byte == 44) word
     → IsSetOf graph places × (word ≡ set_word graph places)
 set_spelled graph word [] are e = absurd (omega (arith, ap length e, length-slice_split (λ byte. byte == 44) word))
 set_spelled graph word (place ∷ places) are e =
@@ -254,16 +254,16 @@ set_spelled graph word (place ∷ places) are e =
 
 -- a word that spells a set, and is no hyphen, has the names of the set's positions as its parts
 pub set_parts : (graph : Tfpg) → IsValid graph → (word : List ℕ) (places : List ℕ) → bytes_eq word (codes "-") ≡ false → IsSetOf graph places → word ≡ set_word graph places
-    → AreFrom graph 0 places × (map (failure_name graph) places ≡ slice_split (λ byte. byte == 44) word)
+    → AreFrom graph 0 places × (map (failure_word graph) places ≡ slice_split (λ byte. byte == 44) word)
 set_parts graph valid word [] no_hyphen set e = absurd (false≢true (sym no_hyphen ∙ (bytes_eq-Decides word (codes "-")).1 e))
 set_parts graph valid word (place ∷ places) no_hyphen set e = (
   record { rising = set.rising; not_before = λ k d within. omega arith; members = set.members },
-  sym (ap (slice_split (λ byte. byte == 44)) e ∙ slice_split-join 44 (map (failure_name graph) (place ∷ places)) (omega arith) (names_lack graph valid 44 refl (place ∷ places) set.members)),
+  sym (ap (slice_split (λ byte. byte == 44)) e ∙ slice_split-join 44 (map (failure_word graph) (place ∷ places)) (omega arith) (names_lack graph valid 44 refl (place ∷ places) set.members)),
 )
 
 hyphen_or_names : (graph : Tfpg) → IsValid graph → (places : List ℕ) → All (λ place. place < length (failures graph)) places → Lacks 32 (set_word graph places)
 hyphen_or_names graph valid [] members = lacks_checked 32 (codes "-") refl
-hyphen_or_names graph valid (place ∷ places) members = join_lacks (map (failure_name graph) (place ∷ places)) (names_lack graph valid 32 refl (place ∷ places) members)
+hyphen_or_names graph valid (place ∷ places) members = join_lacks (map (failure_word graph) (place ∷ places)) (names_lack graph valid 32 refl (place ∷ places) members)
   where
     join_lacks : (words : List (List ℕ)) → AllByRecursion (Lacks 32) words → Lacks 32 (join_with_byte 44 words)
     join_lacks [] are = All-nil (λ other. (other == 32) ≡ false)
@@ -282,17 +282,17 @@ set_line-read graph valid places set =
 
 module _ (graph : Tfpg) (valid : IsValid graph) (line : List ℕ) where
   -- a line that is not read as that of an activation spells none
-  pub no_activation-unread : words_after_at (words_of line) ≡ None → (activation : Activation) → IsActivationOf graph activation → line ≡ at_line graph activation → ⊥
+  pub no_activation-unread : words_after_at (words_of line) ≡ None → (activation : Activation) → IsActivationOf graph activation → line ≡ activation_line graph activation → ⊥
   no_activation-unread unread activation of e =
-      let same = sym unread ∙ ap (λ l. words_after_at (words_of l)) e ∙ at_line-read graph valid activation of in
+      let same = sym unread ∙ ap (λ l. words_after_at (words_of l)) e ∙ activation_line-read graph valid activation of in
       cc
 
   -- nor does one whose words are those of no activation
   pub no_activation-read : (name time : List ℕ) → words_after_at (words_of line) ≡ Some (name, time)
       → ((activation : Activation) → IsActivationOf graph activation → name ≡ name_word graph activation.node → time ≡ decimal activation.time → ⊥)
-      → (activation : Activation) → IsActivationOf graph activation → line ≡ at_line graph activation → ⊥
+      → (activation : Activation) → IsActivationOf graph activation → line ≡ activation_line graph activation → ⊥
   no_activation-read name time read none activation of e =
-      let words = same_Some _ _ (sym read ∙ ap (λ l. words_after_at (words_of l)) e ∙ at_line-read graph valid activation of) in
+      let words = same_Some _ _ (sym read ∙ ap (λ l. words_after_at (words_of l)) e ∙ activation_line-read graph valid activation of) in
       none activation of (ap (λ (w : List ℕ × List ℕ). w.0) words) (ap (λ (w : List ℕ × List ℕ). w.1) words)
 
   -- a line that is not read as that of a set spells none
@@ -310,7 +310,7 @@ module _ (graph : Tfpg) (valid : IsValid graph) (line : List ℕ) where
 -- a line whose words are those of an activation spells it
 pub activation_spelled : (graph : Tfpg) (line name time : List ℕ) (result : Option Activation) → words_after_at (words_of line) ≡ Some (name, time)
     → IfSome result (λ activation. IsActivationOf graph activation × (name ≡ name_word graph activation.node) × (time ≡ decimal activation.time))
-    → IfSome result (λ activation. IsActivationOf graph activation × (line ≡ at_line graph activation))
+    → IfSome result (λ activation. IsActivationOf graph activation × (line ≡ activation_line graph activation))
 activation_spelled graph line name time None read h = tt
 activation_spelled graph line name time (Some activation) read h = (
   h.0,

@@ -5,17 +5,17 @@ use Rattle.std.proofs.lemmas.Bool.{eqb-true, eqb-false, eq-eqb, ne_eqb, false≢
 use Rattle.std.proofs.lemmas.List.Elements.{All-head, All-tail, All-cons}
 use Rattle.tfpg_base.specs.declared.activation.Activation.{Activation}
 use Rattle.tfpg_base.specs.declared.word.Number.TheVariants.{Value}
-use Rattle.tfpg_base.specs.Times.{max_time}
+use Rattle.tfpg_base.specs.declared.limits.TheConstants.{MAX_TIME}
 use Rattle.tfpg_base.specs.Trace.{IsRisingByNode, time_of}
 use Rattle.tfpg_base.specs.Words.{words_of, is_name, number_of, number_up_to}
 use Rattle.tfpg_base.proofs.lists.Elements.{AllPairs-head, AllPairs-tail}
-use Rattle.tfpg_graph.specs.Graph.{Tfpg, failures}
+use Rattle.tfpg_graph.specs.Graph.{Tfpg, failures, IsSetOf}
 use Rattle.tfpg_graph.specs.Valid.{IsValid}
 use Rattle.tfpg_base.proofs.Separators.{slice_split-join}
-use Rattle.tfpg_report.specs.Blocks.{set_word}
-use Rattle.tfpg.specs.Map.{IsSetOf, IsActivationOf, SpellsMap, set_line, at_line}
-use Rattle.tfpg.specs.inside.MapLines.{word_after_set, words_after_at, position_named, failure_name}
-use Rattle.tfpg.proofs.MapWords.{one_node, at_line-read, time_read, position_named-name, failure_name-is_name, names_lack, set_line-read}
+use Rattle.tfpg_report.specs.Blocks.{set_word, activation_line, failure_word}
+use Rattle.tfpg.specs.Map.{IsActivationOf, SpellsMap, set_line}
+use Rattle.tfpg.specs.inside.MapLines.{word_after_set, words_after_at, position_named}
+use Rattle.tfpg.proofs.MapWords.{one_node, activation_line-read, time_read, position_named-name, failure_word-is_name, names_lack, set_line-read}
 use Rattle.std.proofs.lemmas.Option.{same_Some}
 use Rattle.tfpg_base.proofs.lists.Images.{map-injective}
 
@@ -32,34 +32,34 @@ activations n m t s e f = λ i. activation_of (e i) (f i)
 
 module _ (graph : Tfpg) (valid : IsValid graph) where
   -- are of one activation
-  one_activation : (one other : Activation) → IsActivationOf graph one → IsActivationOf graph other → at_line graph one ≡ at_line graph other → one ≡ other
+  one_activation : (one other : Activation) → IsActivationOf graph one → IsActivationOf graph other → activation_line graph one ≡ activation_line graph other → one ≡ other
   one_activation one other of too same =
       let node : one.node ≡ other.node = one_node graph valid one other of too same in
-      let words = same_Some _ _ (sym (at_line-read graph valid one of) ∙ ap (λ (line : List ℕ). words_after_at (words_of line)) same ∙ at_line-read graph valid other too) in
+      let words = same_Some _ _ (sym (activation_line-read graph valid one of) ∙ ap (λ (line : List ℕ). words_after_at (words_of line)) same ∙ activation_line-read graph valid other too) in
       let time : one.time ≡ other.time = same_value one.time other.time
-      (sym (time_read one.time of.in_range) ∙ ap (λ (read : List ℕ × List ℕ). number_up_to max_time (number_of read.1)) words ∙ time_read other.time too.in_range) in
+      (sym (time_read one.time of.in_range) ∙ ap (λ (read : List ℕ × List ℕ). number_up_to MAX_TIME (number_of read.1)) words ∙ time_read other.time too.in_range) in
       activations one.node other.node one.time other.time node time
 
   -- and so are lists of them
-  same_listed : (one other : List Activation) → All (IsActivationOf graph) one → All (IsActivationOf graph) other → map (at_line graph) one ≡ map (at_line graph) other → one ≡ other
-  same_listed = map-injective (IsActivationOf graph) (at_line graph) one_activation
+  same_listed : (one other : List Activation) → All (IsActivationOf graph) one → All (IsActivationOf graph) other → map (activation_line graph) one ≡ map (activation_line graph) other → one ≡ other
+  same_listed = map-injective (IsActivationOf graph) (activation_line graph) one_activation
 
   -- names that are the same are of the same positions
   same_places : (one other : List ℕ) → All (λ place. place < length (failures graph)) one → All (λ place. place < length (failures graph)) other
-      → map (failure_name graph) one ≡ map (failure_name graph) other → one ≡ other
-  same_places = map-injective (λ place. place < length (failures graph)) (failure_name graph)
+      → map (failure_word graph) one ≡ map (failure_word graph) other → one ≡ other
+  same_places = map-injective (λ place. place < length (failures graph)) (failure_word graph)
       (λ one other of too same. same_Some one other (sym (position_named-name graph valid one of) ∙ ap (position_named graph) same ∙ position_named-name graph valid other too))
 
   -- the parts of a word that is no hyphen
-  parts : (place : ℕ) (places : List ℕ) → IsSetOf graph (place ∷ places) → slice_split (λ byte. byte == 44) (set_word graph (place ∷ places)) ≡ map (failure_name graph) (place ∷ places)
-  parts place places of = slice_split-join 44 (map (failure_name graph) (place ∷ places)) (omega arith) (names_lack graph valid 44 refl (place ∷ places) of.members)
+  parts : (place : ℕ) (places : List ℕ) → IsSetOf graph (place ∷ places) → slice_split (λ byte. byte == 44) (set_word graph (place ∷ places)) ≡ map (failure_word graph) (place ∷ places)
+  parts place places of = slice_split-join 44 (map (failure_word graph) (place ∷ places)) (omega arith) (names_lack graph valid 44 refl (place ∷ places) of.members)
 
   -- names are no hyphen
   no_hyphen : (place : ℕ) (places : List ℕ) → IsSetOf graph (place ∷ places) → set_word graph (place ∷ places) ≡ codes "-" → ⊥
   no_hyphen place places of e =
-      let same : map (failure_name graph) (place ∷ places) ≡ codes "-" ∷ [] = sym (parts place places of) ∙ ap (slice_split (λ byte. byte == 44)) e in
-      let first : failure_name graph place ≡ codes "-" = cc in
-      false≢true (sym (ap is_name first) ∙ failure_name-is_name graph valid place (All-head (λ p. p < length (failures graph)) place places of.members))
+      let same : map (failure_word graph) (place ∷ places) ≡ codes "-" ∷ [] = sym (parts place places of) ∙ ap (slice_split (λ byte. byte == 44)) e in
+      let first : failure_word graph place ≡ codes "-" = cc in
+      false≢true (sym (ap is_name first) ∙ failure_word-is_name graph valid place (All-head (λ p. p < length (failures graph)) place places of.members))
 
   -- a word spells one set
   same_set : (one other : List ℕ) → IsSetOf graph one → IsSetOf graph other → set_word graph one ≡ set_word graph other → one ≡ other
@@ -117,9 +117,9 @@ same_trace (first ∷ one) (second ∷ other) rising too same = by (cases_order 
 pub one_map : (graph : Tfpg) (lines : List (List ℕ)) (set other : List ℕ) (trace more : List Activation) → IsValid graph → SpellsMap graph lines set trace → SpellsMap graph lines other more
     → (set ≡ other) × (trace ≡ more)
 one_map graph lines set other trace more valid spells too =
-    let all : set_line graph set ∷ map (at_line graph) spells.listed ≡ set_line graph other ∷ map (at_line graph) too.listed = sym spells.spelled ∙ too.spelled in
+    let all : set_line graph set ∷ map (activation_line graph) spells.listed ≡ set_line graph other ∷ map (activation_line graph) too.listed = sym spells.spelled ∙ too.spelled in
     let head : set_line graph set ≡ set_line graph other = cc in
-    let tail : map (at_line graph) spells.listed ≡ map (at_line graph) too.listed = cc in
+    let tail : map (activation_line graph) spells.listed ≡ map (activation_line graph) too.listed = cc in
     let word = same_Some _ _ (sym (set_line-read graph valid set spells.of_graph) ∙ ap (λ (line : List ℕ). word_after_set (words_of line)) head ∙ set_line-read graph valid other too.of_graph) in
     let listed : spells.listed ≡ too.listed = same_listed graph valid spells.listed too.listed spells.of_nodes too.of_nodes tail in (
       same_set graph valid set other spells.of_graph too.of_graph word,

@@ -1,10 +1,10 @@
 -- How a run on a file ends.
-use Rattle.std.proofs.Common.{◌≡◌, ℕ, ◌<◌, ◌≤◌, List, Result, Ok, Err, refl, sym, subst, inl, inr, ⊎_elim}
+use Rattle.std.proofs.Common.{◌≡◌, ℕ, ◌<◌, ◌≤◌, List, Result, Ok, Err, refl, sym, subst, inl, inr}
 use Rattle.std.specs.Prelude.{◌↔◌, IsErrAnd, IfErr}
-use Rattle.std.proofs.lemmas.Bool.{cases_lt}
 use Rattle.tfpg_base.specs.Outside.{ShelfState}
 use Rattle.tfpg_graph.specs.Graph.{Tfpg}
-use Rattle.tfpg_hyp.specs.Hypotheses.{max_hypotheses, HasHypotheses}
+use Rattle.tfpg_hyp.specs.Hypotheses.{HasHypotheses}
+use Rattle.tfpg_hyp.specs.declared.limits.TheConstants.{MAX_HYPOTHESES}
 use Rattle.tfpg_hyp.specs.declared.table.TableFault.{TableFault}
 use Rattle.tfpg_hyp.specs.declared.table.TableFault.TheVariants.{TooMany, NoMemory}
 use Rattle.tfpg.specs.declared.end.End.{End}
@@ -16,26 +16,23 @@ use Rattle.tfpg.specs.declared.fault.StreamFault.TheVariants as faults
 use Rattle.tfpg.specs.inside.Faults.{end_of_table_fault}
 use Rattle.tfpg.proofs.Exits.{err_is}
 use Rattle.tfpg.proofs.Turns.{begins_without_memory}
+use Rattle.tfpg_base.proofs.lists.Sequences.{not_above}
 use Rattle.tfpg.specs.EndsOf.{end_of_fetch_fault, end_of_stream_fault}
 use Rattle.tfpg.specs.Fetch.{GivesGraph, IsFetchFault}
 use Rattle.tfpg.specs.Run.{Diagnoses, DiagnoseEnds}
 use Rattle.tfpg.specs.Streams.{Streams}
 
--- a number is at most another where it is not above it
-not_above : (count : ℕ) → (max_hypotheses < count → ⊥) → count ≤ max_hypotheses
-not_above count never = ⊎_elim (λ more. absurd (never more)) (λ le. le) (cases_lt max_hypotheses count)
-
 -- what the result of `Engine::new` says of the number of hypotheses
 abbrev CountsHypotheses : {X : Type 0} → Tfpg → ℕ → Result X TableFault → Type 0
-CountsHypotheses graph k result = (count : ℕ) → (result ≡ Err (TooMany count)) ↔ ((max_hypotheses < count) × HasHypotheses graph k count)
+CountsHypotheses graph k result = (count : ℕ) → (result ≡ Err (TooMany count)) ↔ ((MAX_HYPOTHESES < count) × HasHypotheses graph k count)
 
 -- where there is an engine, they are not too many
-pub not_too_many : {X : Type 0} (graph : Tfpg) (k : ℕ) (engine : X) → CountsHypotheses graph k (Ok engine) → (count : ℕ) → HasHypotheses graph k count → count ≤ max_hypotheses
-not_too_many graph k engine exact count counted = not_above count (λ many. let is = (exact count).1 (many, counted) in cc)
+pub not_too_many : {X : Type 0} (graph : Tfpg) (k : ℕ) (engine : X) → CountsHypotheses graph k (Ok engine) → (count : ℕ) → HasHypotheses graph k count → count ≤ MAX_HYPOTHESES
+not_too_many graph k engine exact count counted = not_above count MAX_HYPOTHESES (λ many. let is = (exact count).1 (many, counted) in cc)
 
 -- nor where memory ran out
-without_memory : {X : Type 0} (graph : Tfpg) (k : ℕ) → CountsHypotheses {X = X} graph k (Err NoMemory) → (count : ℕ) → HasHypotheses graph k count → count ≤ max_hypotheses
-without_memory graph k exact count counted = not_above count (λ many. let is = (exact count).1 (many, counted) in cc)
+without_memory : {X : Type 0} (graph : Tfpg) (k : ℕ) → CountsHypotheses {X = X} graph k (Err NoMemory) → (count : ℕ) → HasHypotheses graph k count → count ≤ MAX_HYPOTHESES
+without_memory graph k exact count counted = not_above count MAX_HYPOTHESES (λ many. let is = (exact count).1 (many, counted) in cc)
 
 module _ {T : Type 0} (shelf_before shelf_now : ShelfState) (k b : ℕ) (name : List ℕ) (before now : Streams) (result : Result T End) where
   -- the end at the exit of a `?`
@@ -76,14 +73,14 @@ module _ {T : Type 0} (shelf_before shelf_now : ShelfState) (k b : ℕ) (name : 
         })))
 
     -- the diagnosis was stopped
-    pub stops_diagnosis : ((count : ℕ) → HasHypotheses graph k count → count ≤ max_hypotheses) → (fault : StreamFault) → Diagnoses graph k b before now (Err fault)
+    pub stops_diagnosis : ((count : ℕ) → HasHypotheses graph k count → count ≤ MAX_HYPOTHESES) → (fault : StreamFault) → Diagnoses graph k b before now (Err fault)
         → IsErrAnd result (λ end. end ≡ end_of_stream_fault fault) → IfErr result (DiagnoseEnds shelf_before shelf_now k b name before now)
     stops_diagnosis few fault diagnoses err = ends_by (end_of_stream_fault fault) err
         (inr (inr (record { graph = graph; gives = gives; no_fault = no_fault; not_too_many = few; result = Err fault; diagnoses = diagnoses; end_is = refl })))
 
 -- the diagnosis is done
 pub stops_when_done : (shelf_before shelf_now : ShelfState) (k b : ℕ) (name : List ℕ) (before now : Streams) (graph : Tfpg) → GivesGraph shelf_before name graph → shelf_now.faults ≡ shelf_before.faults
-    → ((count : ℕ) → HasHypotheses graph k count → count ≤ max_hypotheses) → Diagnoses graph k b before now (Ok tt) → DiagnoseEnds shelf_before shelf_now k b name before now Done
+    → ((count : ℕ) → HasHypotheses graph k count → count ≤ MAX_HYPOTHESES) → Diagnoses graph k b before now (Ok tt) → DiagnoseEnds shelf_before shelf_now k b name before now Done
 stops_when_done shelf_before shelf_now k b name before now graph gives no_fault few diagnoses =
     inr (inr (record { graph = graph; gives = gives; no_fault = no_fault; not_too_many = few; result = Ok tt; diagnoses = diagnoses; end_is = refl }))
 

@@ -12,17 +12,19 @@ use Rattle.tfpg_log.specs.Explains.{Explains, Fits}
 use Rattle.tfpg_log.proofs.LogsOfLines.{of-log_of_lines, ordered-log_of_lines}
 use Rattle.tfpg_evidence.specs.declared.finding.Finding.{Finding}
 use Rattle.tfpg_evidence.specs.declared.round.Round.{Round}
+use Rattle.tfpg_evidence.specs.RoundOf.{is_rejected}
 use Rattle.tfpg_hyp.specs.Table.{IsHypothesis}
-use Rattle.tfpg_hyp.specs.Rounds.{IsRound, is_rejected}
+use Rattle.tfpg_hyp.specs.Rounds.{IsRound}
 use Rattle.tfpg_sim.specs.declared.simulated.Simulated.{Simulated}
 use Rattle.tfpg_sim.specs.Generated.{generated_graph, generated_script}
 use Rattle.tfpg_sim.specs.Simulated.{IsSimulationOf}
-use Rattle.tfpg_sim.proofs.DrawLists.{take-next}
-use Rattle.tfpg_base.proofs.lists.Elements.{Contains-at}
+use Rattle.tfpg_base.proofs.lists.Cuts.{take-next}
+use Rattle.tfpg_base.proofs.lists.Elements.{Contains-at, slice_get-there}
 use Rattle.tfpg_sim.proofs.SimulatedSets.{simulated_members}
 use Rattle.tfpg_sim.proofs.GeneratedGraphs.{generated_valid, generated_failures}
 use Rattle.tfpg_sim.proofs.GeneratedScripts.{generated_set, generated_log}
 use Rattle.tfpg.specs.declared.diagnosis.Diagnosis.{Diagnosis}
+use Rattle.tfpg.specs.declared.limits.TheConstants.{GENERATED_K, GENERATED_BUDGET}
 use Rattle.tfpg.specs.Diagnosed.{AreRoundsOf}
 use Rattle.tfpg.specs.Generating.{HasSummary}
 use Rattle.tfpg.specs.Summary.{summary_text}
@@ -41,21 +43,18 @@ module _ (graph : Tfpg) (lines : List (List ℕ)) (d : Diagnosis) (has : HasDiag
   last_there : (round : Round) × (slice_get has.rounds (length has.rounds - 1) ≡ Some round)
   last_there =
       let one_each = has.rounds_are.one_each in
-      elim (slice_get_cases has.rounds (length has.rounds - 1)).1 [
-        | inl there ↦ (there.0, there.2)
-        | inr past ↦ absurd (omega (arith, past.0, one_each, some))
-      ]
+      slice_get-there has.rounds (length has.rounds - 1) (omega (arith, one_each, some))
 
   -- which is one of the whole log
-  last_is_round : IsRound graph 2 50 (take (length has.rounds - 1) has.rounds) (log_of_lines graph lines) (length has.rounds - 1 + 1) last_there.0
+  last_is_round : IsRound graph GENERATED_K GENERATED_BUDGET (take (length has.rounds - 1) has.rounds) (log_of_lines graph lines) (length has.rounds - 1 + 1) last_there.0
   last_is_round =
       let one_each = has.rounds_are.one_each in
-      subst (λ (ls : List (List ℕ)). IsRound graph 2 50 (take (length has.rounds - 1) has.rounds) (log_of_lines graph ls) (length has.rounds - 1 + 1) last_there.0)
+      subst (λ (ls : List (List ℕ)). IsRound graph GENERATED_K GENERATED_BUDGET (take (length has.rounds - 1) has.rounds) (log_of_lines graph ls) (length has.rounds - 1 + 1) last_there.0)
       (take_all (length has.rounds - 1 + 1) lines (omega (arith, one_each)))
       (has.rounds_are.each (length has.rounds - 1) last_there.0 last_there.1).round_is
 
   -- and has a finding on each hypothesis
-  finding_there : (set : List ℕ) → IsHypothesis graph 2 set → HasFindingOn set last_there.0
+  finding_there : (set : List ℕ) → IsHypothesis graph GENERATED_K set → HasFindingOn set last_there.0
   finding_there set hypothesis =
       let is = last_is_round in
       let member = (is.table.exact set).1 hypothesis in
@@ -70,7 +69,7 @@ module _ (graph : Tfpg) (lines : List (List ℕ)) (d : Diagnosis) (has : HasDiag
         | inr past ↦ absurd (omega (arith, past.0, complete, member.1))
       ]
 
-  pub truth_there : (set : List ℕ) → IsHypothesis graph 2 set → IsSomeAnd d.last (HasFindingOn set)
+  pub truth_there : (set : List ℕ) → IsHypothesis graph GENERATED_K set → IsSomeAnd d.last (HasFindingOn set)
   truth_there set hypothesis = subst (λ (o : Option Round). IsSomeAnd o (HasFindingOn set)) (sym (has.last_is ∙ last_there.1)) (finding_there set hypothesis)
 
   -- A set that fits is not rejected.
@@ -82,7 +81,7 @@ module _ (graph : Tfpg) (lines : List (List ℕ)) (d : Diagnosis) (has : HasDiag
       by false is = is
       by true is =
           absurd
-          (none graph 2 50 (length has.rounds - 1 + 1) (take (length has.rounds - 1) has.rounds) (log_of_lines graph lines) last_there.0 valid (of-log_of_lines graph lines)
+          (none graph GENERATED_K GENERATED_BUDGET (length has.rounds - 1 + 1) (take (length has.rounds - 1) has.rounds) (log_of_lines graph lines) last_there.0 valid (of-log_of_lines graph lines)
           (ordered-log_of_lines graph lines) last_is_round member.0 finding (slice_get-get_or last_there.0.findings member.0 finding member.1 ∙ ap Some member.2)
           (subst (Fits graph (log_of_lines graph lines)) (sym of_set) fits) is)
 
@@ -112,7 +111,7 @@ summary_is number size simulated d text none valid simulation explains has some 
       simulation = simulation;
       earlier = take (length has.rounds - 1) has.rounds;
       last = last.0;
-      rounds = subst (AreRoundsOf graph 2 50 lines) cut has.rounds_are;
+      rounds = subst (AreRoundsOf graph GENERATED_K GENERATED_BUDGET lines) cut has.rounds_are;
       truth = said.has.finding;
       found = said.has.there;
       of_set = said.has.on_set;
@@ -164,7 +163,7 @@ module _ (number size : ℕ) (graph : Tfpg) (simulated : Simulated) (drawn : IsD
     found_there =
         let set = generated_set number size number simulated drawn.some drawn.few simulation_here in
         truth_there (generated_graph number size) (lines_of simulated.log) d has_here log_here simulated.set
-        (record { rising = λ k within. set.0.rising k (k + 1) 0 (omega arith) within; members = members_here; size = set.1 })
+        (record { of_graph = record { rising = set.0.rising; members = members_here }; size = set.1 })
 
     -- by which the three lines say what became of it
     pub summary_there : (text : List ℕ) → RejectsNoneThatFits

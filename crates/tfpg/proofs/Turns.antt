@@ -11,7 +11,8 @@ use Rattle.tfpg_base.specs.declared.line.Line.TheVariants as line
 use Rattle.tfpg_base.specs.declared.line.LineFault.{LineFault}
 use Rattle.tfpg_base.specs.declared.line.LineFault.TheVariants as fault
 use Rattle.tfpg_base.specs.Outside.{SourceState, SinkState, Rose, Takes, Puts}
-use Rattle.tfpg_base.specs.Lines.{Buffered, LinesRepresent, Continues, with_bytes, with_line, lines_of, whole_lines, max_bytes, new_reading}
+use Rattle.tfpg_base.specs.Lines.{Buffered, LinesRepresent, Continues, with_bytes, with_line, lines_of, whole_lines, new_reading}
+use Rattle.tfpg_base.specs.declared.limits.TheConstants.{MAX_BYTES}
 use Rattle.tfpg_base.proofs.LinesOf.{take-lines_of}
 use Rattle.tfpg_base.proofs.Taking.{Takes-append, Takes-nothing}
 use Rattle.tfpg_base.proofs.ReadingOn.{GaveLine, Continues-turn, Continues-text, Continues-too_long}
@@ -32,7 +33,8 @@ use Rattle.tfpg.specs.Streams.{Streams}
 use Rattle.tfpg.specs.inside.Answering.{EngineReports, HasBlock}
 use Rattle.tfpg.specs.inside.Course.{IsDiagnosing}
 use Rattle.tfpg.proofs.AnsweredLines.{block_of_long_line}
-use Rattle.tfpg.proofs.InputLines.{rest_of, rest_is_left, front_of_input, front_is_within, came_to_end, front_before, front_with, few_lines}
+use Rattle.tfpg_base.proofs.lists.Cuts.{front_is_within, front_before, front_with}
+use Rattle.tfpg.proofs.InputLines.{rest_of, rest_is_left, front_of_input, came_to_end, few_lines}
 use Rattle.tfpg.proofs.Putting.{Puts-append, Puts-same_held}
 use Rattle.std.proofs.lemmas.Option.{same_Some}
 
@@ -105,9 +107,9 @@ report_text-push graph k b blocks block =
     append_assoc (head_text k b) (flat_map (block_text graph) blocks) (block_text graph block)
     ∙ ap (λ (t : List ℕ). head_text k b ++ t) (sym (flat_map-append (block_text graph) blocks (block ∷ []) ∙ ap (λ (t : List ℕ). flat_map (block_text graph) blocks ++ t) (append-nil (block_text graph block))))
 
-All-push : {X : Type 0} (P : X → Type 0) (xs : List X) (x : X) → AllByRecursion P xs → P x → AllByRecursion P (xs ++ x ∷ [])
-All-push P [] x are is = (is, tt)
-All-push P (first ∷ others) x are is = (are.0, All-push P others x are.1 is)
+AllByRecursion-push : {X : Type 0} (P : X → Type 0) (xs : List X) (x : X) → AllByRecursion P xs → P x → AllByRecursion P (xs ++ x ∷ [])
+AllByRecursion-push P [] x are is = (is, tt)
+AllByRecursion-push P (first ∷ others) x are is = (are.0, AllByRecursion-push P others x are.1 is)
 
 -- what is written so far begins the report
 begins : (graph : Tfpg) (k b : ℕ) (input : SourceState) (taken : List ℕ) (given : List (List ℕ)) (blocks : List Block) → take (length given) (lines_of (taken ++ rest_of input)) ≡ given
@@ -165,12 +167,12 @@ ends_by_fault graph k b before now lines lines' engine input fault.TooMuchInput 
     let reading = under.reading in
     let turn = Continues-turn reading now.input input (Err fault.TooMuchInput) lines' under.goes_on (λ e. cc) continues in
     let taken = reading.taken ++ turn.more in
-    let firsts = take max_bytes taken in
-    let same : firsts ++ (drop max_bytes taken ++ rest_of input) ≡ taken ++ rest_of input =
-    sym (append_assoc firsts (drop max_bytes taken) (rest_of input)) ∙ ap (λ (bytes : List ℕ). bytes ++ rest_of input) (take-append-drop max_bytes taken) in
+    let firsts = take MAX_BYTES taken in
+    let same : firsts ++ (drop MAX_BYTES taken ++ rest_of input) ≡ taken ++ rest_of input =
+    sym (append_assoc firsts (drop MAX_BYTES taken) (rest_of input)) ∙ ap (λ (bytes : List ℕ). bytes ++ rest_of input) (take-append-drop MAX_BYTES taken) in
     let front : take (length reading.given) (lines_of (taken ++ rest_of input)) ≡ reading.given =
     subst (λ (ls : List (List ℕ)). take (length ls) (lines_of (taken ++ rest_of input)) ≡ ls) turn.returns.0
-    (subst (λ (t : List ℕ). take (length (whole_lines firsts)) (lines_of t) ≡ whole_lines firsts) same (take-lines_of firsts (drop max_bytes taken ++ rest_of input))) in
+    (subst (λ (t : List ℕ). take (length (whole_lines firsts)) (lines_of t) ≡ whole_lines firsts) same (take-lines_of firsts (drop MAX_BYTES taken ++ rest_of input))) in
     ended_with graph k b before now lines engine input under turn.more turn.takes (Err faults.TooMuchInput) (
       turn.returns.1,
       begins graph k b input taken reading.given under.blocks front under.are_blocks under.say (report_text graph k b under.blocks) [] (sym (append-nil _)),
@@ -244,7 +246,7 @@ module _ (graph : Tfpg) (k b : ℕ) (before now : Streams) (lines : Buffered) (e
           writes = subst (Puts before.output output) (ap (λ (t : List ℕ). report_text graph k b under.blocks ++ t) block.text ∙ report_text-push graph k b under.blocks block.block)
               (Puts-append before.output now.output output (report_text graph k b under.blocks) bytes under.writes puts);
           are_blocks = blocks_are;
-          no_losses = All-push LosesNone under.blocks block.block under.no_losses block.no_losses;
+          no_losses = AllByRecursion-push LosesNone under.blocks block.block under.no_losses block.no_losses;
           say = rounds_say;
           reports = subst (EngineReports graph k b answered) (sym (goes_on graph given under.blocks gave.first block.block)) block.reports;
           no_fault = record { input = gave.no_fault ∙ under.no_fault.input; output = no_fault ∙ under.no_fault.output };
@@ -271,7 +273,7 @@ module _ (graph : Tfpg) (k b : ℕ) (before now : Streams) (lines : Buffered) (e
           written = written;
           writes = Puts-append before.output now.output output (report_text graph k b under.blocks) front under.writes puts;
           blocks = under.blocks ++ block.block ∷ [];
-          no_losses = All-push LosesNone under.blocks block.block under.no_losses block.no_losses;
+          no_losses = AllByRecursion-push LosesNone under.blocks block.block under.no_losses block.no_losses;
           ends = (
             subst (λ (count : ℕ). Rose count output.faults) under.no_fault.output rose,
             begins graph k b input taken (given ++ gave.first ∷ []) (under.blocks ++ block.block ∷ [])
@@ -328,12 +330,7 @@ module _ (graph : Tfpg) (k b : ℕ) (before now : Streams) (lines : Buffered) (e
         block = block_of_long_line graph k b (progress_of graph under.reading.given under.blocks) number met.0.first bytes engine met.1 under.reports text;
       }
 
--- what holds at the exit of a `?`
-pub err_is : {T : Type 0} (result : Result T StreamFault) (P : StreamFault → Type 0) (e : StreamFault) → IsErrAnd result (λ x. x ≡ e) → P e → IfErr result P
-err_is (Ok x) P e h p = absurd h
-err_is (Err x) P e h p = subst P (sym h) p
-
--- the same, where it ends the diagnosis
+-- what holds at the exit of a `?` that ends the diagnosis
 pub result_is : (graph : Tfpg) (k b : ℕ) (before now : Streams) (result : Result (Unit {0}) StreamFault) (e : StreamFault) → IsErrAnd result (λ x. x ≡ e) → Diagnoses graph k b before now (Err e)
     → Diagnoses graph k b before now result
 result_is graph k b before now (Ok x) e h d = absurd h

@@ -1,76 +1,73 @@
 -- The text of a map spells it.
-use Rattle.std.proofs.Common.{◌≡◌, ◌≢◌, ℕ, ◌+◌, ◌*◌, ◌<◌, ◌≤◌, ◌^◌, List, [], ◌∷◌, ◌++◌, length, map, flat_map, All, AllPairs, Bool, true, false, IsTrue, eqb, codes, refl, sym, ap, subst, ◌∙◌, arith, length-append}
+use Rattle.std.proofs.Common.{◌≡◌, ℕ, ◌+◌, ◌*◌, ◌<◌, ◌≤◌, ◌^◌, List, [], ◌∷◌, ◌++◌, length, map, flat_map, All, Bool, true, false, IsTrue, eqb, codes, refl, sym, ap, subst, ◌∙◌, arith, length-append}
 use Rattle.std.specs.Prelude.{decimal}
 use Rattle.std.specs.List.{join_with_byte}
 use Rattle.std.proofs.lemmas.List.{append-nil, length-map}
 use Rattle.std.proofs.lemmas.List.Elements.{All-nil, All-cons, All-head, All-tail, All-weaker, All-append}
 use Rattle.std.proofs.lemmas.List.Folds.{flat_map-map}
 use Rattle.tfpg_base.specs.declared.activation.Activation.{Activation}
-use Rattle.tfpg_base.specs.Lines.{HasNoLineEnd, lines_of, longest_line, with_line_end}
-use Rattle.tfpg_base.specs.Times.{max_time}
+use Rattle.tfpg_base.specs.Lines.{HasNoLineEnd, lines_of, with_line_end}
+use Rattle.tfpg_base.specs.declared.limits.TheConstants.{LONGEST_LINE, MAX_TIME}
 use Rattle.tfpg_base.specs.Trace.{IsRisingByNode}
 use Rattle.tfpg_base.proofs.LinesOf.{lines_of-after}
 use Rattle.tfpg_base.proofs.Separators.{lacks_checked, name_lacks, decimal_lacks}
 use Rattle.tfpg_base.proofs.WordLengths.{name_short, number_short}
 use Rattle.tfpg_base.proofs.lists.Distinct.{length-le_distinct}
-use Rattle.tfpg_graph.specs.Graph.{Tfpg, failures}
+use Rattle.tfpg_base.proofs.lists.Ordered.{Rises-differ}
+use Rattle.tfpg_graph.specs.Graph.{Tfpg, name_word, failures, IsSetOf}
 use Rattle.tfpg_graph.specs.Valid.{IsValid}
 use Rattle.tfpg_graph.proofs.lemmas.reading.SpelledEdges.{is_name-name_of}
 use Rattle.tfpg_log.specs.Log.{Logbook, IsOrdered, now_of}
 use Rattle.tfpg_log.specs.Explains.{Explains}
 use Rattle.tfpg_clause.proofs.InRange.{now_in_range}
 use Rattle.tfpg_sim.specs.declared.simulated.Simulated.{Simulated}
-use Rattle.tfpg_report.specs.Blocks.{set_word, failure_word, name_word}
-use Rattle.tfpg.specs.Map.{IsSetOf, IsActivationOf, SpellsMap, set_line, at_line}
+use Rattle.tfpg_report.specs.Blocks.{set_word, failure_word, activation_line}
+use Rattle.tfpg.specs.Map.{IsActivationOf, SpellsMap, set_line}
 use Rattle.tfpg.specs.MapText.{map_text}
 use Rattle.tfpg.specs.Simulating.{simulated_text}
-use Rattle.tfpg.proofs.MapWords.{failure_name-is_name}
+use Rattle.tfpg.proofs.MapWords.{failure_word-is_name}
 
 -- a text without a line end, of at most so many bytes
-record IsSubset (most : ℕ) (text : List ℕ) : Type 0 where
+record IsLinePart (most : ℕ) (text : List ℕ) : Type 0 where
   lacks : HasNoLineEnd text
   few : length text ≤ most
 
 -- names with commas between
-joined : (names : List (List ℕ)) → All (IsSubset 32) names → IsSubset (length names * 33) (join_with_byte 44 names)
+joined : (names : List (List ℕ)) → All (IsLinePart 32) names → IsLinePart (length names * 33) (join_with_byte 44 names)
 joined [] are = record { lacks = All-nil (λ byte. eqb byte 10 ≡ false); few = omega arith }
 joined (name ∷ []) are =
-    let first = All-head (IsSubset 32) name [] are in
+    let first = All-head (IsLinePart 32) name [] are in
     record { lacks = first.lacks; few = omega (arith, first.few) }
 joined (name ∷ second ∷ others) are =
-    let first = All-head (IsSubset 32) name (second ∷ others) are in
-    let rest = joined (second ∷ others) (All-tail (IsSubset 32) name (second ∷ others) are) in
+    let first = All-head (IsLinePart 32) name (second ∷ others) are in
+    let rest = joined (second ∷ others) (All-tail (IsLinePart 32) name (second ∷ others) are) in
     let after = join_with_byte 44 (second ∷ others) in
     record {
       lacks = All-append (λ byte. eqb byte 10 ≡ false) name (44 ∷ after) first.lacks (All-cons (λ byte. eqb byte 10 ≡ false) 44 after refl rest.lacks);
       few = omega (arith, length-append name (44 ∷ after), first.few, rest.few);
     }
 
--- what is apart in order is apart
-apart : (set : List ℕ) → AllPairs (λ earlier later. earlier < later) set → AllPairs (λ one other. one ≢ other) set
-apart set rising i j d before within same = omega (arith, rising i j d before within, same)
-
 module _ (graph : Tfpg) (valid : IsValid graph) where
   -- ---- the line of a set
 
-  names_are : (set : List ℕ) → All (λ place. place < length (failures graph)) set → All (IsSubset 32) (map (failure_word graph) set)
-  names_are [] members = All-nil (IsSubset 32)
+  names_are : (set : List ℕ) → All (λ place. place < length (failures graph)) set → All (IsLinePart 32) (map (failure_word graph) set)
+  names_are [] members = All-nil (IsLinePart 32)
   names_are (place ∷ places) members =
-      let named = failure_name-is_name graph valid place (All-head (λ p. p < length (failures graph)) place places members) in
-      All-cons (IsSubset 32) (failure_word graph place) (map (failure_word graph) places)
+      let named = failure_word-is_name graph valid place (All-head (λ p. p < length (failures graph)) place places members) in
+      All-cons (IsLinePart 32) (failure_word graph place) (map (failure_word graph) places)
       (record { lacks = name_lacks 10 (failure_word graph place) refl named; few = name_short (failure_word graph place) named })
       (names_are places (All-tail (λ p. p < length (failures graph)) place places members))
 
-  set_word_is : (set : List ℕ) → All (λ place. place < length (failures graph)) set → IsSubset (length set * 33 + 1) (set_word graph set)
+  set_word_is : (set : List ℕ) → All (λ place. place < length (failures graph)) set → IsLinePart (length set * 33 + 1) (set_word graph set)
   set_word_is [] members = record { lacks = lacks_checked 10 (codes "-") refl; few = omega arith }
   set_word_is (place ∷ places) members =
       let part = joined (map (failure_word graph) (place ∷ places)) (names_are (place ∷ places) members) in
       record { lacks = part.lacks; few = omega (arith, part.few, length-map (place ∷ places) (failure_word graph)) }
 
-  set_line_is : (set : List ℕ) → IsSetOf graph set → IsSubset longest_line (set_line graph set)
+  set_line_is : (set : List ℕ) → IsSetOf graph set → IsLinePart LONGEST_LINE (set_line graph set)
   set_line_is set of =
       let word = set_word_is set of.members in
-      let count = length-le_distinct set (length (failures graph)) (apart set of.rising) of.members in
+      let count = length-le_distinct set (length (failures graph)) (Rises-differ set of.rising) of.members in
       record {
         lacks = All-append (λ byte. eqb byte 10 ≡ false) (codes "set") (32 ∷ set_word graph set) (lacks_checked 10 (codes "set") refl)
             (All-cons (λ byte. eqb byte 10 ≡ false) 32 (set_word graph set) refl word.lacks);
@@ -79,7 +76,7 @@ module _ (graph : Tfpg) (valid : IsValid graph) where
 
   -- ---- the lines of activations
 
-  at_line_is : (activation : Activation) → IsActivationOf graph activation → IsSubset longest_line (at_line graph activation)
+  at_line_is : (activation : Activation) → IsActivationOf graph activation → IsLinePart LONGEST_LINE (activation_line graph activation)
   at_line_is activation of =
       let named = is_name-name_of graph activation.node of.in_graph valid.so_far.node_names in
       let name = name_word graph activation.node in
@@ -93,28 +90,28 @@ module _ (graph : Tfpg) (valid : IsValid graph) where
         few = omega (arith, length-append name (32 ∷ time), name_short name named, time_few);
       }
 
-  at_lines_are : (trace : List Activation) → All (IsActivationOf graph) trace → All (IsSubset longest_line) (map (at_line graph) trace)
-  at_lines_are [] of = All-nil (IsSubset longest_line)
-  at_lines_are (first ∷ others) of =
-      All-cons (IsSubset longest_line) (at_line graph first) (map (at_line graph) others) (at_line_is first (All-head (IsActivationOf graph) first others of))
-      (at_lines_are others (All-tail (IsActivationOf graph) first others of))
+  activation_lines_are : (trace : List Activation) → All (IsActivationOf graph) trace → All (IsLinePart LONGEST_LINE) (map (activation_line graph) trace)
+  activation_lines_are [] of = All-nil (IsLinePart LONGEST_LINE)
+  activation_lines_are (first ∷ others) of =
+      All-cons (IsLinePart LONGEST_LINE) (activation_line graph first) (map (activation_line graph) others) (at_line_is first (All-head (IsActivationOf graph) first others of))
+      (activation_lines_are others (All-tail (IsActivationOf graph) first others of))
 
   -- ---- the whole text
 
   module _ (set : List ℕ) (trace : List Activation) (of : IsSetOf graph set) (of_nodes : All (IsActivationOf graph) trace) where
     abbrev lines : List (List ℕ)
-    lines = set_line graph set ∷ map (at_line graph) trace
+    lines = set_line graph set ∷ map (activation_line graph) trace
 
-    lines_are : All (IsSubset longest_line) lines
-    lines_are = All-cons (IsSubset longest_line) (set_line graph set) (map (at_line graph) trace) (set_line_is set of) (at_lines_are trace of_nodes)
+    lines_are : All (IsLinePart LONGEST_LINE) lines
+    lines_are = All-cons (IsLinePart LONGEST_LINE) (set_line graph set) (map (activation_line graph) trace) (set_line_is set of) (activation_lines_are trace of_nodes)
 
     text_is : map_text graph set trace ≡ flat_map with_line_end lines
-    text_is = ap (λ (text : List ℕ). with_line_end (set_line graph set) ++ text) (sym (flat_map-map with_line_end (at_line graph) trace))
+    text_is = ap (λ (text : List ℕ). with_line_end (set_line graph set) ++ text) (sym (flat_map-map with_line_end (activation_line graph) trace))
 
     spelled : lines_of (map_text graph set trace) ≡ lines
     spelled =
         ap lines_of (text_is ∙ sym (append-nil (flat_map with_line_end lines)))
-        ∙ lines_of-after lines [] (All-weaker (IsSubset longest_line) HasNoLineEnd (λ line part. part.lacks) lines lines_are)
+        ∙ lines_of-after lines [] (All-weaker (IsLinePart LONGEST_LINE) HasNoLineEnd (λ line part. part.lacks) lines lines_are)
         ∙ append-nil lines
 
     spells : IsRisingByNode trace → SpellsMap graph (lines_of (map_text graph set trace)) set trace
@@ -124,8 +121,8 @@ module _ (graph : Tfpg) (valid : IsValid graph) where
       of_nodes = of_nodes;
       once = λ i j d before within same. omega (arith, rising i j d before within, same);
       spelled = spelled;
-      short = subst (All (λ line. length line ≤ longest_line)) (sym spelled)
-          (All-weaker (IsSubset longest_line) (λ line. length line ≤ longest_line) (λ line part. part.few) lines lines_are);
+      short = subst (All (λ line. length line ≤ LONGEST_LINE)) (sym spelled)
+          (All-weaker (IsLinePart LONGEST_LINE) (λ line. length line ≤ LONGEST_LINE) (λ line part. part.few) lines lines_are);
       rising = rising;
       same_times = λ node. refl;
     }
@@ -138,7 +135,7 @@ written_map graph set trace valid of of_nodes rising = spells graph valid set tr
 -- ---- the map of a trace that explains a log
 
 -- a trace that explains a log is of activations of the graph
-explaining_activations : (graph : Tfpg) (now : ℕ) (trace : List Activation) → now ≤ max_time → All (λ activation. activation.node < length graph.nodes) trace → All (λ activation. activation.time ≤ now) trace
+explaining_activations : (graph : Tfpg) (now : ℕ) (trace : List Activation) → now ≤ MAX_TIME → All (λ activation. activation.node < length graph.nodes) trace → All (λ activation. activation.time ≤ now) trace
     → All (IsActivationOf graph) trace
 explaining_activations graph now [] small within by_now = All-nil (IsActivationOf graph)
 explaining_activations graph now (first ∷ others) small within by_now =

@@ -1,10 +1,11 @@
 -- When a run is done, or memory ran out: where the files, the input and the output serve what the words mean.
 use Rattle.std.specs.Prelude.{◌≡◌, ◌⊎◌, ℕ, ◌≤◌, List, length, Some, Err}
-use Rattle.tfpg_base.specs.Lines.{max_bytes}
+use Rattle.tfpg_base.specs.declared.limits.TheConstants.{MAX_BYTES}
 use Rattle.tfpg_base.specs.Outside.{SourceState, ShelfState, Rose}
 use Rattle.tfpg_graph.specs.Graph.{Tfpg}
 use Rattle.tfpg_log.specs.Log.{Logbook}
-use Rattle.tfpg_hyp.specs.Hypotheses.{max_hypotheses, HasHypotheses}
+use Rattle.tfpg_hyp.specs.Hypotheses.{HasHypotheses}
+use Rattle.tfpg_hyp.specs.declared.limits.TheConstants.{MAX_HYPOTHESES}
 use Rattle.tfpg_sim.specs.Script.{script_of}
 use Rattle.tfpg_words.specs.Meaning.{Meaning, Diagnose, Explain, Simulate, Generate}
 use Rattle.tfpg.specs.declared.end.CheckCause.TheVariants.{BadMap}
@@ -13,14 +14,15 @@ use Rattle.tfpg.specs.declared.end.End.TheVariants.{Done, NotAccepted, NoMemory}
 use Rattle.tfpg.specs.Fetch.{GivesGraph, GivesGraphAndLog, GivesGraphAndText}
 use Rattle.tfpg.specs.Streams.{Streams}
 
--- The contents of the shelf are known, the file of this name spells a valid graph, and each graph that it gives has at most 4,096
--- sets of at most k failure modes.
+-- The contents of the shelf are known, the file of this name spells a valid graph, and each graph that it gives has at
+-- most 4,096 sets of at most k failure modes.
 pub record CanDiagnose (shelf : ShelfState) (k : ℕ) (name : List ℕ) : Type 0 where
   pub files : List (List ℕ × List ℕ)
   pub known : shelf.files ≡ Some files
   pub graph : Tfpg
   pub gives : GivesGraph shelf name graph
-  pub few : (other : Tfpg) (count : ℕ) → GivesGraph shelf name other → HasHypotheses other k count → count ≤ max_hypotheses
+  pub few : (other : Tfpg) (count : ℕ) → GivesGraph shelf name other → HasHypotheses other k count
+      → count ≤ MAX_HYPOTHESES
 
 -- The contents of the shelf are known, and the files of these names give a graph and a log.
 pub record CanExplain (shelf : ShelfState) (graph_name log_name : List ℕ) : Type 0 where
@@ -37,13 +39,14 @@ pub record CanSimulate (shelf : ShelfState) (graph_name script_name : List ℕ) 
   pub graph : Tfpg
   pub script : List ℕ
   pub gives : GivesGraphAndText shelf graph_name script_name graph script
-  pub right : (other : Tfpg) (text : List ℕ) (line : ℕ) → GivesGraphAndText shelf graph_name script_name other text → script_of other text ≡ Err line → ⊥
+  pub right : (other : Tfpg) (text : List ℕ) (line : ℕ) → GivesGraphAndText shelf graph_name script_name other text
+      → script_of other text ≡ Err line → ⊥
 
 -- The input is known, and has at most 2^32 bytes left.
 pub record IsShort (input : SourceState) : Type 0 where
   pub known : List ℕ
   pub left : input.left ≡ Some known
-  pub few : length known ≤ max_bytes
+  pub few : length known ≤ MAX_BYTES
 
 -- The files serve what the words mean, and so does the input where it is read.
 abbrev pub CanBeDone : Meaning → ShelfState → SourceState → Type 0

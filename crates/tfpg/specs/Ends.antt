@@ -63,7 +63,8 @@ graph_cause_name graph.AfterEnd = codes "AfterEnd"
 -- what is said of an end; nothing of one that is done
 abbrev pub line_of_end : End → List ℕ
 line_of_end Done = []
-line_of_end (NotAccepted line cause) = line_of (codes "not" ∷ codes "accepted" ∷ decimal line ∷ check_cause_name cause ∷ [])
+line_of_end (NotAccepted line cause) =
+    line_of (codes "not" ∷ codes "accepted" ∷ decimal line ∷ check_cause_name cause ∷ [])
 line_of_end (Usage cause) = line_of (codes "usage" ∷ usage_name cause ∷ [])
 line_of_end (Graph line cause) = line_of (codes "graph" ∷ decimal line ∷ graph_cause_name cause ∷ [])
 line_of_end (TooManyHypotheses count) = line_of (codes "too" ∷ codes "many" ∷ codes "hypotheses" ∷ decimal count ∷ [])

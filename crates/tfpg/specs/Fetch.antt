@@ -1,7 +1,8 @@
 -- What fetching files gives: the graph of one, and the log of another.
 use Rattle.std.specs.Prelude.{◌≡◌, ◌⊎◌, ℕ, ◌≤◌, List, [], ◌∷◌, ◌++◌, length, take, Option, Some, IfSome, Result, Ok, Err}
 use Rattle.tfpg_base.specs.Lines.{lines_of}
-use Rattle.tfpg_base.specs.Outside.{ShelfState, Rose, Gives, PassesLimit, longest_file}
+use Rattle.tfpg_base.specs.Outside.{ShelfState, Rose, Gives, PassesLimit}
+use Rattle.tfpg_base.specs.declared.limits.TheConstants.{LONGEST_FILE}
 use Rattle.tfpg_graph.specs.declared.cause.GraphFault.{GraphFault}
 use Rattle.tfpg_graph.specs.Graph.{Tfpg}
 use Rattle.tfpg_graph.specs.Text.{Spells}
@@ -17,7 +18,7 @@ use Rattle.tfpg.specs.declared.fault.FetchFault.TheVariants.{Failed, TooLong, Gr
 -- the file of this name has these bytes, and not too many
 pub record HasFile (shelf : ShelfState) (name text : List ℕ) : Type 0 where
   pub gives : Gives shelf name text
-  pub small : length text ≤ longest_file
+  pub small : length text ≤ LONGEST_FILE
 
 -- the file of this name has more bytes than a file may have
 abbrev pub IsTooLong : ShelfState → List ℕ → Type 0
@@ -26,8 +27,7 @@ IsTooLong shelf name = (front : List ℕ) × PassesLimit shelf name front
 -- a file of this name that spells the graph
 pub record GivesGraph (shelf : ShelfState) (name : List ℕ) (graph : Tfpg) : Type 0 where
   pub text : List ℕ
-  pub gives : Gives shelf name text
-  pub small : length text ≤ longest_file
+  pub file : HasFile shelf name text
   pub spells : Spells text graph
   pub valid : IsValid graph
 
@@ -38,12 +38,14 @@ pub record HasFaultyGraph (shelf : ShelfState) (name : List ℕ) (fault : GraphF
   pub first : IsFirstFault text fault
 
 -- The file of the one name spells the graph, and the file of the other has this text.
-pub record GivesGraphAndText (shelf : ShelfState) (graph_name text_name : List ℕ) (graph : Tfpg) (text : List ℕ) : Type 0 where
+pub record GivesGraphAndText (shelf : ShelfState) (graph_name text_name : List ℕ) (graph : Tfpg)
+    (text : List ℕ) : Type 0 where
   pub of_graph : GivesGraph shelf graph_name graph
   pub file : HasFile shelf text_name text
 
 -- The file of the one name spells the graph, and the log is that of the lines of the file of the other.
-pub record GivesGraphAndLog (shelf : ShelfState) (graph_name log_name : List ℕ) (graph : Tfpg) (log : Logbook) : Type 0 where
+pub record GivesGraphAndLog (shelf : ShelfState) (graph_name log_name : List ℕ) (graph : Tfpg)
+    (log : Logbook) : Type 0 where
   pub of_graph : GivesGraph shelf graph_name graph
   pub text : List ℕ
   pub file : HasFile shelf log_name text
@@ -57,8 +59,9 @@ IsFetchFault before now name TooLong = IsTooLong before name
 IsFetchFault before now name (Graph fault) = HasFaultyGraph before name fault
 IsFetchFault before now name NoMemory = Unit {0}
 
--- Why there is no graph and no text of the files of these names: the shelf failed; the first of them that is not as short as
--- it may be is too long; both were fetched, and this is the first fault of the graph's text; or memory ran out.
+-- Why there is no graph and no text of the files of these names: the shelf failed; the graph file is too long, or the
+-- graph file is not and the other is; both were fetched, and this is the first fault of the graph's text; or memory ran
+-- out.
 abbrev pub IsFilesFault : ShelfState → ShelfState → List ℕ → List ℕ → FetchFault → Type 0
 IsFilesFault before now graph_name text_name Failed = Rose before.faults now.faults
 IsFilesFault before now graph_name text_name TooLong =

@@ -1,35 +1,38 @@
--- What `generate` does: it draws a graph and a script, simulates the script, diagnoses the log, and writes what became of the truth.
+-- What `generate` does: it draws a graph and a script, simulates the script, diagnoses the log, and writes what became
+-- of the truth.
 use Rattle.std.specs.Prelude.{◌≡◌, ℕ, List, [], ◌∷◌, ◌++◌, length, Contains, false, Result, Ok, Err}
 use Rattle.tfpg_base.specs.Lines.{lines_of}
 use Rattle.tfpg_base.specs.Outside.{SinkState, Rose, Puts}
 use Rattle.tfpg_evidence.specs.declared.finding.Finding.{Finding}
 use Rattle.tfpg_evidence.specs.declared.round.Round.{Round}
-use Rattle.tfpg_hyp.specs.Rounds.{is_rejected}
+use Rattle.tfpg_evidence.specs.RoundOf.{is_rejected}
 use Rattle.tfpg_sim.specs.declared.simulated.Simulated.{Simulated}
 use Rattle.tfpg_sim.specs.Generated.{generated_graph, generated_script}
 use Rattle.tfpg_sim.specs.Simulated.{IsSimulationOf}
 use Rattle.tfpg.specs.declared.end.End.{End}
+use Rattle.tfpg.specs.declared.limits.TheConstants.{GENERATED_K, GENERATED_BUDGET}
 use Rattle.tfpg.specs.declared.fault.GenerateFault.{GenerateFault}
 use Rattle.tfpg.specs.declared.fault.GenerateFault.TheVariants.{WriteFault, NoMemory}
 use Rattle.tfpg.specs.EndsOf.{end_of_generation}
 use Rattle.tfpg.specs.Diagnosed.{AreRoundsOf}
 use Rattle.tfpg.specs.Summary.{summary_text}
 
--- The text says what was drawn by the number and the size, and what the last of the rounds of the simulated log says: how many sets
--- have each status, and the status of the simulated set, which is never rejected. A set has at most 2 failure modes, and at most 50
--- splits in a round.
+-- The text says what was drawn by the number and the size, and what the last of the rounds of the simulated log says:
+-- how many sets have each status, and the status of the simulated set, which is never rejected. A set has at most
+-- `GENERATED_K` failure modes, and at most `GENERATED_BUDGET` splits in a round.
 pub record HasSummary (number size : ℕ) (text : List ℕ) : Type 0 where
   pub simulated : Simulated
   pub simulation : IsSimulationOf (generated_graph number size) (generated_script number size) number simulated
   pub earlier : List Round
   pub last : Round
-  pub rounds : AreRoundsOf (generated_graph number size) 2 50 (lines_of simulated.log) (earlier ++ last ∷ [])
+  pub rounds : AreRoundsOf (generated_graph number size) GENERATED_K GENERATED_BUDGET (lines_of simulated.log)
+      (earlier ++ last ∷ [])
   pub truth : Finding
   pub found : Contains last.findings truth
   pub of_set : truth.set ≡ simulated.set
   pub not_rejected : is_rejected truth.status ≡ false
-  pub text_is : text ≡ summary_text number size (generated_graph number size) (length (lines_of simulated.log)) (length (earlier ++ last ∷ [])) last.counts
-      simulated.set truth.status
+  pub text_is : text ≡ summary_text number size (generated_graph number size) (length (lines_of simulated.log))
+      (length (earlier ++ last ∷ [])) last.counts simulated.set truth.status
 
 -- The whole text was written, and nothing failed.
 pub record WritesSummary (number size : ℕ) (before now : SinkState) : Type 0 where

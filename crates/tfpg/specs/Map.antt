@@ -1,46 +1,37 @@
 -- The text of a map: a set of failure modes and a trace. And which line of a text is at fault.
-use Rattle.std.specs.Prelude.{◌≡◌, ◌≢◌, ◌⊎◌, ℕ, ◌+◌, ◌<◌, ◌≤◌, List, [], ◌∷◌, ◌++◌, length, map, take, All, AllPairs, codes, decimal}
+use Rattle.std.specs.Prelude.{◌≡◌, ◌≢◌, ◌⊎◌, ℕ, ◌+◌, ◌<◌, ◌≤◌, List, [], ◌∷◌, ◌++◌, length, map, take, All, AllPairs, codes}
 use Rattle.tfpg_base.specs.declared.activation.Activation.{Activation}
-use Rattle.tfpg_base.specs.Times.{max_time}
-use Rattle.tfpg_base.specs.Lines.{longest_line}
+use Rattle.tfpg_base.specs.declared.limits.TheConstants.{MAX_TIME, LONGEST_LINE}
 use Rattle.tfpg_base.specs.Trace.{IsRisingByNode, time_of}
 use Rattle.tfpg_base.specs.Words.{line_of}
-use Rattle.tfpg_graph.specs.Graph.{Tfpg, failures}
-use Rattle.tfpg_report.specs.Blocks.{set_word, name_word}
+use Rattle.tfpg_graph.specs.Graph.{Tfpg, IsSetOf}
+use Rattle.tfpg_report.specs.Blocks.{activation_line, set_word}
 
 -- the line of a set
 abbrev pub set_line : Tfpg → List ℕ → List ℕ
 set_line graph set = line_of (codes "set" ∷ set_word graph set ∷ [])
 
--- the line of an activation
-abbrev pub at_line : Tfpg → Activation → List ℕ
-at_line graph activation = line_of (codes "at" ∷ name_word graph activation.node ∷ decimal activation.time ∷ [])
-
--- a set of failure modes of the graph, as the rising list of their positions
-pub record IsSetOf (graph : Tfpg) (set : List ℕ) : Type 0 where
-  pub rising : AllPairs (λ earlier later. earlier < later) set
-  pub members : All (λ place. place < length (failures graph)) set
-
 -- an activation of a node of the graph, at a time that is not too large
 pub record IsActivationOf (graph : Tfpg) (activation : Activation) : Type 0 where
   pub in_graph : activation.node < length graph.nodes
-  pub in_range : activation.time ≤ max_time
+  pub in_range : activation.time ≤ MAX_TIME
 
--- The lines spell this set and this trace: the line of the set, and then the line of each activation, in any order, each
--- node once. No line is too long.
+-- The lines spell this set and this trace: the line of the set, and then the line of each activation, in any order,
+-- each node once. No line is too long.
 pub record SpellsMap (graph : Tfpg) (lines : List (List ℕ)) (set : List ℕ) (trace : List Activation) : Type 0 where
   pub of_graph : IsSetOf graph set
   pub listed : List Activation
   pub of_nodes : All (IsActivationOf graph) listed
   pub once : AllPairs (λ earlier later. earlier.node ≢ later.node) listed
-  pub spelled : lines ≡ set_line graph set ∷ map (at_line graph) listed
-  pub short : All (λ line. length line ≤ longest_line) lines
+  pub spelled : lines ≡ set_line graph set ∷ map (activation_line graph) listed
+  pub short : All (λ line. length line ≤ LONGEST_LINE) lines
   pub rising : IsRisingByNode trace
   pub same_times : (node : ℕ) → time_of trace node ≡ time_of listed node
 
 -- Some map begins with these lines.
 abbrev pub BeginsMap : Tfpg → List (List ℕ) → Type 0
-BeginsMap graph lines = (more : List (List ℕ)) × (set : List ℕ) × (trace : List Activation) × SpellsMap graph (lines ++ more) set trace
+BeginsMap graph lines =
+    (more : List (List ℕ)) × (set : List ℕ) × (trace : List Activation) × SpellsMap graph (lines ++ more) set trace
 
 -- The line of this number, counted from 1, is at fault: some map begins with the lines before it, and none with it too.
 pub record IsFaultyLine (graph : Tfpg) (lines : List (List ℕ)) (number : ℕ) : Type 0 where

@@ -11,21 +11,23 @@ use Rattle.tfpg_engine.specs.Earned.{AreEarned}
 use Rattle.tfpg_report.specs.Blocks.{Block, RefusedBlock, RoundBlock}
 use Rattle.tfpg_check.specs.Report.{Progress, progress_of}
 
--- What a round says of this log, where it comes after these rounds. None of its steps is for nothing. Its statuses say which sets fit.
--- Where no set is open, they are those of the minimal sets that fit. With a budget that is enough, no set is open.
+-- What a round says of this log, where it comes after these rounds. Its steps are earned. Its statuses say which sets
+-- fit. Where no set is open, they are those of the minimal sets that fit. With a budget that is enough, no set is open.
 pub record RoundSays (graph : Tfpg) (k budget : ℕ) (rounds : List Round) (log : Logbook) (round : Round) : Type 0 where
   pub earned : AreEarned graph log budget rounds round
   pub fitting : SayWhichSetsFit graph log k round.findings
   pub minimal : HasNoneOpen round → AreThoseOfMinimalSets graph log k round.findings
   pub settled : IsEnough graph log budget → HasNoneOpen round
 
--- so does the round of a line's block, after what the report had come to
+-- the round of a line's block says this, after the rounds and the log so far
 abbrev pub BlockSays : Tfpg → ℕ → ℕ → Progress → List ℕ → Block → Type 0
 BlockSays graph k budget before line (RefusedBlock number cause) = Unit {0}
-BlockSays graph k budget before line (RoundBlock round losses) = RoundSays graph k budget before.rounds (log_after graph before.log line) round
+BlockSays graph k budget before line (RoundBlock round losses) =
+    RoundSays graph k budget before.rounds (log_after graph before.log line) round
 
--- so does each round of a report on these lines
+-- each round of a report on these lines says this
 abbrev pub RoundsSay : Tfpg → ℕ → ℕ → List (List ℕ) → List Block → Type 0
 RoundsSay graph k budget lines blocks =
-    (place : ℕ) (line : List ℕ) (block : Block) → slice_get lines place ≡ Some line → slice_get blocks place ≡ Some block
+    (place : ℕ) (line : List ℕ) (block : Block) → slice_get lines place ≡ Some line
+    → slice_get blocks place ≡ Some block
     → BlockSays graph k budget (progress_of graph (take place lines) (take place blocks)) line block

@@ -23,8 +23,8 @@ abbrev pub simulated_text : Tfpg → Bool → Simulated → List ℕ
 simulated_text graph true simulated = map_text graph simulated.set simulated.trace
 simulated_text graph false simulated = simulated.log
 
--- The script is right, and this is the text of its simulation on the graph with the draws of the number. Each line of the log is
--- accepted, the trace explains it from the set, and the text of the map spells both.
+-- The script is right, and this is the text of its simulation on the graph with the draws of the number. Each line of
+-- the log is accepted, the trace explains it from the set, and the text of the map spells both.
 pub record HasSimulation (graph : Tfpg) (script : List ℕ) (draw : ℕ) (trace : Bool) (text : List ℕ) : Type 0 where
   pub simulated : Simulated
   pub is : IsSimulationOf graph script draw simulated
@@ -34,14 +34,16 @@ pub record HasSimulation (graph : Tfpg) (script : List ℕ) (draw : ℕ) (trace 
   pub spells : IsTrue trace → SpellsMap graph (lines_of text) simulated.set simulated.trace
 
 -- The whole text was written, and nothing failed.
-pub record WritesSimulation (graph : Tfpg) (script : List ℕ) (draw : ℕ) (trace : Bool) (before now : SinkState) : Type 0 where
+pub record WritesSimulation (graph : Tfpg) (script : List ℕ) (draw : ℕ) (trace : Bool)
+    (before now : SinkState) : Type 0 where
   pub text : List ℕ
   pub has : HasSimulation graph script draw trace text
   pub writes : Puts before now text
   pub no_fault : now.faults ≡ before.faults
 
 -- The output failed, and what was written begins the text.
-pub record BeginsSimulation (graph : Tfpg) (script : List ℕ) (draw : ℕ) (trace : Bool) (before now : SinkState) : Type 0 where
+pub record BeginsSimulation (graph : Tfpg) (script : List ℕ) (draw : ℕ) (trace : Bool)
+    (before now : SinkState) : Type 0 where
   pub front : List ℕ
   pub rest : List ℕ
   pub has : HasSimulation graph script draw trace (front ++ rest)
@@ -51,19 +53,22 @@ pub record BeginsSimulation (graph : Tfpg) (script : List ℕ) (draw : ℕ) (tra
 -- How a simulation of the script on the graph ends. Before its whole text is known, nothing is written.
 abbrev pub SimulationEnds : Tfpg → List ℕ → ℕ → Bool → SinkState → SinkState → Result (Unit {0}) SimulateFault → Type 0
 SimulationEnds graph script draw trace before now (Ok done) = WritesSimulation graph script draw trace before now
-SimulationEnds graph script draw trace before now (Err (BadScript line)) = (script_of graph script ≡ Err line) × (now ≡ before)
+SimulationEnds graph script draw trace before now (Err (BadScript line)) =
+    (script_of graph script ≡ Err line) × (now ≡ before)
 SimulationEnds graph script draw trace before now (Err WriteFault) = BeginsSimulation graph script draw trace before now
 SimulationEnds graph script draw trace before now (Err NoMemory) = now ≡ before
 
 -- There is no graph or no script of the files of these names, with this cause, and the output is untouched.
-pub record LacksScript (shelf_before shelf_now : ShelfState) (graph_name script_name : List ℕ) (before now : SinkState) (end : End) : Type 0 where
+pub record LacksScript (shelf_before shelf_now : ShelfState) (graph_name script_name : List ℕ) (before now : SinkState)
+    (end : End) : Type 0 where
   pub fault : FetchFault
   pub is_fault : IsFilesFault shelf_before shelf_now graph_name script_name fault
   pub end_is : end ≡ end_of_fetch_fault fault
   pub untouched : now ≡ before
 
 -- The script of the one file was simulated on the graph of the other.
-pub record SimulatesByFiles (shelf_before shelf_now : ShelfState) (graph_name script_name : List ℕ) (draw : ℕ) (trace : Bool) (before now : SinkState) (end : End) : Type 0 where
+pub record SimulatesByFiles (shelf_before shelf_now : ShelfState) (graph_name script_name : List ℕ) (draw : ℕ)
+    (trace : Bool) (before now : SinkState) (end : End) : Type 0 where
   pub graph : Tfpg
   pub script : List ℕ
   pub gives : GivesGraphAndText shelf_before graph_name script_name graph script

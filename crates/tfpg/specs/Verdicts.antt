@@ -1,8 +1,7 @@
 -- The text of a verdict.
 use Rattle.std.specs.Prelude.{ℕ, List, [], ◌∷◌, codes, decimal}
 use Rattle.tfpg_base.specs.TextLine.{text_line}
-use Rattle.tfpg_graph.specs.Graph.{Tfpg}
-use Rattle.tfpg_report.specs.Blocks.{name_word}
+use Rattle.tfpg_graph.specs.Graph.{Tfpg, name_word}
 use Rattle.tfpg_trace.specs.declared.verdict.Verdict.{Verdict}
 use Rattle.tfpg_trace.specs.declared.verdict.Verdict.TheVariants.{Yes, Late, Stranger, May, Must, Alarm, Silence}
 

@@ -1,10 +1,10 @@
 //! The block of a line of the log.
 
 ghost use Rattle.std.specs.Prelude.{◌≡◌, ◌≤◌, ℕ, IfOk, length};
-ghost use Rattle.tfpg_base.specs.Lines.{longest_line};
+ghost use Rattle.tfpg_base.specs.declared.limits.TheConstants.{LONGEST_LINE};
 ghost use Rattle.tfpg_evidence.specs.RoundOf.{IsRoundOf};
-ghost use Rattle.tfpg_graph.specs.Graph.{Tfpg};
-ghost use Rattle.tfpg_report.specs.Blocks.{sizes_of, refused_text, round_text};
+ghost use Rattle.tfpg_graph.specs.Graph.{Tfpg, sizes_of};
+ghost use Rattle.tfpg_report.specs.Blocks.{refused_text, round_text};
 ghost use Rattle.tfpg_check.specs.Report.{Progress};
 ghost use Rattle.tfpg.specs.inside.Answering.{EngineReports, HasBlock, IsEngineReady};
 
@@ -30,7 +30,7 @@ pub(crate) fn answer<L: Ledger>(
     requires { IsEngineReady engine.old }
     ensures { (graph : Tfpg) (k budget : ℕ) (before : Progress) →
         EngineReports graph k budget engine.old before
-        → length text.now ≤ longest_line → IfOk result
+        → length text.now ≤ LONGEST_LINE → IfOk result
         (λ block. HasBlock graph k budget before number text.now block.items engine.new) }
 {
     rounds_say_which_sets_fit();

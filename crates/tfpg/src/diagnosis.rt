@@ -6,6 +6,7 @@ ghost use Rattle.tfpg_graph.specs.Graph.{Tfpg, failures};
 ghost use Rattle.tfpg_sim.specs.AcceptedLog.{AreAccepted, IsAccepted};
 ghost use Rattle.tfpg.specs.inside.Diagnosed.{HasDiagnosed};
 
+use crate::limits::{GENERATED_BUDGET, GENERATED_K};
 use std::alloc::Global;
 use std::sync::ledger::Ledger;
 use tfpg_base::{NoMemory, Steps, without_last_line_end};
@@ -13,12 +14,6 @@ use tfpg_engine::{Engine, Told};
 use tfpg_evidence::Round;
 use tfpg_graph::Graph;
 use tfpg_hyp::TableFault;
-
-/// The greatest number of failure modes of a hypothesis.
-const LARGEST_SET: u32 = 2;
-
-/// How many splits a hypothesis has in a round at most.
-const BUDGET: u64 = 50;
 
 /// An engine, and the last round that it gave.
 #[derive(Drop)]
@@ -63,7 +58,7 @@ impl Diagnosis {
         requires { length (failures graph) ≡ 16 }
         ensures { IfOk result (HasDiagnosed graph []) }
     {
-        match Engine::new(alloc, graph, LARGEST_SET, BUDGET) {
+        match Engine::new(alloc, graph, GENERATED_K, GENERATED_BUDGET) {
             Ok(engine) => Ok(Diagnosis { engine, last: None }),
             Err(TableFault::NoMemory) => Err(NoMemory),
             Err(TableFault::TooMany { .. }) => unreachable!(),

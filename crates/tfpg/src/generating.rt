@@ -1,7 +1,7 @@
 //! Drawing a graph and a script, and diagnosing the log that the script makes.
 
 ghost use Rattle.std.specs.Prelude.{◌≤◌, IfOk, IfErr, OnOk, Ok, Err};
-ghost use Rattle.tfpg_sim.specs.declared.limits.TheConstants.{MAX_SIZE};
+ghost use Rattle.tfpg_base.specs.declared.limits.TheConstants.{MAX_CASE_SIZE};
 ghost use Rattle.tfpg.specs.Generating.{GenerationEnds, HasSummary};
 ghost use Rattle.tfpg.specs.inside.Drawn.{IsDrawn};
 
@@ -34,7 +34,7 @@ pub(crate) fn write_generated<K: Sink, L: Ledger>(
     work: &mut Steps<L>,
 ) -> Result<(), GenerateFault>
     requires some { 1 ≤ size }
-    requires few { size ≤ MAX_SIZE }
+    requires few { size ≤ MAX_CASE_SIZE }
     ensures done { OnOk result (GenerationEnds number size (K.state out.old) (K.state out.new) (Ok tt)) }
     ensures stopped { IfErr result (λ fault. GenerationEnds number size (K.state out.old) (K.state out.new)
         (Err fault)) }
@@ -52,7 +52,7 @@ fn summary<L: Ledger>(
     work: &mut Steps<L>,
 ) -> Result<Vec<u8>, NoMemory>
     requires some { 1 ≤ size }
-    requires few { size ≤ MAX_SIZE }
+    requires few { size ≤ MAX_CASE_SIZE }
     ensures { IfOk result (λ text. HasSummary number size text.items) }
 {
     rounds_say_which_sets_fit();
@@ -65,7 +65,7 @@ fn summary<L: Ledger>(
 /// Draws a graph and a script, and simulates the script. A drawn script is never at fault.
 fn draw_simulation(alloc: Global, number: u64, size: u32) -> Result<Drawn, NoMemory>
     requires some { 1 ≤ size }
-    requires few { size ≤ MAX_SIZE }
+    requires few { size ≤ MAX_CASE_SIZE }
     ensures { IfOk result (λ drawn. IsDrawn number size drawn.graph drawn.simulated) }
 {
     a_generated_script_is_right();

@@ -4,9 +4,9 @@ ghost use Rattle.std.specs.Prelude.{◌≡◌, ℕ, List, All};
 ghost use Rattle.tfpg_base.specs.declared.activation.Activation.{Activation};
 ghost use Rattle.tfpg_base.specs.Lines.{lines_of};
 ghost use Rattle.tfpg_base.specs.Trace.{IsRisingByNode};
-ghost use Rattle.tfpg_graph.specs.Graph.{Tfpg};
+ghost use Rattle.tfpg_graph.specs.Graph.{Tfpg, IsSetOf};
 ghost use Rattle.tfpg_graph.specs.Valid.{IsValid};
-ghost use Rattle.tfpg.specs.Map.{IsActivationOf, IsSetOf, SpellsMap};
+ghost use Rattle.tfpg.specs.Map.{IsActivationOf, SpellsMap};
 ghost use Rattle.tfpg.specs.MapText.{map_text};
 
 /// Lines spell at most one map of a valid graph. So a verdict on a map that they spell is the verdict on theirs.

@@ -18,6 +18,7 @@ mod fetching;
 mod generating;
 mod judging;
 mod laws;
+mod limits;
 mod map;
 mod map_lines;
 mod map_reading;

@@ -1,7 +1,7 @@
 //! The map that `explain` reads: a set of failure modes, and a trace.
 
 ghost use Rattle.std.specs.Prelude.{◌≡◌, ◌≤◌, ◌++◌, ◌∷◌, [], ℕ, List, length, OnOk, IsErrOf};
-ghost use Rattle.tfpg_base.specs.Lines.{longest_line};
+ghost use Rattle.tfpg_base.specs.declared.limits.TheConstants.{LONGEST_LINE};
 ghost use Rattle.tfpg_graph.specs.Graph.{Tfpg};
 ghost use Rattle.tfpg.specs.Map.{BeginsMap};
 ghost use Rattle.tfpg.specs.inside.MapLines.{MapRepresents, TakesActivation, IsNoActivation};
@@ -65,7 +65,7 @@ impl MapReader {
     /// Reads one more line. A reader whose line was not taken is of no further use.
     pub(crate) fn take(&mut self, graph: &Graph, line: &[u8]) -> Result<(), MapFault>
         ensures taken { (lines : List (List ℕ)) → MapRepresents graph.now self.old lines →
-            length line.now ≤ longest_line
+            length line.now ≤ LONGEST_LINE
             → OnOk result (MapRepresents graph.now self.new (lines ++ line.now ∷ [])) }
         ensures bad { (lines : List (List ℕ)) → MapRepresents graph.now self.old lines →
             IsErrOf result MapFault.BadMap

@@ -1,17 +1,17 @@
 //! The lines of a map: that of its set, and that of an activation.
 
-ghost use Rattle.std.specs.Prelude.{◌≡◌, ◌==◌, ℕ, List, map, option_map, IfSome, IsNone, IfOk, IsErrOf, decimal};
-ghost use Rattle.std.specs.List.{slice_split};
+ghost use Rattle.std.specs.Prelude.{◌≡◌, ℕ, List, map, option_map, IfSome, IsNone, IfOk, IsErrOf, decimal};
 ghost use Rattle.tfpg_base.specs.declared.activation.Activation.{Activation};
 ghost use Rattle.tfpg_base.specs.Words.{words_of};
 ghost use Rattle.tfpg_graph.specs.Valid.{IsValid};
-ghost use Rattle.tfpg_report.specs.Blocks.{set_word, name_word};
-ghost use Rattle.tfpg.specs.Map.{IsSetOf, IsActivationOf, set_line, at_line};
-ghost use Rattle.tfpg.specs.inside.MapLines.{word_after_set, words_after_at, position_named, failure_name, AreFrom};
+ghost use Rattle.tfpg_graph.specs.Graph.{name_word, IsSetOf};
+ghost use Rattle.tfpg_report.specs.Blocks.{activation_line, failure_word, set_word};
+ghost use Rattle.tfpg.specs.Map.{IsActivationOf, set_line};
+ghost use Rattle.tfpg.specs.inside.MapLines.{word_after_set, words_after_at, position_named, AreFrom};
 
 use crate::map::MapFault;
 use std::alloc::Global;
-use tfpg_base::{Activation, MAX_TIME, NoMemory, Number, Set, Words, read_number};
+use tfpg_base::{Activation, MAX_TIME, NoMemory, Number, Set, Words, parts_at_commas, read_number};
 use tfpg_graph::Graph;
 
 /// The set that the line spells.
@@ -21,14 +21,14 @@ pub(crate) fn read_set_line(alloc: Global, graph: &Graph, line: &[u8]) -> Result
         line.now ≡ set_line graph.now set → ⊥ }
 {
     let _valid = graph.node_count();
-    let Some(word) = behind_set(line) else {
+    let Some(word) = word_after_set(line) else {
         return Err(MapFault::BadMap);
     };
     read_set(alloc, graph, word)
 }
 
 /// The word after `set`, where the line has that shape.
-fn behind_set(line: &[u8]) -> Option<&[u8]>
+fn word_after_set(line: &[u8]) -> Option<&[u8]>
     ensures { option_map (λ word. word.now) result ≡ word_after_set (words_of line.now) }
 {
     let words = Words::of(line)?;
@@ -55,25 +55,13 @@ fn read_set(alloc: Global, graph: &Graph, word: &[u8]) -> Result<Set, MapFault>
     }
 }
 
-/// The parts of the word between its commas.
-fn parts_at_commas<'a>(alloc: Global, word: &'a [u8]) -> Result<Vec<&'a [u8]>, NoMemory>
-    ensures { IfOk result (λ names. map (λ name. name.now) names.items
-        ≡ slice_split (λ byte. byte == 44) word.now) }
-{
-    let mut names = Vec::new(alloc);
-    for name in word.split(|byte| *byte == b',') {
-        names.push(name)?;
-    }
-    Ok(names)
-}
-
 /// The positions of the failure modes of these names, where they rise, and none is before the least one. Calls as deep as
 /// there are failure modes, at most.
 fn rising_places(graph: &Graph, names: &[&[u8]], least: u32) -> Option<Set>
     ensures found { IfSome result (λ set. AreFrom graph.now least set ×
-        (map (failure_name graph.now) set ≡ map (λ name. name.now) names.now)) }
+        (map (failure_word graph.now) set ≡ map (λ name. name.now) names.now)) }
     ensures none { IsNone result → (set : List ℕ) → AreFrom graph.now least set →
-        map (failure_name graph.now) set ≡ map (λ name. name.now) names.now → ⊥ }
+        map (failure_word graph.now) set ≡ map (λ name. name.now) names.now → ⊥ }
 {
     match names.split_first() {
         None => Some(Set::empty()),
@@ -99,17 +87,17 @@ fn find_failure(graph: &Graph, name: &[u8]) -> Option<u32>
 /// The activation that the line spells.
 pub(crate) fn read_activation(graph: &Graph, line: &[u8]) -> Option<Activation>
     ensures found { IfSome result (λ activation. IsActivationOf graph.now activation ×
-        (line.now ≡ at_line graph.now activation)) }
+        (line.now ≡ activation_line graph.now activation)) }
     ensures none { IsNone result → (activation : Activation) → IsActivationOf graph.now activation →
-        line.now ≡ at_line graph.now activation → ⊥ }
+        line.now ≡ activation_line graph.now activation → ⊥ }
 {
     let _valid = graph.node_count();
-    let (name, time) = behind_at(line)?;
+    let (name, time) = words_after_at(line)?;
     activation_of(graph, name, time)
 }
 
 /// The two words after `at`, where the line has that shape.
-fn behind_at(line: &[u8]) -> Option<(&[u8], &[u8])>
+fn words_after_at(line: &[u8]) -> Option<(&[u8], &[u8])>
     ensures { option_map (λ words. (words.0.now, words.1.now)) result ≡ words_after_at (words_of line.now) }
 {
     let words = Words::of(line)?;

@@ -5,7 +5,7 @@ ghost use Rattle.tfpg_base.specs.Outside.{Rose, Puts};
 
 use tfpg_base::{Failed, Sink};
 
-/// Writes the whole piece, in as many calls as the sink wants. Where it fails, a front of the piece was written.
+/// Writes the whole piece, in as many calls as the sink needs. Where it fails, a front of the piece was written.
 pub(crate) fn write_all<K: Sink>(out: &mut K, piece: &[u8]) -> Result<(), Failed>
     ensures put { OnOk result (Puts (K.state out.old) (K.state out.new) piece.now) }
     ensures no_fault { OnOk result ((K.state out.new).faults ≡ (K.state out.old).faults) }

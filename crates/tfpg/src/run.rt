@@ -2,7 +2,7 @@
 
 ghost use Rattle.std.specs.Prelude.{◌≡◌, ◌≤◌, ◌∷◌, [], map, string_bytes, OnOk, IfErr, Ok};
 ghost use Rattle.tfpg_words.specs.Meaning.{Meaning, meaning};
-ghost use Rattle.tfpg_sim.specs.declared.limits.TheConstants.{MAX_SIZE};
+ghost use Rattle.tfpg_base.specs.declared.limits.TheConstants.{MAX_CASE_SIZE};
 ghost use Rattle.tfpg.specs.Completeness.{CanBeDone, IsCompleted, NothingFails};
 ghost use Rattle.tfpg_words.specs.Plans.{meaning_of};
 ghost use Rattle.tfpg.specs.inside.Plans.{AreWithinLimits};
@@ -151,7 +151,7 @@ fn generate_summary<K: Sink, L: Ledger>(
     work: &mut Steps<L>,
 ) -> Result<(), End>
     requires some { 1 ≤ size }
-    requires few { size ≤ MAX_SIZE }
+    requires few { size ≤ MAX_CASE_SIZE }
     ensures done { OnOk result (GenerateEnds number size (K.state out.old) (K.state out.new) End.Done) }
     ensures stopped { IfErr result (GenerateEnds number size (K.state out.old) (K.state out.new)) }
 {

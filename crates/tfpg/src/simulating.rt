@@ -1,7 +1,7 @@
 //! Simulating the script of a file on the graph of another.
 
 ghost use Rattle.std.specs.Prelude.{◌≡◌, ◌∷◌, ◌<◌, [], All, IfOk, IfErr, OnOk, Ok, Err, length};
-ghost use Rattle.tfpg_graph.specs.Graph.{failures};
+ghost use Rattle.tfpg_graph.specs.Graph.{AreFailures};
 ghost use Rattle.tfpg_sim.specs.Script.{script_of};
 ghost use Rattle.tfpg_sim.specs.ScriptAnswers.{IsFaultAt};
 ghost use Rattle.tfpg.specs.Fetch.{AsksInOrder};
@@ -86,7 +86,7 @@ fn text_of(
     simulated: Simulated,
     trace: bool,
 ) -> Result<Vec<u8>, NoMemory>
-    requires members { All (λ place. place < length (failures graph.now)) simulated.set }
+    requires members { AreFailures graph.now simulated.set }
     requires within { All (λ activation. activation.node < length graph.now.nodes) simulated.trace }
     ensures { IfOk result (λ text. text.items ≡ simulated_text graph.now trace simulated) }
 {

@@ -1,8 +1,8 @@
 //! The three lines that `generate` writes.
 
-ghost use Rattle.std.specs.Prelude.{◌≡◌, ◌<◌, All, Any, Contains, IfOk, IsSomeAnd, length};
+ghost use Rattle.std.specs.Prelude.{◌≡◌, Any, Contains, IfOk, IsSomeAnd, length};
 ghost use Rattle.tfpg_base.specs.Append.{Appends};
-ghost use Rattle.tfpg_graph.specs.Graph.{failures};
+ghost use Rattle.tfpg_graph.specs.Graph.{AreFailures};
 ghost use Rattle.tfpg.specs.Summary.{drawn_text, rounds_text, status_word, truth_text};
 ghost use Rattle.tfpg.specs.inside.Summary.{HasFindingOn, SaysOfRound};
 
@@ -12,7 +12,7 @@ use std::alloc::Global;
 use tfpg_base::{NoMemory, Set, append_line};
 use tfpg_evidence::{Counts, Finding, Round, Status};
 use tfpg_graph::Graph;
-use tfpg_report::append_set;
+use tfpg_report::{append_counts, append_set};
 
 /// The three lines, of a diagnosis whose last round has a finding on the set.
 pub(crate) fn summary_of(
@@ -22,7 +22,7 @@ pub(crate) fn summary_of(
     diagnosis: &Diagnosis,
     set: Set,
 ) -> Result<Vec<u8>, NoMemory>
-    requires members { All (λ place. place < length (failures diagnosis.now.engine.graph)) set }
+    requires members { AreFailures diagnosis.now.engine.graph set }
     requires found { IsSomeAnd diagnosis.now.last (HasFindingOn set) }
     ensures { IfOk result (λ text. IsSomeAnd diagnosis.now.last
         (SaysOfRound number size diagnosis.now.engine.graph
@@ -48,7 +48,7 @@ fn summary_text(
     last: &Round,
     set: Set,
 ) -> Result<Vec<u8>, NoMemory>
-    requires members { All (λ place. place < length (failures graph.now)) set }
+    requires members { AreFailures graph.now set }
     requires found { HasFindingOn set last.now }
     ensures { IfOk result (λ text. SaysOfRound number size graph.now rounds set text.items last.entry.now) }
 {
@@ -111,26 +111,11 @@ fn append_drawn(
 fn append_rounds(rounds: u32, counts: Counts, into: &mut Vec<u8>) -> Result<(), NoMemory>
     ensures { Appends result into.old.items into.new.items (rounds_text rounds counts) }
 {
-    let mut round_digits = Buffer::new();
-    let mut ranked_digits = Buffer::new();
-    let mut covered_digits = Buffer::new();
-    let mut rejected_digits = Buffer::new();
-    let mut open_digits = Buffer::new();
-    append_line(
-        into,
-        &[
-            b"rounds",
-            round_digits.format(rounds).as_bytes(),
-            b"ranked",
-            ranked_digits.format(counts.ranked).as_bytes(),
-            b"covered",
-            covered_digits.format(counts.covered).as_bytes(),
-            b"rejected",
-            rejected_digits.format(counts.rejected).as_bytes(),
-            b"open",
-            open_digits.format(counts.unsettled).as_bytes(),
-        ],
-    )
+    let mut digits = Buffer::new();
+    into.extend_from_slice(b"rounds ")?;
+    into.extend_from_slice(digits.format(rounds).as_bytes())?;
+    into.push(b' ')?;
+    append_counts(counts, into)
 }
 
 /// Appends the line that says which set was simulated, and its status.
@@ -140,19 +125,19 @@ fn append_truth(
     status: &Status,
     into: &mut Vec<u8>,
 ) -> Result<(), NoMemory>
-    requires { All (λ place. place < length (failures graph.now)) set }
+    requires { AreFailures graph.now set }
     ensures { Appends result into.old.items into.new.items (truth_text graph.now set status.now) }
 {
     into.extend_from_slice(b"truth ")?;
     append_set(graph, set, into)?;
     into.push(b' ')?;
-    into.extend_from_slice(status_text(status))?;
+    into.extend_from_slice(status_word(status))?;
     into.push(b'\n')?;
     Ok(())
 }
 
 /// The word for a status.
-fn status_text(status: &Status) -> &'static [u8]
+fn status_word(status: &Status) -> &'static [u8]
     ensures { result.now ≡ status_word status.now }
 {
     match status {

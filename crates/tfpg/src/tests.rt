@@ -145,19 +145,21 @@ pub(crate) fn words_of(
     Ok(words)
 }
 
-/// How a diagnosis by the empty set alone ends, of a graph of this text and this log, and what it writes.
-fn diagnosed_by_none(
+/// How a diagnosis of the graph ends, and what it writes.
+pub(crate) fn diagnosed(
     alloc: Global,
+    options: &[&str],
     graph: &[u8],
     log: &[u8],
 ) -> Result<(End, Vec<u8>), AllocError> {
-    let words = words_of(alloc, &["diagnose", "g"], &["--k", "0"])?;
+    let words = words_of(alloc, &["diagnose", "g"], options)?;
     let files = [("g", graph)];
     let (end, report, _) = run_in_memory(alloc, &words, &InMemory::of(&files, log))?;
     Ok((end, report))
 }
 
-/// The same of the graph and the log, where input and output go in pieces of at most so many bytes and fail at these calls.
+/// How a diagnosis by the empty set alone ends, where input and output go in pieces of at most so many bytes and fail at these
+/// calls, and what it writes.
 fn diagnosed_in_pieces(
     alloc: Global,
     most: usize,
@@ -308,7 +310,7 @@ pub(crate) fn log_of(
 fn answers_each_line_of_a_log(rt: HostRuntime) -> Result<(), Fail> {
     for (name, lengths, after, blocks) in &LOGS {
         let log = log_of(rt.alloc(), *lengths, *after)?;
-        let (end, report) = diagnosed_by_none(rt.alloc(), TWO_MODES, &log)?;
+        let (end, report) = diagnosed(rt.alloc(), &["--k", "0"], TWO_MODES, &log)?;
         assert_eq!(rt; end, End::Done, "{name}");
         assert_eq!(rt;
             report.as_slice().strip_prefix(HEAD),
@@ -342,7 +344,7 @@ fn refuses_what_is_too_much_for_a_log(rt: HostRuntime) -> Result<(), Fail> {
         for _ in 0..=*count {
             log.extend_from_slice(*line)?;
         }
-        let (end, report) = diagnosed_by_none(rt.alloc(), TWO_MODES, &log)?;
+        let (end, report) = diagnosed(rt.alloc(), &["--k", "0"], TWO_MODES, &log)?;
         assert_eq!(rt; end, End::Done, "{name}");
         assert!(rt; report.as_slice().ends_with(*last), "{name}");
     }

@@ -9,7 +9,8 @@ use Rattle.tfpg_base.specs.declared.line.Line.TheVariants as line
 use Rattle.tfpg_base.specs.declared.line.LineFault.{LineFault}
 use Rattle.tfpg_base.specs.declared.line.LineFault.TheVariants as fault
 use Rattle.tfpg_base.specs.Outside.{SourceState, IsAtEnd}
-use Rattle.tfpg_base.specs.Lines.{Reading, Buffered, HasNoLineEnd, LinesRepresent, IsGoingOn, IsNext, ReturnsNext, ComesInPieces, TakesAsNeeded, CountsReadFault, Continues, with_bytes, with_line, ended_by, ended_after_line, next_whole, whole_lines, lines_of, with_line_end, max_bytes}
+use Rattle.tfpg_base.specs.Lines.{Reading, Buffered, HasNoLineEnd, LinesRepresent, IsGoingOn, IsNext, ReturnsNext, ComesInPieces, TakesAsNeeded, CountsReadFault, Continues, with_bytes, with_line, ended_by, ended_after_line, next_whole, whole_lines, lines_of, with_line_end}
+use Rattle.tfpg_base.specs.declared.limits.TheConstants.{MAX_BYTES}
 use Rattle.tfpg_base.specs.inside.LineSearch.{BeginsWith, IsLastLine, IsGiven, IsEnded, FoundLine, Took, Pieces, Searched}
 use Rattle.tfpg_base.proofs.LinesOf.{whole_lines-after, lines_of-after, whole_lines-line, lines_of-line, whole_lines-none, lines_of-none}
 use Rattle.tfpg_base.proofs.lists.Written.{slice_get-after}
@@ -34,10 +35,10 @@ module _ (reading : Reading) (bytes : List ℕ) (split : reading.taken ≡ flat_
   whole_lines-taken : whole_lines reading.taken ≡ reading.given ++ whole_lines bytes
   whole_lines-taken = ap whole_lines split ∙ whole_lines-after reading.given bytes clean
 
-  module _ (few : length reading.taken ≤ max_bytes) where
+  module _ (few : length reading.taken ≤ MAX_BYTES) where
     -- what is the next whole line of the bytes is the next one
     next_whole-is : next_whole reading ≡ slice_get (reading.given ++ whole_lines bytes) (length reading.given)
-    next_whole-is = ap (λ taken. slice_get (whole_lines taken) (length reading.given)) (take_all max_bytes reading.taken few) ∙ ap (λ lines. slice_get lines (length reading.given)) whole_lines-taken
+    next_whole-is = ap (λ taken. slice_get (whole_lines taken) (length reading.given)) (take_all MAX_BYTES reading.taken few) ∙ ap (λ lines. slice_get lines (length reading.given)) whole_lines-taken
 
     -- the line that the bytes begin with is the next whole one
     next_whole-first : (first rest : List ℕ) → HasNoLineEnd first → bytes ≡ first ++ 10 ∷ rest → next_whole reading ≡ Some first
@@ -170,9 +171,9 @@ module _ (reading : Reading) (bytes : List ℕ) (lines : ℕ) (now : Buffered) (
       let first : List ℕ = found.0 in
       let front : List ℕ = flat_map with_line_end reading.given ++ first in
       let is : reading.taken ≡ front ++ found.1 ∷ [] = split ∙ ap (λ b. flat_map with_line_end reading.given ++ b) found.3 ∙ sym (append_assoc (flat_map with_line_end reading.given) first (found.1 ∷ [])) in
-      let count : length reading.taken ≡ max_bytes + 1 = sym stands.counted ∙ found.4 in
-      let all : whole_lines (take max_bytes reading.taken) ≡ reading.given =
-      ap whole_lines (take_but_one max_bytes reading.taken front found.1 is count)
+      let count : length reading.taken ≡ MAX_BYTES + 1 = sym stands.counted ∙ found.4 in
+      let all : whole_lines (take MAX_BYTES reading.taken) ≡ reading.given =
+      ap whole_lines (take_but_one MAX_BYTES reading.taken front found.1 is count)
       ∙ whole_lines-after reading.given first clean
       ∙ ap (λ lines. reading.given ++ lines) (whole_lines-none first found.2)
       ∙ append-nil reading.given in

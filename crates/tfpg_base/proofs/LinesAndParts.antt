@@ -2,15 +2,13 @@
 use Rattle.std.proofs.Common.{◌≡◌, ◌≢◌, ℕ, ◌-◌, ◌<◌, ◌==◌, Bool, true, false, cond, ◌⊎◌, ⊎_elim, inl, inr, List, [], ◌∷◌, ◌++◌, length, take, get_or, refl, ap, sym, ◌∙◌, arith, append_assoc}
 use Rattle.std.specs.List.{onto_first, join_with_byte}
 use Rattle.std.proofs.lemmas.List.{take_more, take_all, take_at, get_or_at, length_push, append-nil}
-use Rattle.std.proofs.lemmas.List.Splits.{length-slice_split, join_with_byte-slice_split}
+use Rattle.std.proofs.lemmas.List.Splits.{join_with_byte-slice_split}
 use Rattle.tfpg_base.specs.Lines.{parts_of, whole_lines, last_part, line_of_part, lines_of}
+use Rattle.tfpg_base.proofs.LinesOf.{parts_of_some}
 
 onto_first-push : (byte : ℕ) (parts : List (List ℕ)) → 0 < length parts → onto_first byte (parts ++ [] ∷ []) ≡ onto_first byte parts ++ [] ∷ []
 onto_first-push byte [] some = absurd (omega arith)
 onto_first-push byte (part ∷ parts) some = refl
-
-some_part : (bytes : List ℕ) → 0 < length (parts_of bytes)
-some_part bytes = omega (arith, length-slice_split (λ byte. byte == 10) bytes)
 
 -- a line end more makes an empty part more
 parts_of-push : (bytes : List ℕ) → parts_of (bytes ++ 10 ∷ []) ≡ parts_of bytes ++ [] ∷ []
@@ -20,14 +18,14 @@ parts_of-push (byte ∷ bytes) = by (byte == 10) (parts_of-push bytes)
     by : (is_end : Bool) → parts_of (bytes ++ 10 ∷ []) ≡ parts_of bytes ++ [] ∷ []
         → cond is_end ([] ∷ parts_of (bytes ++ 10 ∷ [])) (onto_first byte (parts_of (bytes ++ 10 ∷ []))) ≡ cond is_end ([] ∷ parts_of bytes) (onto_first byte (parts_of bytes)) ++ [] ∷ []
     by true rest = ap (λ parts. [] ∷ parts) rest
-    by false rest = ap (onto_first byte) rest ∙ onto_first-push byte (parts_of bytes) (some_part bytes)
+    by false rest = ap (onto_first byte) rest ∙ onto_first-push byte (parts_of bytes) (parts_of_some bytes)
 
 -- all parts, the last one written apart
 parts_of-last : (bytes : List ℕ) → whole_lines bytes ++ last_part bytes ∷ [] ≡ parts_of bytes
 parts_of-last bytes =
     let parts = parts_of bytes in
-    sym (take_more parts (length parts - 1) [] (omega (arith, some_part bytes)))
-    ∙ ap (λ n. take n parts) (omega (arith, some_part bytes)) ∙ take_all (length parts) parts (omega arith)
+    sym (take_more parts (length parts - 1) [] (omega (arith, parts_of_some bytes)))
+    ∙ ap (λ n. take n parts) (omega (arith, parts_of_some bytes)) ∙ take_all (length parts) parts (omega arith)
 
 -- the lines, of the parts
 abbrev lines_of_parts : List (List ℕ) → List (List ℕ)

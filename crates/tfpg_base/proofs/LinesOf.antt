@@ -8,7 +8,7 @@ use Rattle.std.proofs.lemmas.List.Elements.{All-nil, All-cons, All-head, All-tai
 use Rattle.tfpg_base.specs.Lines.{ends_line, parts_of, whole_lines, last_part, line_of_part, lines_of, HasNoLineEnd, with_line_end}
 
 -- there is always a part
-parts_of_some : (bytes : List ℕ) → 0 < length (parts_of bytes)
+pub parts_of_some : (bytes : List ℕ) → 0 < length (parts_of bytes)
 parts_of_some bytes = omega (arith, length-slice_split ends_line bytes)
 
 -- all but the last of more than one element

@@ -4,7 +4,8 @@ use Rattle.tfpg_base.specs.declared.line.Line.{Line}
 use Rattle.tfpg_base.specs.declared.line.Line.TheVariants as line
 use Rattle.tfpg_base.specs.declared.line.LineFault.{LineFault}
 use Rattle.tfpg_base.specs.Outside.{SourceState, Takes, IsAtEnd}
-use Rattle.tfpg_base.specs.Lines.{Reading, Buffered, LinesRepresent, IsNext, GoesFurther, Continues, new_reading, with_bytes, with_line, ended_after_line, next_whole, lines_of, longest_line}
+use Rattle.tfpg_base.specs.Lines.{Reading, Buffered, LinesRepresent, IsNext, GoesFurther, Continues, new_reading, with_bytes, with_line, ended_after_line, next_whole, lines_of}
+use Rattle.tfpg_base.specs.declared.limits.TheConstants.{LONGEST_LINE}
 use Rattle.tfpg_base.proofs.Taking.{Takes-nothing}
 
 -- Nothing has ended the reader, or the last line was given and the source has ended.
@@ -47,14 +48,14 @@ pub record GaveLine (reading : Reading) (before after : SourceState) (reader : B
 
 module _ (reading : Reading) (before after : SourceState) (reader : Buffered) (goes_on : GoesOn reading before) where
   -- a call that returns a text has read it
-  pub Continues-text : Continues reading reading.ended before after (Ok line.Text) reader → (gave : GaveLine reading before after reader) × (length gave.first ≤ longest_line) × (reader.text ≡ gave.first)
+  pub Continues-text : Continues reading reading.ended before after (Ok line.Text) reader → (gave : GaveLine reading before after reader) × (length gave.first ≤ LONGEST_LINE) × (reader.text ≡ gave.first)
   Continues-text continues =
       let turn = Continues-turn reading before after (Ok line.Text) reader goes_on (λ e. cc) continues in
       let given = turn.returns in
       (record { more = turn.more; first = given.0; takes = turn.takes; no_fault = turn.faults; next = given.1; stands = given.4; goes_on = GoesOn-with_line (with_bytes reading turn.more) given.0 after given.1 }, given.2, given.3)
 
   -- a call that returns that a line is too long has passed it
-  pub Continues-too_long : Continues reading reading.ended before after (Ok line.TooLong) reader → (gave : GaveLine reading before after reader) × (longest_line < length gave.first)
+  pub Continues-too_long : Continues reading reading.ended before after (Ok line.TooLong) reader → (gave : GaveLine reading before after reader) × (LONGEST_LINE < length gave.first)
   Continues-too_long continues =
       let turn = Continues-turn reading before after (Ok line.TooLong) reader goes_on (λ e. cc) continues in
       let given = turn.returns in

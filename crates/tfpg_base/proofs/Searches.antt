@@ -9,7 +9,8 @@ use Rattle.tfpg_base.specs.declared.line.Line.TheVariants as line
 use Rattle.tfpg_base.specs.declared.line.LineFault.{LineFault}
 use Rattle.tfpg_base.specs.declared.line.LineFault.TheVariants as fault
 use Rattle.tfpg_base.specs.Outside.{SourceState, Takes, IsAtEnd}
-use Rattle.tfpg_base.specs.Lines.{Buffered, Reading, LinesRepresent, Continues, HasNoLineEnd, ends_line, longest_line, max_bytes, buffer_size}
+use Rattle.tfpg_base.specs.Lines.{Buffered, Reading, LinesRepresent, Continues, HasNoLineEnd, ends_line}
+use Rattle.tfpg_base.specs.declared.limits.TheConstants.{LONGEST_LINE, MAX_BYTES, BUFFER_SIZE}
 use Rattle.tfpg_base.specs.inside.LineSearch.{IsAtLineEnd, kind_of, lent_of, IsGiven, IsEnded, GivesLast, FoundLine, Took, Pieces, Refilled, IsRefilled, Searched}
 use Rattle.tfpg_base.proofs.Taking.{Takes-nothing, Takes-append}
 use Rattle.tfpg_base.proofs.Histories.{Continues-found}
@@ -20,7 +21,7 @@ pub record SoFar (old : Buffered) (before mid : SourceState) (taken : ℕ) : Typ
   pub takes : Takes before mid more
   pub faults : mid.faults ≡ before.faults
   pub count : taken ≡ old.taken + length more
-  pub few : taken ≤ max_bytes
+  pub few : taken ≤ MAX_BYTES
   pub part : HasNoLineEnd (old.waiting ++ more)
 
 -- A reader whose line is still in the buffer, whole as far as it was taken.
@@ -32,35 +33,35 @@ pub record IsReading (old now : Buffered) (before mid : SourceState) : Type 0 wh
 
 -- of a line that was found the kind is returned
 FoundLine-line : (bytes first : List ℕ) (lines : ℕ) (source_ended : Type 0) (now : Buffered) → IsGiven bytes first lines source_ended now → now.text ≡ lent_of first → FoundLine bytes lines source_ended (Ok (kind_of first)) now
-FoundLine-line bytes first lines source_ended now is text = go (leb (length first) longest_line) refl text where
-  go : (short : Bool) → leb (length first) longest_line ≡ short → now.text ≡ cond short first [] → FoundLine bytes lines source_ended (Ok (cond short line.Text line.TooLong)) now
-  go true e lent = (first, is, leb-true (length first) longest_line e, lent)
-  go false e lent = (first, is, leb-false (length first) longest_line e, lent)
+FoundLine-line bytes first lines source_ended now is text = go (leb (length first) LONGEST_LINE) refl text where
+  go : (short : Bool) → leb (length first) LONGEST_LINE ≡ short → now.text ≡ cond short first [] → FoundLine bytes lines source_ended (Ok (cond short line.Text line.TooLong)) now
+  go true e lent = (first, is, leb-true (length first) LONGEST_LINE e, lent)
+  go false e lent = (first, is, leb-false (length first) LONGEST_LINE e, lent)
 
 -- what is said of a line that is not too long
-kind_of-short : (bytes : List ℕ) → length bytes ≤ longest_line → kind_of bytes ≡ line.Text
-kind_of-short bytes short = ap (λ is. cond is line.Text line.TooLong) (le-leb (length bytes) longest_line short)
+kind_of-short : (bytes : List ℕ) → length bytes ≤ LONGEST_LINE → kind_of bytes ≡ line.Text
+kind_of-short bytes short = ap (λ is. cond is line.Text line.TooLong) (le-leb (length bytes) LONGEST_LINE short)
 
 -- it is lent
-lent_of-short : (bytes : List ℕ) → length bytes ≤ longest_line → lent_of bytes ≡ bytes
-lent_of-short bytes short = ap (λ is. cond is bytes []) (le-leb (length bytes) longest_line short)
+lent_of-short : (bytes : List ℕ) → length bytes ≤ LONGEST_LINE → lent_of bytes ≡ bytes
+lent_of-short bytes short = ap (λ is. cond is bytes []) (le-leb (length bytes) LONGEST_LINE short)
 
 -- what is said of a line that is too long
-kind_of-long : (bytes : List ℕ) → longest_line < length bytes → kind_of bytes ≡ line.TooLong
-kind_of-long bytes long = ap (λ short. cond short line.Text line.TooLong) (lt-leb (length bytes) longest_line long)
+kind_of-long : (bytes : List ℕ) → LONGEST_LINE < length bytes → kind_of bytes ≡ line.TooLong
+kind_of-long bytes long = ap (λ short. cond short line.Text line.TooLong) (lt-leb (length bytes) LONGEST_LINE long)
 
 -- nothing of it is lent
-lent_of-long : (bytes : List ℕ) → longest_line < length bytes → lent_of bytes ≡ []
-lent_of-long bytes long = ap (λ short. cond short bytes []) (lt-leb (length bytes) longest_line long)
+lent_of-long : (bytes : List ℕ) → LONGEST_LINE < length bytes → lent_of bytes ≡ []
+lent_of-long bytes long = ap (λ short. cond short bytes []) (lt-leb (length bytes) LONGEST_LINE long)
 
 module _ (old : Buffered) (before mid : SourceState) (taken : ℕ) where
   -- nothing is taken at first
-  pub SoFar-start : HasNoLineEnd old.waiting → old.taken ≤ max_bytes → SoFar old before before old.taken
+  pub SoFar-start : HasNoLineEnd old.waiting → old.taken ≤ MAX_BYTES → SoFar old before before old.taken
   SoFar-start part few = record { more = []; takes = Takes-nothing before; faults = refl; count = omega arith; few = few; part = subst HasNoLineEnd (sym (append-nil old.waiting)) part }
 
   module _ (so_far : SoFar old before mid taken) (after : SourceState) (more : List ℕ) (takes : Takes mid after more) where
     -- bytes of which none ends a line are added
-    pub SoFar-more : after.faults ≡ mid.faults → (now : ℕ) → now ≡ taken + length more → now ≤ max_bytes → HasNoLineEnd more → SoFar old before after now
+    pub SoFar-more : after.faults ≡ mid.faults → (now : ℕ) → now ≡ taken + length more → now ≤ MAX_BYTES → HasNoLineEnd more → SoFar old before after now
     SoFar-more same now count few part = record {
       more = so_far.more ++ more;
       takes = Takes-append before mid after so_far.more more so_far.takes takes;
@@ -71,7 +72,7 @@ module _ (old : Buffered) (before mid : SourceState) (taken : ℕ) where
     }
 
     -- they are the last piece
-    Pieces-more : length more ≤ buffer_size → Pieces old (so_far.more ++ more)
+    Pieces-more : length more ≤ BUFFER_SIZE → Pieces old (so_far.more ++ more)
     Pieces-more small = record {
       front = so_far.more;
       piece = more;
@@ -85,7 +86,7 @@ module _ (old : Buffered) (before mid : SourceState) (taken : ℕ) where
     bytes-more : (front : List ℕ) → more ≡ front → old.waiting ++ (so_far.more ++ more) ≡ old.waiting ++ so_far.more ++ front
     bytes-more front is = ap (λ b. old.waiting ++ (so_far.more ++ b)) is ∙ sym (append_assoc old.waiting so_far.more front)
 
-    module _ (small : length more ≤ buffer_size) (now : Buffered) (counted : now.taken ≡ taken + length more) where
+    module _ (small : length more ≤ BUFFER_SIZE) (now : Buffered) (counted : now.taken ≡ taken + length more) where
       -- all bytes of the call
       Took-more : Took old now before after (so_far.more ++ more)
       Took-more = record {
@@ -94,7 +95,7 @@ module _ (old : Buffered) (before mid : SourceState) (taken : ℕ) where
       }
 
       -- a line ended among the bytes of the last turn
-      pub Searched-whole : (front : List ℕ) → more ≡ front ++ 10 ∷ now.waiting → HasNoLineEnd front → now.taken ≤ max_bytes → now.ended ≡ None → now.number ≡ old.number + 1 → now.text ≡ lent_of (old.waiting ++ so_far.more ++ front) → Searched old before after (Ok (kind_of (old.waiting ++ so_far.more ++ front))) now
+      pub Searched-whole : (front : List ℕ) → more ≡ front ++ 10 ∷ now.waiting → HasNoLineEnd front → now.taken ≤ MAX_BYTES → now.ended ≡ None → now.number ≡ old.number + 1 → now.text ≡ lent_of (old.waiting ++ so_far.more ++ front) → Searched old before after (Ok (kind_of (old.waiting ++ so_far.more ++ front))) now
       Searched-whole front is clean few going number text =
           let first : List ℕ = old.waiting ++ so_far.more ++ front in (
             so_far.more ++ more,
@@ -114,7 +115,7 @@ module _ (old : Buffered) (before mid : SourceState) (taken : ℕ) where
           )
 
       -- the source ended after a line without a line end
-      pub Searched-last : length more ≡ 0 → 0 < length (old.waiting ++ so_far.more) → IsAtEnd after → now.taken ≤ max_bytes → now.ended ≡ Some (Ok line.End) → now.number ≡ old.number + 1 → now.text ≡ lent_of (old.waiting ++ so_far.more) → Searched old before after (Ok (kind_of (old.waiting ++ so_far.more))) now
+      pub Searched-last : length more ≡ 0 → 0 < length (old.waiting ++ so_far.more) → IsAtEnd after → now.taken ≤ MAX_BYTES → now.ended ≡ Some (Ok line.End) → now.number ≡ old.number + 1 → now.text ≡ lent_of (old.waiting ++ so_far.more) → Searched old before after (Ok (kind_of (old.waiting ++ so_far.more))) now
       Searched-last none some source_ended few ended number text =
           let first : List ℕ = old.waiting ++ so_far.more in (
             so_far.more ++ more,
@@ -136,23 +137,23 @@ module _ (old : Buffered) (before mid : SourceState) (taken : ℕ) where
           )
 
       -- the source ended, and no byte waits
-      pub Searched-end : length more ≡ 0 → old.waiting ++ so_far.more ≡ [] → IsAtEnd after → now.taken ≤ max_bytes → IsEnded old.number (Ok line.End) now → Searched old before after (Ok line.End) now
+      pub Searched-end : length more ≡ 0 → old.waiting ++ so_far.more ≡ [] → IsAtEnd after → now.taken ≤ MAX_BYTES → IsEnded old.number (Ok line.End) now → Searched old before after (Ok line.End) now
       Searched-end none empty source_ended few is =
           (so_far.more ++ more, Took-more, Pieces-more small, (bytes-more [] (nil_from_length more none) ∙ append-nil (old.waiting ++ so_far.more) ∙ empty, source_ended, few, is))
 
       -- a line that is too long ended among the bytes of the last turn
-      pub Searched-long : longest_line < length old.waiting → (front : List ℕ) → more ≡ front ++ 10 ∷ now.waiting → HasNoLineEnd front → now.taken ≤ max_bytes → now.ended ≡ None → now.number ≡ old.number + 1 → now.text ≡ [] → Searched old before after (Ok line.TooLong) now
+      pub Searched-long : LONGEST_LINE < length old.waiting → (front : List ℕ) → more ≡ front ++ 10 ∷ now.waiting → HasNoLineEnd front → now.taken ≤ MAX_BYTES → now.ended ≡ None → now.number ≡ old.number + 1 → now.text ≡ [] → Searched old before after (Ok line.TooLong) now
       Searched-long long front is clean few going number text =
           let first : List ℕ = old.waiting ++ so_far.more ++ front in
-          let longer : longest_line < length first = omega (arith, length-append (old.waiting ++ so_far.more) front, length-append old.waiting so_far.more) in
+          let longer : LONGEST_LINE < length first = omega (arith, length-append (old.waiting ++ so_far.more) front, length-append old.waiting so_far.more) in
           subst (λ kind. Searched old before after (Ok kind) now) (kind_of-long first longer)
           (Searched-whole front is clean few going number (text ∙ sym (lent_of-long first longer)))
 
       -- the source ended after a line that is too long
-      pub Searched-long_last : longest_line < length old.waiting → length more ≡ 0 → IsAtEnd after → now.taken ≤ max_bytes → now.ended ≡ Some (Ok line.End) → now.number ≡ old.number + 1 → now.text ≡ [] → Searched old before after (Ok line.TooLong) now
+      pub Searched-long_last : LONGEST_LINE < length old.waiting → length more ≡ 0 → IsAtEnd after → now.taken ≤ MAX_BYTES → now.ended ≡ Some (Ok line.End) → now.number ≡ old.number + 1 → now.text ≡ [] → Searched old before after (Ok line.TooLong) now
       Searched-long_last long none source_ended few ended number text =
           let first : List ℕ = old.waiting ++ so_far.more in
-          let longer : longest_line < length first = omega (arith, length-append old.waiting so_far.more) in
+          let longer : LONGEST_LINE < length first = omega (arith, length-append old.waiting so_far.more) in
           subst (λ kind. Searched old before after (Ok kind) now) (kind_of-long first longer)
           (Searched-last none (omega (arith, longer)) source_ended few ended number (text ∙ sym (lent_of-long first longer)))
 
@@ -210,7 +211,7 @@ Searched-further old now end before mid after so_far waits same result searched 
     )
 
 -- a reader reads on from where it is
-pub IsReading-start : (old : Buffered) (before : SourceState) → HasNoLineEnd old.waiting → old.taken ≤ max_bytes → old.ended ≡ None → IsReading old old before before
+pub IsReading-start : (old : Buffered) (before : SourceState) → HasNoLineEnd old.waiting → old.taken ≤ MAX_BYTES → old.ended ≡ None → IsReading old old before before
 unfolding SoFar-start
 IsReading-start old before part few going = record {
   so_far = SoFar-start old before before old.taken part few;
@@ -260,12 +261,12 @@ module _ (old now : Buffered) (before mid : SourceState) (reading : IsReading ol
         (ended ∙ filled.ended ∙ reading.ended) (omega (arith, number, filled.number, reading.number)) (lends ∙ ap lent_of first_is))
 
     -- the source has ended
-    pub Searched-given_last : (kind : Line) → count ≡ 0 → length now.waiting ≤ longest_line → GivesLast end kind done → done.taken ≡ end.taken → done.ended ≡ Some (Ok line.End) → Searched old before after (Ok kind) done
+    pub Searched-given_last : (kind : Line) → count ≡ 0 → length now.waiting ≤ LONGEST_LINE → GivesLast end kind done → done.taken ≡ end.taken → done.ended ≡ Some (Ok line.End) → Searched old before after (Ok kind) done
     Searched-given_last line.Text none short gives taken ended =
         let more_none : length filled.more ≡ 0 = filled.length ∙ none in
         let first : List ℕ = old.waiting ++ reading.so_far.more in
         let waits : end.waiting ≡ first = filled.waiting ∙ ap (λ b. now.waiting ++ b) (nil_from_length filled.more more_none) ∙ append-nil now.waiting ∙ reading.waiting in
-        let fits : length first ≤ longest_line = omega (arith, short, ap length reading.waiting) in
+        let fits : length first ≤ LONGEST_LINE = omega (arith, short, ap length reading.waiting) in
         subst (λ answer. Searched old before after (Ok answer) done) (kind_of-short first fits)
         (Searched-last old before mid now.taken reading.so_far after filled.more filled.took.takes (omega (arith, filled.length, filled.small)) done (taken ∙ filled.took.count)
         more_none (omega (arith, gives.0, ap length waits)) (filled.end none) (omega (arith, taken, filled.few)) ended
@@ -279,7 +280,7 @@ module _ (old now : Buffered) (before mid : SourceState) (reading : IsReading ol
         (record { number = gives.2 ∙ filled.number ∙ reading.number; text = gives.1; ended = ended })
 
 -- a line that waits whole is given at once, and nothing is taken
-pub Continues-at_once : (old now : Buffered) (source : SourceState) (kind : Line) (bytes : List ℕ) (place : ℕ) → bytes ≡ old.waiting → IsAtLineEnd bytes place → old.ended ≡ None → old.taken ≤ max_bytes → kind ≡ kind_of (take place old.waiting) → now.waiting ≡ drop (place + 1) old.waiting → now.text ≡ lent_of (take place old.waiting) → now.number ≡ old.number + 1 → now.taken ≡ old.taken → now.ended ≡ old.ended → (reading : Reading) → LinesRepresent old reading → Continues reading reading.ended source source (Ok kind) now
+pub Continues-at_once : (old now : Buffered) (source : SourceState) (kind : Line) (bytes : List ℕ) (place : ℕ) → bytes ≡ old.waiting → IsAtLineEnd bytes place → old.ended ≡ None → old.taken ≤ MAX_BYTES → kind ≡ kind_of (take place old.waiting) → now.waiting ≡ drop (place + 1) old.waiting → now.text ≡ lent_of (take place old.waiting) → now.number ≡ old.number + 1 → now.taken ≡ old.taken → now.ended ≡ old.ended → (reading : Reading) → LinesRepresent old reading → Continues reading reading.ended source source (Ok kind) now
 Continues-at_once old now source kind bytes place is_waiting is unended few kinds waits lends number taken ended reading stands =
     let first : List ℕ = take place old.waiting in
     let whole : old.waiting ++ [] ≡ first ++ 10 ∷ now.waiting =

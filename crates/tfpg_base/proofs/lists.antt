@@ -8,6 +8,7 @@ pub mod Pigeons
 -- What is at a place, and at which place something is.
 pub mod Written
 pub mod Positions
+pub mod FirstFound
 pub mod Cuts
 -- Lists made of others: images, those that pass, values that there are.
 pub mod Images
@@ -15,6 +16,9 @@ pub mod Passing
 pub mod Numbered
 pub mod Valued
 pub mod Choices
+pub mod Scans
 -- Bytes and numbers.
 pub mod SameBytes
 pub mod Sequences
+-- What can be decided.
+pub mod Decided

@@ -1,5 +1,5 @@
 -- Choices among optional values, and among the items of a list.
-use Rattle.std.specs.Prelude.{ℕ, ◌+◌, Bool, List, [], ◌∷◌, Option, Some, None, option_map, Result, Ok, Err, if◌then◌else◌}
+use Rattle.std.specs.Prelude.{ℕ, zero, suc, ◌+◌, Bool, List, [], ◌∷◌, Option, Some, None, option_map, slice_get, Result, Ok, Err, if◌then◌else◌}
 
 -- the first value that there is
 abbrev pub first_of : {X : Type 0} → List (Option X) → Option X
@@ -17,6 +17,11 @@ each_of (Some x ∷ others) = option_map (λ xs. x ∷ xs) (each_of others)
 abbrev pub unless_refused : {X E : Type 0} → Option E → X → Result X E
 unless_refused (Some refusal) value = Err refusal
 unless_refused None value = Ok value
+
+-- the item of a number, where items are counted from 1
+abbrev pub item_at : {X : Type 0} → List X → ℕ → Option X
+item_at items zero = None
+item_at items (suc before) = slice_get items before
 
 -- the numbers of the items that pass, rising, where the first item has this number
 abbrev pub numbers_from : {X : Type 0} → ℕ → (X → Bool) → List X → List ℕ

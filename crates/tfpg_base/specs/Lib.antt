@@ -8,9 +8,9 @@ pub mod Append
 pub mod Set
 pub mod SetBits
 pub mod Trace
-pub mod Times
 pub mod Constraint
 pub mod ConstraintCycle
+pub mod Bounds
 pub mod Choice
 -- What the code and its proofs need besides. No public clause reaches it.
 pub mod inside

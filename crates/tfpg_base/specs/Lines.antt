@@ -1,5 +1,5 @@
 -- Bytes as lines, and what a reader of lines has taken and returned.
-use Rattle.std.specs.Prelude.{◌≡◌, ◌⊎◌, ℕ, ◌+◌, ◌-◌, ◌<◌, ◌≤◌, List, [], ◌∷◌, ◌++◌, length, take, ◌==◌, Bool, false, Option, Some, None, Result, Ok, Err, IsSome, All, slice_get, slice_index_or}
+use Rattle.std.specs.Prelude.{◌≡◌, ◌⊎◌, ℕ, ◌+◌, ◌-◌, ◌<◌, ◌≤◌, List, [], ◌∷◌, ◌++◌, length, take, nat_lt, ◌==◌, Bool, false, Option, Some, None, Result, Ok, Err, IsSome, All, slice_get, slice_index_or}
 use Rattle.std.specs.List.{slice_split, flat_map}
 use Rattle.tfpg_base.specs.declared.limits.TheConstants.{LONGEST_LINE, MAX_BYTES, BUFFER_SIZE}
 use Rattle.tfpg_base.specs.declared.line.Line.{Line}
@@ -33,17 +33,9 @@ line_of_part (byte ∷ bytes) = (byte ∷ bytes) ∷ []
 abbrev pub lines_of : List ℕ → List (List ℕ)
 lines_of bytes = whole_lines bytes ++ line_of_part (last_part bytes)
 
--- how many bytes a line may have
-abbrev pub longest_line : ℕ
-longest_line = LONGEST_LINE
-
--- how many bytes a reader takes, but for one to see that there are more
-abbrev pub max_bytes : ℕ
-max_bytes = MAX_BYTES
-
--- how many bytes the buffer of a reader has
-abbrev pub buffer_size : ℕ
-buffer_size = BUFFER_SIZE
+-- Whether a line has more bytes than a line may have.
+abbrev pub is_too_long : List ℕ → Bool
+is_too_long line = nat_lt LONGEST_LINE (length line)
 
 -- The history of a reader of lines: all the bytes that it took, all the lines that it
 -- returned, and the result that ended it, if one has.
@@ -58,11 +50,11 @@ new_reading = record { taken = []; given = []; ended = None }
 
 -- the next line that has come whole and is not returned yet
 abbrev pub next_whole : Reading → Option (List ℕ)
-next_whole reading = slice_get (whole_lines (take max_bytes reading.taken)) (length reading.given)
+next_whole reading = slice_get (whole_lines (take MAX_BYTES reading.taken)) (length reading.given)
 
 -- the history after these bytes were taken
 abbrev pub with_bytes : Reading → List ℕ → Reading
-with_bytes reading bytes = record { taken = reading.taken ++ bytes; given = reading.given; ended = reading.ended }
+with_bytes reading bytes = record reading { taken = reading.taken ++ bytes }
 
 -- what is returned after a line: a line that has come without a line end is the last, and after it comes the end
 abbrev pub ended_after_line : Option (List ℕ) → Option (Result Line LineFault)
@@ -71,11 +63,11 @@ ended_after_line None = Some (Ok line.End)
 
 -- the history after one more line was returned
 abbrev pub with_line : Reading → List ℕ → Reading
-with_line reading line = record { taken = reading.taken; given = reading.given ++ line ∷ []; ended = ended_after_line (next_whole reading) }
+with_line reading line = record reading { given = reading.given ++ line ∷ []; ended = ended_after_line (next_whole reading) }
 
 -- the history after a result that ends it
 abbrev pub ended_by : Reading → Result Line LineFault → Reading
-ended_by reading answer = record { taken = reading.taken; given = reading.given; ended = Some answer }
+ended_by reading answer = record reading { ended = Some answer }
 
 -- what contracts see of a reader: the bytes in its buffer, how many it took, what it lends, and what ended it
 pub record Buffered : Type 0 where
@@ -97,7 +89,7 @@ HasNoLineEnd bytes = All (λ byte. ends_line byte ≡ false) bytes
 pub record IsGoingOn (reader : Buffered) (reading : Reading) : Type 0 where
   pub bytes : reading.taken ≡ flat_map with_line_end reading.given ++ reader.waiting
   pub lines : All HasNoLineEnd reading.given
-  pub few : reader.taken ≤ max_bytes
+  pub few : reader.taken ≤ MAX_BYTES
 
 -- The reader represents this history.
 pub record LinesRepresent (reader : Buffered) (reading : Reading) : Type 0 where
@@ -109,22 +101,26 @@ pub record LinesRepresent (reader : Buffered) (reading : Reading) : Type 0 where
 
 -- The line is the next one, after those returned, of all the bytes taken, which are not too many. It has come whole, or the source has ended.
 pub record IsNext (reading : Reading) (line : List ℕ) (source_ended : Type 0) : Type 0 where
-  pub few : length reading.taken ≤ max_bytes
+  pub few : length reading.taken ≤ MAX_BYTES
   pub front : take (length reading.given + 1) (lines_of reading.taken) ≡ reading.given ++ line ∷ []
   pub whole : (next_whole reading ≡ Some line) ⊎ source_ended
 
 -- What a reader that nothing has ended returns, with the bytes of this call among those taken.
 abbrev pub ReturnsNext : Reading → Type 0 → Result Line LineFault → Buffered → Type 0
 ReturnsNext reading source_ended (Ok line.Text) reader =
-    (next : List ℕ) × IsNext reading next source_ended × (length next ≤ longest_line) × (reader.text ≡ next) × LinesRepresent reader (with_line reading next)
+    (next : List ℕ) × IsNext reading next source_ended × (length next ≤ LONGEST_LINE) × (reader.text ≡ next)
+    × LinesRepresent reader (with_line reading next)
 ReturnsNext reading source_ended (Ok line.TooLong) reader =
-    (next : List ℕ) × IsNext reading next source_ended × (longest_line < length next) × (reader.text ≡ []) × LinesRepresent reader (with_line reading next)
+    (next : List ℕ) × IsNext reading next source_ended × (LONGEST_LINE < length next) × (reader.text ≡ [])
+    × LinesRepresent reader (with_line reading next)
 ReturnsNext reading source_ended (Ok line.End) reader =
-    (lines_of reading.taken ≡ reading.given) × source_ended × (length reading.taken ≤ max_bytes) × (reader.text ≡ []) × LinesRepresent reader (ended_by reading (Ok line.End))
+    (lines_of reading.taken ≡ reading.given) × source_ended × (length reading.taken ≤ MAX_BYTES) × (reader.text ≡ [])
+    × LinesRepresent reader (ended_by reading (Ok line.End))
 ReturnsNext reading source_ended (Err fault.ReadFault) reader =
-    (whole_lines reading.taken ≡ reading.given) × (length reading.taken ≤ max_bytes) × (reader.text ≡ []) × LinesRepresent reader (ended_by reading (Err fault.ReadFault))
+    (whole_lines reading.taken ≡ reading.given) × (length reading.taken ≤ MAX_BYTES) × (reader.text ≡ [])
+    × LinesRepresent reader (ended_by reading (Err fault.ReadFault))
 ReturnsNext reading source_ended (Err fault.TooMuchInput) reader =
-    (whole_lines (take max_bytes reading.taken) ≡ reading.given) × (length reading.taken ≡ max_bytes + 1) × (reader.text ≡ [])
+    (whole_lines (take MAX_BYTES reading.taken) ≡ reading.given) × (length reading.taken ≡ MAX_BYTES + 1) × (reader.text ≡ [])
     × LinesRepresent reader (ended_by reading (Err fault.TooMuchInput))
 
 -- These bytes with which no whole line has come, and then one more piece, which a buffer can hold.
@@ -133,7 +129,7 @@ pub record ComesInPieces (reading : Reading) (more : List ℕ) : Type 0 where
   pub piece : List ℕ
   pub whole : more ≡ front ++ piece
   pub part : next_whole (with_bytes reading front) ≡ None
-  pub small : length piece ≤ buffer_size
+  pub small : length piece ≤ BUFFER_SIZE
 
 -- These bytes are no more than a call needs: none where the next line has come whole, else pieces until it has.
 abbrev pub TakesAsNeeded : Reading → List ℕ → Type 0

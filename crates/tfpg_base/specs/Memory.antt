@@ -3,7 +3,7 @@ use Rattle.std.specs.Prelude.{◌≡◌, ◌⊎◌, ◌<◌, ◌≤◌, ◌^◌,
 use Rattle.tfpg_base.specs.declared.outside.Failed.{Failed}
 use Rattle.tfpg_base.specs.declared.outside.ShelfFault.{ShelfFault}
 use Rattle.tfpg_base.specs.declared.outside.ShelfFault.TheVariants as faults
-use Rattle.tfpg_base.specs.Outside.{longest_file}
+use Rattle.tfpg_base.specs.declared.limits.TheConstants.{LONGEST_FILE}
 
 -- the count after one more, which stands still at the last value of its type
 abbrev pub count_after : ℕ → ℕ
@@ -38,22 +38,12 @@ ended_after ended count room = ended || (count == 0 && nat_lt 0 room)
 
 -- a source after a call for a room of this length
 abbrev pub after_take : GivesBytes → ℕ → Result ℕ Failed → GivesBytes
-after_take old room (Ok count) = record {
+after_take old room (Ok count) = record old {
   left = drop count old.left;
-  limit = old.limit;
-  failing = old.failing;
   calls = count_after old.calls;
-  faults = old.faults;
   ended = ended_after old.ended count room;
 }
-after_take old room (Err failed) = record {
-  left = old.left;
-  limit = old.limit;
-  failing = old.failing;
-  calls = count_after old.calls;
-  faults = count_after old.faults;
-  ended = old.ended;
-}
+after_take old room (Err failed) = record old { calls = count_after old.calls; faults = count_after old.faults }
 
 -- a room after a call of a source that had these bytes left
 abbrev pub filled : List ℕ → List ℕ → Result ℕ Failed → List ℕ
@@ -71,8 +61,8 @@ pub record HoldsBytes : Type 0 where
 
 -- a sink after a call for this piece
 abbrev pub after_put : HoldsBytes → List ℕ → Result ℕ Failed → HoldsBytes
-after_put old piece (Ok count) = record { holds = old.holds ++ take count piece; limit = old.limit; failing = old.failing; calls = count_after old.calls; faults = old.faults }
-after_put old piece (Err failed) = record { holds = old.holds; limit = old.limit; failing = old.failing; calls = count_after old.calls; faults = count_after old.faults }
+after_put old piece (Ok count) = record old { holds = old.holds ++ take count piece; calls = count_after old.calls }
+after_put old piece (Err failed) = record old { calls = count_after old.calls; faults = count_after old.faults }
 
 -- Files by name: the names with the contents, the names asked for so far, the numbers of the calls that are to
 -- fail, how many calls came, and how many failed.
@@ -86,9 +76,9 @@ pub record HasFiles : Type 0 where
 -- What copying a file comes to, where there may be one of this content: the whole content where it is not
 -- longer than a file may be, else as much of its front as a file may have. It fails where there is no file.
 abbrev pub Copies : Option (List ℕ) → List ℕ → Result (Unit {0}) ShelfFault → Type 0
-Copies content copy (Ok done) = (content ≡ Some copy) × (length copy ≤ longest_file)
+Copies content copy (Ok done) = (content ≡ Some copy) × (length copy ≤ LONGEST_FILE)
 Copies content copy (Err faults.TooLong) =
-    (length copy ≡ longest_file) × ((more : List ℕ) × (0 < length more) × (content ≡ Some (copy ++ more)))
+    (length copy ≡ LONGEST_FILE) × ((more : List ℕ) × (0 < length more) × (content ≡ Some (copy ++ more)))
 Copies content copy (Err faults.NoMemory) = copy ≡ []
 Copies content copy (Err faults.Failed) = (copy ≡ []) × (content ≡ None)
 
@@ -101,7 +91,8 @@ Fetches fails content copy (Err faults.Failed) = (copy ≡ []) × (fails ⊎ (co
 
 -- a shelf after a call for this name
 abbrev pub after_fetch : HasFiles → List ℕ → Result (Unit {0}) ShelfFault → HasFiles
-after_fetch old name (Ok done) = record { files = old.files; asked = old.asked ++ name ∷ []; failing = old.failing; calls = count_after old.calls; faults = old.faults }
-after_fetch old name (Err faults.TooLong) = record { files = old.files; asked = old.asked ++ name ∷ []; failing = old.failing; calls = count_after old.calls; faults = old.faults }
-after_fetch old name (Err faults.NoMemory) = record { files = old.files; asked = old.asked; failing = old.failing; calls = count_after old.calls; faults = old.faults }
-after_fetch old name (Err faults.Failed) = record { files = old.files; asked = old.asked ++ name ∷ []; failing = old.failing; calls = count_after old.calls; faults = count_after old.faults }
+after_fetch old name (Ok done) = record old { asked = old.asked ++ name ∷ []; calls = count_after old.calls }
+after_fetch old name (Err faults.TooLong) = record old { asked = old.asked ++ name ∷ []; calls = count_after old.calls }
+after_fetch old name (Err faults.NoMemory) = record old { calls = count_after old.calls }
+after_fetch old name (Err faults.Failed) =
+    record old { asked = old.asked ++ name ∷ []; calls = count_after old.calls; faults = count_after old.faults }

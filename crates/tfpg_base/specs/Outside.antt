@@ -4,10 +4,6 @@ use Rattle.tfpg_base.specs.declared.limits.TheConstants.{LONGEST_FILE}
 use Rattle.tfpg_base.specs.declared.outside.ShelfFault.{ShelfFault}
 use Rattle.tfpg_base.specs.declared.outside.ShelfFault.TheVariants as faults
 
--- how many bytes a file has at most
-abbrev pub longest_file : ℕ
-longest_file = LONGEST_FILE
-
 -- What contracts see of a source: the bytes that are left, where they are known; whether it has returned its end; how often taking failed.
 pub record SourceState : Type 0 where
   pub left : Option (List ℕ)
@@ -55,7 +51,7 @@ Gives shelf name bytes = IfSome shelf.files (λ files. file_of files name ≡ So
 -- The file of that name begins with these bytes, as many as a file may have, and has more.
 abbrev pub PassesLimit : ShelfState → List ℕ → List ℕ → Type 0
 PassesLimit shelf name bytes =
-    (length bytes ≡ longest_file) × IfSome shelf.files (λ files. (more : List ℕ) × (0 < length more) × (file_of files name ≡ Some (bytes ++ more)))
+    (length bytes ≡ LONGEST_FILE) × IfSome shelf.files (λ files. (more : List ℕ) × (0 < length more) × (file_of files name ≡ Some (bytes ++ more)))
 
 -- The name was added to those asked for.
 abbrev pub NotesName : ShelfState → ShelfState → List ℕ → Type 0

@@ -1,5 +1,6 @@
 -- Sets of failure modes, as the rising lists of their positions.
 use Rattle.std.specs.Prelude.{◌≢◌, ◌<◌, ℕ, List, [], ◌∷◌, All, AllPairs, Contains, nat_lt, ◌==◌, if◌then◌else◌}
+use Rattle.tfpg_base.specs.declared.limits.TheConstants.{MAX_MEMBERS}
 
 -- the set with this member
 abbrev pub with_member : ℕ → List ℕ → List ℕ
@@ -11,11 +12,15 @@ with_member position (first ∷ others) =
 abbrev pub IsSubset : List ℕ → List ℕ → Type 0
 IsSubset part whole = All (Contains whole) part
 
--- a part, and not the whole
+-- a subset, and not the whole set
 abbrev pub IsProperSubset : List ℕ → List ℕ → Type 0
 IsProperSubset part whole = IsSubset part whole × (part ≢ whole)
 
--- The members rise strictly, so each stands once, and each is below 64.
+-- The numbers rise strictly.
+abbrev pub Rises : List ℕ → Type 0
+Rises numbers = AllPairs (λ earlier later. earlier < later) numbers
+
+-- The members rise strictly, so each stands once, and each is below the maximum number of members.
 pub record IsSet (members : List ℕ) : Type 0 where
-  pub rising : AllPairs (λ earlier later. earlier < later) members
-  pub small : All (λ position. position < 64) members
+  pub rising : Rises members
+  pub small : All (λ position. position < MAX_MEMBERS) members

@@ -1,6 +1,7 @@
 -- How 64 bits keep a set of positions.
 use Rattle.std.specs.Prelude.{ℕ, zero, suc, ◌^◌, List, [], ◌∷◌, ◌++◌, ◌==◌, if◌then◌else◌, sum_by}
 use Rattle.std.specs.Int.{bit_at}
+use Rattle.tfpg_base.specs.declared.limits.TheConstants.{MAX_MEMBERS}
 
 -- the places of the ones among the lowest bits, rising
 unfoldable pub ones_below : ℕ → ℕ → List ℕ
@@ -9,7 +10,7 @@ ones_below (suc count) bits = ones_below count bits ++ (if bit_at bits count == 
 
 -- the members of the set that 64 bits keep
 unfoldable pub members_of : ℕ → List ℕ
-members_of bits = ones_below 64 bits
+members_of bits = ones_below MAX_MEMBERS bits
 
 -- the number of which these are the places of the ones
 abbrev pub bits_of : List ℕ → ℕ

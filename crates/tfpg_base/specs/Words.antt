@@ -1,8 +1,9 @@
 -- Words on a line, and the two forms of words that every text format uses: names and numbers.
-use Rattle.std.specs.Prelude.{ℕ, List, [], ◌∷◌, length, Bool, false, not, ◌&&◌, ◌||◌, nat_le, ◌==◌, if◌then◌else◌, Option, Some, None}
-use Rattle.std.specs.List.{slice_split, list_all, join_with_byte}
+use Rattle.std.specs.Prelude.{ℕ, List, [], ◌∷◌, length, Bool, false, not, ◌&&◌, ◌||◌, nat_le, nat_lt, ◌==◌, if◌then◌else◌, Option, Some, None}
+use Rattle.std.specs.List.{slice_split, list_all, list_any, join_with_byte}
 use Rattle.std.specs.Char.{is_ascii_digit}
 use Rattle.std.specs.Str.Parse.{digits_value}
+use Rattle.tfpg_base.specs.declared.limits.TheConstants.{LONGEST_NAME}
 use Rattle.tfpg_base.specs.declared.word.Number.{Number}
 use Rattle.tfpg_base.specs.declared.word.Number.TheVariants.{Value, TooLarge, NotANumber}
 
@@ -14,6 +15,18 @@ words_of line = slice_split (λ byte. byte == 32) line
 abbrev pub line_of : List (List ℕ) → List ℕ
 line_of words = join_with_byte 32 words
 
+-- Whether one of the words is empty.
+abbrev pub has_empty_word : List (List ℕ) → Bool
+has_empty_word words = list_any (λ word. length word == 0) words
+
+-- the parts of a word round its commas
+abbrev pub comma_parts : List ℕ → List (List ℕ)
+comma_parts word = slice_split (λ byte. byte == 44) word
+
+-- words with a comma between each two
+abbrev pub joined_by_commas : List (List ℕ) → List ℕ
+joined_by_commas words = join_with_byte 44 words
+
 -- from A to Z or from a to z
 abbrev pub is_letter : ℕ → Bool
 is_letter byte = (nat_le 65 byte && nat_le byte 90) || (nat_le 97 byte && nat_le byte 122)
@@ -22,10 +35,10 @@ is_letter byte = (nat_le 65 byte && nat_le byte 90) || (nat_le 97 byte && nat_le
 abbrev pub is_name_byte : ℕ → Bool
 is_name_byte byte = is_letter byte || (is_ascii_digit byte || (byte == 95 || (byte == 46 || byte == 45)))
 
--- A name has 1 to 32 bytes, of which the first is a letter.
+-- A name has a byte and at most as many as the longest name; the first is a letter.
 abbrev pub is_name : List ℕ → Bool
 is_name [] = false
-is_name (first ∷ others) = is_letter first && (list_all is_name_byte others && nat_le (length others) 31)
+is_name (first ∷ others) = is_letter first && (list_all is_name_byte others && nat_lt (length others) LONGEST_NAME)
 
 -- A number is `0`, or a digit from 1 to 9 and then digits.
 abbrev pub is_number : List ℕ → Bool

@@ -55,7 +55,10 @@ pub use constraint::Constraint;
 pub use file::append_to_file;
 pub use items::{Bytes, Items, LineList, NumberList};
 pub use last_line_end::without_last_line_end;
-pub use limits::{BUFFER_SIZE, LONGEST_FILE, LONGEST_LINE, MAX_BYTES, MAX_TIME, MAX_WORDS, NEVER};
+pub use limits::{
+    BUFFER_SIZE, LONGEST_FILE, LONGEST_LINE, LONGEST_NAME, MAX_BYTES, MAX_CASE_SIZE, MAX_MEMBERS,
+    MAX_TIME, MAX_WORDS, NEVER,
+};
 pub use line::{Line, LineFault};
 pub use lines::Lines;
 pub use memory::{Discard, MemoryShelf, MemorySink, MemorySource, SteadySource};
@@ -67,4 +70,4 @@ pub use text::Text;
 pub use text_line::{append_line, append_part, append_words};
 pub use trace::Trace;
 pub use word::{Number, read_name, read_number};
-pub use words::{Words, has_empty_word};
+pub use words::{Words, has_empty_word, parts_at_commas};

@@ -1,4 +1,4 @@
-//! The limits of inputs and of times.
+//! The limits of inputs, of generated cases and of times.
 
 /// How many bytes a file has at most: 2^24.
 pub const LONGEST_FILE: usize = 16_777_216;
@@ -9,11 +9,20 @@ pub const LONGEST_LINE: usize = 4_096;
 /// How many bytes the buffer of a reader of lines has, which is more than a line may have.
 pub const BUFFER_SIZE: usize = 65_536;
 
-/// How many bytes a reader of lines takes, but for one to see that there are more: 2^32.
+/// How many bytes a reader of lines takes at most: 2^32, and one more by which it sees that there are more.
 pub const MAX_BYTES: u64 = 4_294_967_296;
+
+/// How many bytes a name has at most.
+pub const LONGEST_NAME: usize = 32;
+
+/// How many members a set of failure modes has at most: their positions are below this.
+pub const MAX_MEMBERS: u32 = 64;
 
 /// How many words a line of any text format has at most.
 pub const MAX_WORDS: usize = 9;
+
+/// The greatest size of a generated case.
+pub const MAX_CASE_SIZE: u64 = 100;
 
 /// The greatest time, delay and lag, in milliseconds.
 pub const MAX_TIME: u64 = 1_000_000_000_000;

@@ -1,8 +1,8 @@
 //! The outside in memory, for tests and for bytes that are at hand.
 //!
-//! Contracts know the contents of [`MemorySource`], [`MemorySink`] and [`MemoryShelf`]. Each fails at the calls with the
-//! numbers that it was made with. Calls are numbered from 1. A count of faults stands still at the last value of its type.
-//! [`SteadySource`] and [`Discard`] never fail.
+//! Contracts know the contents of [`MemorySource`], [`MemorySink`] and [`MemoryShelf`]. Each is made with the numbers
+//! of the calls at which it fails. Calls are numbered from 1. A count of faults stands still at the last value of its
+//! type. [`SteadySource`] and [`Discard`] never fail.
 
 mod bytes_left;
 mod discard;

@@ -5,7 +5,8 @@
 //! one that hides a fault.
 
 ghost use Rattle.std.specs.Prelude.{◌≡◌, ◌⊎◌, ◌<◌, ◌≤◌, ◌^◌, ◌↔◌, ◌++◌, ◌∷◌, [], ℕ, List, length, take, Option, None, Some, IsTrue, IfSome, IfOk, OnOk, OnErr, IsErrOf, Ok};
-ghost use Rattle.tfpg_base.specs.Outside.{longest_file, SourceState, SinkState, ShelfState, Rose, Takes, Puts, IsAtEnd, Asks, Gives, PassesLimit, CountsFailure};
+ghost use Rattle.tfpg_base.specs.Outside.{SourceState, SinkState, ShelfState, Rose, Takes, Puts, IsAtEnd, Asks, Gives, PassesLimit, CountsFailure};
+ghost use Rattle.tfpg_base.specs.declared.limits.TheConstants.{LONGEST_FILE};
 
 use crate::NoMemory;
 use std::alloc::Global;
@@ -78,7 +79,7 @@ pub trait Shelf {
     /// the name. After `TooLong` `into` holds the first 2^24 bytes of the file; after the other faults it is empty.
     fn fetch(&mut self, alloc: Global, name: &str, into: &mut Vec<u8>) -> Result<(), ShelfFault>
         ensures given { OnOk result (Gives (state self.old) name.now into.new.items) }
-        ensures small { OnOk result (length into.new.items ≤ longest_file) }
+        ensures small { OnOk result (length into.new.items ≤ LONGEST_FILE) }
         ensures too_long { IsErrOf result ShelfFault.TooLong →
             PassesLimit (state self.old) name.now into.new.items }
         ensures failed { IsErrOf result ShelfFault.Failed → into.new.items ≡ [] }

@@ -5,7 +5,9 @@ ghost use Rattle.std.specs.Cmp.{partial_equiv_from_equiv};
 ghost use Rattle.std.specs.Cmp.Lexicographic.{nat_list_eq_equiv};
 ghost use Rattle.tfpg_base.specs.Set.{with_member, IsSubset, IsProperSubset, IsSet};
 ghost use Rattle.tfpg_base.specs.SetBits.{bits_of};
+ghost use Rattle.tfpg_base.specs.declared.limits.TheConstants.{MAX_MEMBERS};
 
+use crate::MAX_MEMBERS;
 use std::marker::Model;
 
 /// A set of failure modes, each by its position among the failure modes of the graph, which is below 64.
@@ -65,7 +67,7 @@ impl Set {
 
     /// The set with this member.
     pub fn with(self, position: u32) -> Set
-        requires { position < 64 }
+        requires { position < MAX_MEMBERS }
         ensures list { result ≡ with_member position self }
         ensures members { (other : ℕ) → Contains result other ↔ ((position ≡ other) ⊎ Contains self other) }
         ensures set { IsSet result }
@@ -80,7 +82,7 @@ impl Set {
         ensures member { IsTrue result ↔ Contains self position }
         ensures set { IsSet self }
     {
-        position < 64 && self.bits >> position & 1 == 1
+        position < MAX_MEMBERS && self.bits >> position & 1 == 1
     }
 
     /// How many members there are.

@@ -7,6 +7,8 @@ ghost use Rattle.std.specs.Char.{is_ascii_digit, digit_value, IsAsciiDigit};
 ghost use Rattle.std.specs.Str.Parse.{digits_value};
 ghost use Rattle.tfpg_base.specs.Words.{is_letter, is_name_byte, is_name, is_number, number_of, number_up_to};
 
+use crate::LONGEST_NAME;
+
 /// What a word says in the place of a number.
 #[derive(Clone, Copy, Debug, PartialEq, Eq)]
 pub enum Number {
@@ -18,7 +20,7 @@ pub enum Number {
     NotANumber,
 }
 
-/// Whether the word is a name: 1 to 32 letters, digits, underscores, dots and hyphens, of which the first is a
+/// Whether the word is a name: 1 to [`LONGEST_NAME`] letters, digits, underscores, dots and hyphens, of which the first is a
 /// letter. Takes time in the length of the word, and no more than for 32 bytes.
 pub fn read_name(word: &[u8]) -> bool
     ensures { result ≡ is_name word.now }
@@ -26,7 +28,7 @@ pub fn read_name(word: &[u8]) -> bool
     match word {
         [] => false,
         [first, others @ ..] => {
-            first.is_ascii_alphabetic() && others.len() <= 31 && are_name_bytes(others)
+            first.is_ascii_alphabetic() && others.len() < LONGEST_NAME && are_name_bytes(others)
         }
     }
 }
@@ -45,7 +47,7 @@ pub fn read_number(word: &[u8], most: u64) -> Number
     if !is_number(word) {
         return Number::NotANumber;
     }
-    match value_of(word) {
+    match digits_value(word) {
         Some(value) if value <= most => Number::Value(value),
         _ => Number::TooLarge,
     }
@@ -68,7 +70,7 @@ fn are_digits(bytes: &[u8]) -> bool
 }
 
 /// The value of the digits, where a `u64` holds it.
-fn value_of(digits: &[u8]) -> Option<u64>
+fn digits_value(digits: &[u8]) -> Option<u64>
     requires { is_number digits.now ≡ true }
     ensures { SomeIff result (digits_value 10 digits.now < 2 ^ 64) (digits_value 10 digits.now) }
 {

@@ -1,11 +1,12 @@
 //! The words of a line.
 
-ghost use Rattle.std.specs.Prelude.{◌≡◌, ◌<◌, ◌==◌, length, map, MatchOption};
+ghost use Rattle.std.specs.Prelude.{◌≡◌, ◌<◌, ◌==◌, length, map, IfOk, MatchOption};
 ghost use Rattle.std.specs.List.{list_any};
 ghost use Rattle.tfpg_base.specs.declared.limits.TheConstants.{MAX_WORDS};
-ghost use Rattle.tfpg_base.specs.Words.{words_of};
+ghost use Rattle.tfpg_base.specs.Words.{comma_parts, has_empty_word, words_of};
 
-use crate::MAX_WORDS;
+use crate::{MAX_WORDS, NoMemory};
+use std::alloc::Global;
 use std::marker::Model;
 
 /// The words of a line that has at most [`MAX_WORDS`]. Contracts see them as the list of their bytes.
@@ -55,7 +56,24 @@ impl<'a> Words<'a> {
 
 /// Whether one of the words is empty, as one is where a line has a space at an end, or two in a row.
 pub fn has_empty_word(words: &[&[u8]]) -> bool
+    ensures { result ≡ has_empty_word (map (λ word. word.now) words.now) }
+{
+    any_is_empty(words)
+}
+
+fn any_is_empty(words: &[&[u8]]) -> bool
     ensures { result ≡ list_any (λ word. length word.now == 0) words.now }
 {
     words.iter().any(|word| word.is_empty())
+}
+
+/// The parts of a word round its commas. Takes memory for them, and time in the length of the word.
+pub fn parts_at_commas<'a>(alloc: Global, word: &'a [u8]) -> Result<Vec<&'a [u8]>, NoMemory>
+    ensures { IfOk result (λ parts. map (λ part. part.now) parts.items ≡ comma_parts word.now) }
+{
+    let mut parts = Vec::new(alloc);
+    for part in word.split(|byte| *byte == b',') {
+        parts.push(part)?;
+    }
+    Ok(parts)
 }

@@ -6,7 +6,8 @@ use Rattle.tfpg_log.specs.declared.event.Offered.{Offered}
 use Rattle.tfpg_log.specs.declared.event.Offered.TheVariants.{Accepted, Refused}
 use Rattle.tfpg_log.specs.Log.{Logbook, with_event}
 use Rattle.tfpg_log.specs.Accepted.{reply_to}
-use Rattle.tfpg_log.specs.LogOfLines.{is_too_long, new_log, log_after, log_of_lines}
+use Rattle.tfpg_log.specs.LogOfLines.{new_log, log_after, log_of_lines}
+use Rattle.tfpg_base.specs.Lines.{is_too_long}
 use Rattle.tfpg_evidence.specs.declared.round.Round.{Round}
 use Rattle.tfpg_hyp.specs.Rounds.{IsRound}
 use Rattle.tfpg_report.specs.declared.refused_line.RefusedLine.{RefusedLine}
@@ -45,8 +46,9 @@ progress_after graph before line block =
 abbrev pub progress_of : Tfpg → List (List ℕ) → List Block → Progress
 progress_of graph lines blocks = record { rounds = flat_map rounds_of blocks; log = log_of_lines graph lines }
 
--- What block a line has. A refused line has the block of its refusal. An accepted one has the block of some round that meets the
--- definition of a round for all events and all rounds so far; panels may be lost at it, in the order of their numbers.
+-- What block a line has. A refused line has the block of its refusal. An accepted one has the block of some round that
+-- meets the definition of a round for all events and all rounds so far; panels may be lost at it, in the order of their
+-- numbers.
 abbrev pub IsBlockOf : Tfpg → ℕ → ℕ → Progress → ℕ → Block → Result Event RefusedLine → Type 0
 IsBlockOf graph k budget before number block (Err cause) = block ≡ RefusedBlock number cause
 IsBlockOf graph k budget before number block (Ok event) =
@@ -56,25 +58,30 @@ IsBlockOf graph k budget before number block (Ok event) =
 
 -- This is the block of a line of this number, after what the report has come to.
 abbrev pub IsBlock : Tfpg → ℕ → ℕ → Progress → ℕ → List ℕ → Block → Type 0
-IsBlock graph k budget before number line block = IsBlockOf graph k budget before number block (event_of_line graph before.log line)
+IsBlock graph k budget before number line block =
+    IsBlockOf graph k budget before number block (event_of_line graph before.log line)
 
--- These are the blocks of the lines, one for each line in order. Lines are numbered from 1, and places count from 0.
+-- These are the blocks of the lines, one for each line in order. Lines are numbered from 1, and indexes from 0.
 pub record AreBlocks (graph : Tfpg) (k budget : ℕ) (lines : List (List ℕ)) (blocks : List Block) : Type 0 where
   pub one_each : length blocks ≡ length lines
-  pub each : (place : ℕ) (line : List ℕ) (block : Block) → slice_get lines place ≡ Some line → slice_get blocks place ≡ Some block
+  pub each : (place : ℕ) (line : List ℕ) (block : Block) → slice_get lines place ≡ Some line
+      → slice_get blocks place ≡ Some block
       → IsBlock graph k budget (progress_of graph (take place lines) (take place blocks)) (place + 1) line block
 
 -- the text of a report with these blocks
 abbrev pub report_text : Tfpg → ℕ → ℕ → List Block → List ℕ
 report_text graph k budget blocks = head_text k budget ++ flat_map (block_text graph) blocks
 
--- The bytes are a report of the graph, of sets of at most k failure modes, of this budget and of these lines, with these blocks.
-pub record IsReport (graph : Tfpg) (k budget : ℕ) (lines : List (List ℕ)) (blocks : List Block) (bytes : List ℕ) : Type 0 where
+-- The bytes are a report of the graph, of sets of at most k failure modes, of this budget and of these lines, with
+-- these blocks.
+pub record IsReport (graph : Tfpg) (k budget : ℕ) (lines : List (List ℕ)) (blocks : List Block)
+    (bytes : List ℕ) : Type 0 where
   pub are_blocks : AreBlocks graph k budget lines blocks
   pub text : bytes ≡ report_text graph k budget blocks
 
 -- The bytes begin a report of the first of these lines, with these blocks.
-pub record BeginsReport (graph : Tfpg) (k budget : ℕ) (lines : List (List ℕ)) (blocks : List Block) (bytes : List ℕ) : Type 0 where
+pub record BeginsReport (graph : Tfpg) (k budget : ℕ) (lines : List (List ℕ)) (blocks : List Block)
+    (bytes : List ℕ) : Type 0 where
   pub count : ℕ
   pub within : count ≤ length lines
   pub report : List ℕ

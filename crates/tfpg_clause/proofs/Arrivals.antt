@@ -1,6 +1,6 @@
 -- How many items there are of what some numbers give.
-use Rattle.std.proofs.Common.{◌≡◌, ℕ, ◌+◌, ◌<◌, ◌≤◌, Bool, true, false, List, [], ◌∷◌, length, get_or, take, Option, Some, None, refl, sym, ap, ◌∙◌, arith, length-append}
-use Rattle.std.specs.Prelude.{is_some, option_map, filter_map}
+use Rattle.std.proofs.Common.{◌≡◌, ℕ, ◌+◌, ◌<◌, ◌≤◌, true, false, List, [], ◌∷◌, length, get_or, take, Option, Some, None, refl, ap, ◌∙◌, arith, length-append}
+use Rattle.std.specs.Prelude.{is_some, filter_map}
 use Rattle.std.specs.List.{cons_option}
 use Rattle.std.proofs.lemmas.List.{take_more}
 use Rattle.std.proofs.lemmas.List.Elements.{filter_map-append}
@@ -29,8 +29,3 @@ module _ {Y : Type 0} (h : ℕ → Option Y) (xs : List ℕ) (i : ℕ) (within :
   pub none_more : (count : ℕ) → is_some (h (get_or xs i 0)) ≡ false → (count ≡ length (filter_map h (take i xs))) × (count ≤ i)
       → (count ≡ length (filter_map h (take (i + 1) xs))) × (count ≤ i + 1)
   none_more count there upto = (omega (arith, upto.0, more, none_there (h (get_or xs i 0)) there), omega (arith, upto.1))
-
--- what is mapped is there where what it is mapped from is
-pub mapped_there : {X Y : Type 0} (f : X → Y) (o : Option X) (mapped : Option Y) (there : Bool) → option_map f o ≡ mapped → is_some o ≡ there → is_some mapped ≡ there
-mapped_there f None mapped there is at = sym (ap is_some is) ∙ at
-mapped_there f (Some x) mapped there is at = sym (ap is_some is) ∙ at

@@ -2,7 +2,7 @@
 use Rattle.std.proofs.Common.{◌≡◌, ℕ, suc, ◌+◌, ◌<◌, ◌≤◌, List, get_or, ap, arith, pos}
 use Rattle.std.specs.Prelude.{ℤ, ◌-ℤ◌, ◌≤ℤ◌, neg_ℤ}
 use Rattle.std.proofs.lemmas.Int.{ints}
-use Rattle.tfpg_clause.specs.Bounds.{at_most, at_least, at_most_after, at_least_after}
+use Rattle.tfpg_base.specs.Bounds.{at_most, at_least, at_most_after, at_least_after}
 use Rattle.tfpg_base.specs.Constraint.{Meets, value_of}
 
 up : (v : ℤ) (n m : ℕ) → v ≡ pos n → n ≤ m → (v -ℤ pos 0) ≤ℤ pos m

@@ -1,39 +1,26 @@
 -- What is due over some edges: the latest of it, and the alternatives of a must.
-use Rattle.std.proofs.Common.{◌≡◌, ℕ, zero, suc, ◌+◌, ◌*◌, ◌<◌, ◌≤◌, Bool, true, false, ◌&&◌, List, [], ◌∷◌, ◌++◌, length, get_or, take, max, Option, Some, None, refl, sym, ap, ◌∙◌, arith, pos, length-append}
+use Rattle.std.proofs.Common.{◌≡◌, ℕ, suc, ◌+◌, ◌*◌, ◌<◌, ◌≤◌, Bool, true, false, ◌&&◌, List, [], ◌∷◌, ◌++◌, length, get_or, take, max, Option, Some, None, refl, sym, ap, ◌∙◌, arith, pos, length-append}
 use Rattle.std.specs.Prelude.{nat_eq, nat_le, map, slice_get, option_map, option_and_then}
 use Rattle.std.specs.Bool.{then_some}
 use Rattle.std.specs.List.{list_all}
 use Rattle.std.proofs.lemmas.Bool.{le-leb, lt-leb, eq-eqb}
 use Rattle.std.proofs.lemmas.List.{take_more, map_push, length-map}
-use Rattle.std.proofs.lemmas.List.Folds.{list_all-append}
+use Rattle.std.proofs.lemmas.List.Folds.{list_all_at, list_all-append}
 use Rattle.std.proofs.lemmas.List.Sums.{fold_push}
-use Rattle.std.proofs.lemmas.Option.{slice_get-map, slice_get-get_or, slice_get_past}
-use Rattle.tfpg_base.specs.Choice.{each_of}
+use Rattle.std.proofs.lemmas.Option.{slice_get-map, slice_get-get_or, slice_get_past, slice_get_within, get_or_from_slice_get}
+use Rattle.tfpg_base.specs.Choice.{each_of, item_at}
 use Rattle.tfpg_base.specs.declared.constraint.Constraint.{Constraint}
 use Rattle.tfpg_base.proofs.lists.Choices.{each_of-at, length-each_of, each_of-push, each_of-none, then_some-true}
 use Rattle.tfpg_log.specs.declared.span.Window.{Window}
 use Rattle.tfpg_clause.specs.declared.due.Due.{Due}
-use Rattle.tfpg_clause.specs.Bounds.{at_most}
-use Rattle.tfpg_clause.specs.Clauses.{item_at, starts_late, follows_in_time, latest_of, must_alternatives, must_in}
+use Rattle.tfpg_base.specs.Bounds.{at_most}
+use Rattle.tfpg_clause.specs.Clauses.{starts_late, follows_in_time, latest_of, must_alternatives, must_in}
 use Rattle.tfpg_clause.specs.inside.Alternatives.{latest_within}
 use Rattle.tfpg_base.proofs.lists.Written.{slice_get-append_left, slice_get-append_right}
 
 -- there is room for the due
 abbrev pub fits : ℕ → Due → Bool
 fits hi due = nat_le due.by hi
-
--- a due for which there is no room
-over : (hi : ℕ) (ds : List Due) (k : ℕ) (due : Due) → slice_get ds k ≡ Some due → hi < due.by → list_all (fits hi) ds ≡ false
-over hi [] k due at late = absurd cc
-over hi (d ∷ ds) zero due at late =
-    let same : d ≡ due = cc in
-    let no_room : fits hi d ≡ false = lt-leb d.by hi (omega (arith, ap (λ (x : Due). x.by) same)) in
-    rw no_room refl
-over hi (d ∷ ds) (suc k) due at late = by (fits hi d) (over hi ds k due at late)
-  where
-    by : (b : Bool) → list_all (fits hi) ds ≡ false → (b && list_all (fits hi) ds) ≡ false
-    by true rest = rest
-    by false rest = refl
 
 -- the dues of a window with room for them
 pub within_opened : (hi latest : ℕ) (dues : Option (List Due)) → latest_within hi dues ≡ Some latest
@@ -81,7 +68,9 @@ module _ (f : ℕ → Option Due) (edges : List ℕ) (i hi : ℕ) (within : i < 
 
       by : (dues : Option (List Due)) → each_of (map f edges) ≡ dues → latest_within hi dues ≡ None
       by None are = refl
-      by (Some ds) are = ap (λ (b : Bool). then_some b (latest_of ds)) (over hi ds i due (there ds are) late)
+      by (Some ds) are =
+          let no_room : fits hi (get_or ds i due) ≡ false = ap (fits hi) (get_or_from_slice_get ds i due due (there ds are)) ∙ lt-leb due.by hi late in
+          ap (λ (b : Bool). then_some b (latest_of ds)) (list_all_at (fits hi) ds i due (slice_get_within ds i due (there ds are)) no_room)
 
   -- where all are due, it is due as said
   pub due_at : (ds : List Due) → each_of (map f edges) ≡ Some ds → f (get_or edges i 0) ≡ slice_get ds i

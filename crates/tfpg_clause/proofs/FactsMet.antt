@@ -6,7 +6,7 @@ use Rattle.std.specs.Bool.{then_some}
 use Rattle.std.proofs.lemmas.Bool.{cases_lt, leb-true, le-leb, lt-ltb, ltb-true, eqb-true, eq-eqb, false≢true, and_parts, and_from, not-true, both_ways}
 use Rattle.std.proofs.lemmas.List.Elements.{All-contains, All-get_or}
 use Rattle.std.proofs.lemmas.Option.{option_and_then_some, cond_some}
-use Rattle.tfpg_base.specs.Times.{never}
+use Rattle.tfpg_base.specs.declared.limits.TheConstants.{NEVER}
 use Rattle.tfpg_base.specs.declared.activation.Activation.{Activation}
 use Rattle.tfpg_base.specs.declared.constraint.Constraint.{Constraint}
 use Rattle.tfpg_base.specs.Trace.{time_of}
@@ -24,7 +24,7 @@ use Rattle.tfpg_log.specs.Explains.{Explains, Shows, ShowsAll, ShowsSilence}
 use Rattle.tfpg_log.proofs.InReach.{trace_in_reach}
 use Rattle.tfpg_evidence.specs.declared.reason.Reason.{Reason}
 use Rattle.tfpg_evidence.specs.declared.reason.Reason.TheVariants.{Zero, Top, Unreached, From, Upto, Quiet, Pick}
-use Rattle.tfpg_clause.specs.Bounds.{at_most, at_least}
+use Rattle.tfpg_base.specs.Bounds.{at_most, at_least}
 use Rattle.tfpg_base.specs.Constraint.{Meets}
 use Rattle.tfpg_base.proofs.lists.Choices.{then_some-true, is_some-there}
 use Rattle.tfpg_clause.specs.Facts.{fact, from_alarm, upto_alarm}
@@ -115,8 +115,8 @@ module _ (graph : Tfpg) (log : Logbook) (set reach : List ℕ) (is_reach : IsRea
     agree : Agree (length graph.nodes) (now_of log) trace numbers
     agree = of_trace graph (now_of log) trace numbers explains.by_now are
 
-    at_most_never : (node : ℕ) → node < length graph.nodes → get_or numbers node 0 ≤ never
-    at_most_never node within = All-get_or (λ number. number ≤ never) numbers node 0 (omega (arith, within, are.are_numbers.one_each)) are.are_numbers.in_range
+    at_most_never : (node : ℕ) → node < length graph.nodes → get_or numbers node 0 ≤ NEVER
+    at_most_never node within = All-get_or (λ number. number ≤ NEVER) numbers node 0 (omega (arith, within, are.are_numbers.one_each)) are.are_numbers.in_range
 
     -- a node that is not reached has no time
     unreached_late : (node : ℕ) → node < length graph.nodes → is_among reach node ≡ false → now_of log < get_or numbers node 0
@@ -170,8 +170,8 @@ module _ (graph : Tfpg) (log : Logbook) (set reach : List ℕ) (is_reach : IsRea
         let parts = then_some-true (ltb node (length graph.nodes)) (at_least node 0) stated is in
         subst (Meets numbers) parts.1 (met_at_least numbers node 0 (omega arith))
     fact_is_met (Top node) stated is =
-        let parts = then_some-true (ltb node (length graph.nodes)) (at_most node (pos never)) stated is in
-        subst (Meets numbers) parts.1 (met_at_most numbers node never (at_most_never node (ltb-true node (length graph.nodes) parts.0)))
+        let parts = then_some-true (ltb node (length graph.nodes)) (at_most node (pos NEVER)) stated is in
+        subst (Meets numbers) parts.1 (met_at_most numbers node NEVER (at_most_never node (ltb-true node (length graph.nodes) parts.0)))
     fact_is_met (Unreached node horizon) stated is =
         let parts = then_some-true (ltb node (length graph.nodes) && (leb horizon (now_of log) && not (is_among reach node))) (at_least node (horizon + 1)) stated is in
         let both = and_parts (ltb node (length graph.nodes)) (leb horizon (now_of log) && not (is_among reach node)) parts.0 in

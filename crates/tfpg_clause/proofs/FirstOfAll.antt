@@ -22,14 +22,14 @@ use Rattle.tfpg_clause.proofs.Agreed.{of_cut}
 use Rattle.tfpg_clause.proofs.RulesMet.{may_holds, must_holds, clause_is_met, rules_are_kept}
 
 -- the kind of a name
-pub kind_of : ClauseName → ClauseKind
+kind_of : ClauseName → ClauseKind
 kind_of (OrMay node span horizon) = kind.OrMay
 kind_of (AndMay edge span horizon) = kind.AndMay
 kind_of (OrMust edge span horizon) = kind.OrMust
 kind_of (AndMust node span horizon) = kind.AndMust
 
 -- Each name is that of its kind, its node or edge, its span and its horizon,
-pub name_is : (name : ClauseName) → named (kind_of name) (subject_of name) (span_of name) (horizon_of name) ≡ name
+name_is : (name : ClauseName) → named (kind_of name) (subject_of name) (span_of name) (horizon_of name) ≡ name
 unfolding kind_of
 name_is (OrMay node span horizon) = refl
 name_is (AndMay edge span horizon) = refl
@@ -37,31 +37,35 @@ name_is (OrMust edge span horizon) = refl
 name_is (AndMust node span horizon) = refl
 
 -- and has the rank of its kind.
-pub rank_is : (name : ClauseName) → rank_of name ≡ place_of (kind_of name)
+rank_is : (name : ClauseName) → rank_of name ≡ place_of (kind_of name)
 unfolding kind_of
 rank_is (OrMay node span horizon) = refl
 rank_is (AndMay edge span horizon) = refl
 rank_is (OrMust edge span horizon) = refl
 rank_is (AndMust node span horizon) = refl
 
--- kinds of one place are the same
-pub same_kind : (one other : ClauseKind) → place_of one ≡ place_of other → one ≡ other
-same_kind kind.OrMay kind.OrMay is = refl
-same_kind kind.OrMay kind.AndMay is = absurd (omega arith)
-same_kind kind.OrMay kind.OrMust is = absurd (omega arith)
-same_kind kind.OrMay kind.AndMust is = absurd (omega arith)
-same_kind kind.AndMay kind.OrMay is = absurd (omega arith)
-same_kind kind.AndMay kind.AndMay is = refl
-same_kind kind.AndMay kind.OrMust is = absurd (omega arith)
-same_kind kind.AndMay kind.AndMust is = absurd (omega arith)
-same_kind kind.OrMust kind.OrMay is = absurd (omega arith)
-same_kind kind.OrMust kind.AndMay is = absurd (omega arith)
-same_kind kind.OrMust kind.OrMust is = refl
-same_kind kind.OrMust kind.AndMust is = absurd (omega arith)
-same_kind kind.AndMust kind.OrMay is = absurd (omega arith)
-same_kind kind.AndMust kind.AndMay is = absurd (omega arith)
-same_kind kind.AndMust kind.OrMust is = absurd (omega arith)
-same_kind kind.AndMust kind.AndMust is = refl
+-- the kind in a place
+abbrev of_place : ℕ → ClauseKind
+of_place zero = kind.OrMay
+of_place (suc zero) = kind.AndMay
+of_place (suc (suc zero)) = kind.OrMust
+of_place (suc (suc (suc more))) = kind.AndMust
+
+of_own_place : (own : ClauseKind) → of_place (place_of own) ≡ own
+of_own_place kind.OrMay = refl
+of_own_place kind.AndMay = refl
+of_own_place kind.OrMust = refl
+of_own_place kind.AndMust = refl
+
+-- kinds of one place are the same,
+same_kind : (one other : ClauseKind) → place_of one ≡ place_of other → one ≡ other
+same_kind one other is = sym (of_own_place one) ∙ ap of_place is ∙ of_own_place other
+
+-- names of the same parts are the same,
+pub same_parts : (one other : ClauseName) → rank_of one ≡ rank_of other → subject_of one ≡ subject_of other → span_of one ≡ span_of other → horizon_of one ≡ horizon_of other → one ≡ other
+same_parts one other rank subject span horizon =
+    let alike = same_kind (kind_of one) (kind_of other) (sym (rank_is one) ∙ rank ∙ rank_is other) in
+    sym (name_is one) ∙ (λ i. named (alike i) (subject i) (span i) (horizon i)) ∙ name_is other
 
 -- and a name has the parts that it was made of
 named_parts : (own : ClauseKind) (subject span horizon : ℕ) → (rank_of (named own subject span horizon) ≡ place_of own)

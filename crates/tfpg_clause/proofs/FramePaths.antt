@@ -17,7 +17,7 @@ use Rattle.tfpg_clause.specs.Trees.{PathSplit, picked, stated}
 use Rattle.tfpg_clause.proofs.Kept.{clause_stays}
 use Rattle.tfpg_clause.proofs.TreesKept.{count_stays, first_to_whole}
 use Rattle.tfpg_clause.specs.declared.path.Frame.{Frame}
-use Rattle.tfpg_clause.specs.Paths.{count_at, has_more, advanced, next_leaf, IsFrameOf, AreFramesOf, framed, stated_by, next_alternative, path_after}
+use Rattle.tfpg_clause.specs.Paths.{IsFrameOf, AreFramesOf, framed, stated_by, next_alternative, path_after, count_at, has_more, advanced, next_leaf}
 
 -- the paths with one more frame before them
 abbrev with_first : Frame → Option (List Frame) → Option (List Frame)

@@ -8,7 +8,7 @@ use Rattle.std.proofs.lemmas.List.Elements.{All-nil, All-cons}
 use Rattle.std.proofs.lemmas.List.Folds.{list_any_at}
 use Rattle.tfpg_base.specs.declared.activation.Activation.{Activation}
 use Rattle.tfpg_base.specs.Trace.{IsRisingByNode}
-use Rattle.tfpg_base.proofs.lists.Elements.{All-from_members, AllPairs-cons, Contains-head, Contains-tail}
+use Rattle.tfpg_base.proofs.lists.Elements.{All-from_members, AllPairs-cons, list_any-found}
 use Rattle.tfpg_graph.specs.declared.kind.Kind.{Kind}
 use Rattle.tfpg_graph.specs.declared.kind.Kind.TheVariants.{Failure, Or, And}
 use Rattle.tfpg_graph.specs.Graph.{Tfpg, kind_at, is_kind_at, is_failure, is_or, is_and, failure_at}
@@ -104,23 +104,16 @@ module _ (graph : Tfpg) (set : List ℕ) where
       by place member (Some node) at =
           or_right (not (is_kind_at is_failure graph node)) (list_any (λ p. is_node (failure_at graph p) node) set) (own_listed place node member at)
 
-  listed : (places : List ℕ) (node : ℕ) → list_any (λ p. is_node (failure_at graph p) node) places ≡ true → (place : ℕ) × Contains places place × (failure_at graph place ≡ Some node)
-  listed [] node is = absurd (false≢true is)
-  listed (place ∷ places) node is = elim (or_cases (is_node (failure_at graph place) node) (list_any (λ p. is_node (failure_at graph p) node) places) is) [
-    | inl here ↦ (place, Contains-head place places, by (failure_at graph place) here)
-    | inr more ↦ (let found = listed places node more in (found.0, Contains-tail place places found.0 found.1, found.2))
-  ]
-    where
-      by : (failure : Option ℕ) → is_node failure node ≡ true → failure ≡ Some node
-      by None is = absurd (false≢true is)
-      by (Some other) is = ap Some (eqb-true other node is)
+  named : (failure : Option ℕ) (node : ℕ) → is_node failure node ≡ true → failure ≡ Some node
+  named None node is = absurd (false≢true is)
+  named (Some other) node is = ap Some (eqb-true other node is)
 
   -- So a failure mode that the set reaches is a member of it.
   pub reached_member : (node : ℕ) → Reaches graph set node → IsTrue (is_kind_at is_failure graph node) → IsMember graph set node
   reached_member node reaches failure =
       elim (or_cases (not (is_kind_at is_failure graph node)) (list_any (λ p. is_node (failure_at graph p) node) set) (reaches is_own own_is_closed)) [
         | inl other ↦ absurd (false≢true (sym (ap not failure) ∙ other))
-        | inr among ↦ listed set node among
+        | inr among ↦ (let found = list_any-found (λ p. is_node (failure_at graph p) node) set among in (found.0, found.1, named (failure_at graph found.0) node found.2))
       ]
 
 -- ---- what the cut has

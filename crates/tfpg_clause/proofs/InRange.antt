@@ -3,7 +3,7 @@ use Rattle.std.proofs.Common.{◌≡◌, ℕ, ◌≤◌, List, [], ◌∷◌, Op
 use Rattle.std.specs.Prelude.{All, fold, IfSome, option_and_then}
 use Rattle.std.proofs.lemmas.Option.{option_and_then_some}
 use Rattle.std.proofs.lemmas.List.Elements.{All-tail}
-use Rattle.tfpg_base.specs.Times.{max_time}
+use Rattle.tfpg_base.specs.declared.limits.TheConstants.{MAX_TIME}
 use Rattle.tfpg_graph.specs.Graph.{Tfpg}
 use Rattle.tfpg_log.specs.declared.event.Event.{Event}
 use Rattle.tfpg_log.specs.Log.{Logbook, now_of, time_of_event, IsOrdered}
@@ -17,14 +17,14 @@ use Rattle.tfpg_log.proofs.JointWindows.{is_joint}
 use Rattle.tfpg_clause.proofs.Kept.{window_by_now, joint_by_now}
 use Rattle.tfpg_clause.specs.inside.Ranges.{IsSmallSpan, IsSmallWindow}
 
-last_in_range : (events : List Event) (start : ℕ) → start ≤ max_time → All (λ event. time_of_event event ≤ max_time) events
-    → fold (λ last event. time_of_event event) start events ≤ max_time
+last_in_range : (events : List Event) (start : ℕ) → start ≤ MAX_TIME → All (λ event. time_of_event event ≤ MAX_TIME) events
+    → fold (λ last event. time_of_event event) start events ≤ MAX_TIME
 last_in_range [] start from all = from
 last_in_range (event ∷ events) start from all =
-    last_in_range events (time_of_event event) (all 0 event (omega arith)) (All-tail (λ e. time_of_event e ≤ max_time) event events all)
+    last_in_range events (time_of_event event) (all 0 event (omega arith)) (All-tail (λ e. time_of_event e ≤ MAX_TIME) event events all)
 
 -- now is in range
-pub now_in_range : (log : Logbook) → IsOrdered log → now_of log ≤ max_time
+pub now_in_range : (log : Logbook) → IsOrdered log → now_of log ≤ MAX_TIME
 now_in_range log ordered = last_in_range log.events 0 (omega arith) ordered.in_range
 
 -- a span of an ordered log is small

@@ -18,7 +18,7 @@ use Rattle.tfpg_log.specs.Spans.{span_at, window_of, joint_of}
 use Rattle.tfpg_log.proofs.PastKept.{spans_kept, windows_kept, joints_kept, now_kept, events_kept, silences_kept}
 use Rattle.tfpg_evidence.specs.declared.clause_name.ClauseName.{ClauseName}
 use Rattle.tfpg_evidence.specs.declared.clause_name.ClauseName.TheVariants.{OrMay, AndMay, OrMust, AndMust}
-use Rattle.tfpg_clause.specs.Bounds.{at_most, at_least, at_least_after}
+use Rattle.tfpg_base.specs.Bounds.{at_most, at_least, at_least_after}
 use Rattle.tfpg_clause.specs.Clauses.{outside_span, due_over, must_in, must_alternatives, may_by, must_by, and_may, or_must, alternatives}
 use Rattle.tfpg_clause.specs.declared.due.Due.{Due}
 use Rattle.tfpg_clause.proofs.Dues.{fits}

@@ -9,7 +9,7 @@ use Rattle.tfpg_evidence.specs.declared.reason.Reason.{Reason}
 use Rattle.tfpg_evidence.specs.declared.step.Step.TheVariants.{Split, Cycle}
 use Rattle.tfpg_clause.specs.Clauses.{count_of}
 use Rattle.tfpg_clause.specs.Trees.{Judged, PathSplit, IsClosedBy, IsClosedLeaf, IsRefutation, IsPresentLeaf}
-use Rattle.tfpg_clause.specs.Paths.{with_step, new_split, next_leaf, IsAtLeaf, new_frame, path_after, stated_by}
+use Rattle.tfpg_clause.specs.Paths.{with_step, IsAtLeaf, new_frame, path_after, stated_by, new_split, next_leaf}
 use Rattle.tfpg_clause.specs.declared.path.Frame.{Frame}
 use Rattle.tfpg_clause.proofs.TreeSteps.{cut_of_leaf, leaf_of_cut, first_cut, split_step, last_cycle, cycle_step}
 use Rattle.tfpg_clause.proofs.TreesKept.{leaf_stays}

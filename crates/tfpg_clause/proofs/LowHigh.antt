@@ -1,19 +1,19 @@
 -- The facts give each node one greatest lower and one least upper bound.
-use Rattle.std.proofs.Common.{◌≡◌, ℕ, zero, suc, ◌+◌, ◌<◌, ◌≤◌, Bool, true, false, ◌&&◌, not, cond, eqb, leb, ltb, List, [], ◌∷◌, length, Option, Some, None, refl, sym, ap, subst, ◌∙◌, ◌⊎◌, inl, inr, arith, pos}
+use Rattle.std.proofs.Common.{◌≡◌, ℕ, zero, suc, ◌+◌, ◌<◌, ◌≤◌, Bool, true, ◌&&◌, not, cond, eqb, leb, ltb, List, [], ◌∷◌, length, Option, Some, None, refl, sym, ap, subst, ◌∙◌, ◌⊎◌, inl, inr, arith, pos}
 use Rattle.std.specs.Prelude.{Contains, ℤ, negsuc, neg_ℤ, option_map, option_and_then, slice_get}
 use Rattle.std.specs.Bool.{then_some}
 use Rattle.std.proofs.lemmas.Bool.{eqb-true, eq-eqb, cases_lt, lt-ltb, leb-true, le-leb, and_parts, and_from}
 use Rattle.std.proofs.lemmas.Option.{option_and_then_some, slice_get_within}
-use Rattle.tfpg_base.specs.Times.{never}
+use Rattle.tfpg_base.specs.declared.limits.TheConstants.{NEVER}
 use Rattle.tfpg_base.specs.declared.constraint.Constraint.{Constraint}
 use Rattle.tfpg_base.proofs.lists.Elements.{Contains-head, Contains-tail, Contains-nil, Contains-cons_cases}
-use Rattle.tfpg_base.proofs.lists.Choices.{then_some-true}
+use Rattle.tfpg_base.proofs.lists.Choices.{then_some-true, cond-some_first}
 use Rattle.tfpg_graph.specs.Graph.{Tfpg}
 use Rattle.tfpg_graph.specs.Reach.{is_among}
 use Rattle.tfpg_log.specs.Log.{Logbook, now_of, event_at, quiet_at}
 use Rattle.tfpg_evidence.specs.declared.reason.Reason.{Reason}
 use Rattle.tfpg_evidence.specs.declared.reason.Reason.TheVariants.{Zero, Top, Unreached, From, Upto, Quiet, Pick}
-use Rattle.tfpg_clause.specs.Bounds.{at_most, at_least}
+use Rattle.tfpg_base.specs.Bounds.{at_most, at_least}
 use Rattle.tfpg_clause.specs.Facts.{fact, from_alarm, upto_alarm, IsLow, IsHigh}
 use Rattle.tfpg_clause.proofs.Kept.{quiet_within}
 
@@ -105,10 +105,6 @@ unfolding most_of
 of_most (pos number) bound is = let same : number ≡ bound = cc in ap pos same
 of_most (negsuc number) bound is = absurd cc
 
-chosen : {X : Type 0} (test : Bool) (here : Option X) (x : X) → cond test here None ≡ Some x → (test ≡ true) × (here ≡ Some x)
-chosen true here x is = (refl, is)
-chosen false here x is = absurd cc
-
 module _ (node : ℕ) where
   -- a lower bound is read off, and what is read off is one
   low_read : (bound : ℕ) → low_in node (at_least node bound) ≡ Some bound
@@ -120,7 +116,7 @@ module _ (node : ℕ) where
   low_is : (constraint : Constraint) (bound : ℕ) → low_in node constraint ≡ Some bound → constraint ≡ at_least node bound
   unfolding low_in
   low_is constraint bound is =
-      let parts = chosen (eqb constraint.left 0 && eqb constraint.right (node + 1)) (least_of constraint.most) bound is in
+      let parts = cond-some_first (eqb constraint.left 0 && eqb constraint.right (node + 1)) (least_of constraint.most) bound is in
       let both = and_parts (eqb constraint.left 0) (eqb constraint.right (node + 1)) parts.0 in
       let left = eqb-true constraint.left 0 both.0 in
       let right = eqb-true constraint.right (node + 1) both.1 in
@@ -136,7 +132,7 @@ module _ (node : ℕ) where
   high_is : (constraint : Constraint) (bound : ℕ) → high_in node constraint ≡ Some bound → constraint ≡ at_most node (pos bound)
   unfolding high_in
   high_is constraint bound is =
-      let parts = chosen (eqb constraint.left (node + 1) && eqb constraint.right 0) (most_of constraint.most) bound is in
+      let parts = cond-some_first (eqb constraint.left (node + 1) && eqb constraint.right 0) (most_of constraint.most) bound is in
       let both = and_parts (eqb constraint.left (node + 1)) (eqb constraint.right 0) parts.0 in
       let left = eqb-true constraint.left (node + 1) both.0 in
       let right = eqb-true constraint.right 0 both.1 in
@@ -231,7 +227,7 @@ module _ (graph : Tfpg) (log : Logbook) (reach : List ℕ) (node : ℕ) where
       → (bound ≡ 0) ⊎ ((other : Reason) × (more : ℕ) × Contains all_reasons other
       × (fact graph log reach other ≡ Some (at_least node more)) × (bound ≤ more))
   low_covered (Zero other) bound at = inl (sym (bound_is other bound 0 (then_some-true (ltb other (length graph.nodes)) (at_least other 0) (at_least node bound) at).1))
-  low_covered (Top other) bound at = absurd (apart other node bound (pos never) (then_some-true (ltb other (length graph.nodes)) (at_most other (pos never)) (at_least node bound) at).1)
+  low_covered (Top other) bound at = absurd (apart other node bound (pos NEVER) (then_some-true (ltb other (length graph.nodes)) (at_most other (pos NEVER)) (at_least node bound) at).1)
   low_covered (Unreached other horizon) bound at =
       let parts = then_some-true (ltb other (length graph.nodes) && (leb horizon (now_of log) && not (is_among reach other))) (at_least other (horizon + 1)) (at_least node bound) at in
       let both = and_parts (ltb other (length graph.nodes)) (leb horizon (now_of log) && not (is_among reach other)) parts.0 in
@@ -275,7 +271,7 @@ module _ (graph : Tfpg) (log : Logbook) (reach : List ℕ) (node : ℕ) where
   high_covered (Zero other) bound at =
       absurd (apart node other 0 (pos bound) (sym (then_some-true (ltb other (length graph.nodes)) (at_least other 0) (at_most node (pos bound)) at).1))
   high_covered (Top other) bound at =
-      let same : other ≡ node = same_most other bound never (then_some-true (ltb other (length graph.nodes)) (at_most other (pos never)) (at_most node (pos bound)) at).1 in
+      let same : other ≡ node = same_most other bound NEVER (then_some-true (ltb other (length graph.nodes)) (at_most other (pos NEVER)) (at_most node (pos bound)) at).1 in
       (Top node, Contains-head (Top node) (Unreached node (now_of log) ∷ by_events node (length log.events)), ap (λ n. fact graph log reach (Top n)) (sym same) ∙ at)
   high_covered (Unreached other horizon) bound at =
       absurd
@@ -317,8 +313,8 @@ module _ (graph : Tfpg) (log : Logbook) (reach : List ℕ) (node : ℕ) where
   -- and a least upper one.
   pub high_there : node < length graph.nodes → (high : ℕ) × IsHigh graph log reach node high
   high_there within =
-      let top_stated : fact graph log reach (Top node) ≡ Some (at_most node (pos never)) = ap (λ (b : Bool). then_some b (at_most node (pos never))) (lt-ltb node (length graph.nodes) within) in
-      let best = best_from (λ one other. other ≤ one) falls (λ one middle other first second. omega arith) high_of all_reasons never (Top node) (high_given (Top node) never top_stated) in (
+      let top_stated : fact graph log reach (Top node) ≡ Some (at_most node (pos NEVER)) = ap (λ (b : Bool). then_some b (at_most node (pos NEVER))) (lt-ltb node (length graph.nodes) within) in
+      let best = best_from (λ one other. other ≤ one) falls (λ one middle other first second. omega arith) high_of all_reasons NEVER (Top node) (high_given (Top node) NEVER top_stated) in (
         best.0,
         record {
           reason = best.1.reason;

@@ -19,7 +19,7 @@ use Rattle.tfpg_log.specs.AgeInWindow.{HasAgeInWindow}
 use Rattle.tfpg_log.specs.Spans.{span_number, span_at, window_of}
 use Rattle.tfpg_log.proofs.SpanRuns.{is_span, has_span}
 use Rattle.tfpg_log.proofs.WindowAges.{exactly}
-use Rattle.tfpg_clause.specs.Bounds.{at_most, at_least, at_least_after}
+use Rattle.tfpg_base.specs.Bounds.{at_most, at_least, at_least_after}
 use Rattle.tfpg_base.specs.Constraint.{Meets}
 use Rattle.tfpg_base.proofs.lists.Passing.{Contains-filter_map, Contains-filter_map_only}
 use Rattle.tfpg_base.proofs.lists.Choices.{then_some-true}

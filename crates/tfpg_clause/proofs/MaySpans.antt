@@ -1,5 +1,5 @@
 -- The may clauses of a node by their spans: only that of the span that holds its time may be violated.
-use Rattle.std.proofs.Common.{◌≡◌, ℕ, ◌+◌, ◌<◌, ◌≤◌, List, ◌∷◌, ◌++◌, length, get_or, Option, Some, None, refl, sym, ap, subst, ◌∙◌, ◌⊎◌, inl, inr, arith, pos}
+use Rattle.std.proofs.Common.{◌≡◌, ℕ, ◌+◌, ◌<◌, ◌≤◌, List, ◌∷◌, ◌++◌, length, get_or, Some, None, sym, ap, subst, ◌∙◌, ◌⊎◌, inl, inr, arith, pos}
 use Rattle.std.specs.Prelude.{All, Contains, IsSomeAnd, option_map}
 use Rattle.std.proofs.lemmas.Bool.{cases_eq}
 use Rattle.std.proofs.lemmas.List.{get_or_default}
@@ -7,14 +7,14 @@ use Rattle.tfpg_base.specs.declared.constraint.Constraint.{Constraint}
 use Rattle.tfpg_base.specs.Constraint.{Meets}
 use Rattle.tfpg_base.proofs.lists.Elements.{Contains-cons_cases}
 use Rattle.std.proofs.lemmas.List.Elements.{Contains-append_right, Contains-get_or}
-use Rattle.tfpg_base.proofs.lists.Choices.{option_map-some}
+use Rattle.tfpg_base.proofs.lists.Choices.{option_map-some, IsSomeAnd-from, IsSomeAnd-there}
 use Rattle.tfpg_base.proofs.lists.Passing.{Contains-filter_map, Contains-filter_map_only}
 use Rattle.tfpg_graph.specs.Graph.{Tfpg}
 use Rattle.tfpg_log.specs.declared.span.Span.{Span}
 use Rattle.tfpg_log.specs.Log.{Logbook, now_of}
 use Rattle.tfpg_log.specs.Spans.{span_number, span_at}
 use Rattle.tfpg_log.proofs.SpanRuns.{is_span}
-use Rattle.tfpg_clause.specs.Bounds.{at_most}
+use Rattle.tfpg_base.specs.Bounds.{at_most}
 use Rattle.tfpg_clause.specs.Clauses.{outside_span, MeetsClause}
 use Rattle.tfpg_clause.specs.inside.Alternatives.{arrival_over, arrivals_over}
 use Rattle.tfpg_clause.specs.inside.FirstSpan.{MeetsIfAny, IsFirstSpan, MeetsEach, may_over}
@@ -22,20 +22,12 @@ use Rattle.tfpg_clause.proofs.Bounded.{says_at_least, says_before}
 use Rattle.tfpg_clause.proofs.MayClauses.{before_span, after_span, met_outside}
 use Rattle.tfpg_clause.proofs.SpanNumbers.{lies_inside}
 
-pub met_of : {X : Type 0} (P : X → Type 0) (o : Option X) (x : X) → o ≡ Some x → P x → IsSomeAnd o P
-met_of P None x at holds = absurd cc
-met_of P (Some y) x at holds = let same : x ≡ y = cc in subst P same holds
-
-pub of_met : {X : Type 0} (P : X → Type 0) (o : Option X) → IsSomeAnd o P → (x : X) × (o ≡ Some x) × P x
-of_met P None none = absurd none
-of_met P (Some x) holds = (x, refl, holds)
-
 module _ (graph : Tfpg) (log : Logbook) (times : List ℕ) (number horizon : ℕ) (span : Span) (edges : List ℕ) where
   -- an alternative of an edge is one of all
   pub arrived_by : (k : ℕ) → k < length edges → IsSomeAnd (arrival_over graph log number horizon span (get_or edges k 0)) (All (Meets times))
       → MeetsClause times (arrivals_over graph log number horizon span edges)
   arrived_by k within met =
-      let one = of_met (All (Meets times)) (arrival_over graph log number horizon span (get_or edges k 0)) met in
+      let one = IsSomeAnd-there (All (Meets times)) (arrival_over graph log number horizon span (get_or edges k 0)) met in
       (one.0, Contains-filter_map (arrival_over graph log number horizon span) edges (get_or edges k 0) one.0 (Contains-get_or edges k 0 within) one.1, one.2)
 
   -- none is, where none is of an edge
@@ -46,7 +38,7 @@ module _ (graph : Tfpg) (log : Logbook) (times : List ℕ) (number horizon : ℕ
       let place = one.1 in
       let same : get_or edges place.0 0 ≡ one.0 = get_or_default edges place.0 0 one.0 place.1 ∙ place.2 in
       none place.0 place.1
-      (met_of (All (Meets times)) (arrival_over graph log number horizon span (get_or edges place.0 0)) met.0 (ap (arrival_over graph log number horizon span) same ∙ one.2) met.2)
+      (IsSomeAnd-from (All (Meets times)) (arrival_over graph log number horizon span (get_or edges place.0 0)) met.0 (ap (arrival_over graph log number horizon span) same ∙ one.2) met.2)
 
 module _ (graph : Tfpg) (log : Logbook) (times : List ℕ) (node : ℕ) (edges : List ℕ) where
   -- the clause of a span that does not hold the time is met

@@ -21,7 +21,7 @@ use Rattle.tfpg_log.specs.AgeInWindow.{HasAgeInWindow}
 use Rattle.tfpg_log.specs.Spans.{window_of}
 use Rattle.tfpg_log.proofs.WindowAges.{by_window}
 use Rattle.tfpg_clause.specs.declared.due.Due.{Due}
-use Rattle.tfpg_clause.specs.Bounds.{at_most, at_least, at_most_after}
+use Rattle.tfpg_base.specs.Bounds.{at_most, at_least, at_most_after}
 use Rattle.tfpg_base.specs.Constraint.{Meets}
 use Rattle.tfpg_base.proofs.lists.Choices.{Contains-each_of_only, Contains-each_of, each_of-from_each, then_some-true}
 use Rattle.tfpg_clause.specs.Clauses.{due_over, must_in, must_by, must_alternatives, starts_late, follows_in_time, latest_of, MeetsClause}

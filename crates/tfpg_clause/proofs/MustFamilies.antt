@@ -7,15 +7,15 @@ use Rattle.tfpg_base.specs.declared.constraint.Constraint.{Constraint}
 use Rattle.tfpg_graph.specs.declared.edge.Edge.{Edge}
 use Rattle.tfpg_graph.specs.Graph.{Tfpg, is_kind_at, is_or, is_and, incoming, edges_into}
 use Rattle.tfpg_log.specs.declared.span.Window.{Window}
-use Rattle.tfpg_log.specs.Log.{Logbook, now_of}
-use Rattle.tfpg_log.specs.Spans.{span_number, is_allowed_at, are_allowed_at, window_of, joint_of}
+use Rattle.tfpg_log.specs.Log.{Logbook, now_of, is_allowed_at}
+use Rattle.tfpg_log.specs.Spans.{span_number, are_allowed_at, window_of, joint_of}
 use Rattle.tfpg_log.specs.Runs.{IsWindowRound}
 use Rattle.tfpg_log.proofs.WindowRuns.{edge_window, node_window}
+use Rattle.tfpg_base.proofs.lists.Choices.{IsSomeAnd-there}
 use Rattle.tfpg_clause.specs.Clauses.{or_must, and_must}
 use Rattle.tfpg_clause.specs.inside.FirstSpan.{MeetsIfAny, IsViolated, MeetsEach, MeetsUpTo, must_over}
 use Rattle.tfpg_clause.proofs.Found.{or_must_found, and_must_found, no_must_of_edge}
 use Rattle.tfpg_clause.proofs.Kept.{must_has_window}
-use Rattle.tfpg_clause.proofs.MaySpans.{of_met}
 use Rattle.tfpg_clause.proofs.MustSpans.{violated_from, met_without, met_within, met_all}
 use Rattle.tfpg_clause.proofs.RulesMet.{must_holds}
 use Rattle.tfpg_clause.specs.inside.Alternatives.{target_of_kind}
@@ -44,9 +44,9 @@ module _ (graph : Tfpg) (log : Logbook) (times : List ℕ) where
     module _ (own : IsSomeAnd (slice_get graph.edges edge) (λ e. e.target ≡ target)) where
       edge_found : (number : ℕ) (window : Window)
           → (option_and_then (λ e. window_of log e number (now_of log)) (slice_get graph.edges edge) ≡ Some window)
-          ↔ IsWindowRound log (is_allowed_at log (of_met (λ (e : Edge). e.target ≡ target) (slice_get graph.edges edge) own).0) number (now_of log) window
+          ↔ IsWindowRound log (is_allowed_at log (IsSomeAnd-there (λ (e : Edge). e.target ≡ target) (slice_get graph.edges edge) own).0) number (now_of log) window
       edge_found number window =
-          let one = of_met (λ (e : Edge). e.target ≡ target) (slice_get graph.edges edge) own in
+          let one = IsSomeAnd-there (λ (e : Edge). e.target ≡ target) (slice_get graph.edges edge) own in
           subst (λ (o : Option Edge). (option_and_then (λ e. window_of log e number (now_of log)) o ≡ Some window) ↔ IsWindowRound log (is_allowed_at log one.0) number (now_of log) window)
           (sym one.1) (edge_window log one.0 number (now_of log) window)
 
@@ -63,7 +63,7 @@ module _ (graph : Tfpg) (log : Logbook) (times : List ℕ) where
       pub or_met_without : (number horizon : ℕ) → horizon ≡ now_of log → None ≡ option_and_then (λ e. window_of log e number horizon) (slice_get graph.edges edge)
           → MeetsUpTo times (λ span. option_and_then (λ e. or_must graph log e span (now_of log)) (slice_get graph.edges edge)) number (Some number)
       or_met_without number horizon is none =
-          met_without log times (is_allowed_at log (of_met (λ (e : Edge). e.target ≡ target) (slice_get graph.edges edge) own).0) (windows_of_edge) (of_edge) edge_found edge_begins number
+          met_without log times (is_allowed_at log (IsSomeAnd-there (λ (e : Edge). e.target ≡ target) (slice_get graph.edges edge) own).0) (windows_of_edge) (of_edge) edge_found edge_begins number
           (none ∙ ap (λ h. option_and_then (λ e. window_of log e number h) (slice_get graph.edges edge)) is)
 
       module _ (number horizon : ℕ) (is : horizon ≡ now_of log) (window : Window)
@@ -73,7 +73,7 @@ module _ (graph : Tfpg) (log : Logbook) (times : List ℕ) where
 
         or_clause : option_and_then (λ e. or_must graph log e number (now_of log)) (slice_get graph.edges edge) ≡ must_over graph log target (edge ∷ []) window horizon number
         or_clause =
-            let one = of_met (λ (e : Edge). e.target ≡ target) (slice_get graph.edges edge) own in
+            let one = IsSomeAnd-there (λ (e : Edge). e.target ≡ target) (slice_get graph.edges edge) own in
             or_must_found graph log number (now_of log) target window (slice_get graph.edges edge) (sym (ap (option_map (λ (e : Edge). e.target)) one.1 ∙ ap Some one.2)) or at_now
             ∙ ap (λ h. must_over graph log target (edge ∷ []) window h number) (sym is)
 
@@ -82,7 +82,7 @@ module _ (graph : Tfpg) (log : Logbook) (times : List ℕ) where
             → result ≡ cond (leb window.hi (now_of log)) (Some (span_number log window.hi)) None
             → MeetsUpTo times (λ span. option_and_then (λ e. or_must graph log e span (now_of log)) (slice_get graph.edges edge)) number result
         or_met_within result met end =
-            met_within log times (is_allowed_at log (of_met (λ (e : Edge). e.target ≡ target) (slice_get graph.edges edge) own).0) windows_of_edge of_edge edge_found edge_begins number window result
+            met_within log times (is_allowed_at log (IsSomeAnd-there (λ (e : Edge). e.target ≡ target) (slice_get graph.edges edge) own).0) windows_of_edge of_edge edge_found edge_begins number window result
             (sym at_now) (subst (MeetsIfAny times) (sym or_clause) met) end
 
         -- and where it is not
@@ -98,7 +98,7 @@ module _ (graph : Tfpg) (log : Logbook) (times : List ℕ) where
           → ((other : ℕ) → number ≤ other → other ≤ until → MeetsIfAny times (option_and_then (λ e. or_must graph log e other (now_of log)) (slice_get graph.edges edge)))
           → MeetsEach times (λ other. option_and_then (λ e. or_must graph log e other (now_of log)) (slice_get graph.edges edge))
       or_met_all number until last before here =
-          met_all log times (is_allowed_at log (of_met (λ (e : Edge). e.target ≡ target) (slice_get graph.edges edge) own).0) windows_of_edge of_edge edge_found edge_begins number until last before here
+          met_all log times (is_allowed_at log (IsSomeAnd-there (λ (e : Edge). e.target ≡ target) (slice_get graph.edges edge) own).0) windows_of_edge of_edge edge_found edge_begins number until last before here
 
   -- ---- an AND node
   module _ (node : ℕ) where

@@ -1,5 +1,5 @@
 -- Whether times meet the must clause of a node in a window, edge by edge.
-use Rattle.std.proofs.Common.{◌≡◌, ℕ, ◌<◌, ◌≤◌, Bool, true, false, ◌&&◌, eqb, List, [], ◌∷◌, get_or, Option, Some, None, refl, sym, ap, subst, ◌∙◌, inl, inr, arith, pos}
+use Rattle.std.proofs.Common.{◌≡◌, ℕ, ◌<◌, ◌≤◌, Bool, true, ◌&&◌, eqb, List, [], ◌∷◌, get_or, Option, Some, None, refl, sym, ap, subst, ◌∙◌, inl, inr, arith, pos}
 use Rattle.std.specs.Prelude.{All, Contains, IsSomeAnd, map, option_and_then}
 use Rattle.std.specs.Bool.{then_some}
 use Rattle.std.specs.List.{list_all}
@@ -8,22 +8,16 @@ use Rattle.std.proofs.lemmas.List.Elements.{All-cons, All-nil}
 use Rattle.tfpg_base.specs.Choice.{each_of}
 use Rattle.tfpg_base.specs.declared.constraint.Constraint.{Constraint}
 use Rattle.tfpg_base.specs.Constraint.{Meets}
-use Rattle.tfpg_base.proofs.lists.Choices.{Contains-each_of_only, Contains-each_of, then_some-true}
+use Rattle.tfpg_base.proofs.lists.Choices.{Contains-each_of_only, Contains-each_of, then_some-true, IsSomeAnd-from, IsSomeAnd-there}
 use Rattle.tfpg_log.specs.declared.span.Window.{Window}
 use Rattle.tfpg_clause.specs.declared.due.Due.{Due}
-use Rattle.tfpg_clause.specs.Bounds.{at_most}
+use Rattle.tfpg_base.specs.Bounds.{at_most}
 use Rattle.tfpg_clause.specs.Clauses.{must_in, must_alternatives, starts_late, follows_in_time, latest_of, MeetsClause}
 use Rattle.tfpg_clause.specs.inside.Alternatives.{latest_within}
 use Rattle.tfpg_clause.specs.inside.FirstSpan.{MeetsIfAny, IsExcused}
 use Rattle.tfpg_clause.proofs.Bounded.{met_at_most, says_at_most}
 use Rattle.tfpg_clause.proofs.Dues.{fits, within_opened}
-use Rattle.tfpg_clause.proofs.MaySpans.{met_of, of_met}
 use Rattle.tfpg_clause.proofs.MustAlternatives.{late_there, follows_there, last_there, alternative_cases}
-
--- a test that does not fail passes
-pub true_unless : (r : Bool) → (r ≡ false → ⊥) → r ≡ true
-true_unless true not_false = refl
-true_unless false not_false = absurd (not_false refl)
 
 module _ (f : ℕ → Option Due) (edges : List ℕ) (times : List ℕ) (node number : ℕ) (window : Window) where
   -- where there is one, the window begins with the span, and has room for what is due over each edge
@@ -70,7 +64,7 @@ module _ (f : ℕ → Option Due) (edges : List ℕ) (times : List ℕ) (node nu
         → MeetsIfAny times (option_and_then (λ dues. must_in node number window dues) (each_of (map f edges)))
     met_by_excuse excuse all at =
         let parts = must_there all at in
-        let one = of_met (IsExcused times window.hi) (f excuse.0) excuse.2 in
+        let one = IsSomeAnd-there (IsExcused times window.hi) (f excuse.0) excuse.2 in
         let due = Contains-each_of f edges parts.0 excuse.0 parts.1 excuse.1 in
         let same : one.0 ≡ due.0 = cc (one.1, due.2) in
         subst (MeetsClause times) parts.4
@@ -101,4 +95,4 @@ module _ (f : ℕ → Option Due) (edges : List ℕ) (times : List ℕ) (node nu
         excused : (ds : List Due) → each_of (map f edges) ≡ Some ds → (due : Due) → Contains ds due → IsExcused times window.hi due → ⊥
         excused ds are due member by_due =
             let edge = Contains-each_of_only f edges ds due are member in
-            none (edge.0, edge.1, met_of (IsExcused times window.hi) (f edge.0) due edge.2 by_due)
+            none (edge.0, edge.1, IsSomeAnd-from (IsExcused times window.hi) (f edge.0) due edge.2 by_due)

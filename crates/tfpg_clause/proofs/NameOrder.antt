@@ -3,8 +3,7 @@ use Rattle.std.proofs.Common.{◌≡◌, ℕ, ◌<◌, sym, ◌∙◌, ◌⊎◌
 use Rattle.std.proofs.lemmas.Bool.{cases_lt}
 use Rattle.tfpg_evidence.specs.declared.clause_name.ClauseName.{ClauseName}
 use Rattle.tfpg_clause.specs.Order.{rank_of, subject_of, span_of, horizon_of, ComesBefore}
-use Rattle.tfpg_clause.specs.inside.FirstSpan.{named}
-use Rattle.tfpg_clause.proofs.FirstOfAll.{kind_of, name_is, rank_is, same_kind}
+use Rattle.tfpg_clause.proofs.FirstOfAll.{same_parts}
 
 -- two numbers in order
 compared : (one other : ℕ) → (one < other) ⊎ ((one ≡ other) ⊎ (other < one))
@@ -45,10 +44,7 @@ one_comes_first one other horizon = elim (compared (rank_of one) (rank_of other)
     | inr (inl subject) ↦ elim (compared (span_of one) (span_of other)) [
       | inl less ↦ inr (inl (inr (rank, inr (subject, less))))
       | inr (inr more) ↦ inr (inr (inr (sym rank, inr (sym subject, more))))
-      | inr (inl span) ↦ (
-          let kind = same_kind (kind_of one) (kind_of other) (sym (rank_is one) ∙ rank ∙ rank_is other) in
-          inl (sym (name_is one) ∙ (λ i. named (kind i) (subject i) (span i) (horizon i)) ∙ name_is other)
-          )
+      | inr (inl span) ↦ inl (same_parts one other rank subject span horizon)
     ]
   ]
 ]

@@ -1,11 +1,11 @@
 -- Where steps are a refutation, no trace explains the log: its numbers meet some alternative at each split, and so they lead down the
 -- tree to a leaf all of whose constraints they meet, which cannot be.
-use Rattle.std.proofs.Common.{◌≡◌, ◌⊎◌, ℕ, zero, suc, ◌+◌, ◌<◌, List, [], ◌∷◌, ◌++◌, length, Option, Some, None, refl, sym, ap, subst, ◌∙◌, inl, inr, arith}
-use Rattle.std.specs.Prelude.{All, map, slice_get, option_map, option_and_then}
+use Rattle.std.proofs.Common.{◌≡◌, ℕ, zero, suc, ◌+◌, ◌<◌, List, [], ◌∷◌, ◌++◌, length, Option, Some, None, refl, sym, ap, subst, ◌∙◌, inl, inr, arith}
+use Rattle.std.specs.Prelude.{All, slice_get, option_map, option_and_then}
 use Rattle.std.proofs.lemmas.Int.{ints}
-use Rattle.std.proofs.lemmas.Option.{option_and_then_some, slice_get-get_or}
-use Rattle.std.proofs.lemmas.List.Elements.{All-nil, All-cons, All-head, All-tail}
-use Rattle.tfpg_base.specs.Choice.{each_of}
+use Rattle.std.proofs.lemmas.Option.{option_and_then_some}
+use Rattle.std.proofs.lemmas.List.Elements.{All-head, All-tail}
+use Rattle.tfpg_base.specs.Choice.{item_at}
 use Rattle.tfpg_base.specs.declared.constraint.Constraint.{Constraint}
 use Rattle.tfpg_base.specs.declared.activation.Activation.{Activation}
 use Rattle.tfpg_graph.specs.Graph.{Tfpg}
@@ -19,9 +19,11 @@ use Rattle.tfpg_evidence.specs.declared.reason.Reason.{Reason}
 use Rattle.tfpg_evidence.specs.declared.reason.Reason.TheVariants.{Zero, Top, Unreached, From, Upto, Quiet, Pick}
 use Rattle.tfpg_evidence.specs.declared.step.Step.TheVariants.{Split, Cycle}
 use Rattle.tfpg_base.specs.Constraint.{Meets}
-use Rattle.tfpg_base.proofs.lists.Elements.{All-front, All-back}
+use Rattle.tfpg_base.proofs.lists.Choices.{Contains-each_of_only}
+use Rattle.tfpg_base.proofs.lists.Elements.{All-at, All-front, All-back, All-from_members, slice_get-contains}
+use Rattle.tfpg_base.proofs.lists.Written.{slice_get-push_cases}
 use Rattle.tfpg_clause.specs.Facts.{fact}
-use Rattle.tfpg_clause.specs.Clauses.{alternatives, count_of, item_at, constraint_at, MeetsClause}
+use Rattle.tfpg_clause.specs.Clauses.{alternatives, count_of, constraint_at, MeetsClause}
 use Rattle.tfpg_clause.specs.Trees.{Judged, Tree, Leaf, Branch, Subtrees, NoMore, Next, PathSplit, StepPlace, how_many, places, places_from, picked, stated, IsClosedLeaf, IsRight, IsRefutation}
 use Rattle.tfpg_clause.proofs.Agreed.{of_trace}
 use Rattle.tfpg_clause.proofs.Cycles.{not_negative}
@@ -30,27 +32,6 @@ use Rattle.tfpg_clause.proofs.RulesMet.{clause_is_met}
 use Rattle.tfpg_clause.proofs.Kept.{clause_stays, fact_stays}
 use Rattle.tfpg_clause.proofs.TreesKept.{first_to_whole, refutation_stays}
 use Rattle.tfpg_clause.proofs.TraceNumbers.{numbers_of_trace}
-
--- what is stated is met, so all that is stated
-each_met : (states : Reason → Option Constraint) (P : Constraint → Type 0) → ((reason : Reason) (constraint : Constraint) → states reason ≡ Some constraint → P constraint)
-    → (reasons : List Reason) (constraints : List Constraint) → each_of (map states reasons) ≡ Some constraints → All P constraints
-each_met states P met [] constraints hold = let none : [] ≡ constraints = cc in subst (All P) none (All-nil P)
-each_met states P met (r ∷ reasons) constraints hold = by (λ cs kept. each_met states P met reasons cs kept) (states r) refl (each_of (map states reasons)) refl hold
-  where
-    by : ((cs : List Constraint) → each_of (map states reasons) ≡ Some cs → All P cs)
-        → (one : Option Constraint) → states r ≡ one → (others : Option (List Constraint)) → each_of (map states reasons) ≡ others → each_of (one ∷ map states reasons) ≡ Some constraints → All P constraints
-    by rest None is others are whole = cc
-    by rest (Some c) is None are whole = let no : option_map (λ (xs : List Constraint). c ∷ xs) None ≡ Some constraints = ap (option_map (λ (xs : List Constraint). c ∷ xs)) (sym are) ∙ whole in cc
-    by rest (Some c) is (Some cs) are whole =
-        let some : Some (c ∷ cs) ≡ Some constraints = ap (option_map (λ (xs : List Constraint). c ∷ xs)) (sym are) ∙ whole in
-        let same : c ∷ cs ≡ constraints = cc in
-        subst (All P) same (All-cons P c cs (met r c is) (rest cs are))
-
-last_or_before : {X : Type 0} (xs : List X) (last : X) (k : ℕ) (x : X) → slice_get (xs ++ last ∷ []) k ≡ Some x → (slice_get xs k ≡ Some x) ⊎ (last ≡ x)
-last_or_before [] last zero x at = let same : last ≡ x = cc in inr same
-last_or_before [] last (suc k) x at = cc
-last_or_before (y ∷ xs) last zero x at = inl at
-last_or_before (y ∷ xs) last (suc k) x at = last_or_before xs last k x at
 
 module _ (graph : Tfpg) (log : Logbook) (reach : List ℕ) (ordered : IsOrdered log) (numbers : List ℕ)
     (facts : (reason : Reason) (constraint : Constraint) → fact graph log reach reason ≡ Some constraint → Meets numbers constraint) where
@@ -73,7 +54,12 @@ module _ (graph : Tfpg) (log : Logbook) (reach : List ℕ) (ordered : IsOrdered 
   -- Numbers that meet all facts and all that is picked on its path close no leaf.
   pub no_leaf : (path : List PathSplit) (seen : ℕ) (reasons : List Reason) → MeetsPath path → IsClosedLeaf graph log reach path seen reasons → ⊥
   no_leaf path seen reasons met closed =
-      let most = not_negative numbers closed.constraints closed.cycle (each_met (stated graph log reach path seen) (Meets numbers) (stated_met path met seen) reasons closed.constraints closed.hold) in
+      let all : All (Meets numbers) closed.constraints =
+      All-from_members (Meets numbers) closed.constraints
+      (λ constraint member.
+      let from = Contains-each_of_only (stated graph log reach path seen) reasons closed.constraints constraint closed.hold member in
+      stated_met path met seen from.0 constraint from.2) in
+      let most = not_negative numbers closed.constraints closed.cycle all in
       let least = closed.negative in
       omega (arith, ints)
 
@@ -88,23 +74,18 @@ module _ (graph : Tfpg) (log : Logbook) (reach : List ℕ) (ordered : IsOrdered 
         (λ (taken : PathSplit). option_and_then (λ c. constraint_at c taken.alternative place) (alternatives graph (first_events log taken.seen) taken.name))
         (slice_get (path ++ split ∷ []) i) constraint pick
         (λ taken there rest.
-        elim (last_or_before path split i taken there) [
+        elim (slice_get-push_cases path split i taken there) [
           | inl before ↦
               met (suc i) place constraint
               (ap (option_and_then (λ (t : PathSplit). option_and_then (λ c. constraint_at c t.alternative place) (alternatives graph (first_events log t.seen) t.name))) before ∙ rest)
           | inr last ↦
               own place constraint
-              (subst (λ (t : PathSplit). option_and_then (λ c. constraint_at c t.alternative place) (alternatives graph (first_events log t.seen) t.name) ≡ Some constraint) (sym last) rest)
+              (subst (λ (t : PathSplit). option_and_then (λ c. constraint_at c t.alternative place) (alternatives graph (first_events log t.seen) t.name) ≡ Some constraint) (sym last.1) rest)
         ])
       where
         of_alternative : (place : ℕ) (constraint : Constraint) → item_at alternative place ≡ Some constraint → Meets numbers constraint
         of_alternative zero constraint here = cc
-        of_alternative (suc j) constraint here = at_item alternative j all here
-          where
-            at_item : (items : List Constraint) (j : ℕ) → All (Meets numbers) items → slice_get items j ≡ Some constraint → Meets numbers constraint
-            at_item [] j met_all here = cc
-            at_item (c ∷ items) zero met_all here = let same : c ≡ constraint = cc in subst (Meets numbers) same (All-head (Meets numbers) c items met_all)
-            at_item (c ∷ items) (suc j) met_all here = at_item items j (All-tail (Meets numbers) c items met_all) here
+        of_alternative (suc j) constraint here = All-at (Meets numbers) alternative j constraint all here
 
         own : (place : ℕ) (constraint : Constraint) → option_and_then (λ c. constraint_at c split.alternative place) (alternatives graph (first_events log split.seen) split.name) ≡ Some constraint → Meets numbers constraint
         own place constraint pick =
@@ -128,7 +109,7 @@ module _ (graph : Tfpg) (log : Logbook) (reach : List ℕ) (ordered : IsOrdered 
           k = there.0;
           alternative = meets.0;
           within = there.1;
-          at = slice_get-get_or clause there.0 meets.0 there.1 ∙ ap (λ (a : List Constraint). Some a) there.2;
+          at = slice_get-contains clause meets.0 there;
           met = meets.2;
         }
 

@@ -14,6 +14,7 @@ use Rattle.tfpg_log.specs.Log.{Logbook, first_events}
 use Rattle.tfpg_evidence.specs.declared.clause_name.ClauseName.{ClauseName}
 use Rattle.tfpg_evidence.specs.declared.step.Step.{Step}
 use Rattle.tfpg_evidence.specs.declared.step.Step.TheVariants.{Split, Cycle}
+use Rattle.tfpg_base.proofs.lists.Elements.{slice_get-there}
 use Rattle.tfpg_clause.specs.Trees.{Judged, Tree, Leaf, Branch, Subtrees, NoMore, Next, PathSplit, StepPlace, how_many, places, places_from, places_of, IsRight, IsRightStep, IsPartial, IsPresentLeaf}
 use Rattle.tfpg_clause.specs.Clauses.{count_of}
 use Rattle.tfpg_base.proofs.lists.Written.{slice_get-append_left, slice_get-append_right}
@@ -112,11 +113,6 @@ mutual
 
 -- ---- by the steps alone
 
-some_there : {X : Type 0} (xs : List X) (n : ℕ) → n < length xs → (x : X) × (slice_get xs n ≡ Some x)
-some_there [] n within = absurd (omega arith)
-some_there (x ∷ xs) zero within = (x, refl)
-some_there (x ∷ xs) (suc n) within = some_there xs n (omega arith)
-
 module _ (graph : Tfpg) (log : Logbook) (reach : List ℕ) where
   -- how many subtrees a right step has
   abbrev many : ℕ → Step → ℕ
@@ -160,7 +156,7 @@ module _ (graph : Tfpg) (log : Logbook) (reach : List ℕ) where
   -- A partial tree has a present leaf,
   pub leaf_there : (steps : List Judged) → IsPartial graph log reach steps → (path : List PathSplit) × IsPresentLeaf graph log reach steps path
   leaf_there steps partial =
-      let found = some_there (places_of partial.tree) (length steps) (more_places steps partial) in
+      let found = slice_get-there (places_of partial.tree) (length steps) (more_places steps partial) in
       (found.0.path, record { partial = partial; here = ap (option_map (λ (place : StepPlace). place.path)) found.1 })
 
   -- and only one.

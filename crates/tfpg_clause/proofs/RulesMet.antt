@@ -20,9 +20,9 @@ use Rattle.tfpg_graph.specs.Valid.{IsValid, IsValidEdge}
 use Rattle.tfpg_graph.proofs.NodeAt.{kind_within}
 use Rattle.tfpg_log.specs.declared.span.Span.{Span}
 use Rattle.tfpg_log.specs.declared.span.Window.{Window}
-use Rattle.tfpg_log.specs.Log.{Logbook, now_of}
+use Rattle.tfpg_log.specs.Log.{Logbook, now_of, is_allowed_at}
 use Rattle.tfpg_log.specs.Rules.{HasAge, IsDue, IsActive, KeepsRules}
-use Rattle.tfpg_log.specs.Spans.{span_number, span_at, window_of, joint_of, is_allowed_at}
+use Rattle.tfpg_log.specs.Spans.{span_number, span_at, window_of, joint_of}
 use Rattle.tfpg_log.proofs.WindowAges.{only_there}
 use Rattle.tfpg_log.proofs.WindowInstants.{is_window, window_there, throughout}
 use Rattle.tfpg_log.proofs.JointWindows as joint

@@ -20,7 +20,7 @@ use Rattle.tfpg_log.specs.Spans.{span_at, window_of, joint_of}
 use Rattle.tfpg_evidence.specs.declared.clause_name.ClauseName.{ClauseName}
 use Rattle.tfpg_evidence.specs.declared.clause_name.ClauseName.TheVariants.{OrMay, AndMay, OrMust, AndMust}
 use Rattle.tfpg_clause.specs.declared.due.Due.{Due}
-use Rattle.tfpg_clause.specs.Bounds.{at_most, at_least, at_most_after, at_least_after}
+use Rattle.tfpg_base.specs.Bounds.{at_most, at_least, at_most_after, at_least_after}
 use Rattle.tfpg_clause.specs.Clauses.{IsOver, IsSmall, outside_span, arrival, due_over, starts_late, follows_in_time, latest_of, must_alternatives, may_by, must_in, must_by, and_may, or_must, alternatives}
 
 -- The edge is between two of so many nodes.

@@ -13,7 +13,7 @@ use Rattle.tfpg_log.specs.declared.span.Window.{Window}
 use Rattle.tfpg_log.specs.Spans.{span_at, window_of, joint_of}
 use Rattle.tfpg_evidence.specs.declared.clause_name.ClauseName.{ClauseName}
 use Rattle.tfpg_evidence.specs.declared.clause_name.ClauseName.TheVariants.{OrMay, AndMay, OrMust, AndMust}
-use Rattle.tfpg_clause.specs.Bounds.{at_most}
+use Rattle.tfpg_base.specs.Bounds.{at_most}
 use Rattle.tfpg_clause.specs.declared.due.Due.{Due}
 use Rattle.tfpg_clause.specs.Clauses.{alternatives, outside_span, count_of, arrival, due_over, may_by, must_by, must_in, must_alternatives, starts_late, follows_in_time, latest_of}
 

@@ -1,14 +1,11 @@
 -- Spans follow one another, and each has all instants of its number.
-use Rattle.std.proofs.Common.{◌≡◌, ℕ, ◌<◌, ◌≤◌, Bool, true, false, cond, leb, Some, None, refl, subst, arith}
+use Rattle.std.proofs.Common.{◌≡◌, ℕ, ◌<◌, ◌≤◌, Bool, true, false, cond, leb, Some, None, refl, sym, subst, arith}
 use Rattle.std.proofs.lemmas.Bool.{leb-true, leb-false}
+use Rattle.std.proofs.lemmas.Option.{cond_some}
 use Rattle.tfpg_log.specs.declared.span.Span.{Span}
 use Rattle.tfpg_log.specs.Log.{Logbook, now_of}
 use Rattle.tfpg_log.specs.Spans.{span_number, span_at}
 use Rattle.tfpg_log.proofs.SpanRuns.{has_span}
-
-some_of : {X : Type 0} (b : Bool) (x y : X) → Some y ≡ cond b (Some x) None → (b ≡ true) × (x ≡ y)
-some_of true x y at = (refl, cc)
-some_of false x y at = absurd cc
 
 none_of : {X : Type 0} (b : Bool) (x : X) → None ≡ cond b (Some x) None → b ≡ false
 none_of true x at = absurd cc
@@ -18,7 +15,7 @@ module _ (log : Logbook) where
   -- an instant with a span is up to now, and the span has its number;
   pub numbered_so : (instant number : ℕ) → Some number ≡ cond (leb instant (now_of log)) (Some (span_number log instant)) None → (instant ≤ now_of log) × (span_number log instant ≡ number)
   numbered_so instant number at =
-      let parts = some_of (leb instant (now_of log)) (span_number log instant) number at in
+      let parts = cond_some (leb instant (now_of log)) (span_number log instant) number (sym at) in
       (leb-true instant (now_of log) parts.0, parts.1)
 
   -- one without is after now

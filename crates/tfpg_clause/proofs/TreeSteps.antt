@@ -1,20 +1,21 @@
 -- One more right step makes a refutation or another partial tree of a partial tree.
-use Rattle.std.proofs.Common.{◌≡◌, ℕ, zero, suc, ◌+◌, ◌-◌, ◌<◌, List, [], ◌∷◌, ◌++◌, length, take, Option, Some, None, refl, sym, ap, subst, ◌∙◌, arith, append_assoc}
+use Rattle.std.proofs.Common.{◌≡◌, ℕ, zero, suc, ◌+◌, ◌-◌, ◌<◌, List, [], ◌∷◌, ◌++◌, length, take, drop, Option, Some, None, refl, sym, ap, subst, ◌∙◌, arith, append_assoc}
 use Rattle.std.specs.Prelude.{All, slice_get, option_map}
 use Rattle.std.proofs.Math.Seq.{take-append_seam}
 use Rattle.std.proofs.lemmas.List.{length-map, take-map, map-append, append-nil}
 use Rattle.std.proofs.lemmas.List.Elements.{All-nil, All-cons, All-append, All-head}
 use Rattle.std.proofs.lemmas.Option.{same_Some}
-use Rattle.tfpg_base.proofs.lists.Elements.{All-front, All-back}
+use Rattle.tfpg_base.proofs.lists.Elements.{All-front, All-back, slice_get-there}
 use Rattle.tfpg_base.proofs.lists.Written.{slice_get-after}
 use Rattle.tfpg_graph.specs.Graph.{Tfpg}
 use Rattle.tfpg_log.specs.Log.{Logbook, first_events}
 use Rattle.tfpg_evidence.specs.declared.clause_name.ClauseName.{ClauseName}
 use Rattle.tfpg_evidence.specs.declared.reason.Reason.{Reason}
 use Rattle.tfpg_evidence.specs.declared.step.Step.TheVariants.{Split, Cycle}
+use Rattle.tfpg_base.proofs.lists.Cuts.{cut_at}
 use Rattle.tfpg_clause.specs.Clauses.{count_of}
 use Rattle.tfpg_clause.specs.Trees.{Judged, Tree, Leaf, Branch, Subtrees, NoMore, Next, PathSplit, StepPlace, how_many, places_from, places_of, IsRight, IsRightStep, IsClosedLeaf, IsRefutation, IsPartial, IsPresentLeaf}
-use Rattle.tfpg_clause.specs.Paths.{next_leaf, IsRightNext}
+use Rattle.tfpg_clause.specs.Paths.{IsRightNext, next_leaf}
 use Rattle.tfpg_clause.proofs.LeafPaths.{leaf_after, after_both}
 use Rattle.tfpg_clause.proofs.SomeAlternative.{some_alternative}
 use Rattle.tfpg_clause.proofs.TreeWalk.{steps_in, first_path, walk_tree}
@@ -32,20 +33,6 @@ pub record Cut (graph : Tfpg) (log : Logbook) (reach : List ℕ) (steps : List J
   pub right : All (IsRight graph log reach) front
   pub path_is : here.path ≡ path
 
--- a list cut before the element of a number
-record CutBefore {X : Type 0} (xs : List X) (n : ℕ) : Type 0 where
-  here : X
-  back : List X
-  is : xs ≡ take n xs ++ here ∷ back
-  got : slice_get xs n ≡ Some here
-
-cut_before : {X : Type 0} (xs : List X) (n : ℕ) → n < length xs → CutBefore xs n
-cut_before [] n within = absurd (omega arith)
-cut_before (x ∷ xs) zero within = record { here = x; back = xs; is = refl; got = refl }
-cut_before (x ∷ xs) (suc n) within =
-    let rest = cut_before xs n (omega arith) in
-    record { here = rest.here; back = rest.back; is = ap (λ ys. x ∷ ys) rest.is; got = rest.got }
-
 module _ (graph : Tfpg) (log : Logbook) (reach : List ℕ) where
   abbrev step_in : StepPlace → Judged
   step_in place = place.step
@@ -58,18 +45,18 @@ module _ (graph : Tfpg) (log : Logbook) (reach : List ℕ) where
   pub cut_of_leaf : (steps : List Judged) (path : List PathSplit) → IsPresentLeaf graph log reach steps path → Cut graph log reach steps path
   cut_of_leaf steps path leaf =
       let partial = leaf.partial in
-      let cut = cut_before (places_of partial.tree) (length steps) (more_places graph log reach steps partial) in
-      let there : option_map (λ (place : StepPlace). place.path) (slice_get (places_of partial.tree) (length steps)) ≡ Some cut.here.path =
-      ap (option_map (λ (place : StepPlace). place.path)) cut.got in
+      let place = slice_get-there (places_of partial.tree) (length steps) (more_places graph log reach steps partial) in
+      let there : option_map (λ (place : StepPlace). place.path) (slice_get (places_of partial.tree) (length steps)) ≡ Some place.0.path =
+      ap (option_map (λ (place : StepPlace). place.path)) place.1 in
       record {
         tree = partial.tree;
         front = take (length steps) (places_of partial.tree);
-        here = cut.here;
-        back = cut.back;
-        places_are = cut.is;
+        here = place.0;
+        back = drop (suc (length steps)) (places_of partial.tree);
+        places_are = cut_at (places_of partial.tree) (length steps) place.0 place.1;
         steps_are = front_steps steps partial;
         right = partial.right;
-        path_is = same_Some cut.here.path path (sym there ∙ leaf.here);
+        path_is = same_Some place.0.path path (sym there ∙ leaf.here);
       }
 
   -- a partial tree has a present leaf

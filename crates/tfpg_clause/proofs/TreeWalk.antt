@@ -11,9 +11,9 @@ use Rattle.tfpg_evidence.specs.declared.clause_name.ClauseName.{ClauseName}
 use Rattle.tfpg_evidence.specs.declared.step.Step.TheVariants.{Split, Cycle}
 use Rattle.tfpg_clause.specs.Clauses.{count_of}
 use Rattle.tfpg_clause.specs.Trees.{Judged, Tree, Leaf, Branch, Subtrees, NoMore, Next, PathSplit, StepPlace, how_many, places, places_from, IsRight}
-use Rattle.tfpg_clause.specs.Paths.{next_leaf}
 use Rattle.tfpg_clause.proofs.LeafPaths.{leaf_next, leaf_after, after_both, closed_more, closed_last}
 use Rattle.tfpg_clause.proofs.SomeAlternative.{some_alternative}
+use Rattle.tfpg_clause.specs.Paths.{next_leaf}
 
 -- the steps of some places
 abbrev pub steps_in : List StepPlace → List Judged

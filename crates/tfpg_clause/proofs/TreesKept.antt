@@ -4,9 +4,9 @@ use Rattle.std.specs.Prelude.{All, AllPairs, map, option_map, option_and_then}
 use Rattle.std.proofs.lemmas.List.{take-append-drop}
 use Rattle.std.proofs.lemmas.List.Elements.{All-take}
 use Rattle.std.proofs.lemmas.Option.{option_and_then_some}
-use Rattle.tfpg_base.specs.Choice.{each_of}
+use Rattle.tfpg_base.specs.Choice.{each_of, item_at}
 use Rattle.tfpg_base.specs.declared.constraint.Constraint.{Constraint}
-use Rattle.tfpg_base.specs.Times.{max_time}
+use Rattle.tfpg_base.specs.declared.limits.TheConstants.{MAX_TIME}
 use Rattle.tfpg_base.proofs.lists.Elements.{AllPairs-front}
 use Rattle.tfpg_graph.specs.Graph.{Tfpg}
 use Rattle.tfpg_log.specs.declared.event.Event.{Event}
@@ -16,8 +16,9 @@ use Rattle.tfpg_evidence.specs.declared.reason.Reason.{Reason}
 use Rattle.tfpg_evidence.specs.declared.reason.Reason.TheVariants.{Zero, Top, Unreached, From, Upto, Quiet, Pick}
 use Rattle.tfpg_evidence.specs.declared.step.Step.{Step}
 use Rattle.tfpg_evidence.specs.declared.step.Step.TheVariants.{Split, Cycle}
+use Rattle.tfpg_base.proofs.lists.Choices.{each_of-weaker}
 use Rattle.tfpg_clause.specs.Facts.{fact}
-use Rattle.tfpg_clause.specs.Clauses.{alternatives, count_of, item_at, constraint_at}
+use Rattle.tfpg_clause.specs.Clauses.{alternatives, count_of, constraint_at}
 use Rattle.tfpg_clause.specs.Trees.{Judged, PathSplit, StepPlace, picked, stated, IsClosedLeaf, IsRight, IsRightStep, IsRefutation, IsPartial, IsPresentLeaf}
 use Rattle.tfpg_clause.proofs.Kept.{clause_stays, fact_stays}
 
@@ -27,7 +28,7 @@ ordered_first log seen ordered = record {
   in_order =
       AllPairs-front (λ (earlier later : Event). time_of_event earlier ≤ time_of_event later) (take seen log.events) (drop seen log.events)
       (subst (AllPairs (λ (earlier later : Event). time_of_event earlier ≤ time_of_event later)) (sym (take-append-drop seen log.events)) ordered.in_order);
-  in_range = All-take (λ (event : Event). time_of_event event ≤ max_time) seen log.events ordered.in_range;
+  in_range = All-take (λ (event : Event). time_of_event event ≤ MAX_TIME) seen log.events ordered.in_range;
 }
 
 take_more : {X : Type 0} (n : ℕ) (xs ys : List X) → (more : List X) × (take n (xs ++ ys) ≡ take n xs ++ more)
@@ -53,24 +54,6 @@ take_on (suc n) (suc m) (x ∷ xs) up = let rest = take_on n m xs (omega arith) 
 -- More first events go on from fewer.
 pub more_go_on : (log : Logbook) (seen more : ℕ) → seen ≤ more → GoesOn (first_events log seen) (first_events log more)
 more_go_on log seen more up = take_on seen more log.events up
-
--- each of the values that there were is there
-pub each_stays : (one other : Reason → Option Constraint) → ((reason : Reason) (constraint : Constraint) → one reason ≡ Some constraint → other reason ≡ Some constraint)
-    → (reasons : List Reason) (constraints : List Constraint) → each_of (map one reasons) ≡ Some constraints → each_of (map other reasons) ≡ Some constraints
-each_stays one other stays [] constraints hold = hold
-each_stays one other stays (reason ∷ reasons) constraints hold = by (λ cs kept. each_stays one other stays reasons cs kept) (one reason) refl hold
-  where
-    rest_by : (c : Constraint) (found : Option (List Constraint)) → each_of (map one reasons) ≡ found → ((cs : List Constraint) → each_of (map one reasons) ≡ Some cs → each_of (map other reasons) ≡ Some cs)
-        → option_map (λ (xs : List Constraint). c ∷ xs) found ≡ Some constraints → option_map (λ (xs : List Constraint). c ∷ xs) (each_of (map other reasons)) ≡ Some constraints
-    rest_by c None none rest whole = cc
-    rest_by c (Some cs) some rest whole = ap (option_map (λ (xs : List Constraint). c ∷ xs)) (rest cs some) ∙ whole
-
-    by : ((cs : List Constraint) → each_of (map one reasons) ≡ Some cs → each_of (map other reasons) ≡ Some cs)
-        → (found : Option Constraint) → one reason ≡ found → each_of (found ∷ map one reasons) ≡ Some constraints → each_of (other reason ∷ map other reasons) ≡ Some constraints
-    by rest None none whole = cc
-    by rest (Some c) some whole =
-        ap (λ (o : Option Constraint). each_of (o ∷ map other reasons)) (stays reason c some)
-        ∙ rest_by c (each_of (map one reasons)) refl rest whole
 
 module _ (graph : Tfpg) (earlier later : Logbook) (ordered : IsOrdered later) (goes_on : GoesOn earlier later) where
   clause_first : (seen : ℕ) (name : ClauseName) (clause : List (List Constraint)) → alternatives graph (first_events earlier seen) name ≡ Some clause
@@ -137,7 +120,7 @@ module _ (graph : Tfpg) (earlier later : Logbook) (ordered : IsOrdered later) (g
     closed_stays : (path : List PathSplit) (seen : ℕ) (reasons : List Reason) → IsClosedLeaf graph earlier reach path seen reasons → IsClosedLeaf graph later reach path seen reasons
     closed_stays path seen reasons closed = record {
       constraints = closed.constraints;
-      hold = each_stays (stated graph earlier reach path seen) (stated graph later reach path seen) (stated_stays path seen) reasons closed.constraints closed.hold;
+      hold = each_of-weaker (stated graph earlier reach path seen) (stated graph later reach path seen) (stated_stays path seen) reasons closed.constraints closed.hold;
       cycle = closed.cycle;
       negative = closed.negative;
     }

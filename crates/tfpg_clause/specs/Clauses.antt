@@ -1,8 +1,8 @@
 -- Clauses: of each, every trace that explains the log meets an alternative.
-use Rattle.std.specs.Prelude.{◌≡◌, ℕ, zero, suc, length, ◌+◌, ◌-◌, ◌≤◌, max, pos, ◌-ℤ◌, List, [], ◌∷◌, ◌++◌, map, filter_map, fold, Bool, ◌&&◌, nat_le, ◌==◌, if◌then◌else◌, All, Contains, Option, Some, None, option_map, option_and_then, slice_get}
+use Rattle.std.specs.Prelude.{◌≡◌, ℕ, length, ◌+◌, ◌*◌, ◌-◌, ◌≤◌, max, pos, ◌-ℤ◌, List, [], ◌∷◌, ◌++◌, map, filter_map, fold, Bool, ◌&&◌, nat_le, ◌==◌, if◌then◌else◌, All, Contains, Option, Some, None, option_map, option_and_then, slice_get}
 use Rattle.std.specs.Bool.{then_some}
 use Rattle.std.specs.List.{list_all}
-use Rattle.tfpg_base.specs.Choice.{each_of}
+use Rattle.tfpg_base.specs.Choice.{each_of, item_at}
 use Rattle.tfpg_base.specs.declared.constraint.Constraint.{Constraint}
 use Rattle.tfpg_graph.specs.declared.edge.Edge.{Edge}
 use Rattle.tfpg_graph.specs.Graph.{Tfpg, is_kind_at, is_or, is_and, edges_into}
@@ -14,25 +14,31 @@ use Rattle.tfpg_evidence.specs.declared.clause_name.ClauseName.{ClauseName}
 use Rattle.tfpg_evidence.specs.declared.clause_name.ClauseName.TheVariants.{OrMay, AndMay, OrMust, AndMust}
 use Rattle.tfpg_clause.specs.declared.due.Due.{Due}
 use Rattle.tfpg_clause.specs.declared.limits.TheConstants.{MAX_CONSTRAINTS}
-use Rattle.tfpg_clause.specs.Bounds.{at_most, at_least, at_most_after, at_least_after}
+use Rattle.tfpg_base.specs.Bounds.{at_most, at_least, at_most_after, at_least_after}
 use Rattle.tfpg_base.specs.Constraint.{Meets}
 
 -- The node becomes active before the span; or after it.
 abbrev pub outside_span : ℕ → Span → List (List Constraint)
 outside_span node span = (at_most node (pos span.lo -ℤ pos 1) ∷ []) ∷ (at_least node (span.hi + 1) ∷ []) ∷ []
 
--- The failure arrives by the edge within the span, where it can: it has been on its way since some instant of the edge's
--- window, for the least delay or longer.
+-- The failure arrives by the edge within the span, where it can: it has been on its way since some instant of the
+-- edge's window, for the least delay or longer.
 abbrev pub arrival : Logbook → ℕ → ℕ → Span → Edge → Option (List Constraint)
 arrival log number horizon span edge =
     option_and_then (λ window. then_some (nat_le (window.lo + edge.tmin) span.hi)
-    (at_least_after edge.target edge.source edge.tmin ∷ at_least edge.target (max span.lo (window.lo + edge.tmin)) ∷ at_most edge.target (pos span.hi) ∷ []))
+    (at_least_after edge.target edge.source edge.tmin
+    ∷ at_least edge.target (max span.lo (window.lo + edge.tmin))
+    ∷ at_most edge.target (pos span.hi) ∷ []))
     (window_of log edge number horizon)
 
 -- what is due over an edge, where its greatest delay is finite and it is active in the span
 abbrev pub due_over : Logbook → ℕ → ℕ → Edge → Option Due
 due_over log number horizon edge =
-    option_and_then (λ tmax. option_map (λ window. record { source = edge.source; target = edge.target; tmax = tmax; by = window.lo + tmax }) (window_of log edge number horizon)) edge.tmax
+    option_and_then
+    (λ tmax.
+    option_map (λ window. record { source = edge.source; target = edge.target; tmax = tmax; by = window.lo + tmax })
+    (window_of log edge number horizon))
+    edge.tmax
 
 -- The source becomes active too late for the failure to be due within a window that ends here.
 abbrev pub starts_late : ℕ → Due → List Constraint
@@ -46,61 +52,74 @@ follows_in_time due = at_most_after due.target due.source due.tmax ∷ []
 abbrev pub latest_of : List Due → ℕ
 latest_of dues = fold (λ time due. max time due.by) 0 dues
 
--- The alternatives of a must, in a window that ends at hi: some source starts late; or the target follows some source in
--- time; or it is active by the time by which the failure arrives if it has been on its way since the window's beginning.
+-- The alternatives of a must, in a window that ends at hi: some source starts late; or the target follows some source
+-- in time; or it is active by the time by which the failure arrives if it has been on its way since the window's
+-- beginning.
 abbrev pub must_alternatives : ℕ → ℕ → List Due → List (List Constraint)
 must_alternatives target hi dues =
     map (starts_late hi) dues ++ map follows_in_time dues ++ (at_most target (pos (latest_of dues)) ∷ []) ∷ []
 
--- The clause that a node becomes active in a span only where the failure arrives by one of these edges, where the test holds.
+-- The clause that a node becomes active in a span only where the failure arrives by one of these edges, where the test
+-- holds.
 abbrev pub may_by : Logbook → Bool → ℕ → List Edge → ℕ → ℕ → Option (List (List Constraint))
 may_by log holds target edges number horizon =
-    option_and_then (λ span. then_some holds (outside_span target span ++ filter_map (arrival log number horizon span) edges)) (span_at log number horizon)
+    option_and_then
+    (λ span. then_some holds (outside_span target span ++ filter_map (arrival log number horizon span) edges))
+    (span_at log number horizon)
 
--- The clause that a node is active once the failure is due by all these edges, in a window that begins with the span and has
--- room for each greatest delay.
+-- The clause that a node is active once the failure is due by all these edges, in a window that begins with the span
+-- and has room for each greatest delay.
 abbrev pub must_in : ℕ → ℕ → Window → List Due → Option (List (List Constraint))
 must_in target number window dues =
-    then_some ((window.first == number) && list_all (λ due. nat_le due.by window.hi) dues) (must_alternatives target window.hi dues)
+    then_some ((window.first == number) && list_all (λ due. nat_le due.by window.hi) dues)
+    (must_alternatives target window.hi dues)
 
 -- The same, where the test holds, there is the window, and each greatest delay is finite.
 abbrev pub must_by : Logbook → Bool → ℕ → List Edge → Option Window → ℕ → ℕ → Option (List (List Constraint))
 must_by log holds target edges window number horizon =
-    if holds then option_and_then (λ dues. option_and_then (λ w. must_in target number w dues) window) (each_of (map (due_over log number horizon) edges)) else None
+    if holds then
+    option_and_then (λ dues. option_and_then (λ w. must_in target number w dues) window)
+    (each_of (map (due_over log number horizon) edges))
+    else None
 
 -- the clause that an OR node becomes active in a span only where the failure arrives by some edge
 abbrev pub or_may : Tfpg → Logbook → ℕ → ℕ → ℕ → Option (List (List Constraint))
-or_may graph log node number horizon = may_by log (is_kind_at is_or graph node) node (edges_into graph node) number horizon
+or_may graph log node number horizon =
+    may_by log (is_kind_at is_or graph node) node (edges_into graph node) number horizon
 
 -- the clause that an AND node becomes active in a span only where the failure arrives by this edge
 abbrev pub and_may : Tfpg → Logbook → Edge → ℕ → ℕ → Option (List (List Constraint))
-and_may graph log edge number horizon = may_by log (is_kind_at is_and graph edge.target) edge.target (edge ∷ []) number horizon
+and_may graph log edge number horizon =
+    may_by log (is_kind_at is_and graph edge.target) edge.target (edge ∷ []) number horizon
 
 -- the clause that an OR node is active once the failure is due by this edge
 abbrev pub or_must : Tfpg → Logbook → Edge → ℕ → ℕ → Option (List (List Constraint))
 or_must graph log edge number horizon =
-    must_by log (is_kind_at is_or graph edge.target) edge.target (edge ∷ []) (window_of log edge number horizon) number horizon
+    must_by log (is_kind_at is_or graph edge.target) edge.target (edge ∷ []) (window_of log edge number horizon) number
+    horizon
 
 -- the clause that an AND node is active once the failure is due by all edges
 abbrev pub and_must : Tfpg → Logbook → ℕ → ℕ → ℕ → Option (List (List Constraint))
 and_must graph log node number horizon =
-    must_by log (is_kind_at is_and graph node) node (edges_into graph node) (joint_of graph log node number horizon) number horizon
+    must_by log (is_kind_at is_and graph node) node (edges_into graph node) (joint_of graph log node number horizon)
+    number horizon
 
 -- The alternatives of a clause in order, each a list of constraints, where the name is allowed at the log.
 abbrev pub alternatives : Tfpg → Logbook → ClauseName → Option (List (List Constraint))
 alternatives graph log (OrMay node number horizon) = or_may graph log node number horizon
-alternatives graph log (AndMay edge number horizon) = option_and_then (λ e. and_may graph log e number horizon) (slice_get graph.edges edge)
-alternatives graph log (OrMust edge number horizon) = option_and_then (λ e. or_must graph log e number horizon) (slice_get graph.edges edge)
+alternatives graph log (AndMay edge number horizon) =
+    option_and_then (λ e. and_may graph log e number horizon) (slice_get graph.edges edge)
+alternatives graph log (OrMust edge number horizon) =
+    option_and_then (λ e. or_must graph log e number horizon) (slice_get graph.edges edge)
 alternatives graph log (AndMust node number horizon) = and_must graph log node number horizon
 
 -- how many alternatives a clause has, where the name is allowed at the log
 abbrev pub count_of : Tfpg → Logbook → ClauseName → Option ℕ
 count_of graph log name = option_map length (alternatives graph log name)
 
--- the item of a number, where items are counted from 1
-abbrev pub item_at : {X : Type 0} → List X → ℕ → Option X
-item_at items zero = None
-item_at items (suc before) = slice_get items before
+-- the number below which the alternatives of each allowed clause stay, where at most so many edges enter any node
+abbrev pub alternatives_bound : ℕ → ℕ
+alternatives_bound most = 2 * most + 3
 
 -- the constraint in a place of an alternative, both counted from 1
 abbrev pub constraint_at : List (List Constraint) → ℕ → ℕ → Option Constraint

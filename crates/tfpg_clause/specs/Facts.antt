@@ -1,7 +1,7 @@
 -- Facts: constraints that every trace meets which explains the log from a set with this reach.
 use Rattle.std.specs.Prelude.{◌≡◌, ℕ, ◌≤◌, ◌+◌, ◌-◌, pos, List, length, not, ◌&&◌, nat_lt, nat_le, Option, Some, None, unwrap_or, option_map, option_and_then}
 use Rattle.std.specs.Bool.{then_some}
-use Rattle.tfpg_base.specs.Times.{never}
+use Rattle.tfpg_base.specs.declared.limits.TheConstants.{NEVER}
 use Rattle.tfpg_base.specs.declared.constraint.Constraint.{Constraint}
 use Rattle.tfpg_graph.specs.Graph.{Tfpg, lag_at}
 use Rattle.tfpg_graph.specs.Reach.{is_among}
@@ -10,7 +10,7 @@ use Rattle.tfpg_log.specs.declared.event.Event.TheVariants.{Alarm, Silent, Sweep
 use Rattle.tfpg_log.specs.Log.{Logbook, now_of, event_at, quiet_at}
 use Rattle.tfpg_evidence.specs.declared.reason.Reason.{Reason}
 use Rattle.tfpg_evidence.specs.declared.reason.Reason.TheVariants.{Zero, Top, Unreached, From, Upto, Quiet, Pick}
-use Rattle.tfpg_clause.specs.Bounds.{at_most, at_least}
+use Rattle.tfpg_base.specs.Bounds.{at_most, at_least}
 
 -- The node became active at most its lag before its alarm.
 abbrev pub from_alarm : Tfpg → Event → Option Constraint
@@ -31,9 +31,10 @@ upto_alarm (Mode time mode) = None
 -- The constraint that a reason states, where it is a fact of the log and of a set that reaches these nodes.
 abbrev pub fact : Tfpg → Logbook → List ℕ → Reason → Option Constraint
 fact graph log reach (Zero node) = then_some (nat_lt node (length graph.nodes)) (at_least node 0)
-fact graph log reach (Top node) = then_some (nat_lt node (length graph.nodes)) (at_most node (pos never))
+fact graph log reach (Top node) = then_some (nat_lt node (length graph.nodes)) (at_most node (pos NEVER))
 fact graph log reach (Unreached node horizon) =
-    then_some (nat_lt node (length graph.nodes) && (nat_le horizon (now_of log) && not (is_among reach node))) (at_least node (horizon + 1))
+    then_some (nat_lt node (length graph.nodes) && (nat_le horizon (now_of log) && not (is_among reach node)))
+    (at_least node (horizon + 1))
 fact graph log reach (From event) = option_and_then (from_alarm graph) (event_at log event)
 fact graph log reach (Upto event) = option_and_then upto_alarm (event_at log event)
 fact graph log reach (Quiet event node) = option_map (λ time. at_least node (time + 1)) (quiet_at graph log event node)

@@ -2,7 +2,6 @@ pub use Rattle.tfpg_log.specs.Log
 pub use Rattle.tfpg_log.specs.Spans
 pub use Rattle.tfpg_graph.specs.Graph
 pub use Rattle.tfpg_graph.specs.Reach
-pub mod Bounds
 pub mod Facts
 pub mod Clauses
 pub mod Order

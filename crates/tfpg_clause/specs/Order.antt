@@ -35,7 +35,8 @@ horizon_of (AndMay edge span horizon) = horizon
 horizon_of (OrMust edge span horizon) = horizon
 horizon_of (AndMust node span horizon) = horizon
 
--- Of two clauses of one horizon the one comes before the other: by its kind, then by its node or edge, then by its span.
+-- Of two clauses of one horizon the one comes before the other: by its kind, then by its node or edge, then by its
+-- span.
 abbrev pub ComesBefore : ClauseName → ClauseName → Type 0
 ComesBefore one other =
     (rank_of one < rank_of other)
@@ -44,13 +45,15 @@ ComesBefore one other =
 
 -- The times meet the clause of the name, where it is allowed.
 abbrev pub MeetsNamed : Tfpg → Logbook → List ℕ → ClauseName → Type 0
-MeetsNamed graph log times name = (clause : List (List Constraint)) → alternatives graph log name ≡ Some clause → MeetsClause times clause
+MeetsNamed graph log times name =
+    (clause : List (List Constraint)) → alternatives graph log name ≡ Some clause → MeetsClause times clause
 
 -- Of the clauses with the horizon now it is the first that the times violate.
 pub record IsFirstViolated (graph : Tfpg) (log : Logbook) (times : List ℕ) (name : ClauseName) : Type 0 where
   pub at_now : horizon_of name ≡ now_of log
   pub violated : Violates graph log times name
-  pub first : (other : ClauseName) → horizon_of other ≡ now_of log → ComesBefore other name → MeetsNamed graph log times other
+  pub first : (other : ClauseName) → horizon_of other ≡ now_of log → ComesBefore other name →
+      MeetsNamed graph log times other
 
 -- The times meet each allowed clause with the horizon now.
 abbrev pub MeetAllNow : Tfpg → Logbook → List ℕ → Type 0

@@ -1,5 +1,5 @@
--- Paths to the present leaf of a partial tree: how steps move them, and how a program keeps them.
-use Rattle.std.specs.Prelude.{◌≡◌, ℕ, ◌+◌, List, [], ◌∷◌, ◌++◌, length, Bool, false, nat_lt, Option, Some, None, option_map, option_and_then}
+-- Paths to the present leaf of a partial tree, and how a program keeps and moves them.
+use Rattle.std.specs.Prelude.{◌≡◌, ℕ, ◌+◌, List, [], ◌∷◌, ◌++◌, length, map, nat_lt, Option, Some, None, option_map, option_and_then, Bool, false}
 use Rattle.std.specs.Option.{option_or}
 use Rattle.std.specs.Bool.{then_some}
 use Rattle.tfpg_base.specs.declared.constraint.Constraint.{Constraint}
@@ -7,11 +7,11 @@ use Rattle.tfpg_graph.specs.Graph.{Tfpg}
 use Rattle.tfpg_log.specs.Log.{Logbook, first_events}
 use Rattle.tfpg_evidence.specs.declared.clause_name.ClauseName.{ClauseName}
 use Rattle.tfpg_evidence.specs.declared.reason.Reason.{Reason}
-use Rattle.tfpg_evidence.specs.declared.reason.Reason.TheVariants.{Zero, Top, Unreached, From, Upto, Quiet, Pick}
 use Rattle.tfpg_evidence.specs.declared.step.Step.{Step}
 use Rattle.tfpg_clause.specs.Facts.{fact}
-use Rattle.tfpg_clause.specs.Clauses.{alternatives, count_of, item_at, constraint_at}
-use Rattle.tfpg_clause.specs.Trees.{Judged, PathSplit, IsRightStep, IsPresentLeaf}
+use Rattle.tfpg_clause.specs.Clauses.{alternatives, count_of, constraint_at}
+use Rattle.tfpg_base.specs.Choice.{item_at}
+use Rattle.tfpg_clause.specs.Trees.{Judged, PathSplit, stated_with, IsRightStep, IsPresentLeaf}
 pub use Rattle.tfpg_clause.specs.Trees.{IsClosedBy}
 use Rattle.tfpg_clause.specs.declared.path.Frame.{Frame}
 
@@ -22,6 +22,10 @@ judged_by log step = record { seen = length log.events; step = step }
 -- the steps with one more, judged by the whole log
 abbrev pub with_step : List Judged → Logbook → Step → List Judged
 with_step steps log step = steps ++ judged_by log step ∷ []
+
+-- the earlier steps, and after them these, judged by the whole log
+abbrev pub with_steps : List Judged → Logbook → List Step → List Judged
+with_steps earlier log added = earlier ++ map (judged_by log) added
 
 -- a new split on a path, judged by the whole log, in its first alternative
 abbrev pub new_split : Logbook → ClauseName → PathSplit
@@ -40,8 +44,8 @@ has_more alternative (Some count) = nat_lt alternative count
 abbrev pub advanced : PathSplit → PathSplit
 advanced split = record { name = split.name; seen = split.seen; alternative = split.alternative + 1 }
 
--- The path to the present leaf once the leaf of this path is closed: to the next alternative of the deepest split that has one
--- left, where there is one.
+-- The path to the present leaf once the leaf of this path is closed: to the next alternative of the deepest split that
+-- has one left, where there is one.
 abbrev pub next_leaf : Tfpg → Logbook → List PathSplit → Option (List PathSplit)
 next_leaf graph log [] = None
 next_leaf graph log (split ∷ deeper) =
@@ -49,7 +53,8 @@ next_leaf graph log (split ∷ deeper) =
     (then_some (has_more split.alternative (count_at graph log split)) (advanced split ∷ []))
 
 -- The step that comes next after these steps is right at their present leaf.
-pub record IsRightNext (graph : Tfpg) (log : Logbook) (reach : List ℕ) (steps : List Judged) (next : Judged) : Type 0 where
+pub record IsRightNext (graph : Tfpg) (log : Logbook) (reach : List ℕ) (steps : List Judged)
+    (next : Judged) : Type 0 where
   pub path : List PathSplit
   pub leaf : IsPresentLeaf graph log reach steps path
   pub subtrees : ℕ
@@ -64,12 +69,14 @@ pub record IsFrameOf (graph : Tfpg) (log : Logbook) (split : PathSplit) (frame :
 -- The frames are those of the splits of the path.
 abbrev pub AreFramesOf : Tfpg → Logbook → List PathSplit → List Frame → Type 0
 AreFramesOf graph log [] [] = Unit {0}
-AreFramesOf graph log (split ∷ path) (frame ∷ frames) = IsFrameOf graph log split frame × AreFramesOf graph log path frames
+AreFramesOf graph log (split ∷ path) (frame ∷ frames) =
+    IsFrameOf graph log split frame × AreFramesOf graph log path frames
 AreFramesOf graph log [] (frame ∷ frames) = ⊥
 AreFramesOf graph log (split ∷ path) [] = ⊥
 
 -- The frames are those of the path to the present leaf of these steps.
-pub record IsAtLeaf (graph : Tfpg) (log : Logbook) (reach : List ℕ) (frames : List Frame) (steps : List Judged) : Type 0 where
+pub record IsAtLeaf (graph : Tfpg) (log : Logbook) (reach : List ℕ) (frames : List Frame)
+    (steps : List Judged) : Type 0 where
   pub path : List PathSplit
   pub leaf : IsPresentLeaf graph log reach steps path
   pub frames_are : AreFramesOf graph log path frames
@@ -86,19 +93,17 @@ next_alternative frame = record frame { alternative = frame.alternative + 1 }
 abbrev pub path_after : List Frame → Option (List Frame)
 path_after [] = None
 path_after (frame ∷ deeper) =
-    option_or (option_map (λ frames. frame ∷ frames) (path_after deeper)) (then_some (nat_lt frame.alternative frame.alternatives) (next_alternative frame ∷ []))
+    option_or (option_map (λ frames. frame ∷ frames) (path_after deeper))
+    (then_some (nat_lt frame.alternative frame.alternatives) (next_alternative frame ∷ []))
 
 -- the constraint in a place of the alternative of a frame, both counted from 1
 abbrev pub framed : Tfpg → Logbook → List Frame → ℕ → ℕ → Option Constraint
 framed graph log frames split place =
-    option_and_then (λ (frame : Frame). option_and_then (λ clause. constraint_at clause frame.alternative place) (alternatives graph log frame.name)) (item_at frames split)
+    option_and_then
+    (λ (frame : Frame).
+    option_and_then (λ clause. constraint_at clause frame.alternative place) (alternatives graph log frame.name))
+    (item_at frames split)
 
 -- the constraint that a reason states with these frames, judged by the whole log
 abbrev pub stated_by : Tfpg → Logbook → List ℕ → List Frame → Reason → Option Constraint
-stated_by graph log reach frames (Pick split place) = framed graph log frames split place
-stated_by graph log reach frames (Zero node) = fact graph log reach (Zero node)
-stated_by graph log reach frames (Top node) = fact graph log reach (Top node)
-stated_by graph log reach frames (Unreached node horizon) = fact graph log reach (Unreached node horizon)
-stated_by graph log reach frames (From event) = fact graph log reach (From event)
-stated_by graph log reach frames (Upto event) = fact graph log reach (Upto event)
-stated_by graph log reach frames (Quiet event node) = fact graph log reach (Quiet event node)
+stated_by graph log reach frames reason = stated_with (framed graph log frames) (fact graph log reach) reason

@@ -1,7 +1,7 @@
--- Refutations: trees of clauses, each leaf of which is closed by a cycle of constraints that cannot all hold. One walk over a
--- tree gives its places in the order of the steps, and what is said of trees is said of these.
-use Rattle.std.specs.Prelude.{◌≡◌, ℕ, suc, ◌+◌, ◌<◌, pos, ◌<ℤ◌, List, [], ◌∷◌, ◌++◌, length, take, map, All, Bool, true, false, Option, Some, option_map, option_and_then, slice_get}
-use Rattle.tfpg_base.specs.Choice.{each_of}
+-- Refutations: trees of clauses, each leaf of which is closed by a cycle of constraints that cannot all hold. One walk
+-- over a tree gives its places in the order of the steps, and what is said of trees is said of these.
+use Rattle.std.specs.Prelude.{◌≡◌, ℕ, suc, ◌+◌, ◌<◌, pos, ◌<ℤ◌, List, [], ◌∷◌, ◌++◌, length, take, map, count_by, All, Bool, true, false, Option, Some, option_map, option_and_then, slice_get}
+use Rattle.tfpg_base.specs.Choice.{each_of, item_at}
 use Rattle.tfpg_base.specs.ConstraintCycle.{IsCycle, sum_of}
 use Rattle.tfpg_base.specs.declared.constraint.Constraint.{Constraint}
 use Rattle.tfpg_graph.specs.Graph.{Tfpg}
@@ -12,7 +12,7 @@ use Rattle.tfpg_evidence.specs.declared.reason.Reason.TheVariants.{Zero, Top, Un
 use Rattle.tfpg_evidence.specs.declared.step.Step.{Step}
 use Rattle.tfpg_evidence.specs.declared.step.Step.TheVariants.{Split, Cycle}
 use Rattle.tfpg_clause.specs.Facts.{fact}
-use Rattle.tfpg_clause.specs.Clauses.{alternatives, count_of, item_at, constraint_at}
+use Rattle.tfpg_clause.specs.Clauses.{alternatives, count_of, constraint_at}
 
 -- a step, with the number of events of the log that judged it
 pub record Judged : Type 0 where
@@ -24,8 +24,12 @@ abbrev pub is_split : Step → Bool
 is_split (Split name) = true
 is_split (Cycle reasons) = false
 
--- A tree: a leaf with its reasons, or a branch on a clause with its subtrees, each with the number of events of the log that
--- judged it.
+-- how many of the steps are splits
+abbrev pub split_count : List Step → ℕ
+split_count steps = count_by is_split steps
+
+-- A tree: a leaf with its reasons, or a branch on a clause with its subtrees, each with the number of events of the log
+-- that judged it.
 mutual
   pub data Tree : Type 0 where
     Leaf : (seen : ℕ) (reasons : List Reason) → Tree
@@ -56,15 +60,18 @@ pub record StepPlace : Type 0 where
 -- The places of a tree, in the order of the steps: a split, and then its subtrees one after the other.
 abbrev mutual
   pub places : List PathSplit → Tree → List StepPlace
-  places path (Leaf seen reasons) = record { path = path; step = record { seen = seen; step = Cycle reasons }; subtrees = 0 } ∷ []
+  places path (Leaf seen reasons) =
+      record { path = path; step = record { seen = seen; step = Cycle reasons }; subtrees = 0 } ∷ []
   places path (Branch seen name subtrees) =
-      record { path = path; step = record { seen = seen; step = Split name }; subtrees = how_many subtrees } ∷ places_from path name seen 1 subtrees
+      record { path = path; step = record { seen = seen; step = Split name }; subtrees = how_many subtrees }
+      ∷ places_from path name seen 1 subtrees
 
   -- the places of the subtrees of a split, the first of which is that of the alternative of this number
   pub places_from : List PathSplit → ClauseName → ℕ → ℕ → Subtrees → List StepPlace
   places_from path name seen number NoMore = []
   places_from path name seen number (Next tree others) =
-      places (path ++ record { name = name; seen = seen; alternative = number } ∷ []) tree ++ places_from path name seen (number + 1) others
+      places (path ++ record { name = name; seen = seen; alternative = number } ∷ []) tree
+      ++ places_from path name seen (number + 1) others
 
 -- the places of a whole tree
 abbrev pub places_of : Tree → List StepPlace
@@ -77,21 +84,30 @@ steps_of tree = map (λ place. place.step) (places_of tree)
 -- the constraint in a place of the alternative that was taken at a split, both counted from 1
 abbrev pub picked : Tfpg → Logbook → List PathSplit → ℕ → ℕ → Option Constraint
 picked graph log path split place =
-    option_and_then (λ (taken : PathSplit). option_and_then (λ clause. constraint_at clause taken.alternative place) (alternatives graph (first_events log taken.seen) taken.name))
+    option_and_then
+    (λ (taken : PathSplit).
+    option_and_then (λ clause. constraint_at clause taken.alternative place)
+    (alternatives graph (first_events log taken.seen) taken.name))
     (item_at path split)
 
--- The constraint that a reason states at a leaf of this path, judged by the log of so many events: a fact, or one that was
--- picked on the path.
-abbrev pub stated : Tfpg → Logbook → List ℕ → List PathSplit → ℕ → Reason → Option Constraint
-stated graph log reach path seen (Pick split place) = picked graph log path split place
-stated graph log reach path seen (Zero node) = fact graph (first_events log seen) reach (Zero node)
-stated graph log reach path seen (Top node) = fact graph (first_events log seen) reach (Top node)
-stated graph log reach path seen (Unreached node horizon) = fact graph (first_events log seen) reach (Unreached node horizon)
-stated graph log reach path seen (From event) = fact graph (first_events log seen) reach (From event)
-stated graph log reach path seen (Upto event) = fact graph (first_events log seen) reach (Upto event)
-stated graph log reach path seen (Quiet event node) = fact graph (first_events log seen) reach (Quiet event node)
+-- The constraint that a reason states, where one function gives the pick in each place, and another each fact.
+abbrev pub stated_with : (ℕ → ℕ → Option Constraint) → (Reason → Option Constraint) → Reason → Option Constraint
+stated_with pick_at fact_of (Pick split place) = pick_at split place
+stated_with pick_at fact_of (Zero node) = fact_of (Zero node)
+stated_with pick_at fact_of (Top node) = fact_of (Top node)
+stated_with pick_at fact_of (Unreached node horizon) = fact_of (Unreached node horizon)
+stated_with pick_at fact_of (From event) = fact_of (From event)
+stated_with pick_at fact_of (Upto event) = fact_of (Upto event)
+stated_with pick_at fact_of (Quiet event node) = fact_of (Quiet event node)
 
--- The reasons close a leaf: where each states its constraint, these chain into a cycle, and the sum of their bounds is negative.
+-- The constraint that a reason states at a leaf of this path, judged by the log of so many events: a fact, or one that
+-- was picked on the path.
+abbrev pub stated : Tfpg → Logbook → List ℕ → List PathSplit → ℕ → Reason → Option Constraint
+stated graph log reach path seen reason =
+    stated_with (picked graph log path) (fact graph (first_events log seen) reach) reason
+
+-- The reasons close a leaf: where each states its constraint, these chain into a cycle, and the sum of their bounds is
+-- negative.
 pub record IsClosedBy (stated : Reason → Option Constraint) (reasons : List Reason) : Type 0 where
   pub constraints : List Constraint
   pub hold : each_of (map stated reasons) ≡ Some constraints
@@ -102,12 +118,14 @@ pub record IsClosedBy (stated : Reason → Option Constraint) (reasons : List Re
 abbrev pub IsClosedLeaf : Tfpg → Logbook → List ℕ → List PathSplit → ℕ → List Reason → Type 0
 IsClosedLeaf graph log reach path seen reasons = IsClosedBy (stated graph log reach path seen) reasons
 
--- The step is right in a place: a split has an allowed name, and one subtree for each alternative; a cycle closes its leaf.
+-- The step is right in a place: a split has an allowed name, and one subtree for each alternative; a cycle closes its
+-- leaf.
 abbrev pub IsRightStep : Tfpg → Logbook → List ℕ → List PathSplit → ℕ → ℕ → Step → Type 0
-IsRightStep graph log reach path seen subtrees (Split name) = count_of graph (first_events log seen) name ≡ Some subtrees
+IsRightStep graph log reach path seen subtrees (Split name) =
+    count_of graph (first_events log seen) name ≡ Some subtrees
 IsRightStep graph log reach path seen subtrees (Cycle reasons) = IsClosedLeaf graph log reach path seen reasons
 
--- so is the step of a place
+-- the step of a place is right there
 abbrev pub IsRight : Tfpg → Logbook → List ℕ → StepPlace → Type 0
 IsRight graph log reach place = IsRightStep graph log reach place.path place.step.seen place.subtrees place.step.step
 
@@ -126,6 +144,8 @@ pub record IsPartial (graph : Tfpg) (log : Logbook) (reach : List ℕ) (steps : 
   pub right : All (IsRight graph log reach) (take (length steps) (places_of tree))
 
 -- The present leaf of a partial tree has this path: the next step would stand there.
-pub record IsPresentLeaf (graph : Tfpg) (log : Logbook) (reach : List ℕ) (steps : List Judged) (path : List PathSplit) : Type 0 where
+pub record IsPresentLeaf (graph : Tfpg) (log : Logbook) (reach : List ℕ) (steps : List Judged)
+    (path : List PathSplit) : Type 0 where
   pub partial : IsPartial graph log reach steps
-  pub here : option_map (λ (place : StepPlace). place.path) (slice_get (places_of partial.tree) (length steps)) ≡ Some path
+  pub here : option_map (λ (place : StepPlace). place.path) (slice_get (places_of partial.tree) (length steps)) ≡
+      Some path

@@ -1,7 +1,7 @@
 //! One alternative of a clause.
 
 ghost use Rattle.std.specs.Prelude.{◌≡◌};
-ghost use Rattle.tfpg_clause.specs.Clauses.{item_at};
+ghost use Rattle.tfpg_base.specs.Choice.{item_at};
 ghost use Rattle.tfpg_clause.specs.inside.Alternatives.{constraints_in};
 
 use tfpg_base::Constraint;

@@ -2,7 +2,7 @@
 
 ghost use Rattle.std.specs.Prelude.{◌≡◌, ◌<◌, ◌^◌, pos, ◌-ℤ◌};
 ghost use Rattle.tfpg_graph.specs.declared.limits.TheConstants.{MAX_NODES};
-ghost use Rattle.tfpg_clause.specs.Bounds.{at_least, at_most, at_least_after, at_most_after};
+ghost use Rattle.tfpg_base.specs.Bounds.{at_least, at_most, at_least_after, at_most_after};
 
 use tfpg_base::Constraint;
 

@@ -3,8 +3,9 @@
 ghost use Rattle.std.specs.Prelude.{◌≡◌, ◌<◌, ◌≤◌, length, All, IsTrue, IfSome, option_map, option_and_then, slice_get};
 ghost use Rattle.std.specs.Result.{result_ok};
 ghost use Rattle.tfpg_graph.specs.declared.limits.TheConstants.{MAX_INCOMING, MAX_NODES};
-ghost use Rattle.tfpg_graph.specs.Graph.{is_kind_at, is_or, is_and, incoming};
-ghost use Rattle.tfpg_clause.specs.Clauses.{alternatives, or_may, and_may, or_must, and_must, must_in, count_of, item_at, constraint_at};
+ghost use Rattle.tfpg_graph.specs.Graph.{is_kind_at, is_or, is_and};
+ghost use Rattle.tfpg_clause.specs.Clauses.{alternatives, or_may, and_may, or_must, and_must, must_in, count_of, constraint_at};
+ghost use Rattle.tfpg_base.specs.Choice.{item_at};
 ghost use Rattle.tfpg_clause.specs.inside.Alternatives.{constraints_in, dues_over, target_of_kind};
 ghost use Rattle.tfpg_clause.specs.inside.FirstSpan.{may_over};
 ghost use Rattle.tfpg_clause.specs.inside.Ranges.{IsSmallWindow};
@@ -14,7 +15,7 @@ use crate::may::{edge_of, find_span, may_alternative, may_count};
 use crate::must::{find_joint, find_window, latest_due, must_alternative, must_count};
 use tfpg_base::Constraint;
 use tfpg_evidence::ClauseName;
-use tfpg_graph::{Graph, Kind};
+use tfpg_graph::Graph;
 use tfpg_log::{Log, Window};
 
 /// The name is allowed by no clause of the log.
@@ -112,7 +113,7 @@ fn count_or_may(graph: &Graph, log: &Log, node: u32, number: u32, horizon: u64) 
     if !is_or(graph, node) {
         return None;
     }
-    may_count(graph, log, edges_into(graph, node), number, horizon)
+    may_count(graph, log, graph.incoming(node), number, horizon)
 }
 
 fn count_and_may(graph: &Graph, log: &Log, edge: u32, number: u32, horizon: u64) -> Option<u32>
@@ -139,7 +140,7 @@ fn count_and_must(graph: &Graph, log: &Log, node: u32, number: u32, horizon: u64
         return None;
     }
     let window = find_joint(graph, log, node, number, horizon)?;
-    must_count(graph, log, edges_into(graph, node), window, number, horizon)
+    must_count(graph, log, graph.incoming(node), window, number, horizon)
 }
 
 fn or_may_alternative(
@@ -156,7 +157,7 @@ fn or_may_alternative(
     if !is_or(graph, node) {
         return Err(NotAClause);
     }
-    let edges = edges_into(graph, node);
+    let edges = graph.incoming(node);
     may_alternative_in(graph, log, node, edges, number, horizon, alternative)
 }
 
@@ -217,7 +218,7 @@ fn and_must_alternative(
         return Err(NotAClause);
     }
     let window = find_joint(graph, log, node, number, horizon).ok_or(NotAClause)?;
-    let edges = edges_into(graph, node);
+    let edges = graph.incoming(node);
     must_alternative_in(
         graph,
         log,
@@ -326,23 +327,12 @@ fn target_of(graph: &Graph, edge: u32) -> Option<u32>
     Some(edge_of(graph, edge).target)
 }
 
-/// The numbers of the edges into the node.
-pub(crate) fn edges_into(graph: &Graph, node: u32) -> &[u32]
-    requires { node < length graph.now.nodes }
-    ensures value { result.now ≡ incoming graph.now node }
-    ensures edges { All (λ edge. edge < length graph.now.edges) result.now }
-    ensures few { length result.now ≤ MAX_INCOMING }
-{
-    let _few = graph.node_count();
-    graph.incoming(node)
-}
-
 /// Whether it is an OR node of the graph.
 pub(crate) fn is_or(graph: &Graph, node: u32) -> bool
     ensures value { result ≡ is_kind_at is_or graph.now node }
     ensures within { IsTrue result → (node < length graph.now.nodes) × (node < MAX_NODES) }
 {
-    node < graph.node_count() && matches!(graph.kind(node), Kind::Or { lag: _ })
+    node < graph.node_count() && graph.kind(node).is_or()
 }
 
 /// Whether it is an AND node of the graph.
@@ -350,5 +340,5 @@ pub(crate) fn is_and(graph: &Graph, node: u32) -> bool
     ensures value { result ≡ is_kind_at is_and graph.now node }
     ensures within { IsTrue result → (node < length graph.now.nodes) × (node < MAX_NODES) }
 {
-    node < graph.node_count() && matches!(graph.kind(node), Kind::And { lag: _ })
+    node < graph.node_count() && graph.kind(node).is_and()
 }

@@ -1,15 +1,14 @@
 //! The facts of a log and of the reach of a set.
 
-ghost use Rattle.std.specs.Prelude.{◌≡◌, ◌<◌, ◌≤◌, ◌+◌, pos, length, not, ◌&&◌, nat_lt, nat_le, option_map, option_and_then, unwrap_or, IfSome};
+ghost use Rattle.std.specs.Prelude.{◌≡◌, ◌<◌, ◌≤◌, ◌+◌, pos, length, not, ◌&&◌, nat_lt, nat_le, option_map, option_and_then, IfSome};
 ghost use Rattle.std.specs.Result.{result_ok};
 ghost use Rattle.std.specs.Bool.{then_some};
-ghost use Rattle.tfpg_base.specs.Times.{max_time, never};
+ghost use Rattle.tfpg_base.specs.declared.limits.TheConstants.{MAX_TIME, NEVER};
 ghost use Rattle.tfpg_graph.specs.declared.limits.TheConstants.{MAX_NODES};
-ghost use Rattle.tfpg_graph.specs.Graph.{lag_at};
 ghost use Rattle.tfpg_log.specs.Log.{IsOf, now_of, event_at, quiet_at};
 ghost use Rattle.tfpg_graph.specs.Reach.{is_among};
 ghost use Rattle.tfpg_clause.specs.inside.Ranges.{IsSmallAlarm};
-ghost use Rattle.tfpg_clause.specs.Bounds.{at_least, at_most};
+ghost use Rattle.tfpg_base.specs.Bounds.{at_least, at_most};
 ghost use Rattle.tfpg_clause.specs.Facts.{fact, from_alarm, upto_alarm};
 
 use crate::bounds::{at_least, at_most};
@@ -33,11 +32,11 @@ pub fn fact(
     requires of { IsOf graph.now log.now }
     ensures { result_ok result ≡ fact graph.now log.now reach.now reason }
 {
-    stated(graph, log, reach, reason).ok_or(NotAFact)
+    fact_of(graph, log, reach, reason).ok_or(NotAFact)
 }
 
 /// The constraint of the fact that the reason states, where it states one.
-fn stated(graph: &Graph, log: &Log, reach: &NodeSet, reason: Reason) -> Option<Constraint>
+fn fact_of(graph: &Graph, log: &Log, reach: &NodeSet, reason: Reason) -> Option<Constraint>
     requires of { IsOf graph.now log.now }
     ensures { result ≡ fact graph.now log.now reach.now reason }
 {
@@ -65,7 +64,7 @@ fn zero(graph: &Graph, node: u32) -> Option<Constraint>
 
 /// No time is after never.
 fn top(graph: &Graph, node: u32) -> Option<Constraint>
-    ensures { result ≡ then_some (nat_lt node (length graph.now.nodes)) (at_most node (pos never)) }
+    ensures { result ≡ then_some (nat_lt node (length graph.now.nodes)) (at_most node (pos NEVER)) }
 {
     if node < graph.node_count() {
         Some(at_most(node, NEVER))
@@ -101,7 +100,7 @@ fn from(graph: &Graph, log: &Log, number: u32) -> Option<Constraint>
 {
     match find_event(graph, log, number)? {
         Event::Alarm { time, node } => {
-            Some(at_least(node, time.saturating_sub(lag_of(graph, node))))
+            Some(at_least(node, time.saturating_sub(graph.lag_or_zero(node))))
         }
         Event::Silent { .. } | Event::Sweep { .. } | Event::Tick { .. } | Event::Mode { .. } =>
             None,
@@ -125,15 +124,15 @@ fn quiet(graph: &Graph, log: &Log, event: u32, node: u32) -> Option<Constraint>
     requires { IsOf graph.now log.now }
     ensures { result ≡ option_map (λ time. at_least node (time + 1)) (quiet_at graph.now log.now event node) }
 {
-    let time = quiet_time(graph, log, event, node)?;
+    let time = quiet_at(graph, log, event, node)?;
     Some(at_least(node, time + 1))
 }
 
 /// The time of the event of this number, where it is a silence of the node, which is then a node of the graph.
-fn quiet_time(graph: &Graph, log: &Log, event: u32, node: u32) -> Option<u64>
+fn quiet_at(graph: &Graph, log: &Log, event: u32, node: u32) -> Option<u64>
     requires { IsOf graph.now log.now }
     ensures value { result ≡ quiet_at graph.now log.now event node }
-    ensures small { IfSome result (λ time. (time ≤ max_time) × (node < MAX_NODES)) }
+    ensures small { IfSome result (λ time. (time ≤ MAX_TIME) × (node < MAX_NODES)) }
 {
     let _few = graph.node_count();
     let _ordered = log.len();
@@ -163,16 +162,8 @@ fn is_among(nodes: &NodeSet, node: u32) -> bool
 /// The time of the last event, which is at most 10^12.
 pub(crate) fn now(log: &Log) -> u64
     ensures now { result ≡ now_of log.now }
-    ensures in_range { result ≤ max_time }
+    ensures in_range { result ≤ MAX_TIME }
 {
     let _ordered = log.len();
     log.now()
-}
-
-/// The lag of a node, and 0 where it is not monitored.
-fn lag_of(graph: &Graph, node: u32) -> u64
-    requires { node < length graph.now.nodes }
-    ensures { result ≡ unwrap_or (lag_at graph.now node) 0 }
-{
-    graph.kind(node).lag().unwrap_or(0)
 }

@@ -1,4 +1,4 @@
-//! Windows of edges that are known from earlier spans: so each is looked for once while one goes through the spans.
+//! Windows of edges, known from earlier spans. So each window is found once, however many spans it has.
 
 ghost use Rattle.std.specs.Prelude.{◌≡◌, ◌<◌, ◌≤◌, length, All, IfSome, slice_index_or, None};
 ghost use Rattle.tfpg_clause.specs.inside.KnownWindows.{window_over, IsWindowOver, AreKnown, AreWindows};
@@ -11,7 +11,7 @@ use tfpg_log::{Log, Window};
 
 /// The window of the edge round the span of this number, up to a horizon, where there is one. It is not looked for where
 /// the span lies in the window that is known. Else the cost is that of [`Log::window_of`].
-pub(crate) fn window_round(
+pub(crate) fn window_over(
     graph: &Graph,
     log: &Log,
     edge: u32,
@@ -47,7 +47,7 @@ pub(crate) fn take_windows(
     ensures { AreWindows graph.now log.now number horizon edges.now known.new }
 {
     for place in 0..edges.len() {
-        known[place] = window_round(graph, log, edges[place], number, horizon, known[place]);
+        known[place] = window_over(graph, log, edges[place], number, horizon, known[place]);
     }
 }
 

@@ -13,7 +13,7 @@ ghost use Rattle.tfpg_evidence.specs.declared.clause_name.ClauseName.{ClauseName
 ghost use Rattle.tfpg_evidence.specs.declared.reason.Reason.{Reason};
 ghost use Rattle.tfpg_base.specs.Constraint.{Meets};
 ghost use Rattle.tfpg_clause.specs.Laws.{LeastBoundsHold, MostBoundsHold, AllowedClausesHaveAlternatives, AllowedClausesAreShort, AllowedClausesAreSmall, LogsGoOnFromTheirFirstEvents, AllowedClausesStay, FactsStay, PartialTreesHaveAPresentLeaf, PresentLeavesAreAlone};
-ghost use Rattle.tfpg_clause.specs.Bounds.{at_least_after, at_most_after};
+ghost use Rattle.tfpg_base.specs.Bounds.{at_least_after, at_most_after};
 ghost use Rattle.tfpg_clause.specs.Facts.{fact, IsLow, IsHigh};
 ghost use Rattle.tfpg_clause.specs.Clauses.{alternatives, MeetsClause};
 ghost use Rattle.tfpg_clause.specs.Order.{horizon_of, ComesBefore};
@@ -39,7 +39,7 @@ pub fn what_is_allowed_stays_allowed()
 /// A clause that is allowed has an alternative, and not many, and each is small.
 ///
 /// - `some`: it has an alternative.
-/// - `few`: it has fewer than `2 * most + 3` alternatives, where at most `most` edges enter any node.
+/// - `few`: it has fewer than `alternatives_bound most` alternatives, where at most `most` edges enter any node.
 /// - `small`: each has at most three constraints, and these are on nodes of the graph.
 pub fn a_clause_has_few_small_alternatives()
     ensures some { AllowedClausesHaveAlternatives }

@@ -6,7 +6,7 @@
 //! - [`MAX_CONSTRAINTS`] says how many constraints an alternative has at most.
 //! - [`violated`] is the first clause with the horizon now that some times violate.
 //! - [`Frame`] is a split on the path to the present leaf of a partial tree, as a program keeps it; [`advance`] moves the path
-//!   on once the leaf is closed, and [`stated`] and [`picked`] look up what a reason states there.
+//!   on once the leaf is closed, and [`stated_by`] and [`framed`] look up what a reason states there.
 //! - [`laws`] ties facts, clauses and refutations to the traces that explain a log, and says how trees grow.
 //!
 //! Its definitions, in `specs/`, say which constraints are facts of a log and a reach, which clauses every trace meets,
@@ -44,4 +44,4 @@ pub use clauses::{NotAClause, constraint, count};
 pub use facts::{NotAFact, fact};
 pub use first_clause::violated;
 pub use limits::MAX_CONSTRAINTS;
-pub use path::{Frame, advance, picked, stated};
+pub use path::{Frame, advance, framed, stated_by};

@@ -3,7 +3,8 @@
 ghost use Rattle.std.specs.Prelude.{◌≡◌, ◌<◌, ◌≤◌, ◌++◌, ℕ, length, All, Some, IfSome, option_map, slice_get};
 ghost use Rattle.tfpg_graph.specs.declared.limits.TheConstants.{MAX_INCOMING, MAX_NODES};
 ghost use Rattle.tfpg_log.specs.Spans.{span_at};
-ghost use Rattle.tfpg_clause.specs.Clauses.{outside_span, item_at};
+ghost use Rattle.tfpg_clause.specs.Clauses.{outside_span};
+ghost use Rattle.tfpg_base.specs.Choice.{item_at};
 ghost use Rattle.tfpg_clause.specs.inside.Ranges.{IsSmallEdge, IsSmallSpan};
 ghost use Rattle.tfpg_clause.specs.inside.Alternatives.{constraints_in, arrival_over, arrivals_over};
 ghost use Rattle.tfpg_clause.specs.inside.FirstSpan.{may_over};
@@ -76,7 +77,7 @@ fn arrival_count(
 {
     let mut count = 0;
     for edge in edges {
-        if arrival(graph, log, *edge, number, horizon, span).is_some() {
+        if arrival_over(graph, log, *edge, number, horizon, span).is_some() {
             count += 1;
         }
     }
@@ -100,7 +101,7 @@ fn arrival_at(
 {
     let mut left = index;
     for edge in edges {
-        let arrival = arrival(graph, log, *edge, number, horizon, span);
+        let arrival = arrival_over(graph, log, *edge, number, horizon, span);
         if arrival.is_some() {
             if left == 0 {
                 return arrival;
@@ -113,7 +114,7 @@ fn arrival_at(
 
 /// The alternative that the failure arrives by the edge within the span, where it can: the edge's window began the least
 /// delay before the end of the span, or earlier.
-pub(crate) fn arrival(
+pub(crate) fn arrival_over(
     graph: &Graph,
     log: &Log,
     edge: u32,

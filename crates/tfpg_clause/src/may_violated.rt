@@ -1,10 +1,10 @@
 //! The first span in which times violate a may clause.
 //!
-//! A clause that a node becomes active only where the failure arrives is met by its first two alternatives in each span but
-//! the one that holds the node's time. So that span alone is looked at.
+//! In each span that does not hold the node's time, the first two alternatives meet the clause. So only the span that
+//! holds it is looked at.
 
 ghost use Rattle.std.specs.Prelude.{◌<◌, ◌≤◌, ◌↔◌, length, All, IsTrue, IsSomeAnd};
-ghost use Rattle.tfpg_base.specs.Times.{never};
+ghost use Rattle.tfpg_base.specs.declared.limits.TheConstants.{NEVER};
 ghost use Rattle.tfpg_base.specs.Constraint.{Meets};
 ghost use Rattle.tfpg_log.specs.Log.{now_of};
 ghost use Rattle.tfpg_clause.specs.declared.clause_kind.ClauseKind.TheVariants.{OrMay, AndMay};
@@ -14,9 +14,9 @@ ghost use Rattle.tfpg_clause.specs.inside.Alternatives.{arrival_over, arrivals_o
 ghost use Rattle.tfpg_clause.specs.inside.FirstSpan.{FindsFirst, clauses_of, may_over};
 ghost use Rattle.tfpg_clause.specs.inside.Ranges.{IsSmallSpan};
 
-use crate::clauses::{and_target, edges_into, is_or};
+use crate::clauses::{and_target, is_or};
 use crate::facts::now;
-use crate::may::{arrival, find_span};
+use crate::may::{arrival_over, find_span};
 use crate::meets::meets;
 use tfpg_graph::Graph;
 use tfpg_log::{Log, Span};
@@ -29,7 +29,7 @@ pub(crate) fn or_may_violated(graph: &Graph, log: &Log, times: &[u64], node: u32
     if !is_or(graph, node) {
         return None;
     }
-    may_violated(graph, log, times, node, edges_into(graph, node))
+    may_violated(graph, log, times, node, graph.incoming(node))
 }
 
 /// The first span in which the times violate the clause that an AND node becomes active only where the failure arrives by
@@ -47,7 +47,7 @@ pub(crate) fn and_may_violated(graph: &Graph, log: &Log, times: &[u64], edge: u3
 fn may_violated(graph: &Graph, log: &Log, times: &[u64], node: u32, edges: &[u32]) -> Option<u32>
     requires node { node < length times.now }
     requires edges { All (λ edge. edge < length graph.now.edges) edges.now }
-    requires in_range { All (λ time. time ≤ never) times.now }
+    requires in_range { All (λ time. time ≤ NEVER) times.now }
     ensures { FindsFirst times.now (may_over graph.now log.now node edges.now (now_of log.now)) result }
 {
     let horizon = now(log);
@@ -70,7 +70,7 @@ fn has_arrived(
     span: Span,
 ) -> bool
     requires edges { All (λ edge. edge < length graph.now.edges) edges.now }
-    requires in_range { All (λ time. time ≤ never) times.now }
+    requires in_range { All (λ time. time ≤ NEVER) times.now }
     requires small { IsSmallSpan span }
     ensures { IsTrue result
         ↔ MeetsClause times.now (arrivals_over graph.now log.now number horizon span edges.now) }
@@ -94,12 +94,12 @@ fn arrives(
     span: Span,
 ) -> bool
     requires edge { edge < length graph.now.edges }
-    requires in_range { All (λ time. time ≤ never) times.now }
+    requires in_range { All (λ time. time ≤ NEVER) times.now }
     requires small { IsSmallSpan span }
     ensures { IsTrue result
         ↔ IsSomeAnd (arrival_over graph.now log.now number horizon span edge) (All (Meets times.now)) }
 {
-    match arrival(graph, log, edge, number, horizon, span) {
+    match arrival_over(graph, log, edge, number, horizon, span) {
         Some(alternative) => meets(times, alternative),
         None => false,
     }

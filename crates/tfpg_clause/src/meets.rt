@@ -1,7 +1,7 @@
 //! Whether times meet constraints.
 
 ghost use Rattle.std.specs.Prelude.{◌≡◌, ◌≤◌, ◌↔◌, pos, All, IsTrue};
-ghost use Rattle.tfpg_base.specs.Times.{never};
+ghost use Rattle.tfpg_base.specs.declared.limits.TheConstants.{NEVER};
 ghost use Rattle.tfpg_base.specs.Constraint.{Meets, value_of};
 ghost use Rattle.tfpg_clause.specs.inside.Alternatives.{constraints_in};
 
@@ -10,7 +10,7 @@ use tfpg_base::Constraint;
 
 /// Whether the times meet each constraint of the alternative.
 pub(crate) fn meets(times: &[u64], alternative: Alternative) -> bool
-    requires { All (λ time. time ≤ never) times.now }
+    requires { All (λ time. time ≤ NEVER) times.now }
     ensures { IsTrue result ↔ All (Meets times.now) (constraints_in alternative) }
 {
     match alternative {
@@ -21,7 +21,7 @@ pub(crate) fn meets(times: &[u64], alternative: Alternative) -> bool
 
 /// Whether the times meet each of the constraints.
 fn meets_each(times: &[u64], constraints: &[Constraint]) -> bool
-    requires { All (λ time. time ≤ never) times.now }
+    requires { All (λ time. time ≤ NEVER) times.now }
     ensures { IsTrue result ↔ All (Meets times.now) constraints.now }
 {
     for constraint in constraints {
@@ -34,7 +34,7 @@ fn meets_each(times: &[u64], constraints: &[Constraint]) -> bool
 
 /// Whether the times meet the constraint.
 fn meets_one(times: &[u64], constraint: Constraint) -> bool
-    requires { All (λ time. time ≤ never) times.now }
+    requires { All (λ time. time ≤ NEVER) times.now }
     ensures { IsTrue result ↔ Meets times.now constraint }
 {
     let left = value_of(times, constraint.left);
@@ -44,9 +44,9 @@ fn meets_one(times: &[u64], constraint: Constraint) -> bool
 
 /// The value of a number of a constraint: 0 for number 0, and the time of the node before for any other.
 fn value_of(times: &[u64], number: u32) -> u64
-    requires { All (λ time. time ≤ never) times.now }
+    requires { All (λ time. time ≤ NEVER) times.now }
     ensures value { value_of times.now number ≡ pos result }
-    ensures in_range { result ≤ never }
+    ensures in_range { result ≤ NEVER }
 {
     match number.checked_sub(1) {
         Some(node) => times.get(node as usize).copied().unwrap_or(0),

@@ -1,11 +1,12 @@
 //! Must clauses: a node is active once the failure is due by all of some edges.
 
 ghost use Rattle.std.specs.Prelude.{◌≡◌, ◌<◌, ◌≤◌, ℕ, List, length, All, Some, IfSome, option_map, option_and_then, slice_get};
-ghost use Rattle.tfpg_base.specs.Times.{max_time};
+ghost use Rattle.tfpg_base.specs.declared.limits.TheConstants.{MAX_TIME};
 ghost use Rattle.tfpg_graph.specs.declared.limits.TheConstants.{MAX_INCOMING, MAX_NODES};
 ghost use Rattle.tfpg_log.specs.Spans.{window_of, joint_of};
 ghost use Rattle.tfpg_clause.specs.declared.due.Due.{Due};
-ghost use Rattle.tfpg_clause.specs.Clauses.{must_in, must_alternatives, starts_late, follows_in_time, item_at};
+ghost use Rattle.tfpg_clause.specs.Clauses.{must_in, must_alternatives, starts_late, follows_in_time};
+ghost use Rattle.tfpg_base.specs.Choice.{item_at};
 ghost use Rattle.tfpg_clause.specs.inside.Ranges.{IsSmallDue, IsSmallWindow};
 ghost use Rattle.tfpg_clause.specs.inside.Alternatives.{constraints_in, due_by_number, dues_over, latest_within};
 ghost use Rattle.tfpg_clause.specs.inside.KnownWindows.{IsWindowOver, AreKnown};
@@ -13,7 +14,7 @@ ghost use Rattle.tfpg_clause.specs.inside.KnownWindows.{IsWindowOver, AreKnown};
 use crate::alternative::Alternative;
 use crate::bounds::{at_least, at_most, at_most_after};
 use crate::due::Due;
-use crate::known_windows::{known_at, window_round};
+use crate::known_windows::{known_at, window_over};
 use crate::may::edge_of;
 use tfpg_graph::Graph;
 use tfpg_log::{Log, Window};
@@ -57,7 +58,7 @@ pub(crate) fn must_alternative(
     requires node { node < MAX_NODES }
     requires edges { All (λ edge. edge < length graph.now.edges) edges.now }
     requires few { length edges.now ≤ MAX_INCOMING }
-    requires hi { hi ≤ max_time }
+    requires hi { hi ≤ MAX_TIME }
     requires latest { latest ≤ hi }
     requires dues { latest_within hi (dues_over graph.now log.now number horizon edges.now) ≡ Some latest }
     ensures { (dues : List Due) → dues_over graph.now log.now number horizon edges.now ≡ Some dues →
@@ -66,11 +67,11 @@ pub(crate) fn must_alternative(
     let count = edges.len() as u32;
     let index = alternative.checked_sub(1)?;
     if index < count {
-        let due = due_over(graph, log, edges[index as usize], number, horizon, None)?;
+        let due = due_by_number(graph, log, edges[index as usize], number, horizon, None)?;
         return Some(starts_late(hi, due));
     }
     if index < 2 * count {
-        let due = due_over(
+        let due = due_by_number(
             graph,
             log,
             edges[(index - count) as usize],
@@ -104,7 +105,7 @@ pub(crate) fn latest_due(
 {
     let mut latest: u64 = 0;
     for place in 0..edges.len() {
-        let due = due_over(
+        let due = due_by_number(
             graph,
             log,
             edges[place],
@@ -123,7 +124,7 @@ pub(crate) fn latest_due(
 /// The source becomes active too late for the failure to be due within a window that ends here.
 pub(crate) fn starts_late(hi: u64, due: Due) -> Alternative
     requires due { IsSmallDue due }
-    requires hi { hi ≤ max_time }
+    requires hi { hi ≤ MAX_TIME }
     ensures { constraints_in result ≡ starts_late hi due }
 {
     Alternative::One(at_least(due.source, hi.saturating_sub(due.tmax) + 1))
@@ -139,7 +140,7 @@ pub(crate) fn follows_in_time(due: Due) -> Alternative
 
 /// What is due over the edge, where its greatest delay is finite and it is active in the span. A window of the edge may be
 /// known.
-pub(crate) fn due_over(
+pub(crate) fn due_by_number(
     graph: &Graph,
     log: &Log,
     edge: u32,
@@ -154,7 +155,7 @@ pub(crate) fn due_over(
 {
     let propagation = edge_of(graph, edge);
     let tmax = propagation.tmax?;
-    let window = window_round(graph, log, edge, number, horizon, known)?;
+    let window = window_over(graph, log, edge, number, horizon, known)?;
     Some(Due {
         source: propagation.source,
         target: propagation.target,

@@ -1,9 +1,9 @@
 //! The first span in which times violate a must clause.
 //!
-//! Only the first span of a window has a must clause. So once a window was looked at, the spans after it come next.
+//! Only the first span of a window has a must clause. So after a window the search continues with the spans after it.
 
 ghost use Rattle.std.specs.Prelude.{◌≡◌, ◌<◌, ◌≤◌, ◌↔◌, ℕ, length, All, Contains, IsTrue, IsSomeAnd, IfSome, slice_get};
-ghost use Rattle.tfpg_base.specs.Times.{max_time, never};
+ghost use Rattle.tfpg_base.specs.declared.limits.TheConstants.{MAX_TIME, NEVER};
 ghost use Rattle.tfpg_graph.specs.Graph.{is_kind_at, is_or, is_and, incoming};
 ghost use Rattle.tfpg_log.specs.Log.{now_of};
 ghost use Rattle.tfpg_clause.specs.declared.clause_kind.ClauseKind.TheVariants.{OrMust, AndMust};
@@ -13,11 +13,13 @@ ghost use Rattle.tfpg_clause.specs.inside.FirstSpan.{FindsFirst, clauses_of, Mee
 ghost use Rattle.tfpg_clause.specs.inside.KnownWindows.{IsWindowOver, AreKnown};
 ghost use Rattle.tfpg_clause.specs.inside.Ranges.{IsSmallWindow};
 
-use crate::clauses::{edges_into, is_and, or_target};
+use crate::clauses::{is_and, or_target};
 use crate::facts::now;
 use crate::known_windows::{known_at, take_windows};
 use crate::meets::meets;
-use crate::must::{due_over, find_joint, find_window, follows_in_time, latest_due, starts_late};
+use crate::must::{
+    due_by_number, find_joint, find_window, follows_in_time, latest_due, starts_late,
+};
 use tfpg_graph::{Graph, MAX_INCOMING};
 use tfpg_log::{Log, Window};
 
@@ -122,7 +124,7 @@ fn and_must_met_up_to(
     match find_joint(graph, log, node, number, horizon) {
         None => Some(number),
         Some(window) => {
-            let edges = edges_into(graph, node);
+            let edges = graph.incoming(node);
             take_windows(graph, log, edges, number, horizon, known);
             if is_must_met(
                 graph, log, times, node, edges, window, horizon, number, known,
@@ -151,7 +153,7 @@ fn is_must_met(
     requires node { node < length times.now }
     requires edges { All (λ edge. edge < length graph.now.edges) edges.now }
     requires known { AreKnown graph.now log.now horizon edges.now known.now }
-    requires in_range { All (λ time. time ≤ never) times.now }
+    requires in_range { All (λ time. time ≤ NEVER) times.now }
     requires small { IsSmallWindow window }
     ensures { IsTrue result
         ↔ MeetsIfAny times.now (must_over graph.now log.now node edges.now window horizon number) }
@@ -182,8 +184,8 @@ fn is_excused(
 ) -> bool
     requires edges { All (λ edge. edge < length graph.now.edges) edges.now }
     requires known { AreKnown graph.now log.now horizon edges.now known.now }
-    requires in_range { All (λ time. time ≤ never) times.now }
-    requires hi { hi ≤ max_time }
+    requires in_range { All (λ time. time ≤ NEVER) times.now }
+    requires hi { hi ≤ MAX_TIME }
     ensures { IsTrue result
         ↔ ((edge : ℕ) × Contains edges.now edge
         × IsSomeAnd (due_by_number graph.now log.now number horizon edge) (IsExcused times.now hi)) }
@@ -211,12 +213,12 @@ fn is_excused_by(
 ) -> bool
     requires edge { edge < length graph.now.edges }
     requires known { IfSome known (IsWindowOver graph.now log.now horizon edge) }
-    requires in_range { All (λ time. time ≤ never) times.now }
-    requires hi { hi ≤ max_time }
+    requires in_range { All (λ time. time ≤ NEVER) times.now }
+    requires hi { hi ≤ MAX_TIME }
     ensures { IsTrue result
         ↔ IsSomeAnd (due_by_number graph.now log.now number horizon edge) (IsExcused times.now hi) }
 {
-    match due_over(graph, log, edge, number, horizon, known) {
+    match due_by_number(graph, log, edge, number, horizon, known) {
         Some(due) => meets(times, starts_late(hi, due)) || meets(times, follows_in_time(due)),
         None => false,
     }

@@ -57,7 +57,7 @@ fn unfinished(path: &[Frame]) -> usize
 
 /// The constraint that the reason states at the leaf of this path, where it states one: a fact of the log and of a set that
 /// reaches these nodes, or a constraint of an alternative on the path. The cost is that of [`fact`] or [`constraint`].
-pub fn stated(
+pub fn stated_by(
     graph: &Graph,
     log: &Log,
     reach: &NodeSet,
@@ -68,14 +68,14 @@ pub fn stated(
     ensures { result ≡ stated_by graph.now log.now reach.now path.now reason }
 {
     match reason {
-        Reason::Pick { split, place } => picked(graph, log, path, split, place),
+        Reason::Pick { split, place } => framed(graph, log, path, split, place),
         _ => fact(graph, log, reach, reason).ok(),
     }
 }
 
 /// The constraint in this place of the alternative taken at this split of the path, both counted from 1, where there is one.
 /// The cost is that of [`constraint`].
-pub fn picked(
+pub fn framed(
     graph: &Graph,
     log: &Log,
     path: &[Frame],

@@ -12,6 +12,7 @@ use Rattle.tfpg_diff.specs.declared.why.Why.TheVariants.{Given}
 use Rattle.tfpg_diff.specs.declared.bounds.Bounds.{Bounds}
 use Rattle.tfpg_diff.specs.declared.pick.Pick.{Pick}
 use Rattle.tfpg_base.specs.Constraint.{Meets}
+use Rattle.tfpg_base.specs.Bounds.{at_most}
 use Rattle.tfpg_diff.specs.Demands.{Demands, Demanded, Bounded, floor_of, ceiling_of, demand_of_pick, demands_of}
 use Rattle.tfpg_diff.specs.Solution.{IsBetween, IsSolution}
 use Rattle.tfpg_diff.specs.Cycle.{NamesNegativeCycle}
@@ -33,7 +34,7 @@ over old least tag = record { floor = least; floor_why = Given tag; ceiling = ol
 
 -- the ceiling as a pick
 abbrev pub ceiling_pick : ℕ → ℕ → ℕ → Pick
-ceiling_pick v most tag = record { constraint = record { left = v + 1; right = 0; most = pos most }; tag = tag }
+ceiling_pick v most tag = record { constraint = at_most v (pos most); tag = tag }
 
 module _ (bounds : List Bounds) (picks : List Pick) (v : ℕ) (old new : Bounds) (at_v : Bounded (demands_of bounds picks) v old) where
   -- a solution stays one where the bounds of the variable get looser

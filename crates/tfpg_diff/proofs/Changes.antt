@@ -11,7 +11,7 @@ use Rattle.tfpg_diff.specs.declared.pick.Pick.{Pick}
 use Rattle.tfpg_base.specs.Constraint.{Meets}
 use Rattle.tfpg_diff.specs.Demands.{Demands, Demanded, Bounded, demand_of_pick, demands_of}
 use Rattle.tfpg_diff.specs.Solution.{IsBetween, IsSolution}
-use Rattle.tfpg_base.specs.Times.{never}
+use Rattle.tfpg_base.specs.declared.limits.TheConstants.{NEVER}
 use Rattle.tfpg_diff.specs.inside.Kept.{IsLink, IsKept, IsSound}
 use Rattle.tfpg_base.proofs.lists.Elements.{All-front}
 use Rattle.tfpg_base.proofs.lists.Written.{slice_get-set_other, slice_get-set_same}
@@ -121,13 +121,13 @@ IsSound-take bounds picks len sound = record {
 
 -- demands stay sound with other bounds of a variable that are not past the latest value
 pub IsSound-set : (bounds : List Bounds) (picks : List Pick) (v : ℕ) (new : Bounds) → IsSound (demands_of bounds picks) →
-    new.ceiling ≤ never → IsSound (demands_of (set bounds v new) picks)
+    new.ceiling ≤ NEVER → IsSound (demands_of (set bounds v new) picks)
 IsSound-set bounds picks v new sound low =
     let same : length (set bounds v new) ≡ length bounds = length-set bounds v new in
     record {
       few = (let f = sound.few in omega arith);
       ceilings = λ u c at. ⊎_elim
-          (λ (is : (u ≡ v) × (c ≡ new)). subst (λ (b : Bounds). b.ceiling ≤ never) (sym is.1) low)
+          (λ (is : (u ≡ v) × (c ≡ new)). subst (λ (b : Bounds). b.ceiling ≤ NEVER) (sym is.1) low)
           (λ (is : (u ≢ v) × Bounded (demands_of bounds picks) u c). sound.ceilings u c is.1)
           (Bounded-set bounds picks v new u c at);
       lefts = subst (λ (n : ℕ). All (λ (p : Pick). p.constraint.left ≤ n) picks) (sym same) sound.lefts;

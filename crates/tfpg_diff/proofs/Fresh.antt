@@ -9,7 +9,7 @@ use Rattle.tfpg_diff.specs.declared.bounds.Bounds.{Bounds}
 use Rattle.tfpg_diff.specs.declared.pick.Pick.{Pick}
 use Rattle.tfpg_diff.specs.Demands.{demand_of_pick, demands_of}
 use Rattle.tfpg_diff.specs.Cycle.{NamesNegativeCycle}
-use Rattle.tfpg_base.specs.Times.{never}
+use Rattle.tfpg_base.specs.declared.limits.TheConstants.{NEVER}
 use Rattle.tfpg_diff.specs.State.{widest, unbounded_from}
 use Rattle.tfpg_diff.specs.Solution.{IsBetween}
 use Rattle.tfpg_diff.specs.inside.Kept.{IsMetBy, IsKept, IsStart, IsReady}
@@ -45,7 +45,7 @@ pub IsReady-new : (bounds now : List Bounds) (picks : List Pick) (count : ℕ) (
     IsReady bounds picks values links backup_values backup_links capacity
 IsReady-new bounds now picks count values links backup_values backup_links capacity same is none few start bv bl room =
     let len : length bounds ≡ count = ap length is ∙ length-unbounded_from 0 count in
-    let widths : (v : ℕ) (b : Bounds) → slice_get bounds v ≡ Some b → (b.floor ≡ 0) × (b.ceiling ≡ never) =
+    let widths : (v : ℕ) (b : Bounds) → slice_get bounds v ≡ Some b → (b.floor ≡ 0) × (b.ceiling ≡ NEVER) =
     λ v b at. (let same = (widest_from 0 count v b (sym (ap (λ (bs : List Bounds). slice_get bs v) is) ∙ at)).0 in
     (ap (λ (c : Bounds). c.floor) same, ap (λ (c : Bounds). c.ceiling) same)) in
     let begun : IsStart bounds values links (length bounds) = subst (λ (bs : List Bounds). IsStart bs values links (length bs)) same start in

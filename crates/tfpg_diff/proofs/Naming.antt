@@ -1,9 +1,10 @@
 -- What tags name: after a change of the demands, and of a negative cycle.
 use Rattle.std.proofs.Common.{◌≡◌, ℕ, zero, suc, ◌+◌, ◌<◌, Bool, true, false, cond, ltb, List, [], ◌∷◌, map, Option, Some, refl, sym, ◌∙◌, ap, subst, inl, inr, ⊎_elim, arith}
-use Rattle.std.specs.Prelude.{slice_get, pos, neg_ℤ, All, Contains, option_map}
+use Rattle.std.specs.Prelude.{slice_get, pos, All, Contains, option_map}
 use Rattle.std.proofs.lemmas.Option.{same_Some, none-some}
 use Rattle.std.proofs.lemmas.List.Elements.{All-head, All-tail, Contains-push_cases}
 use Rattle.tfpg_base.specs.declared.constraint.Constraint.{Constraint}
+use Rattle.tfpg_base.specs.Bounds.{at_most, at_least}
 use Rattle.tfpg_base.specs.Choice.{each_of}
 use Rattle.tfpg_base.proofs.lists.Elements.{Contains-nil, Contains-take}
 use Rattle.tfpg_diff.specs.declared.why.Why.{Why}
@@ -15,7 +16,7 @@ use Rattle.tfpg_diff.specs.Demands.{Demands, Bounded, ceiling_of, floor_of, dema
 use Rattle.tfpg_diff.specs.Cycle.{constraints_of, IsNegativeCycle, NamesNegativeCycle}
 use Rattle.tfpg_diff.specs.Named.{AreDemandsNamed, IsCycleOf}
 use Rattle.tfpg_diff.proofs.Fresh.{widest_from}
-use Rattle.tfpg_base.specs.Times.{never}
+use Rattle.tfpg_base.specs.declared.limits.TheConstants.{NEVER}
 use Rattle.tfpg_diff.specs.State.{widest, unbounded_from, raised, lowered, changed_at, with_floor, with_ceiling, with_pick, popped_to}
 
 -- The tag names the constraint.
@@ -51,8 +52,8 @@ IsNamed-pick demands named names pick among = names (demand_of_pick pick) (inr (
 
 -- a new system's tags name its demands, where those of its variables do
 pub AreDemandsNamed-new : (named : Why → Option Constraint) (count : ℕ) →
-    ((v : ℕ) → v < count → named (Floor v) ≡ Some (record { left = 0; right = v + 1; most = pos 0 })) →
-    ((v : ℕ) → v < count → named (Ceiling v) ≡ Some (record { left = v + 1; right = 0; most = pos never })) →
+    ((v : ℕ) → v < count → named (Floor v) ≡ Some (at_least v 0)) →
+    ((v : ℕ) → v < count → named (Ceiling v) ≡ Some (at_most v (pos NEVER))) →
     AreDemandsNamed (record { bounds = unbounded_from 0 count; picks = [] }) named
 AreDemandsNamed-new named count floors ceilings =
     AreDemandsNamed-parts (record { bounds = unbounded_from 0 count; picks = [] }) named
@@ -74,7 +75,7 @@ changed_at-all P change (c ∷ cs) (suc v) keeps all (suc u) b at =
 
 -- a raised bound is named
 raised-named : (named : Why → Option Constraint) (v least tag : ℕ) →
-    named (Given tag) ≡ Some (record { left = 0; right = v + 1; most = neg_ℤ (pos least) }) →
+    named (Given tag) ≡ Some (at_least v least) →
     (b : Bounds) → AreBoundsNamed named v b → AreBoundsNamed named v (raised least tag b)
 raised-named named v least tag new b names = by (ltb b.floor least)
   where
@@ -84,7 +85,7 @@ raised-named named v least tag new b names = by (ltb b.floor least)
 
 -- a lowered bound is named
 lowered-named : (named : Why → Option Constraint) (v most tag : ℕ) →
-    named (Given tag) ≡ Some (record { left = v + 1; right = 0; most = pos most }) →
+    named (Given tag) ≡ Some (at_most v (pos most)) →
     (b : Bounds) → AreBoundsNamed named v b → AreBoundsNamed named v (lowered most tag b)
 lowered-named named v most tag new b names = by (ltb most b.ceiling)
   where
@@ -94,7 +95,7 @@ lowered-named named v most tag new b names = by (ltb most b.ceiling)
 
 -- a lower bound was added
 pub AreDemandsNamed-floor : (demands : Demands) (named : Why → Option Constraint) (variable least tag : ℕ) → AreDemandsNamed demands named →
-    named (Given tag) ≡ Some (record { left = 0; right = variable + 1; most = neg_ℤ (pos least) }) →
+    named (Given tag) ≡ Some (at_least variable least) →
     AreDemandsNamed (with_floor demands variable least tag) named
 AreDemandsNamed-floor demands named variable least tag names new =
     AreDemandsNamed-parts (with_floor demands variable least tag) named
@@ -104,7 +105,7 @@ AreDemandsNamed-floor demands named variable least tag names new =
 
 -- an upper bound was added
 pub AreDemandsNamed-ceiling : (demands : Demands) (named : Why → Option Constraint) (variable most tag : ℕ) → AreDemandsNamed demands named →
-    named (Given tag) ≡ Some (record { left = variable + 1; right = 0; most = pos most }) →
+    named (Given tag) ≡ Some (at_most variable (pos most)) →
     AreDemandsNamed (with_ceiling demands variable most tag) named
 AreDemandsNamed-ceiling demands named variable most tag names new =
     AreDemandsNamed-parts (with_ceiling demands variable most tag) named

@@ -11,7 +11,7 @@ use Rattle.tfpg_diff.specs.declared.why.Why.{Why}
 use Rattle.tfpg_diff.specs.declared.why.Why.TheVariants.{Floor}
 use Rattle.tfpg_diff.specs.Demands.{Demands, Bounded, demand_of_pick}
 use Rattle.std.specs.List.{HoldsAt}
-use Rattle.tfpg_base.specs.Times.{never}
+use Rattle.tfpg_base.specs.declared.limits.TheConstants.{NEVER}
 use Rattle.tfpg_diff.specs.Solution.{IsBetween}
 use Rattle.tfpg_diff.specs.inside.Kept.{IsMetBy, IsSound, IsKept, Walked, IsWalk}
 use Rattle.tfpg_diff.proofs.Lowering.{IsBroken, Labelled-kept}
@@ -23,7 +23,7 @@ no_bounds = record { floor = 0; floor_why = Floor 0; ceiling = 0; ceiling_why = 
 
 -- no value is past the latest one
 pub small-kept : (demands : Demands) (sound : IsSound demands) (values : List ℕ) (links : List Demand) (kept : IsKept demands values links) →
-    All (λ value. value ≤ never) values
+    All (λ value. value ≤ NEVER) values
 small-kept demands sound values links kept zero d inside =
     let z = kept.zero_stays in let e = get_or_default values zero d 0 inside in omega arith
 small-kept demands sound values links kept (suc v) d inside =
@@ -81,7 +81,7 @@ no_pick = record { constraint = record { left = 0; right = 0; most = pos 0 }; ta
 
 -- no floor is past the latest value
 pub floor-kept : (demands : Demands) (sound : IsSound demands) (values : List ℕ) (links : List Demand) (kept : IsKept demands values links)
-    (variable : ℕ) (bounds : Bounds) → Bounded demands variable bounds → bounds.floor ≤ never
+    (variable : ℕ) (bounds : Bounds) → Bounded demands variable bounds → bounds.floor ≤ NEVER
 floor-kept demands sound values links kept variable bounds at =
     let within : IsBetween bounds (slice_index values (variable + 1)) = kept.within variable bounds at in
     let above = within.above in

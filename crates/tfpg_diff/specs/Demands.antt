@@ -1,6 +1,7 @@
 -- What a system demands of its variables: their bounds and the picks, each as a constraint with the tag that a cycle names
 -- it by. Number 0 is the constant zero, and the variable `v` is the number `v + 1`.
-use Rattle.std.specs.Prelude.{◌≡◌, ◌⊎◌, ℕ, ◌+◌, pos, neg_ℤ, List, Contains, Some, slice_get}
+use Rattle.std.specs.Prelude.{◌≡◌, ◌⊎◌, ℕ, pos, List, Contains, Some, slice_get}
+use Rattle.tfpg_base.specs.Bounds.{at_most, at_least}
 use Rattle.tfpg_diff.specs.declared.why.Why.TheVariants.{Given}
 use Rattle.tfpg_diff.specs.declared.bounds.Bounds.{Bounds}
 use Rattle.tfpg_diff.specs.declared.pick.Pick.{Pick}
@@ -15,19 +16,13 @@ pub record Demands : Type 0 where
 abbrev pub demands_of : List Bounds → List Pick → Demands
 demands_of bounds picks = record { bounds = bounds; picks = picks }
 
--- The upper bound of a variable: it less zero is at most that.
+-- The upper bound of a variable, as a demand: it is at most that.
 abbrev pub ceiling_of : ℕ → Bounds → Demand
-ceiling_of variable bounds = record {
-  constraint = record { left = variable + 1; right = 0; most = pos bounds.ceiling };
-  why = bounds.ceiling_why;
-}
+ceiling_of variable bounds = record { constraint = at_most variable (pos bounds.ceiling); why = bounds.ceiling_why }
 
--- The lower bound of a variable: zero less it is at most minus that.
+-- The lower bound of a variable, as a demand: it is at least that.
 abbrev pub floor_of : ℕ → Bounds → Demand
-floor_of variable bounds = record {
-  constraint = record { left = 0; right = variable + 1; most = neg_ℤ (pos bounds.floor) };
-  why = bounds.floor_why;
-}
+floor_of variable bounds = record { constraint = at_least variable bounds.floor; why = bounds.floor_why }
 
 -- A pick: its constraint, with its tag.
 abbrev pub demand_of_pick : Pick → Demand

@@ -1,6 +1,6 @@
 -- What contracts see of a system, and what its calls change.
 use Rattle.std.specs.Prelude.{◌≡◌, Result, Ok, Err, ℕ, zero, suc, ◌+◌, List, [], ◌∷◌, ◌++◌, take, nat_lt, if◌then◌else◌}
-use Rattle.tfpg_base.specs.Times.{never}
+use Rattle.tfpg_base.specs.declared.limits.TheConstants.{NEVER}
 use Rattle.tfpg_base.specs.declared.constraint.Constraint.{Constraint}
 use Rattle.tfpg_diff.specs.declared.why.Why.{Why}
 use Rattle.tfpg_diff.specs.declared.why.Why.TheVariants.{Floor, Ceiling, Given}
@@ -20,7 +20,7 @@ pub record State : Type 0 where
 -- the bounds of a variable of which nothing is known
 abbrev pub widest : ℕ → Bounds
 widest variable =
-    record { floor = 0; floor_why = Floor variable; ceiling = never; ceiling_why = Ceiling variable }
+    record { floor = 0; floor_why = Floor variable; ceiling = NEVER; ceiling_why = Ceiling variable }
 
 -- so many variables, from this one on, of which nothing is known
 abbrev pub unbounded_from : ℕ → ℕ → List Bounds

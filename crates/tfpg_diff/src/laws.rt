@@ -1,8 +1,9 @@
 //! What the definitions of this crate come to, as functions that do nothing: each says its law in its clause.
 
-ghost use Rattle.std.specs.Prelude.{◌≡◌, ℕ, ◌+◌, ◌<◌, pos, neg_ℤ, List, [], Option, Some};
-ghost use Rattle.tfpg_base.specs.Times.{never};
+ghost use Rattle.std.specs.Prelude.{◌≡◌, ℕ, ◌<◌, pos, List, [], Option, Some};
+ghost use Rattle.tfpg_base.specs.declared.limits.TheConstants.{NEVER};
 ghost use Rattle.tfpg_base.specs.declared.constraint.Constraint.{Constraint};
+ghost use Rattle.tfpg_base.specs.Bounds.{at_most, at_least};
 ghost use Rattle.tfpg_diff.specs.declared.why.Why.{Why};
 ghost use Rattle.tfpg_diff.specs.declared.why.Why.TheVariants.{Floor, Ceiling, Given};
 ghost use Rattle.tfpg_diff.specs.Demands.{Demands};
@@ -15,9 +16,9 @@ ghost use Rattle.tfpg_diff.specs.State.{unbounded_from, with_floor, with_ceiling
 pub fn tags_name_what_is_new()
     ensures { (named : Why → Option Constraint) (count : ℕ) →
         ((variable : ℕ) → variable < count →
-        named (Floor variable) ≡ Some (record { left = 0; right = variable + 1; most = pos 0 })) →
+        named (Floor variable) ≡ Some (at_least variable 0)) →
         ((variable : ℕ) → variable < count →
-        named (Ceiling variable) ≡ Some (record { left = variable + 1; right = 0; most = pos never })) →
+        named (Ceiling variable) ≡ Some (at_most variable (pos NEVER))) →
         AreDemandsNamed (record { bounds = unbounded_from 0 count; picks = [] }) named }
 {}
 
@@ -26,11 +27,11 @@ pub fn tags_name_what_is_new()
 pub fn tags_name_what_is_added()
     ensures floor { (demands : Demands) (named : Why → Option Constraint) (variable least tag : ℕ) →
         AreDemandsNamed demands named →
-        named (Given tag) ≡ Some (record { left = 0; right = variable + 1; most = neg_ℤ (pos least) }) →
+        named (Given tag) ≡ Some (at_least variable least) →
         AreDemandsNamed (with_floor demands variable least tag) named }
     ensures ceiling { (demands : Demands) (named : Why → Option Constraint) (variable most tag : ℕ) →
         AreDemandsNamed demands named →
-        named (Given tag) ≡ Some (record { left = variable + 1; right = 0; most = pos most }) →
+        named (Given tag) ≡ Some (at_most variable (pos most)) →
         AreDemandsNamed (with_ceiling demands variable most tag) named }
     ensures pick { (demands : Demands) (named : Why → Option Constraint) (constraint : Constraint) (tag : ℕ) →
         AreDemandsNamed demands named → named (Given tag) ≡ Some constraint →

@@ -3,7 +3,7 @@
 ghost use Rattle.std.specs.Prelude.{◌≡◌, ◌^◌, ◌+◌, ◌<◌, ◌≤◌, pos, ◌+ℤ◌, ◌≤ℤ◌, ◌<ℤ◌, [], ◌∷◌, ◌++◌, length, vec_len, vec_capacity, IsTrue, IfOk, OnOk, OnErr, IfSome, IsNone, if◌then◌else◌, slice_index, slice_get, All, Some, false, true};
 ghost use Rattle.tfpg_diff.specs.Demands.{demand_of_pick, demands_of};
 ghost use Rattle.tfpg_diff.specs.Cycle.{NamesNegativeCycle};
-ghost use Rattle.tfpg_base.specs.Times.{never};
+ghost use Rattle.tfpg_base.specs.declared.limits.TheConstants.{NEVER};
 ghost use Rattle.tfpg_diff.specs.inside.Kept.{IsMetBy, IsRooted, IsLabelled, Walked, IsSound, IsKept, IsBrokenBy, Relaxes, allowed_by};
 
 use crate::bounds::Bounds;
@@ -27,7 +27,7 @@ pub(crate) fn demand_of_pick(pick: &Pick) -> Demand
 pub(crate) fn is_broken(values: &[u64], demand: Demand) -> bool
     requires left { demand.constraint.left < length values.now }
     requires right { demand.constraint.right < length values.now }
-    requires small { All (λ value. value ≤ never) values.now }
+    requires small { All (λ value. value ≤ NEVER) values.now }
     ensures met { result ≡ false → IsMetBy values.now demand }
     ensures broken { result ≡ true → IsBrokenBy values.now demand }
 {
@@ -40,8 +40,8 @@ pub(crate) fn is_broken(values: &[u64], demand: Demand) -> bool
 pub(crate) fn allowed(values: &[u64], demand: Demand, floor: u64) -> Option<u64>
     requires left { demand.constraint.left < length values.now }
     requires right { demand.constraint.right < length values.now }
-    requires small { All (λ value. value ≤ never) values.now }
-    requires low { floor ≤ never }
+    requires small { All (λ value. value ≤ NEVER) values.now }
+    requires low { floor ≤ NEVER }
     requires broken { IsBrokenBy values.now demand }
     ensures below { IsNone result → allowed_by values.now demand <ℤ pos floor }
     ensures value { IfSome result (λ value. pos value ≡ allowed_by values.now demand) }

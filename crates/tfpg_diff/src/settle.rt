@@ -4,7 +4,7 @@ ghost use Rattle.std.specs.Prelude.{◌≡◌, ℕ, ◌+◌, ◌-◌, ◌^◌, �
 ghost use Rattle.tfpg_diff.specs.declared.bounds.Bounds.{Bounds as BoundsOf};
 ghost use Rattle.tfpg_diff.specs.Demands.{ceiling_of, demands_of};
 ghost use Rattle.tfpg_diff.specs.Cycle.{NamesNegativeCycle};
-ghost use Rattle.tfpg_base.specs.Times.{never};
+ghost use Rattle.tfpg_base.specs.declared.limits.TheConstants.{NEVER};
 ghost use Rattle.tfpg_diff.specs.inside.Kept.{IsSound, IsKept, IsStart, MeetsPicks, Passes};
 
 use crate::bounds::Bounds;
@@ -71,7 +71,7 @@ pub(crate) fn settle(
 /// The upper bound of a variable as a constraint. The bound is below 2^63.
 pub(crate) fn ceiling_of(variable: u32, bounds: Bounds) -> Demand
     requires variable { variable < 2 ^ 32 - 1 }
-    requires small { bounds.ceiling ≤ never }
+    requires small { bounds.ceiling ≤ NEVER }
     ensures { result ≡ ceiling_of variable bounds }
 {
     Demand {
@@ -88,7 +88,7 @@ pub(crate) fn ceiling_of(variable: u32, bounds: Bounds) -> Demand
 pub(crate) fn start(bounds: &[Bounds], labels: &mut Labels)
     requires few { length bounds.now < 2 ^ 32 }
     requires ceilings { (variable : ℕ) (limits : BoundsOf) →
-        slice_get bounds.now variable ≡ Some limits → limits.ceiling ≤ never }
+        slice_get bounds.now variable ≡ Some limits → limits.ceiling ≤ NEVER }
     requires values { vec_len labels.old.values ≡ length bounds.now + 1 }
     requires links { vec_len labels.old.links ≡ length bounds.now + 1 }
     requires zero { slice_index labels.old.values.items 0 ≡ 0 }

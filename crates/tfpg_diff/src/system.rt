@@ -3,7 +3,7 @@
 ghost use Rattle.std.specs.Prelude.{◌≡◌, ◌+◌, ◌-◌, ◌<◌, ◌≤◌, [], length, All, IfOk, OnOk, IsOk};
 ghost use Rattle.tfpg_diff.specs.Solution.{IsLatest};
 ghost use Rattle.tfpg_diff.specs.Demands.{Bounded};
-ghost use Rattle.tfpg_base.specs.Times.{never};
+ghost use Rattle.tfpg_base.specs.declared.limits.TheConstants.{NEVER};
 ghost use Rattle.tfpg_diff.specs.State.{unbounded_from, with_floor, with_ceiling, with_pick, popped_to, Adds};
 
 use crate::bounds::{Bounds, unbounded};
@@ -109,7 +109,7 @@ impl System {
     /// Lends the latest solution: the time of each variable, in milliseconds, at most `10^12 + 1`.
     pub fn solution(&self) -> &[u64]
         ensures latest { IsLatest self.now.demands result.now }
-        ensures within { All (λ time. time ≤ never) result.now }
+        ensures within { All (λ time. time ≤ NEVER) result.now }
     {
         &self.labels.values[1..]
     }

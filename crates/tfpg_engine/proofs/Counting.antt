@@ -5,8 +5,8 @@ use Rattle.std.proofs.lemmas.List.{length-take-le}
 use Rattle.std.proofs.lemmas.List.Sums.{count_by-le-length, sum_by_more}
 use Rattle.tfpg_evidence.specs.declared.finding.Finding.{Finding}
 use Rattle.tfpg_evidence.specs.declared.round.Counts.{Counts}
-use Rattle.tfpg_evidence.specs.RoundOf.{is_ranked}
-use Rattle.tfpg_hyp.specs.Rounds.{counts_of, is_covered, is_rejected, is_open}
+use Rattle.tfpg_evidence.specs.RoundOf.{is_ranked, is_covered, is_rejected, is_open}
+use Rattle.tfpg_hyp.specs.Rounds.{counts_of}
 use Rattle.tfpg_engine.specs.inside.Placed.{counts_with}
 
 module _ (findings : List Finding) (index : ℕ) (finding : Finding) (within : index < length findings) (is : get_or findings index finding ≡ finding) where

@@ -1,11 +1,12 @@
 -- What an event brings, for an engine as contracts see it.
-use Rattle.std.proofs.Common.{◌≡◌, ℕ, zero, suc, ◌<◌, ◌≤◌, false, List, [], ◌∷◌, ◌++◌, length, take, drop, replicate, Some, refl, sym, ap, subst, ◌∙◌, arith, length-append}
+use Rattle.std.proofs.Common.{◌≡◌, ℕ, ◌≤◌, false, List, [], ◌∷◌, length, replicate, Some, refl, sym, ap, subst, ◌∙◌, arith, length-append}
 use Rattle.std.specs.Prelude.{All, slice_get, ◌↔◌, Result, Ok, Err}
 use Rattle.tfpg_hyp.specs.declared.table.TableFault.{TableFault}
 use Rattle.tfpg_hyp.specs.declared.table.TableFault.TheVariants.{TooMany, NoMemory}
-use Rattle.std.proofs.lemmas.List.{append-nil, take_all, drop_all, length-replicate}
-use Rattle.tfpg_base.proofs.lists.Elements.{All-from_members}
-use Rattle.tfpg_graph.specs.Graph.{Tfpg, failures}
+use Rattle.std.proofs.lemmas.List.{length-replicate}
+use Rattle.std.proofs.lemmas.List.Elements.{All-replicate}
+use Rattle.tfpg_base.proofs.lists.Elements.{All-at, All-from_members}
+use Rattle.tfpg_graph.specs.Graph.{Tfpg, AreFailures}
 use Rattle.tfpg_log.specs.declared.event.Event.{Event}
 use Rattle.tfpg_log.specs.declared.event.Offered.{Offered}
 use Rattle.tfpg_log.specs.declared.event.Offered.TheVariants.{Accepted, Refused}
@@ -24,29 +25,19 @@ use Rattle.tfpg_engine.specs.inside.TreeLaws.{TreeLaws}
 use Rattle.tfpg_engine.specs.inside.Turns.{IsOfGraph, MakesRound}
 use Rattle.tfpg_engine.proofs.Rounding.{StandBefore, can_go_on, still_go_on, round_is, earned, settled, represents}
 
--- a slice that was lent is written back
-pub written_back : {X : Type 0} (items new : List X) (len : ℕ) → length new ≡ length items → len ≡ length items → take len (new ++ drop (length new) items) ≡ new
-written_back items new len same is =
-    let none : drop (length new) items ≡ [] = drop_all (length new) items (omega (arith, same)) in
-    ap (λ rest. take len (new ++ rest)) none ∙ ap (take len) (append-nil new) ∙ take_all len new (omega (arith, same, is))
-
 -- the sets of a table are of failure modes
 pub of_graph : (graph : Tfpg) (k : ℕ) (table : Hypotheses) → IsTableOf graph k table → IsOfGraph graph table
 of_graph graph k table is = record {
-  members = All-from_members (λ set. All (λ position. position < length (failures graph)) set) table.sets (λ set has. ((is.hypotheses.exact set).0 has).members);
+  members = All-from_members (AreFailures graph) table.sets (λ set has. ((is.hypotheses.exact set).0 has).of_graph.members);
   reached = is.reached;
 }
 
 -- ---- an engine without events
 
-same_slot : (count number : ℕ) (slot : Slot) → slice_get (replicate count Untouched) number ≡ Some slot → slot ≡ Untouched
-same_slot zero number slot at = cc
-same_slot (suc count) zero slot at = cc
-same_slot (suc count) (suc number) slot at = same_slot count number slot at
-
 module _ (graph : Tfpg) (k : ℕ) (table : Hypotheses) (budget : ℕ) (log : Logbook) (slots : List Slot) (count : ℕ) (is_slots : slots ≡ replicate count Untouched) where
   untouched_at : (number : ℕ) (slot : Slot) → slice_get slots number ≡ Some slot → slot ≡ Untouched
-  untouched_at number slot at = same_slot count number slot (sym (ap (λ (ss : List Slot). slice_get ss number) is_slots) ∙ at)
+  untouched_at number slot at =
+      All-at (λ (s : Slot). s ≡ Untouched) slots number slot (subst (All (λ (s : Slot). s ≡ Untouched)) (sym is_slots) (All-replicate (λ (s : Slot). s ≡ Untouched) count Untouched refl)) at
 
   untouched_represents : (set reach : List ℕ) (slot : Slot) → slot ≡ Untouched → SlotRepresents graph log set reach slot []
   untouched_represents set reach slot is = subst (λ (s : Slot). SlotRepresents graph log set reach s []) (sym is) refl

@@ -7,6 +7,7 @@ use Rattle.tfpg_log.specs.Log.{Logbook, GoesOn, IsOrdered, first_events}
 use Rattle.tfpg_clause.specs.Trees.{Judged, PathSplit, IsPartial, IsPresentLeaf, IsRefutation}
 use Rattle.tfpg_search.specs.Live.{HasDistinctNames, HasNoNameTwice}
 use Rattle.tfpg_search.specs.Searching.{SearchRepresents}
+use Rattle.tfpg_search.proofs.Beginning.{none_twice}
 use Rattle.tfpg_engine.specs.declared.slot.Slot.{Slot}
 use Rattle.tfpg_engine.specs.declared.slot.Slot.TheVariants.{Untouched, Searched, Rejected}
 use Rattle.tfpg_engine.specs.Engining.{SlotRepresents}
@@ -17,12 +18,8 @@ use Rattle.tfpg_engine.specs.inside.Turns.{is_rejected_slot}
 
 module _ (laws : TreeLaws) (graph : Tfpg) (log : Logbook) (reach : List ℕ) where
   -- without a step no name stands twice
-  no_names : HasDistinctNames []
-  no_names i j d before inside = absurd (omega (arith, inside))
-
-  pub none_twice : HasNoNameTwice graph log reach []
-  none_twice [] back path is leaf = subst HasDistinctNames (laws.one_leaf graph log reach [] [] path (laws.leaf_begins graph log reach) leaf) no_names
-  none_twice (first ∷ front) back path is leaf = cc
+  pub no_name_twice : HasNoNameTwice graph log reach []
+  no_name_twice = none_twice graph log reach (λ path leaf. laws.one_leaf graph log reach [] [] path (laws.leaf_begins graph log reach) leaf)
 
 module _ (laws : TreeLaws) (graph : Tfpg) (earlier later : Logbook) (ordered : IsOrdered later) (goes_on : GoesOn earlier later) (reach : List ℕ) where
   -- Where each front that has a present leaf was a partial tree before, no name stands twice.
@@ -67,7 +64,7 @@ pub record IsGoodPartial (graph : Tfpg) (log : Logbook) (reach : List ℕ) (step
 pub slot_partial : TreeLaws → (graph : Tfpg) (log : Logbook) → IsOrdered log → (set reach : List ℕ) (slot : Slot) (steps : List Judged) → is_rejected_slot slot ≡ false → SlotRepresents graph log set reach slot steps
     → IsGoodPartial graph log reach steps
 slot_partial laws graph log ordered set reach Untouched steps open_yet is =
-    subst (IsGoodPartial graph log reach) (sym is) (record { partial = (laws.leaf_begins graph log reach).partial; names = none_twice laws graph log reach })
+    subst (IsGoodPartial graph log reach) (sym is) (record { partial = (laws.leaf_begins graph log reach).partial; names = no_name_twice laws graph log reach })
 slot_partial laws graph log ordered set reach (Searched search) steps open_yet is =
     subst (λ (r : List ℕ). IsGoodPartial graph log r steps) is.1
     (record {

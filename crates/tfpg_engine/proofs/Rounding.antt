@@ -16,14 +16,15 @@ use Rattle.tfpg_evidence.specs.declared.finding.Status.{Status}
 use Rattle.tfpg_evidence.specs.declared.finding.Status.TheVariants as status
 use Rattle.tfpg_evidence.specs.declared.round.Round.{Round}
 use Rattle.tfpg_evidence.specs.declared.round.Counts.{Counts}
+use Rattle.tfpg_evidence.specs.RoundOf.{is_open}
 use Rattle.tfpg_clause.specs.Trees.{Judged}
 use Rattle.tfpg_hyp.specs.Table.{IsTable}
 use Rattle.tfpg_hyp.specs.Hypotheses.{Hypotheses, IsTableOf}
 use Rattle.tfpg_hyp.specs.declared.place.Place.{Place}
-use Rattle.tfpg_hyp.specs.Rounds.{IsRound, IsFinding, IsOrder, HasNoneOpen, is_open, counts_of, HasEvidence, IsRankedSubset, steps_in, steps_so_far, place_at, place_of_status}
+use Rattle.tfpg_hyp.specs.Rounds.{IsRound, IsFinding, IsOrder, HasNoneOpen, counts_of, HasEvidence, IsRankedSubset, steps_in, steps_so_far, place_at, place_of_status}
 use Rattle.tfpg_hyp.proofs.FindingsOfRound.{at_place}
 use Rattle.tfpg_search.specs.Enough.{IsEnough}
-use Rattle.tfpg_search.specs.Searched.{with_steps}
+use Rattle.tfpg_clause.specs.Paths.{with_steps}
 use Rattle.tfpg_engine.specs.declared.slot.Slot.{Slot}
 use Rattle.tfpg_engine.specs.Earned.{AreEarned}
 use Rattle.tfpg_engine.specs.Engining.{SlotRepresents}
@@ -140,7 +141,7 @@ module _ (laws : TreeLaws) (stand_before : StandBefore) (graph : Tfpg) (k : ℕ)
       → HasEvidence graph log budget (take number findings) reach steps finding s → HasEvidence graph log budget findings reach steps finding s
   evidence_by number finding at reach steps status.Rejected is = is
   evidence_by number finding at reach steps (status.Covered by) is =
-      (is.0, is.1, among_all number finding.set by is.2, λ other part. is.3 other (among_first number finding at other part))
+      (is.0, is.1, record { part = among_all number finding.set by is.2.part; least = λ other part. is.2.least other (among_first number finding at other part) })
   evidence_by number finding at reach steps (status.Ranked trace c alarmed monitored) is =
       (is.0, is.1, (λ has. is.2 (has.0, among_first number finding at has.0 has.1)), is.3, is.4)
   evidence_by number finding at reach steps status.Open is = (is.0, (λ has. is.1 (has.0, among_first number finding at has.0 has.1)), is.2)

@@ -3,6 +3,7 @@ use Rattle.std.proofs.Common.{◌≡◌, ℕ, ◌+◌, ◌<◌, ◌≤◌, ◌�
 use Rattle.std.specs.Prelude.{IsTrue, ◌==◌, Ok, Some, slice_get}
 use Rattle.std.proofs.lemmas.List.{append-nil, length-append, length-set, take-append-le, take_at}
 use Rattle.std.proofs.lemmas.Option.{slice_get-get_or, slice_get_within, get_or_from_slice_get, same_Some}
+use Rattle.tfpg_base.proofs.lists.Sequences.{below_or_last}
 use Rattle.tfpg_base.proofs.lists.Written.{slice_get-set_same, slice_get-set_other, slice_get-push_before, slice_get-push_at}
 use Rattle.tfpg_base.specs.Set.{IsProperSubset}
 use Rattle.std.proofs.lemmas.Bool.Decides.{nat_tests}
@@ -14,17 +15,18 @@ use Rattle.tfpg_evidence.specs.declared.finding.Finding.{Finding}
 use Rattle.tfpg_evidence.specs.declared.finding.Status.{Status}
 use Rattle.tfpg_evidence.specs.declared.finding.Status.TheVariants as status
 use Rattle.tfpg_evidence.specs.declared.step.Step.{Step}
-use Rattle.tfpg_evidence.specs.RoundOf.{is_ranked}
-use Rattle.tfpg_clause.specs.Trees.{Judged, IsPartial, IsRefutation}
+use Rattle.tfpg_evidence.specs.RoundOf.{is_ranked, is_open}
+use Rattle.tfpg_clause.specs.Trees.{Judged, IsPartial, IsRefutation, split_count}
 use Rattle.tfpg_hyp.specs.Hypotheses.{Hypotheses}
 use Rattle.tfpg_hyp.specs.declared.place.Fraction.{Fraction}
 use Rattle.tfpg_hyp.specs.Ranking.{cost_of, robustness_of, monitored_in, alarmed_in}
-use Rattle.tfpg_hyp.specs.Rounds.{IsRankedSubset, HasRankedSubset, is_open}
+use Rattle.tfpg_hyp.specs.Rounds.{IsRankedSubset, HasRankedSubset, IsLeastSubset}
 use Rattle.tfpg_log.specs.Explains.{Explains}
 use Rattle.tfpg_search.specs.Enough.{IsEnough}
 use Rattle.tfpg_search.specs.Live.{HasNoNameTwice, IsUnsettled}
 use Rattle.tfpg_search.specs.Searching.{Searching, SearchRepresents}
-use Rattle.tfpg_search.specs.Searched.{with_steps, split_count, AreSearchSteps, Finds, IsSearched}
+use Rattle.tfpg_clause.specs.Paths.{with_steps}
+use Rattle.tfpg_search.specs.Searched.{AreSearchSteps, Finds, IsSearched}
 use Rattle.tfpg_search.specs.declared.found.Found.{Found}
 use Rattle.tfpg_search.specs.declared.found.Found.TheVariants.{Shown, Closed, Spent}
 use Rattle.tfpg_engine.specs.declared.slot.Slot.{Slot}
@@ -32,7 +34,7 @@ use Rattle.tfpg_engine.specs.declared.slot.Slot.TheVariants.{Untouched, Searched
 use Rattle.tfpg_engine.specs.Earned.{IsEarned}
 use Rattle.tfpg_engine.specs.Engining.{SlotRepresents}
 use Rattle.tfpg_engine.specs.inside.TreeLaws.{TreeLaws}
-use Rattle.tfpg_engine.specs.inside.Turns.{is_rejected_slot, IsLeastSubset, kept, status_by, RanksByFraction, GoesOnFrom, IsTurn, AreFirstTurns}
+use Rattle.tfpg_engine.specs.inside.Turns.{is_rejected_slot, kept, status_by, RanksByFraction, GoesOnFrom, IsTurn, AreFirstTurns}
 use Rattle.tfpg_engine.proofs.Going.{slot_partial}
 
 -- ---- the robustness of a set is a fraction
@@ -88,7 +90,7 @@ module _ (graph : Tfpg) (log : Logbook) (budget : ℕ) (set reach : List ℕ) (n
         let good = slot_partial laws graph log ordered set reach slot earlier open_yet represents in
         record {
           represents = subst (SlotRepresents graph log set reach slot) (sym (no_steps earlier)) represents;
-          evidence = (subst (IsPartial graph log reach) (sym (no_steps earlier)) good.partial, refl, least.part, least.least);
+          evidence = (subst (IsPartial graph log reach) (sym (no_steps earlier)) good.partial, refl, least);
           earned = earned_none earlier (status.Covered by) refl good.names;
         };
   }
@@ -216,15 +218,12 @@ module _ (graph : Tfpg) (log : Logbook) (budget : ℕ) (table : Hypotheses) (old
   abbrev findings_now : List Finding
   findings_now = findings ++ finding ∷ []
 
-  last_or : (n : ℕ) → n < number + 1 → (n < number) ⊎ (n ≡ number)
-  last_or n less = grind arith
-
   -- one more finding
   pub turned : AreFirstTurns graph log budget table old slots_now findings_now (number + 1)
   turned = record {
     counted = omega (arith, length-append findings (finding ∷ []), so_far.counted);
     one_each = length-set slots number now ∙ so_far.one_each;
-    turns = λ n s r b w f at_s at_r at_b at_w at_f. by n s r b w f at_s at_r at_b at_w at_f (last_or n (omega (arith, slice_get_within findings_now n f at_f, length-append findings (finding ∷ []), so_far.counted)));
+    turns = λ n s r b w f at_s at_r at_b at_w at_f. by n s r b w f at_s at_r at_b at_w at_f (below_or_last n number (omega (arith, slice_get_within findings_now n f at_f, length-append findings (finding ∷ []), so_far.counted)));
     same = λ n least. slice_get-set_other slots number n now (λ same. omega (arith, same, least)) ∙ so_far.same n (omega (arith, least));
   }
     where

@@ -30,25 +30,28 @@ pub record Engining : Type 0 where
   pub slots : List Slot
   pub ended : Bool
 
--- What is kept of a hypothesis represents these steps of all rounds: none where it was never searched, those of its search, or a
--- refutation on no path of which a clause name stands twice.
+-- What is kept of a hypothesis represents these steps of all rounds: none where it was never searched, those of its
+-- search, or a refutation. On no path of the refutation does a clause name stand twice.
 abbrev pub SlotRepresents : Tfpg → Logbook → List ℕ → List ℕ → Slot → List Judged → Type 0
 SlotRepresents graph log set reach Untouched steps = steps ≡ []
 SlotRepresents graph log set reach (Searched search) steps =
     (search.set ≡ set) × (search.reach ≡ reach) × SearchRepresents graph (first_events log search.seen) search steps
-SlotRepresents graph log set reach Rejected steps = IsRefutation graph log reach steps × HasNoNameTwice graph log reach steps
+SlotRepresents graph log set reach Rejected steps =
+    IsRefutation graph log reach steps × HasNoNameTwice graph log reach steps
 
 -- The engine represents these rounds: there was one for each event, and what it keeps of each hypothesis represents the steps that
 -- the hypothesis has in them.
 pub record EngineRepresents (engine : Engining) (rounds : List Round) : Type 0 where
   pub one_each : length rounds ≡ length engine.log.events
   pub running : engine.ended ≡ false
-  pub slots : (number : ℕ) (set reach : List ℕ) (slot : Slot) → slice_get engine.table.sets number ≡ Some set → slice_get engine.table.reaches number ≡ Some reach →
-      slice_get engine.slots number ≡ Some slot → SlotRepresents engine.graph engine.log set reach slot (steps_so_far number rounds)
+  pub slots : (number : ℕ) (set reach : List ℕ) (slot : Slot) → slice_get engine.table.sets number ≡ Some set
+      → slice_get engine.table.reaches number ≡ Some reach → slice_get engine.slots number ≡ Some slot
+      → SlotRepresents engine.graph engine.log set reach slot (steps_so_far number rounds)
 
--- An event was accepted, and gave a round for all events and all rounds so far, whose steps are earned. With a budget that is
--- enough no set of it is open.
-pub record GivesRound (line : ℕ) (text : List ℕ) (rounds : List Round) (round : Round) (old new : Engining) : Type 0 where
+-- An event was accepted, and brought a round for all events and all rounds so far, whose steps are earned. With a
+-- budget that is enough no set of it is open.
+pub record GivesRound (line : ℕ) (text : List ℕ) (rounds : List Round) (round : Round)
+    (old new : Engining) : Type 0 where
   pub event : Event
   pub accepted : reply_to old.graph old.log text ≡ Accepted event
   pub log : new.log ≡ with_event old.log event
@@ -60,7 +63,8 @@ pub record GivesRound (line : ℕ) (text : List ℕ) (rounds : List Round) (roun
 -- What an event brings, where the engine represented these rounds: a refusal, and then nothing changed; or a round. Where memory ran
 -- out the engine has ended.
 abbrev pub Brings : ℕ → List ℕ → List Round → Engining → Engining → Result Told EventFault → Type 0
-Brings line text rounds old new (Ok (told.Refused refusal)) = (reply_to old.graph old.log text ≡ Refused refusal) × (new ≡ old)
+Brings line text rounds old new (Ok (told.Refused refusal)) =
+    (reply_to old.graph old.log text ≡ Refused refusal) × (new ≡ old)
 Brings line text rounds old new (Ok (told.Round round)) = GivesRound line text rounds round old new
 Brings line text rounds old new (Err NoMemory) = new.ended ≡ true
 Brings line text rounds old new (Err Ended) = (old.ended ≡ true) × (new ≡ old)

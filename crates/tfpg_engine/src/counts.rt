@@ -7,7 +7,7 @@ ghost use Rattle.tfpg_engine.specs.inside.Placed.{counts_with};
 use tfpg_evidence::{Counts, Finding, Status};
 
 /// How many of the findings have each status.
-pub(crate) fn count(findings: &[Finding]) -> Counts
+pub(crate) fn counts_of(findings: &[Finding]) -> Counts
     requires { length findings.now < 2 ^ 32 }
     ensures { result ≡ counts_of findings.now }
 {

@@ -3,11 +3,10 @@
 ghost use Rattle.std.specs.Prelude.{◌≡◌, ℕ, MatchOption, IsTrue, length, ◌<◌, ◌^◌, ◌↔◌};
 ghost use Rattle.tfpg_base.specs.Set.{IsProperSubset};
 ghost use Rattle.tfpg_evidence.specs.RoundOf.{is_ranked};
-ghost use Rattle.tfpg_hyp.specs.Rounds.{HasRankedSubset};
-ghost use Rattle.tfpg_engine.specs.inside.Turns.{IsLeastSubset};
+ghost use Rattle.tfpg_hyp.specs.Rounds.{HasRankedSubset, IsLeastSubset};
 
 use tfpg_base::Set;
-use tfpg_evidence::{Finding, Status};
+use tfpg_evidence::Finding;
 
 /// The least number of a ranked finding on a proper subset of the set. Goes through the findings.
 pub(crate) fn covering(findings: &[Finding], set: Set) -> Option<u32>
@@ -26,17 +25,5 @@ pub(crate) fn covering(findings: &[Finding], set: Set) -> Option<u32>
 fn covers(finding: &Finding, set: Set) -> bool
     ensures { IsTrue result ↔ (IsTrue (is_ranked finding.now.status) × IsProperSubset finding.now.set set) }
 {
-    is_ranked(&finding.status) && finding.set.is_proper_part(set)
-}
-
-/// Whether the status ranks.
-fn is_ranked(status: &Status) -> bool
-    ensures { result ≡ is_ranked status.now }
-{
-    match status {
-        Status::Ranked { .. } => true,
-        Status::Covered { .. } => false,
-        Status::Rejected => false,
-        Status::Open => false,
-    }
+    finding.status.is_ranked() && finding.set.is_proper_part(set)
 }

@@ -2,7 +2,8 @@
 
 ghost use Rattle.std.specs.Prelude.{◌≡◌, ◌≤◌, ◌<◌, ◌↔◌, ℕ, List, [], true, false, IfOk, OnOk, OnErr, Ok, Err, replicate};
 ghost use Rattle.tfpg_evidence.specs.declared.round.Round.{Round};
-ghost use Rattle.tfpg_hyp.specs.Hypotheses.{max_hypotheses, HasHypotheses};
+ghost use Rattle.tfpg_hyp.specs.Hypotheses.{HasHypotheses};
+ghost use Rattle.tfpg_hyp.specs.declared.limits.TheConstants.{MAX_HYPOTHESES};
 ghost use Rattle.tfpg_log.specs.Accepted.{reply_to};
 ghost use Rattle.tfpg_log.specs.Log.{IsOf};
 ghost use Rattle.tfpg_log.specs.LogOfLines.{new_log};
@@ -58,7 +59,7 @@ impl Engine {
         ensures log { IfOk result (λ engine. engine.log ≡ new_log) }
         ensures represents { IfOk result (λ engine. EngineRepresents engine []) }
         ensures too_many { (count : ℕ) → (result ≡ Err (TableFault.TooMany count)) ↔
-            ((max_hypotheses < count) × HasHypotheses graph k count) }
+            ((MAX_HYPOTHESES < count) × HasHypotheses graph k count) }
     {
         let table = Table::new(alloc, &graph, k)?;
         let slots = untouched(alloc, table.len())?;
@@ -78,7 +79,8 @@ impl Engine {
     /// steps go on from those of the rounds before. Where memory runs out the engine has ended, and each later call says so.
     ///
     /// The hypotheses go in the order of their numbers. A rejected one is passed over; one with a ranked proper subset is
-    /// covered by the least such number; every other one is searched, with at most the budget of splits.
+    /// covered by the one with the least number. Every other one is searched, with at most as many splits as the budget
+    /// says.
     pub fn event<L: Ledger>(
         &mut self,
         line: u64,

@@ -6,7 +6,7 @@ ghost use Rattle.tfpg_engine.specs.inside.Slots.{AllCanGoOn};
 ghost use Rattle.tfpg_engine.specs.inside.Turns.{IsOfGraph, MakesRound};
 
 use crate::asked::Asked;
-use crate::counts::count;
+use crate::counts::counts_of;
 use crate::order::order;
 use crate::slot::Slot;
 use crate::turns::find_all;
@@ -38,7 +38,7 @@ pub(crate) fn make<L: Ledger>(
     let _few = table.len();
     let findings = find_all(alloc, asked, table, slots, work)?;
     let order = order(alloc, &findings)?;
-    let counts = count(&findings);
+    let counts = counts_of(&findings);
     Ok(Round {
         number: asked.log.len(),
         line,

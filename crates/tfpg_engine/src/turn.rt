@@ -3,10 +3,10 @@
 ghost use Rattle.std.specs.Prelude.{◌≡◌, ◌<◌, ◌^◌, List, [], length, false, IfOk};
 ghost use Rattle.tfpg_evidence.specs.declared.finding.Finding.{Finding};
 ghost use Rattle.tfpg_hyp.specs.Ranking.{cost_of, robustness_of};
-ghost use Rattle.tfpg_hyp.specs.Rounds.{HasRankedSubset};
+ghost use Rattle.tfpg_hyp.specs.Rounds.{HasRankedSubset, IsLeastSubset};
 ghost use Rattle.tfpg_engine.specs.inside.Asking.{CanBeAsked, IsHypothesisOf};
 ghost use Rattle.tfpg_engine.specs.inside.Slots.{CanGoOn};
-ghost use Rattle.tfpg_engine.specs.inside.Turns.{IsTurn, IsLeastSubset, is_rejected_slot, status_by};
+ghost use Rattle.tfpg_engine.specs.inside.Turns.{IsTurn, is_rejected_slot, status_by};
 
 use crate::asked::Asked;
 use crate::covering::covering;
@@ -21,8 +21,8 @@ use tfpg_evidence::{Finding, Status, StepList};
 use tfpg_hyp::{cost, robust};
 use tfpg_search::{Found, Search};
 
-/// The finding on a hypothesis, after those on the ones before it. A rejected one is passed over, and so is one with a ranked
-/// proper subset; every other one is searched on.
+/// The finding on a hypothesis, after those on the ones before it. A rejected one is passed over. So is one with a
+/// ranked proper subset. For every other one the search continues.
 pub(crate) fn find<L: Ledger>(
     alloc: Global,
     asked: &Asked<'_>,
@@ -68,8 +68,8 @@ fn passed_over(alloc: Global, hypothesis: &Hypothesis<'_>, status: Status) -> Fi
     }
 }
 
-/// The finding on a hypothesis that is searched on. Where it is rejected now, its search gives its memory back. Where memory runs
-/// out, the search is lost with it, and the slot is not asked again.
+/// The finding on a hypothesis whose search continues. Where it is rejected now, its search gives its memory back.
+/// Where memory runs out, the search is lost with it, and the slot is not asked again.
 fn search_on<L: Ledger>(
     alloc: Global,
     asked: &Asked<'_>,

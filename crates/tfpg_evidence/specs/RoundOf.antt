@@ -1,5 +1,6 @@
 -- Rounds that name only what a graph has: so many nodes, edges and failure modes.
 use Rattle.std.specs.Prelude.{◌≡◌, ℕ, ◌<◌, List, All, AllPairs, Bool, true, false, IsTrue, find, ◌==◌, Option, Some}
+use Rattle.tfpg_graph.specs.Graph.{Sizes}
 use Rattle.tfpg_evidence.specs.declared.clause_name.ClauseName.{ClauseName}
 use Rattle.tfpg_evidence.specs.declared.clause_name.ClauseName.TheVariants.{OrMay, AndMay, OrMust, AndMust}
 use Rattle.tfpg_evidence.specs.declared.reason.Reason.{Reason}
@@ -10,12 +11,6 @@ use Rattle.tfpg_evidence.specs.declared.finding.Finding.{Finding}
 use Rattle.tfpg_evidence.specs.declared.finding.Status.{Status}
 use Rattle.tfpg_evidence.specs.declared.finding.Status.TheVariants.{Ranked, Covered, Rejected, Open}
 use Rattle.tfpg_evidence.specs.declared.round.Round.{Round}
-
--- how many nodes, edges and failure modes a graph has
-pub record Sizes : Type 0 where
-  pub nodes : ℕ
-  pub edges : ℕ
-  pub failures : ℕ
 
 -- The reason names no node but those of the graph.
 abbrev pub IsReasonOf : Sizes → Reason → Type 0
@@ -59,13 +54,35 @@ is_ranked (Covered by) = false
 is_ranked Rejected = false
 is_ranked Open = false
 
+-- the test of a status that is covered
+abbrev pub is_covered : Status → Bool
+is_covered (Ranked trace cost alarmed monitored) = false
+is_covered (Covered by) = true
+is_covered Rejected = false
+is_covered Open = false
+
+-- the test of a status that rejects
+abbrev pub is_rejected : Status → Bool
+is_rejected (Ranked trace cost alarmed monitored) = false
+is_rejected (Covered by) = false
+is_rejected Rejected = true
+is_rejected Open = false
+
+-- the test of a status that is open
+abbrev pub is_open : Status → Bool
+is_open (Ranked trace cost alarmed monitored) = false
+is_open (Covered by) = false
+is_open Rejected = false
+is_open Open = true
+
 -- the finding of a number
 abbrev pub finding_numbered : List Finding → ℕ → Option Finding
 finding_numbered findings number = find (λ finding. finding.number == number) findings
 
 -- the number is that of a ranked finding
 abbrev pub IsRankedIn : List Finding → ℕ → Type 0
-IsRankedIn findings number = (finding : Finding) × (finding_numbered findings number ≡ Some finding) × IsTrue (is_ranked finding.status)
+IsRankedIn findings number =
+    (finding : Finding) × (finding_numbered findings number ≡ Some finding) × IsTrue (is_ranked finding.status)
 
 -- A round is of a graph of these sizes: it names only what the graph has, the numbers of its findings rise, and each
 -- number of its order is that of a ranked one.

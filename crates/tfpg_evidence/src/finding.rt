@@ -1,5 +1,8 @@
 //! What a round says of one hypothesis.
 
+ghost use Rattle.std.specs.Prelude.{◌≡◌};
+ghost use Rattle.tfpg_evidence.specs.RoundOf.{is_ranked};
+
 use crate::StepList;
 use tfpg_base::{Items, Set, Trace};
 
@@ -22,6 +25,20 @@ pub enum Status {
     Rejected,
     /// The budget of this round was spent on splits, and the tree is unsettled.
     Open,
+}
+
+impl Status {
+    /// Whether the status ranks.
+    pub fn is_ranked(&self) -> bool
+        ensures { result ≡ is_ranked self.now }
+    {
+        match self {
+            Status::Ranked { .. } => true,
+            Status::Covered { .. } => false,
+            Status::Rejected => false,
+            Status::Open => false,
+        }
+    }
 }
 
 /// A hypothesis with its number, its steps of this round and its status.

@@ -10,7 +10,7 @@ use Rattle.tfpg_graph.specs.declared.cause.GraphCause.{GraphCause}
 use Rattle.tfpg_graph.specs.declared.cause.GraphCause.TheVariants.{BadHeader, BadLine, BadName, DuplicateName, UnknownName, BadNumber, NumberTooLarge, MinOverMax, EdgeIntoFailure, SelfEdge, DuplicateEdge, NoModes, TooManyNodes, TooManyFailures, TooManyEdges, TooManyModes, TooManyIncoming, AfterEnd}
 use Rattle.tfpg_graph.specs.Graph.{Tfpg, is_kind_at, is_failure, failures, incoming, node_named, mode_named, edge_from_to}
 use Rattle.tfpg_graph.specs.Text.{header}
-use Rattle.tfpg_base.specs.Times.{max_time}
+use Rattle.tfpg_base.specs.declared.limits.TheConstants.{MAX_TIME}
 use Rattle.tfpg_graph.specs.declared.limits.TheConstants.{MAX_NODES, MAX_FAILURES, MAX_EDGES, MAX_INCOMING, MAX_MODES, MAX_RARITY}
 use Rattle.tfpg_graph.specs.Statements.{NodeWords, FailureWords, OrWords, AndWords, Statement, DeclaresMode, DeclaresNode, DeclaresEdge, Ends, statement_of, statements_of, is_skipped, declares_mode, declares_edge, ends_text}
 use Rattle.tfpg_graph.specs.Declares.{modes_listed, ends_named, graph_said}
@@ -25,7 +25,7 @@ names_in Ends = []
 -- the word for a lag, with the greatest lag
 abbrev pub lag_number : Option (List ℕ) → List (List ℕ × ℕ)
 lag_number None = []
-lag_number (Some lag) = (lag, max_time) ∷ []
+lag_number (Some lag) = (lag, MAX_TIME) ∷ []
 
 -- the word for a node's number, with the greatest that it may be
 abbrev pub node_number : NodeWords → List (List ℕ × ℕ)
@@ -37,10 +37,10 @@ node_number (AndWords lag) = lag_number lag
 abbrev pub numbers_in : Statement → List (List ℕ × ℕ)
 numbers_in (DeclaresMode name) = []
 numbers_in (DeclaresNode name words) = node_number words
-numbers_in (DeclaresEdge source target tmin tmax modes) = (tmin, max_time) ∷ (if bytes_eq tmax (codes "inf") then [] else (tmax, max_time) ∷ [])
+numbers_in (DeclaresEdge source target tmin tmax modes) = (tmin, MAX_TIME) ∷ (if bytes_eq tmax (codes "inf") then [] else (tmax, MAX_TIME) ∷ [])
 numbers_in Ends = []
 
--- one of them stands twice
+-- some name stands twice
 abbrev pub has_twice : List (List ℕ) → Bool
 has_twice [] = false
 has_twice (name ∷ others) = list_any (bytes_eq name) others || has_twice others

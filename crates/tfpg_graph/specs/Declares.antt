@@ -1,7 +1,6 @@
 -- Which graph the lines of a text declare. What has no value, as a word that is no number, declares nothing.
-use Rattle.std.specs.Prelude.{ℕ, ◌^◌, List, [], ◌==◌, ◌||◌, if◌then◌else◌, Option, Some, None, option_map, option_and_then, filter_map, codes, bytes_eq, sum_by}
-use Rattle.std.specs.List.{slice_split}
-use Rattle.tfpg_base.specs.Words.{number_of}
+use Rattle.std.specs.Prelude.{ℕ, ◌^◌, List, [], ◌||◌, if◌then◌else◌, Option, Some, None, option_map, option_and_then, filter_map, codes, bytes_eq, sum_by}
+use Rattle.tfpg_base.specs.Words.{comma_parts, number_of}
 use Rattle.tfpg_graph.specs.declared.kind.Kind.{Kind}
 use Rattle.tfpg_graph.specs.declared.kind.Kind.TheVariants.{Failure, Or, And}
 use Rattle.tfpg_graph.specs.declared.edge.Edge.{Edge}
@@ -40,7 +39,7 @@ tmax_of_word word = if bytes_eq word (codes "inf") then Some None else option_ma
 
 -- the names that a word for modes lists: none where it is `*` for all or `-` for no mode, and else the parts round its commas
 abbrev pub modes_listed : List ℕ → List (List ℕ)
-modes_listed word = if bytes_eq word (codes "*") || bytes_eq word (codes "-") then [] else slice_split (λ byte. byte == 44) word
+modes_listed word = if bytes_eq word (codes "*") || bytes_eq word (codes "-") then [] else comma_parts word
 
 -- the bits of the modes that a word says
 abbrev pub modes_of_word : Tfpg → List ℕ → ℕ

@@ -1,5 +1,5 @@
 -- The first fault of a text.
-use Rattle.std.specs.Prelude.{◌≡◌, ◌≢◌, ◌⊎◌, ℕ, ◌+◌, ◌<◌, List, [], length, take, Bool, false, Some, None, Result, Ok, Err, IsTrue, not, count_by, slice_index_or}
+use Rattle.std.specs.Prelude.{◌≡◌, ◌⊎◌, ℕ, ◌+◌, ◌<◌, List, [], length, take, Bool, false, Some, None, Result, Ok, Err, IsTrue, count_by, slice_index_or}
 use Rattle.std.specs.Option.{option_map_or}
 use Rattle.std.specs.List.{list_any}
 use Rattle.tfpg_base.specs.Lines.{lines_of}
@@ -7,7 +7,8 @@ use Rattle.tfpg_graph.specs.declared.cause.GraphCause.TheVariants.{NoIncoming, Z
 use Rattle.tfpg_graph.specs.declared.cause.GraphFault.{GraphFault}
 use Rattle.tfpg_graph.specs.declared.cause.GraphRefusal.{GraphRefusal}
 use Rattle.tfpg_graph.specs.declared.cause.GraphRefusal.TheVariants.{Fault, NoMemory}
-use Rattle.tfpg_graph.specs.Graph.{Tfpg, is_kind_at, is_failure, incoming}
+use Rattle.tfpg_graph.specs.Graph.{Tfpg, is_discrepancy, incoming}
+use Rattle.tfpg_graph.specs.Valid.{HasIncomingBefore}
 use Rattle.tfpg_graph.specs.ZeroCycle.{LiesOnZeroCycle}
 use Rattle.tfpg_graph.specs.Statements.{Statement, statement_of, statements_of, declares_node, declares_edge, ends_text}
 use Rattle.tfpg_graph.specs.Declares.{declared_by}
@@ -43,11 +44,7 @@ pub record IsLineSaying (test : Statement → Bool) (lines : List (List ℕ)) (c
 
 -- the node of this number is a discrepancy with no edge into it
 abbrev pub LacksIncoming : Tfpg → ℕ → Type 0
-LacksIncoming graph node = (node < length graph.nodes) × IsTrue (not (is_kind_at is_failure graph node)) × (incoming graph node ≡ [])
-
--- each discrepancy before this number has an edge into it
-abbrev pub HasIncomingBefore : Tfpg → ℕ → Type 0
-HasIncomingBefore graph end = (node : ℕ) → node < end → IsTrue (not (is_kind_at is_failure graph node)) → incoming graph node ≢ []
+LacksIncoming graph node = (node < length graph.nodes) × IsTrue (is_discrepancy graph node) × (incoming graph node ≡ [])
 
 -- no edge lies on a cycle of edges that may take no time
 abbrev pub HasNoZeroCycle : Tfpg → Type 0

@@ -1,8 +1,9 @@
 -- What a timed failure propagation graph is.
-use Rattle.std.specs.Prelude.{ℕ, List, filter, slice_get, Bool, true, false, ◌&&◌, ◌==◌, Option, None, is_some, option_map, option_and_then, bytes_eq, position}
+use Rattle.std.specs.Prelude.{ℕ, ◌<◌, List, [], length, filter, All, slice_get, Bool, true, false, ◌&&◌, not, ◌==◌, Option, None, is_some, option_map, option_and_then, unwrap_or, bytes_eq, position}
 use Rattle.std.specs.Int.{bit_at}
 use Rattle.std.specs.Option.{option_map_or}
 use Rattle.tfpg_base.specs.Choice.{numbers_from}
+use Rattle.tfpg_base.specs.Set.{Rises}
 use Rattle.tfpg_graph.specs.declared.kind.Kind.{Kind}
 use Rattle.tfpg_graph.specs.declared.kind.Kind.TheVariants.{Failure, Or, And}
 use Rattle.tfpg_graph.specs.declared.edge.Edge.{Edge}
@@ -51,6 +52,10 @@ kind_at graph node = option_map (λ n. n.kind) (slice_get graph.nodes node)
 abbrev pub is_kind_at : (Kind → Bool) → Tfpg → ℕ → Bool
 is_kind_at is_kind graph node = option_map_or is_kind (kind_at graph node) false
 
+-- the node of this number is not a failure mode
+abbrev pub is_discrepancy : Tfpg → ℕ → Bool
+is_discrepancy graph node = not (is_kind_at is_failure graph node)
+
 -- the lag of the node of this number, where it is monitored
 abbrev pub lag_at : Tfpg → ℕ → Option ℕ
 lag_at graph node = option_and_then lag_of (kind_at graph node)
@@ -62,6 +67,25 @@ is_monitored graph node = is_some (lag_at graph node)
 -- The nodes that are failure modes. The place of one in this list is its position.
 abbrev pub failures : Tfpg → List ℕ
 failures graph = numbers_from 0 (λ node. is_failure node.kind) graph.nodes
+
+-- each is the position of a failure mode
+abbrev pub AreFailures : Tfpg → List ℕ → Type 0
+AreFailures graph set = All (λ position. position < length (failures graph)) set
+
+-- a set of failure modes of the graph, as the rising list of their positions
+pub record IsSetOf (graph : Tfpg) (set : List ℕ) : Type 0 where
+  pub rising : Rises set
+  pub members : AreFailures graph set
+
+-- how many nodes, edges and failure modes a graph has
+pub record Sizes : Type 0 where
+  pub nodes : ℕ
+  pub edges : ℕ
+  pub failures : ℕ
+
+-- the sizes of a graph
+abbrev pub sizes_of : Tfpg → Sizes
+sizes_of graph = record { nodes = length graph.nodes; edges = length graph.edges; failures = length (failures graph) }
 
 -- the node of the failure mode at a position
 abbrev pub failure_at : Tfpg → ℕ → Option ℕ
@@ -90,6 +114,10 @@ mode_named graph name = position (λ mode. bytes_eq mode name) graph.modes
 -- the name of the node of this number
 abbrev pub name_at : Tfpg → ℕ → Option (List ℕ)
 name_at graph node = option_map (λ n. n.name) (slice_get graph.nodes node)
+
+-- a node's name
+abbrev pub name_word : Tfpg → ℕ → List ℕ
+name_word graph node = unwrap_or (name_at graph node) []
 
 -- the number of the edge from the one node to the other
 abbrev pub edge_from_to : Tfpg → ℕ → ℕ → Option ℕ

@@ -1,7 +1,7 @@
 -- Which nodes a set of failure modes can reach, whatever the times.
 use Rattle.std.specs.Prelude.{ℕ, List, All, Contains, Bool, ◌==◌, IsTrue, IfSome, ◌↔◌}
 use Rattle.std.specs.List.{list_any}
-use Rattle.std.specs.List.Sorted.{IsStrictlyIncreasing}
+use Rattle.tfpg_base.specs.Set.{Rises}
 use Rattle.tfpg_graph.specs.declared.edge.Edge.{Edge}
 use Rattle.tfpg_graph.specs.Graph.{Tfpg, is_kind_at, is_or, is_and, failure_at, edges_into}
 
@@ -18,7 +18,7 @@ Reaches graph set node = (test : ℕ → Bool) → IsClosed graph set test → I
 
 -- These are the nodes that the set reaches, rising.
 pub record IsReach (graph : Tfpg) (set nodes : List ℕ) : Type 0 where
-  pub rising : IsStrictlyIncreasing nodes
+  pub rising : Rises nodes
   pub exact : (node : ℕ) → Contains nodes node ↔ Reaches graph set node
 
 -- the test of being one of these nodes

@@ -1,8 +1,8 @@
 -- What a line of a graph's text says by its words alone: no name is looked up, and no number is read.
-use Rattle.std.specs.Prelude.{◌≡◌, ◌≢◌, ◌≤◌, ℕ, All, Contains, List, [], ◌∷◌, length, Bool, true, false, ◌&&◌, nat_lt, nat_le, ◌==◌, if◌then◌else◌, Option, Some, None, option_map, filter_map, codes, bytes_eq}
-use Rattle.std.specs.List.{list_any}
-use Rattle.tfpg_base.specs.Words.{words_of, line_of}
-use Rattle.tfpg_base.specs.Lines.{longest_line}
+use Rattle.std.specs.Prelude.{◌≡◌, ◌≢◌, ◌≤◌, ℕ, All, Contains, List, [], ◌∷◌, length, Bool, true, false, ◌&&◌, nat_le, if◌then◌else◌, Option, Some, None, option_map, filter_map, codes, bytes_eq}
+use Rattle.tfpg_base.specs.Words.{has_empty_word, words_of, line_of}
+use Rattle.tfpg_base.specs.Lines.{is_too_long}
+use Rattle.tfpg_base.specs.declared.limits.TheConstants.{LONGEST_LINE}
 use Rattle.tfpg_graph.specs.Text.{is_empty_or_comment}
 
 -- the words that say what a node is, with the word for its number
@@ -44,7 +44,7 @@ IsLineWord word = (word ≢ []) × (Contains word 32 → ⊥)
 pub record SaysStatement (line : List ℕ) (said : Statement) : Type 0 where
   pub words : line ≡ line_of (words_of_statement said)
   pub each : All IsLineWord (words_of_statement said)
-  pub short : length line ≤ longest_line
+  pub short : length line ≤ LONGEST_LINE
 
 -- what a discrepancy's last words say: `hidden`, or `watch` and the word for its lag
 abbrev pub lag_in : List (List ℕ) → Option (Option (List ℕ))
@@ -105,8 +105,8 @@ statement_in (keyword ∷ others) =
 -- What a line says: it is not too long, has no empty word, and has one of the shapes.
 abbrev pub statement_of : List ℕ → Option Statement
 statement_of line =
-    if nat_lt longest_line (length line) then None
-    else (if list_any (λ word. length word == 0) (words_of line) then None else statement_in (words_of line))
+    if is_too_long line then None
+    else (if has_empty_word (words_of line) then None else statement_in (words_of line))
 
 -- what lines say, in order; the header, a line that is skipped, and one that has no shape say nothing
 abbrev pub statements_of : List (List ℕ) → List Statement
@@ -114,7 +114,7 @@ statements_of lines = filter_map statement_of lines
 
 -- A line after the header that is empty or begins with `#` is skipped, unless it is too long.
 abbrev pub is_skipped : List ℕ → Bool
-is_skipped line = is_empty_or_comment line && nat_le (length line) longest_line
+is_skipped line = is_empty_or_comment line && nat_le (length line) LONGEST_LINE
 
 -- it declares a mode
 abbrev pub declares_mode : Statement → Bool

@@ -1,13 +1,14 @@
 -- The text of a graph: what each line spells.
-use Rattle.std.specs.Prelude.{◌≡◌, ℕ, ◌-◌, ◌≤◌, ◌^◌, List, [], ◌∷◌, ◌++◌, length, map, filter, All, Bool, true, not, ◌==◌, if◌then◌else◌, Option, Some, None, unwrap_or, slice_get, codes, decimal, sum_by, filter_map, flat_map, ◌⊎◌, ◌≢◌, ◌<◌, AllPairs}
+use Rattle.std.specs.Prelude.{◌≡◌, ℕ, ◌-◌, ◌≤◌, ◌^◌, List, [], ◌∷◌, ◌++◌, length, map, filter, All, Bool, true, not, ◌==◌, if◌then◌else◌, Option, Some, None, slice_get, codes, decimal, sum_by, filter_map, flat_map, ◌⊎◌, ◌≢◌, ◌<◌, AllPairs}
 use Rattle.std.specs.Int.{bit_at}
-use Rattle.std.specs.List.{join_with_byte, range_with_len, AllZip}
-use Rattle.tfpg_base.specs.Words.{line_of}
-use Rattle.tfpg_base.specs.Lines.{lines_of, longest_line, with_line_end}
+use Rattle.std.specs.List.{range_with_len, AllZip}
+use Rattle.tfpg_base.specs.Words.{joined_by_commas, line_of}
+use Rattle.tfpg_base.specs.Lines.{lines_of, with_line_end}
+use Rattle.tfpg_base.specs.declared.limits.TheConstants.{LONGEST_LINE}
 use Rattle.tfpg_graph.specs.declared.kind.Kind.{Kind}
 use Rattle.tfpg_graph.specs.declared.kind.Kind.TheVariants.{Failure, Or, And}
 use Rattle.tfpg_graph.specs.declared.edge.Edge.{Edge}
-use Rattle.tfpg_graph.specs.Graph.{Tfpg, Node, name_at}
+use Rattle.tfpg_graph.specs.Graph.{Tfpg, Node, name_word}
 
 -- the first line
 abbrev pub header : List ℕ
@@ -40,19 +41,19 @@ tmax_word (Some tmax) = decimal tmax
 -- the line of an edge whose modes this word spells
 abbrev pub edge_line : Tfpg → Edge → List ℕ → List ℕ
 edge_line graph edge modes_word =
-    line_of (codes "edge" ∷ unwrap_or (name_at graph edge.source) [] ∷ unwrap_or (name_at graph edge.target) [] ∷ decimal edge.tmin ∷ tmax_word edge.tmax ∷ modes_word ∷ [])
+    line_of (codes "edge" ∷ name_word graph edge.source ∷ name_word graph edge.target ∷ decimal edge.tmin ∷ tmax_word edge.tmax ∷ modes_word ∷ [])
 
 -- the bits of all the graph's modes
 abbrev pub all_modes : Tfpg → ℕ
 all_modes graph = 2 ^ length graph.modes - 1
 
 -- The word spells these modes: a star for all, or the names of some, in any order, each once, with commas between.
--- No word for no mode is among them, since a valid edge is active in some.
+-- There is no word for no mode, since a valid edge is active in some mode.
 abbrev pub SpellsModes : Tfpg → ℕ → List ℕ → Type 0
 SpellsModes graph bits word =
     ((word ≡ codes "*") × (bits ≡ all_modes graph))
     ⊎ ((modes : List ℕ) × (modes ≢ []) × AllPairs (λ a b. a ≢ b) modes × All (λ mode. mode < length graph.modes) modes
-    × (word ≡ join_with_byte 44 (filter_map (slice_get graph.modes) modes)) × (bits ≡ sum_by (λ mode. 2 ^ mode) modes))
+    × (word ≡ joined_by_commas (filter_map (slice_get graph.modes) modes)) × (bits ≡ sum_by (λ mode. 2 ^ mode) modes))
 
 -- The line spells this edge.
 abbrev pub SpellsEdge : Tfpg → Edge → List ℕ → Type 0
@@ -74,13 +75,13 @@ pub record Spells (text : List ℕ) (graph : Tfpg) : Type 0 where
   pub after : List (List ℕ)
   pub lines : lines_of text ≡ header ∷ after
   pub said : SpellsLines graph (filter (λ line. not (is_empty_or_comment line)) after)
-  pub short : All (λ line. length line ≤ longest_line) (lines_of text)
+  pub short : All (λ line. length line ≤ LONGEST_LINE) (lines_of text)
 
 -- the word for an edge's modes in the canonical text: a star for all, else the names in the order of the modes
 abbrev pub modes_word : Tfpg → ℕ → List ℕ
 modes_word graph bits =
     if bits == all_modes graph then codes "*"
-    else join_with_byte 44 (filter_map (slice_get graph.modes) (filter (λ mode. bit_at bits mode == 1) (range_with_len 0 (length graph.modes))))
+    else joined_by_commas (filter_map (slice_get graph.modes) (filter (λ mode. bit_at bits mode == 1) (range_with_len 0 (length graph.modes))))
 
 -- the lines of the canonical text
 abbrev pub canonical_lines : Tfpg → List (List ℕ)

@@ -1,28 +1,28 @@
 -- Which graphs are valid.
-use Rattle.std.specs.Prelude.{◌≡◌, ◌≢◌, ℕ, zero, suc, ◌≤◌, ◌<◌, ◌^◌, [], length, All, AllPairs, Contains, IsTrue, IfSome, not}
-use Rattle.tfpg_base.specs.Times.{max_time}
+use Rattle.std.specs.Prelude.{◌≡◌, ◌≢◌, ℕ, zero, suc, ◌≤◌, ◌<◌, ◌^◌, [], length, All, AllPairs, Contains, IsTrue, IfSome}
+use Rattle.tfpg_base.specs.declared.limits.TheConstants.{MAX_TIME}
 use Rattle.tfpg_base.specs.Words.{is_name}
 use Rattle.tfpg_graph.specs.declared.kind.Kind.{Kind}
 use Rattle.tfpg_graph.specs.declared.kind.Kind.TheVariants.{Failure, Or, And}
 use Rattle.tfpg_graph.specs.declared.edge.Edge.{Edge}
 use Rattle.tfpg_graph.specs.declared.limits.TheConstants.{MAX_NODES, MAX_FAILURES, MAX_EDGES, MAX_INCOMING, MAX_MODES, MAX_RARITY}
-use Rattle.tfpg_graph.specs.Graph.{Tfpg, is_kind_at, is_failure, failures, incoming}
+use Rattle.tfpg_graph.specs.Graph.{Tfpg, is_discrepancy, failures, incoming}
 
 -- its number is within its limit
 abbrev pub HasValidNumber : Kind → Type 0
 HasValidNumber (Failure rarity) = rarity ≤ MAX_RARITY
-HasValidNumber (Or lag) = IfSome lag (λ l. l ≤ max_time)
-HasValidNumber (And lag) = IfSome lag (λ l. l ≤ max_time)
+HasValidNumber (Or lag) = IfSome lag (λ l. l ≤ MAX_TIME)
+HasValidNumber (And lag) = IfSome lag (λ l. l ≤ MAX_TIME)
 
 -- The edge goes from a node to another one that is a discrepancy, its delays are in order and within the limit, and it
 -- is active in some of the graph's modes and in no other.
 pub record IsValidEdge (graph : Tfpg) (edge : Edge) : Type 0 where
   pub source : edge.source < length graph.nodes
   pub target : edge.target < length graph.nodes
-  pub into_discrepancy : IsTrue (not (is_kind_at is_failure graph edge.target))
+  pub into_discrepancy : IsTrue (is_discrepancy graph edge.target)
   pub no_self_edge : edge.source ≢ edge.target
-  pub least : edge.tmin ≤ max_time
-  pub most : IfSome edge.tmax (λ tmax. (edge.tmin ≤ tmax) × (tmax ≤ max_time))
+  pub least : edge.tmin ≤ MAX_TIME
+  pub most : IfSome edge.tmax (λ tmax. (edge.tmin ≤ tmax) × (tmax ≤ MAX_TIME))
   pub some_mode : 0 < edge.modes
   pub own_modes : edge.modes < 2 ^ length graph.modes
 
@@ -53,10 +53,14 @@ pub record IsValidSoFar (graph : Tfpg) : Type 0 where
   pub few_modes : length graph.modes ≤ MAX_MODES
   pub few_incoming : (node : ℕ) → length (incoming graph node) ≤ MAX_INCOMING
 
+-- each discrepancy before this number has an edge into it
+abbrev pub HasIncomingBefore : Tfpg → ℕ → Type 0
+HasIncomingBefore graph end = (node : ℕ) → node < end → IsTrue (is_discrepancy graph node) → incoming graph node ≢ []
+
 -- A graph is valid where nothing is missing either: each discrepancy has an edge into it, no cycle may take no time,
 -- and there is a mode.
 pub record IsValid (graph : Tfpg) : Type 0 where
   pub so_far : IsValidSoFar graph
-  pub has_incoming : (node : ℕ) → node < length graph.nodes → IsTrue (not (is_kind_at is_failure graph node)) → incoming graph node ≢ []
+  pub has_incoming : HasIncomingBefore graph (length graph.nodes)
   pub no_zero_cycle : (node steps : ℕ) → WalksInNoTime graph node node (suc steps) → ⊥
   pub has_mode : 0 < length graph.modes

@@ -41,8 +41,8 @@ impl Model for Declared {
 
 impl Declared {
     ghost use Rattle.tfpg_graph.specs.inside.Indexes.{nothing_declared, with_node, with_edge, with_mode};
-    ghost use Rattle.tfpg_graph.specs.Valid.{IsValidSoFar};
-    ghost use Rattle.tfpg_graph.specs.Faults.{HasIncomingBefore, LacksIncoming};
+    ghost use Rattle.tfpg_graph.specs.Valid.{IsValidSoFar, HasIncomingBefore};
+    ghost use Rattle.tfpg_graph.specs.Faults.{LacksIncoming};
 
     /// Nothing is declared. Takes no memory.
     pub(crate) fn new(alloc: Global) -> Declared

@@ -1,6 +1,6 @@
 //! How a failure propagates from one node to another.
 
-ghost use Rattle.std.specs.Prelude.{◌≡◌, ◌<◌, ◌≤◌, ◌-◌, ◌^◌};
+ghost use Rattle.std.specs.Prelude.{◌≡◌, ◌<◌, ◌≤◌, ◌-◌, ◌^◌, ◌&&◌, ℕ};
 
 use crate::limits::MAX_MODES;
 
@@ -29,6 +29,17 @@ impl Edge {
     {
         let modes = self.modes;
         mode < u64::BITS && modes >> mode & 1 == 1
+    }
+
+    /// The edge, active only in the modes in which the other is active too.
+    pub fn active_with(&self, other: &Edge) -> Edge
+        ensures { (mode : ℕ) → is_allowed result mode ≡
+            (is_allowed self.now mode && is_allowed other.now mode) }
+    {
+        Edge {
+            modes: self.modes & other.modes,
+            ..*self
+        }
     }
 }
 

@@ -1,7 +1,7 @@
 //! A valid graph with its look-ups.
 
-ghost use Rattle.std.specs.Prelude.{◌≡◌, ◌<◌, ◌≤◌, length, slice_get, Some, IfOk, All};
-ghost use Rattle.tfpg_graph.specs.Graph.{kind_at, name_at, node_named, mode_named, edge_from_to, incoming, failures, failure_at, position_of_failure};
+ghost use Rattle.std.specs.Prelude.{◌≡◌, ◌<◌, ◌≤◌, length, slice_get, Some, unwrap_or, IfOk, All};
+ghost use Rattle.tfpg_graph.specs.Graph.{kind_at, is_monitored, lag_at, name_at, name_word, node_named, mode_named, edge_from_to, incoming, failures, failure_at, position_of_failure};
 ghost use Rattle.tfpg_graph.specs.Valid.{IsValid};
 ghost use Rattle.tfpg_graph.specs.ZeroCycle.{HasZeroOrder};
 
@@ -89,6 +89,21 @@ impl Graph {
         self.declared.kind(node)
     }
 
+    /// Whether it is a node that is monitored. The number may be any.
+    pub fn is_monitored(&self, node: u32) -> bool
+        ensures { result ≡ is_monitored self.now node }
+    {
+        node < self.node_count() && self.kind(node).is_monitored()
+    }
+
+    /// The lag of the node's alarm in milliseconds, and 0 where it is not monitored.
+    pub fn lag_or_zero(&self, node: u32) -> u64
+        requires { node < length self.now.nodes }
+        ensures { result ≡ unwrap_or (lag_at self.now node) 0 }
+    {
+        self.kind(node).lag().unwrap_or(0)
+    }
+
     /// The edge of this number.
     pub fn edge(&self, edge: u32) -> Edge
         requires { edge < length self.now.edges }
@@ -100,7 +115,8 @@ impl Graph {
     /// The name of the node.
     pub fn name(&self, node: u32) -> &[u8]
         requires { node < length self.now.nodes }
-        ensures { name_at self.now node ≡ Some result.now }
+        ensures at { name_at self.now node ≡ Some result.now }
+        ensures word { result.now ≡ name_word self.now node }
     {
         self.declared.name(node)
     }

@@ -15,13 +15,27 @@ pub enum Kind {
 }
 
 impl Kind {
-    ghost use Rattle.tfpg_graph.specs.Graph.{is_failure, lag_of};
+    ghost use Rattle.tfpg_graph.specs.Graph.{is_failure, is_or, is_and, lag_of};
 
     /// Whether it is a failure mode.
     pub fn is_failure(&self) -> bool
         ensures { result ≡ is_failure self.now }
     {
         matches!(self, Kind::Failure { rarity: _ })
+    }
+
+    /// Whether it is a discrepancy that is activated from any source.
+    pub fn is_or(&self) -> bool
+        ensures { result ≡ is_or self.now }
+    {
+        matches!(self, Kind::Or { lag: _ })
+    }
+
+    /// Whether it is a discrepancy that is activated from all its sources at once.
+    pub fn is_and(&self) -> bool
+        ensures { result ≡ is_and self.now }
+    {
+        matches!(self, Kind::And { lag: _ })
     }
 
     /// The lag of its alarm in milliseconds, where it is monitored.

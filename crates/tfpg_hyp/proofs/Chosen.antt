@@ -1,7 +1,8 @@
 -- The sets of one size, listed in order: each of them, once, and nothing else.
-use Rattle.std.proofs.Common.{◌≡◌, ℕ, suc, zero, ◌+◌, ◌<◌, ◌≤◌, List, [], ◌∷◌, length, map, ◌⊎◌, inl, inr, ⊎_elim, refl, arith, ap, subst}
+use Rattle.std.proofs.Common.{◌≡◌, ℕ, suc, zero, ◌+◌, ◌<◌, ◌≤◌, List, [], ◌∷◌, length, map, inl, inr, ⊎_elim, refl, arith, sym, ap, subst}
 use Rattle.std.specs.List.{All, AllPairs, Contains}
-use Rattle.std.proofs.lemmas.Bool.{cases_lt}
+use Rattle.std.proofs.Math.Nat.{eq-or-lt_of_le}
+use Rattle.std.proofs.lemmas.List.{nil_from_length}
 use Rattle.std.proofs.lemmas.List.Elements.{All-nil, All-contains, Contains-append_left, Contains-append_right, Contains-append_cases}
 use Rattle.tfpg_base.proofs.lists.Elements.{AllPairs-head, AllPairs-tail, AllPairs-cons, All-from_members, Contains-head, Contains-cons_cases, Contains-nil}
 use Rattle.tfpg_base.proofs.lists.Ordered.{Rises, AllPairs-nil, AllPairs-append}
@@ -62,17 +63,12 @@ IsChoice-chosen (suc count) (suc size) least set member =
 
 -- ---- all is chosen
 
--- a set of size 0 is the empty one
-is_nil : (set : List ℕ) → length set ≡ 0 → [] ≡ set
-is_nil [] none = refl
-is_nil (place ∷ others) none = absurd (omega (arith, none))
-
 -- Each choice is chosen.
 pub Contains-chosen : (count size least : ℕ) (set : List ℕ) → IsChoice count size least set → Contains (chosen count size least) set
-Contains-chosen zero zero least set is = subst (λ (s : List ℕ). Contains ([] ∷ []) s) (is_nil set is.size_is) (Contains-head [] [])
+Contains-chosen zero zero least set is = subst (λ (s : List ℕ). Contains ([] ∷ []) s) (sym (nil_from_length set is.size_is)) (Contains-head [] [])
 Contains-chosen zero (suc size) least [] is = absurd (omega (arith, is.size_is))
 Contains-chosen zero (suc size) least (place ∷ others) is = absurd (omega (arith, is.low 0 0 (omega arith), is.high 0 0 (omega arith)))
-Contains-chosen (suc count) zero least set is = subst (λ (s : List ℕ). Contains ([] ∷ []) s) (is_nil set is.size_is) (Contains-head [] [])
+Contains-chosen (suc count) zero least set is = subst (λ (s : List ℕ). Contains ([] ∷ []) s) (sym (nil_from_length set is.size_is)) (Contains-head [] [])
 Contains-chosen (suc count) (suc size) least [] is = absurd (omega (arith, is.size_is))
 Contains-chosen (suc count) (suc size) least (place ∷ others) is =
     let later = AllPairs-head ◌<◌ place others is.rising in
@@ -96,11 +92,8 @@ Contains-chosen (suc count) (suc size) least (place ∷ others) is =
     } in
     Contains-append_right (map (λ rest. least ∷ rest) (chosen count size (least + 1))) (chosen count (suc size) (least + 1)) (place ∷ others)
     (Contains-chosen count (suc size) (least + 1) (place ∷ others) wide))
-    (least_or_greater least place (is.low 0 0 (omega arith)))
+    (eq-or-lt_of_le (is.low 0 0 (omega arith)))
   where
-    least_or_greater : (least place : ℕ) → least ≤ place → (least ≡ place) ⊎ (least < place)
-    least_or_greater least place low = ⊎_elim (λ less. inr less) (λ not_less. inl (omega arith)) (cases_lt least place)
-
     all_above : (least place : ℕ) (others : List ℕ) → least < place → All (λ p. place < p) others → All (λ p. least + 1 ≤ p) (place ∷ others)
     all_above least place others greater later zero d within = omega arith
     all_above least place others greater later (suc k) d within = omega (arith, later k d (omega arith))

@@ -15,11 +15,11 @@ use Rattle.tfpg_evidence.specs.declared.finding.Finding.{Finding}
 use Rattle.tfpg_evidence.specs.declared.finding.Status.{Status}
 use Rattle.tfpg_evidence.specs.declared.finding.Status.TheVariants.{Ranked, Covered, Rejected, Open}
 use Rattle.tfpg_evidence.specs.declared.round.Round.{Round}
-use Rattle.tfpg_evidence.specs.RoundOf.{is_ranked}
+use Rattle.tfpg_evidence.specs.RoundOf.{is_ranked, is_covered, is_rejected, is_open}
 use Rattle.tfpg_graph.specs.Reach.{IsReach}
 use Rattle.tfpg_clause.specs.Trees.{Judged, IsRefutation}
 use Rattle.tfpg_hyp.specs.Table.{IsHypothesis}
-use Rattle.tfpg_hyp.specs.Rounds.{IsRound, HasEvidence, IsRankedSubset, HasRankedSubset, HasNoneOpen, is_covered, is_rejected, is_open, steps_so_far}
+use Rattle.tfpg_hyp.specs.Rounds.{IsRound, HasEvidence, IsRankedSubset, HasRankedSubset, HasNoneOpen, steps_so_far}
 use Rattle.tfpg_hyp.specs.Fitting.{HasFittingSubset, AreNoneOpenBelow}
 use Rattle.tfpg_hyp.proofs.FindingsOfRound.{Found, at_place, evidence}
 use Rattle.tfpg_hyp.proofs.Parts.{part_first, once}
@@ -115,7 +115,7 @@ module _ (leaves_none : LeavesNoTrace) (graph : Tfpg) (k budget line : ℕ) (rou
 
   covered_part : (number : ℕ) (finding : Finding) (at : Found round number finding) (status : Status) → Evidence number finding at status → IsTrue (is_covered status)
       → (by : ℕ) × IsRankedSubset round.findings finding.set by
-  covered_part number finding at (Covered by) own holds = (by, own.2)
+  covered_part number finding at (Covered by) own holds = (by, own.2.part)
   covered_part number finding at (Ranked trace cost alarmed monitored) own holds = cc
   covered_part number finding at Rejected own holds = cc
   covered_part number finding at Open own holds = cc

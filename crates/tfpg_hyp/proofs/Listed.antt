@@ -1,14 +1,12 @@
 -- The sets of all sizes up to one, listed in order: they are the hypotheses.
 use Rattle.std.proofs.Common.{◌≡◌, ℕ, suc, zero, ◌+◌, ◌-◌, ◌<◌, ◌≤◌, min, ltb, eqb, List, [], ◌∷◌, ◌++◌, length, map, inl, inr, ⊎_elim, refl, arith, sym, ◌∙◌, ap, subst, append_assoc, add-one}
 use Rattle.std.specs.List.{All, AllPairs, Contains}
-use Rattle.std.specs.List.Sorted.{IsStrictlyIncreasing}
 use Rattle.std.proofs.lemmas.Bool.{cases_lt, cond-false, le-ltb, ne_eqb}
 use Rattle.std.proofs.lemmas.List.{append-nil, map-append, map-id}
 use Rattle.std.proofs.lemmas.List.Elements.{All-contains, Contains-get_or, Contains-append_left, Contains-append_right, Contains-append_cases}
-use Rattle.std.proofs.lemmas.List.Kept.{AllPairs-from_increasing}
 use Rattle.tfpg_base.specs.Set.{with_member}
 use Rattle.tfpg_base.proofs.lists.Elements.{All-from_members, Contains-nil, Contains-cons_cases}
-use Rattle.tfpg_base.proofs.lists.Ordered.{Rises, AllPairs-nil, AllPairs-append}
+use Rattle.tfpg_base.proofs.lists.Ordered.{AllPairs-nil, AllPairs-append}
 use Rattle.tfpg_graph.specs.Graph.{Tfpg, failures}
 use Rattle.tfpg_hyp.specs.Table.{IsHypothesis, ComesFirst, IsBefore, IsTable}
 use Rattle.tfpg_hyp.specs.inside.Choices.{chosen, chosen_below, choices_below}
@@ -56,10 +54,6 @@ in_order-listed count (suc size) =
 
 -- ---- the table
 
--- what rises to each next rises to each later
-pub increasing_from_rises : (xs : List ℕ) → Rises xs → IsStrictlyIncreasing xs
-increasing_from_rises xs rises k within = rises k (k + 1) 0 (omega arith) within
-
 pub IsTable-listed : (graph : Tfpg) (k count : ℕ) → count ≡ length (failures graph) → IsTable graph k (chosen_below count (k + 1))
 IsTable-listed graph k count counted = record {
   exact = λ set. (to set, from set);
@@ -70,8 +64,7 @@ IsTable-listed graph k count counted = record {
     to set member =
         let found = IsChoice-listed count (k + 1) set member in
         record {
-          rising = increasing_from_rises set found.1.rising;
-          members = λ i d within. omega (arith, counted, found.1.high i d within);
+          of_graph = record { rising = found.1.rising; members = λ i d within. omega (arith, counted, found.1.high i d within) };
           size = omega (arith, found.0);
         }
 
@@ -79,9 +72,9 @@ IsTable-listed graph k count counted = record {
     from set is =
         Contains-listed count (k + 1) set (omega (arith, is.size))
         (record {
-          rising = AllPairs-from_increasing set is.rising;
+          rising = is.of_graph.rising;
           low = λ i d within. omega arith;
-          high = λ i d within. omega (arith, counted, is.members i d within);
+          high = λ i d within. omega (arith, counted, is.of_graph.members i d within);
           size_is = refl;
         })
 

@@ -1,15 +1,14 @@
 -- What is right at a log of a graph names only nodes and edges of the graph.
 use Rattle.std.proofs.Common.{◌≡◌, ℕ, zero, suc, ◌-◌, ◌<◌, ltb, eqb, List, [], ◌∷◌, length, take, Option, Some, None, refl, subst}
-use Rattle.std.specs.Prelude.{All, IsTrue, map, slice_get}
+use Rattle.std.specs.Prelude.{IsTrue, slice_get}
 use Rattle.std.proofs.lemmas.Bool.{ltb-true, eqb-true, and_parts}
 use Rattle.std.proofs.lemmas.Option.{slice_get_within, option_and_then_some, cond_some}
-use Rattle.std.proofs.lemmas.List.Elements.{All-nil, All-cons, All-take}
-use Rattle.tfpg_base.specs.Choice.{each_of}
-use Rattle.tfpg_base.proofs.lists.Choices.{option_map-some, then_some-true}
-use Rattle.tfpg_base.proofs.lists.Elements.{All-at}
+use Rattle.std.proofs.lemmas.List.Elements.{All-take}
+use Rattle.tfpg_base.proofs.lists.Choices.{Contains-each_of, option_map-some, then_some-true}
+use Rattle.tfpg_base.proofs.lists.Elements.{All-at, All-from_members}
 use Rattle.tfpg_base.specs.declared.constraint.Constraint.{Constraint}
 use Rattle.tfpg_graph.specs.declared.edge.Edge.{Edge}
-use Rattle.tfpg_graph.specs.Graph.{Tfpg, failures, is_kind_at, is_monitored, is_or, is_and, edges_into}
+use Rattle.tfpg_graph.specs.Graph.{Tfpg, sizes_of, is_kind_at, is_monitored, is_or, is_and, edges_into}
 use Rattle.tfpg_graph.proofs.NodeAt.{kind_within, monitored_within}
 use Rattle.tfpg_log.specs.declared.event.Event.{Event}
 use Rattle.tfpg_log.specs.declared.event.Event.TheVariants.{Alarm, Silent, Sweep, Tick, Mode}
@@ -21,32 +20,15 @@ use Rattle.tfpg_evidence.specs.declared.reason.Reason.{Reason}
 use Rattle.tfpg_evidence.specs.declared.reason.Reason.TheVariants.{Zero, Top, Unreached, From, Upto, Quiet, Pick}
 use Rattle.tfpg_evidence.specs.declared.step.Step.{Step}
 use Rattle.tfpg_evidence.specs.declared.step.Step.TheVariants.{Split, Cycle}
-use Rattle.tfpg_evidence.specs.RoundOf.{Sizes, IsReasonOf, IsClauseOf, IsStepOf}
+use Rattle.tfpg_evidence.specs.RoundOf.{IsReasonOf, IsClauseOf, IsStepOf}
 use Rattle.tfpg_clause.specs.Clauses.{alternatives, and_may, or_must}
 use Rattle.tfpg_clause.proofs.RulesMet.{may_holds, must_holds}
 use Rattle.tfpg_clause.specs.Trees.{PathSplit, stated, IsRightStep}
 
--- how many nodes, edges and failure modes the graph has
-abbrev pub sizes : Tfpg → Sizes
-sizes graph = record { nodes = length graph.nodes; edges = length graph.edges; failures = length (failures graph) }
-
--- ---- values that are there
-
--- where all are there, each of the options is
-first_there : {Y : Type 0} (o : Option Y) (others : List (Option Y)) (ys : List Y) → each_of (o ∷ others) ≡ Some ys → ((y : Y) × (o ≡ Some y)) × ((rest : List Y) × (each_of others ≡ Some rest))
-first_there None others ys is = absurd cc
-first_there {Y} (Some y) others ys is = (let rest = option_map-some (λ (xs : List Y). y ∷ xs) (each_of others) ys is in ((y, refl), (rest.0, rest.1)))
-
-each_there : {X Y : Type 0} (f : X → Option Y) (P : X → Type 0) → ((x : X) (y : Y) → f x ≡ Some y → P x) → (xs : List X) (ys : List Y) → each_of (map f xs) ≡ Some ys → All P xs
-each_there f P each [] ys is = All-nil P
-each_there f P each (x ∷ xs) ys is =
-    let parts = first_there (f x) (map f xs) ys is in
-    All-cons P x xs (each x parts.0.0 parts.0.1) (each_there f P each xs parts.1.0 parts.1.1)
-
 -- ---- clauses
 
 -- a clause that is allowed names a node or an edge of the graph
-allowed_named : (graph : Tfpg) (log : Logbook) (name : ClauseName) (clause : List (List Constraint)) → alternatives graph log name ≡ Some clause → IsClauseOf (sizes graph) name
+allowed_named : (graph : Tfpg) (log : Logbook) (name : ClauseName) (clause : List (List Constraint)) → alternatives graph log name ≡ Some clause → IsClauseOf (sizes_of graph) name
 allowed_named graph log (OrMay node number horizon) clause is =
     kind_within graph is_or node (may_holds log (is_kind_at is_or graph node) node (edges_into graph node) number horizon clause is)
 allowed_named graph log (AndMay edge number horizon) clause is =
@@ -84,7 +66,7 @@ quiet_within graph log number node time of is =
 
 -- a reason that states a constraint names no node but those of the graph
 stated_named : (graph : Tfpg) (log : Logbook) (reach : List ℕ) (path : List PathSplit) (seen : ℕ) → IsOf graph log → (reason : Reason) (constraint : Constraint)
-    → stated graph log reach path seen reason ≡ Some constraint → IsReasonOf (sizes graph) reason
+    → stated graph log reach path seen reason ≡ Some constraint → IsReasonOf (sizes_of graph) reason
 stated_named graph log reach path seen of (Zero node) constraint is = ltb-true node (length graph.nodes) (then_some-true (ltb node (length graph.nodes)) _ constraint is).0
 stated_named graph log reach path seen of (Top node) constraint is = ltb-true node (length graph.nodes) (then_some-true (ltb node (length graph.nodes)) _ constraint is).0
 stated_named graph log reach path seen of (Unreached node horizon) constraint is = ltb-true node (length graph.nodes) (and_parts (ltb node (length graph.nodes)) _ (then_some-true _ _ constraint is).0).0
@@ -97,9 +79,12 @@ stated_named graph log reach path seen of (Pick split place) constraint is = tt
 
 -- a right step names only what the graph has
 pub right_named : (graph : Tfpg) (log : Logbook) (reach : List ℕ) (path : List PathSplit) (seen subtrees : ℕ) → IsOf graph log → (step : Step) → IsRightStep graph log reach path seen subtrees step
-    → IsStepOf (sizes graph) step
+    → IsStepOf (sizes_of graph) step
 right_named graph log reach path seen subtrees of (Split name) right =
     let clause = option_map-some length (alternatives graph (first_events log seen) name) subtrees right in
     allowed_named graph (first_events log seen) name clause.0 clause.1
 right_named graph log reach path seen subtrees of (Cycle reasons) right =
-    each_there (stated graph log reach path seen) (IsReasonOf (sizes graph)) (λ reason constraint is. stated_named graph log reach path seen of reason constraint is) reasons right.constraints right.hold
+    All-from_members (IsReasonOf (sizes_of graph)) reasons
+    (λ reason has.
+    let states = Contains-each_of (stated graph log reach path seen) reasons right.constraints reason right.hold has in
+    stated_named graph log reach path seen of reason states.0 states.2)

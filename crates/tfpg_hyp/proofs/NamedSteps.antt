@@ -3,8 +3,8 @@ use Rattle.std.proofs.Common.{◌≡◌, ℕ, List, [], ◌∷◌, length, take,
 use Rattle.std.specs.Prelude.{All, map}
 use Rattle.std.proofs.Math.Seq.{take-append_seam}
 use Rattle.std.proofs.lemmas.List.{take-map}
-use Rattle.std.proofs.lemmas.List.Elements.{All-nil, All-cons, All-head, All-tail, All-same, All-map, All-weaker}
-use Rattle.tfpg_graph.specs.Graph.{Tfpg}
+use Rattle.std.proofs.lemmas.List.Elements.{All-same, All-map, All-weaker}
+use Rattle.tfpg_graph.specs.Graph.{Tfpg, sizes_of}
 use Rattle.tfpg_log.specs.Log.{Logbook, IsOf}
 use Rattle.tfpg_evidence.specs.declared.finding.Finding.{Finding}
 use Rattle.tfpg_evidence.specs.declared.finding.Status.{Status}
@@ -12,27 +12,22 @@ use Rattle.tfpg_evidence.specs.declared.finding.Status.TheVariants.{Ranked, Cove
 use Rattle.tfpg_evidence.specs.RoundOf.{IsStepOf}
 use Rattle.tfpg_clause.specs.Trees.{Judged, StepPlace, IsRight, IsRefutation, IsPartial, places_of}
 use Rattle.tfpg_hyp.specs.Rounds.{HasEvidence}
-use Rattle.tfpg_hyp.proofs.Named.{sizes, right_named}
+use Rattle.tfpg_hyp.proofs.Named.{right_named}
 
 -- The judged steps name only what the graph has.
 abbrev pub AreNamed : Tfpg → List Judged → Type 0
-AreNamed graph steps = All (λ (judged : Judged). IsStepOf (sizes graph) judged.step) steps
-
--- what holds of each image holds of each item that it comes from
-pub All-unmap : {X Y : Type 0} (P : X → Type 0) (f : Y → X) (ys : List Y) → All P (map f ys) → All (λ y. P (f y)) ys
-All-unmap P f [] all = All-nil (λ y. P (f y))
-All-unmap P f (y ∷ ys) all = All-cons (λ z. P (f z)) y ys (All-head P (f y) (map f ys) all) (All-unmap P f ys (All-tail P (f y) (map f ys) all))
+AreNamed graph steps = All (λ (judged : Judged). IsStepOf (sizes_of graph) judged.step) steps
 
 module _ (graph : Tfpg) (log : Logbook) (reach : List ℕ) (of : IsOf graph log) where
   places_named : (places : List StepPlace) → All (IsRight graph log reach) places → AreNamed graph (map (λ (place : StepPlace). place.step) places)
   places_named places right =
-      All-map (λ (judged : Judged). IsStepOf (sizes graph) judged.step) (λ (place : StepPlace). place.step) places
-      (All-weaker (IsRight graph log reach) (λ (place : StepPlace). IsStepOf (sizes graph) place.step.step)
+      All-map (λ (judged : Judged). IsStepOf (sizes_of graph) judged.step) (λ (place : StepPlace). place.step) places
+      (All-weaker (IsRight graph log reach) (λ (place : StepPlace). IsStepOf (sizes_of graph) place.step.step)
       (λ place is. right_named graph log reach place.path place.step.seen place.subtrees of place.step.step is) places right)
 
   refutation_named : (steps : List Judged) → IsRefutation graph log reach steps → AreNamed graph steps
   refutation_named steps is =
-      All-same (λ (judged : Judged). IsStepOf (sizes graph) judged.step) steps (map (λ (place : StepPlace). place.step) (places_of is.tree)) is.steps_are
+      All-same (λ (judged : Judged). IsStepOf (sizes_of graph) judged.step) steps (map (λ (place : StepPlace). place.step) (places_of is.tree)) is.steps_are
       (places_named (places_of is.tree) is.right)
 
   partial_named : (steps : List Judged) → IsPartial graph log reach steps → AreNamed graph steps
@@ -40,7 +35,7 @@ module _ (graph : Tfpg) (log : Logbook) (reach : List ℕ) (of : IsOf graph log)
       let front : steps ≡ take (length steps) (map (λ (place : StepPlace). place.step) (places_of is.tree)) =
       sym (take-append_seam steps is.more) ∙ ap (take (length steps)) is.steps_are
       in
-      All-same (λ (judged : Judged). IsStepOf (sizes graph) judged.step) steps (map (λ (place : StepPlace). place.step) (take (length steps) (places_of is.tree)))
+      All-same (λ (judged : Judged). IsStepOf (sizes_of graph) judged.step) steps (map (λ (place : StepPlace). place.step) (take (length steps) (places_of is.tree)))
       (front ∙ take-map (λ (place : StepPlace). place.step) (length steps) (places_of is.tree)) (places_named (take (length steps) (places_of is.tree)) is.right)
 
   -- so do the steps of a finding, whatever its status

@@ -3,14 +3,12 @@ use Rattle.std.proofs.Common.{◌≡◌, ℕ, suc, ◌<◌, List, [], ◌∷◌,
 use Rattle.std.specs.List.{All, Contains}
 use Rattle.std.proofs.lemmas.Bool.{cases_order}
 use Rattle.std.proofs.lemmas.List.Elements.{All-contains}
-use Rattle.std.proofs.lemmas.List.Kept.{AllPairs-from_increasing}
 use Rattle.std.proofs.lemmas.Option.{same_Some}
 use Rattle.tfpg_base.specs.Set.{IsSubset, IsProperSubset, IsSet}
 use Rattle.tfpg_base.proofs.lists.Elements.{AllPairs-at, AllPairs-head, AllPairs-tail, All-from_members, Contains-at, Contains-head, Contains-cons_cases, Contains-nil}
 use Rattle.tfpg_base.proofs.lists.Ordered.{Rises}
 use Rattle.tfpg_graph.specs.Graph.{Tfpg, failures}
 use Rattle.tfpg_hyp.specs.Table.{IsHypothesis, IsBefore, IsTable}
-use Rattle.tfpg_hyp.proofs.Listed.{increasing_from_rises}
 use Rattle.tfpg_hyp.proofs.Tables.{IsBefore-asymmetric}
 
 -- ---- how long a subset is
@@ -47,9 +45,13 @@ part_cases (w ∷ ws) (p ∷ ps) rises_part rises_whole within =
 -- a subset of a hypothesis is one
 pub hypothesis_part : (graph : Tfpg) (k : ℕ) (part whole : List ℕ) → IsSet part → IsSubset part whole → IsHypothesis graph k whole → IsHypothesis graph k part
 hypothesis_part graph k part whole is_set within is = record {
-  rising = increasing_from_rises part is_set.rising;
-  members = All-from_members (λ position. position < length (failures graph)) part (λ x member. All-contains (λ position. position < length (failures graph)) whole x is.members (All-contains (Contains whole) part x within member));
-  size = ⊎_elim (λ equal. omega (arith, ap length equal, is.size)) (λ shorter. omega (arith, shorter, is.size)) (part_cases whole part is_set.rising (AllPairs-from_increasing whole is.rising) within);
+  of_graph = record {
+    rising = is_set.rising;
+    members = All-from_members (λ position. position < length (failures graph)) part
+        (λ x member. All-contains (λ position. position < length (failures graph)) whole x is.of_graph.members
+        (All-contains (Contains whole) part x within member));
+  };
+  size = ⊎_elim (λ equal. omega (arith, ap length equal, is.size)) (λ shorter. omega (arith, shorter, is.size)) (part_cases whole part is_set.rising is.of_graph.rising within);
 }
 
 -- ---- at numbers
@@ -72,7 +74,7 @@ module _ (graph : Tfpg) (k : ℕ) (sets : List (List ℕ)) (table : IsTable grap
       let small = (table.exact part).0 (Contains-at sets number part at) in
       let large = (table.exact whole).0 (Contains-at sets other whole at_whole) in
       let shorter : length part < length whole =
-      ⊎_elim (λ equal. absurd (proper.1 equal)) (λ less. less) (part_cases whole part (AllPairs-from_increasing part small.rising) (AllPairs-from_increasing whole large.rising) proper.0) in
+      ⊎_elim (λ equal. absurd (proper.1 equal)) (λ less. less) (part_cases whole part small.of_graph.rising large.of_graph.rising proper.0) in
       ⊎_elim
       (λ same. absurd (proper.1 (same_Some part whole (sym at ∙ ap (slice_get sets) same ∙ at_whole))))
       (λ differ. ⊎_elim (λ less. less)

@@ -1,8 +1,7 @@
 -- What the loops over failure modes and nodes have counted so far.
 use Rattle.std.proofs.Common.{◌≡◌, ℕ, ◌+◌, ◌<◌, ◌≤◌, Bool, true, false, cond, eqb, ltb, List, [], ◌∷◌, ◌++◌, length, Option, Some, None, refl, arith, sym, ◌∙◌, ap, subst}
 use Rattle.std.specs.List.{All, Contains, count_by, filter, slice_get}
-use Rattle.std.specs.List.Sorted.{IsStrictlyIncreasing}
-use Rattle.std.proofs.lemmas.List.Kept.{AllPairs-from_increasing}
+use Rattle.tfpg_base.specs.Set.{Rises}
 use Rattle.std.specs.Option.{option_map, option_and_then, is_some}
 use Rattle.std.proofs.lemmas.Bool.{cond-true, cond-false, cond_both, ltb-false, ne_eqb, eq-eqb}
 use Rattle.std.proofs.lemmas.List.{length-append, append-nil}
@@ -145,9 +144,9 @@ module _ (graph : Tfpg) (log : Logbook) where
     pub counted-absent : (Contains reach node → ⊥) → AreCounted graph log (below (node + 1) reach) alarmed monitored
     counted-absent absent = subst (λ nodes. AreCounted graph log nodes alarmed monitored) (sym (below-absent node reach absent)) are
 
-    module _ (rising : IsStrictlyIncreasing reach) (member : Contains reach node) where
+    module _ (rising : Rises reach) (member : Contains reach node) where
       one_more : below node reach ++ node ∷ [] ≡ below (node + 1) reach
-      one_more = sym (below-member node reach (AllPairs-from_increasing reach rising) member)
+      one_more = sym (below-member node reach rising member)
 
       pub counted-hidden : is_monitored graph node ≡ false → AreCounted graph log (below (node + 1) reach) alarmed monitored
       counted-hidden hidden = subst (λ nodes. AreCounted graph log nodes alarmed monitored) one_more (AreCounted-hidden (below node reach) node alarmed monitored are hidden)

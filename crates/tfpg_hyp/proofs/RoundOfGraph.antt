@@ -5,8 +5,8 @@ use Rattle.std.proofs.lemmas.Bool.{eq-eqb, ne_eqb}
 use Rattle.std.proofs.lemmas.Option.{slice_get-get_or, option_and_then_some}
 use Rattle.std.proofs.lemmas.List.{append-nil}
 use Rattle.std.proofs.lemmas.Grind.{flat_map-append}
-use Rattle.std.proofs.lemmas.List.Elements.{All-nil, All-cons, All-same}
-use Rattle.tfpg_graph.specs.Graph.{Tfpg, failures}
+use Rattle.std.proofs.lemmas.List.Elements.{All-same}
+use Rattle.tfpg_graph.specs.Graph.{Tfpg, failures, AreFailures, sizes_of}
 use Rattle.tfpg_log.specs.Log.{Logbook, IsOf}
 use Rattle.tfpg_evidence.specs.declared.step.Step.{Step}
 use Rattle.tfpg_evidence.specs.declared.finding.Finding.{Finding}
@@ -14,13 +14,15 @@ use Rattle.tfpg_evidence.specs.declared.finding.Status.{Status}
 use Rattle.tfpg_evidence.specs.declared.finding.Status.TheVariants.{Ranked, Covered, Rejected, Open}
 use Rattle.tfpg_evidence.specs.declared.round.Round.{Round}
 use Rattle.tfpg_evidence.specs.RoundOf.{IsStepOf, IsStatusOf, IsFindingOf, IsRankedIn, IsRoundOf, is_ranked, finding_numbered}
+use Rattle.tfpg_base.specs.Choice.{each_of}
 use Rattle.tfpg_clause.specs.Trees.{Judged}
-use Rattle.tfpg_base.proofs.lists.Elements.{All-back, Contains-at}
+use Rattle.tfpg_base.proofs.lists.Choices.{Contains-each_of, each_of-some}
+use Rattle.tfpg_base.proofs.lists.Images.{All-unmap}
+use Rattle.tfpg_base.proofs.lists.Elements.{All-back, All-from_members, Contains-at}
 use Rattle.tfpg_hyp.specs.Rounds.{IsRound, HasEvidence, place_at, place_of_status, steps_in, steps_so_far}
 use Rattle.tfpg_hyp.specs.declared.place.Place.{Place}
 use Rattle.tfpg_hyp.proofs.FindingsOfRound.{Found, evidence}
-use Rattle.tfpg_hyp.proofs.Named.{sizes}
-use Rattle.tfpg_hyp.proofs.NamedSteps.{AreNamed, All-unmap, evidence_named}
+use Rattle.tfpg_hyp.proofs.NamedSteps.{AreNamed, evidence_named}
 
 -- ---- lists
 
@@ -35,15 +37,6 @@ find_first test (y ∷ ys) (suc k) x at passes before =
     ap (λ (b : Bool). cond b (Some y) (find test ys)) (before 0 y (omega arith) refl)
     ∙ find_first test ys k x at passes (λ j z lt there. before (suc j) z (omega (arith, lt)) there)
 
--- each item has what its place in the list of values says
-all_there : {X Y : Type 0} (f : X → Option Y) (P : X → Type 0) → ((x : X) (y : Y) → f x ≡ Some y → P x) → (xs : List X) (ys : List Y) → map f xs ≡ map Some ys → All P xs
-all_there f P each [] ys same = All-nil P
-all_there f P each (x ∷ xs) [] same = absurd cc
-all_there f P each (x ∷ xs) (y ∷ ys) same =
-    let here : f x ≡ Some y = cc in
-    let others : map f xs ≡ map Some ys = cc in
-    All-cons P x xs (each x y here) (all_there f P each xs ys others)
-
 -- ---- the steps of this round
 
 -- the steps of all rounds end with those of this one
@@ -56,16 +49,16 @@ steps_end number rounds round finding at =
     ∙ ap (λ (found : Option Finding). map (λ (step : Step). record { seen = round.number; step = step }) (unwrap_or (option_map (λ (f : Finding). f.steps) found) [])) at)
 
 last_named : (graph : Tfpg) (number : ℕ) (rounds : List Round) (round : Round) (finding : Finding) → slice_get round.findings number ≡ Some finding
-    → AreNamed graph (steps_so_far number (rounds ++ round ∷ [])) → All (IsStepOf (sizes graph)) finding.steps
+    → AreNamed graph (steps_so_far number (rounds ++ round ∷ [])) → All (IsStepOf (sizes_of graph)) finding.steps
 last_named graph number rounds round finding at named =
-    All-unmap (λ (judged : Judged). IsStepOf (sizes graph) judged.step) (λ (step : Step). record { seen = round.number; step = step }) finding.steps
-    (All-back (λ (judged : Judged). IsStepOf (sizes graph) judged.step) (steps_so_far number rounds) (map (λ (step : Step). record { seen = round.number; step = step }) finding.steps)
+    All-unmap (λ (judged : Judged). IsStepOf (sizes_of graph) judged.step) (λ (step : Step). record { seen = round.number; step = step }) finding.steps
+    (All-back (λ (judged : Judged). IsStepOf (sizes_of graph) judged.step) (steps_so_far number rounds) (map (λ (step : Step). record { seen = round.number; step = step }) finding.steps)
     (subst (AreNamed graph) (steps_end number rounds round finding at) named))
 
 -- ---- statuses
 
 status_named : (graph : Tfpg) (log : Logbook) (budget : ℕ) (findings : List Finding) (reach : List ℕ) (steps : List Judged) (finding : Finding) (status : Status)
-    → HasEvidence graph log budget findings reach steps finding status → IsStatusOf (sizes graph) status
+    → HasEvidence graph log budget findings reach steps finding status → IsStatusOf (sizes_of graph) status
 status_named graph log budget findings reach steps finding (Ranked trace cost alarmed monitored) own = own.1.trace_of.1
 status_named graph log budget findings reach steps finding (Covered by) own = tt
 status_named graph log budget findings reach steps finding Rejected own = tt
@@ -84,10 +77,10 @@ module _ (graph : Tfpg) (k budget line : ℕ) (rounds : List Round) (log : Logbo
   number_at : (number : ℕ) (finding : Finding) → Found round number finding → finding.number ≡ number
   number_at number finding at = (evidence is_round number finding at).2.number_is
 
-  members_at : (number : ℕ) (set : List ℕ) → slice_get is_round.sets number ≡ Some set → All (λ position. position < length (failures graph)) set
-  members_at number set at = ((is_round.table.exact set).0 (Contains-at is_round.sets number set at)).members
+  members_at : (number : ℕ) (set : List ℕ) → slice_get is_round.sets number ≡ Some set → AreFailures graph set
+  members_at number set at = ((is_round.table.exact set).0 (Contains-at is_round.sets number set at)).of_graph.members
 
-  finding_named : (number : ℕ) (finding : Finding) → Found round number finding → IsFindingOf (sizes graph) finding
+  finding_named : (number : ℕ) (finding : Finding) → Found round number finding → IsFindingOf (sizes_of graph) finding
   finding_named number finding at =
       let own = evidence is_round number finding at in
       record {
@@ -108,7 +101,7 @@ module _ (graph : Tfpg) (k budget line : ℕ) (rounds : List Round) (log : Logbo
       option_and_then_some (λ (finding : Finding). place_of_status number finding.status) (slice_get round.findings number) place at
       (λ finding there rest. (finding, found_by_number number finding there, place_ranked number finding.status place rest))
 
-  pub round_of : IsRoundOf (sizes graph) round
+  pub round_of : IsRoundOf (sizes_of graph) round
   round_of = record {
     findings = λ number d in_range. finding_named number (get_or round.findings number d) (slice_get-get_or round.findings number d in_range);
     numbers_rise = λ earlier later d before in_range. (
@@ -116,5 +109,10 @@ module _ (graph : Tfpg) (k budget line : ℕ) (rounds : List Round) (log : Logbo
         let other = number_at later (get_or round.findings later d) (slice_get-get_or round.findings later d in_range) in
         omega (arith, one, other, before)
         );
-    order = all_there (place_at round.findings) (IsRankedIn round.findings) ranked_in round.order is_round.order.places is_round.order.all_ranked;
+    order = All-from_members (IsRankedIn round.findings) round.order
+        (λ number has.
+        let all : each_of (map (place_at round.findings) round.order) ≡ Some is_round.order.places =
+        ap (λ (places : List (Option Place)). each_of places) is_round.order.all_ranked ∙ each_of-some is_round.order.places in
+        let own = Contains-each_of (place_at round.findings) round.order is_round.order.places number all has in
+        ranked_in number own.0 own.2);
   }

@@ -82,7 +82,7 @@ module _ (graph : Tfpg) (k count : ℕ) (sets : List (List ℕ)) (failing : coun
 
   -- its members are failure modes of the graph
   pub members_failing : All (λ set. All (λ place. place < length (failures graph)) set) sets
-  members_failing = All-from_members (λ set. All (λ place. place < length (failures graph)) set) sets (λ set member. ((IsTable-sets.exact set).0 member).members)
+  members_failing = All-from_members (λ set. All (λ place. place < length (failures graph)) set) sets (λ set member. ((IsTable-sets.exact set).0 member).of_graph.members)
 
   -- and it is no longer than was counted
   pub few_sets : choices_below (length (failures graph)) (k + 1) ≤ 4096 → length sets ≤ 4096

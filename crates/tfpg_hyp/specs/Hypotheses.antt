@@ -5,10 +5,6 @@ use Rattle.tfpg_graph.specs.Reach.{IsReach}
 use Rattle.tfpg_hyp.specs.declared.limits.TheConstants.{MAX_HYPOTHESES}
 use Rattle.tfpg_hyp.specs.Table.{IsTable}
 
--- how many hypotheses a table has at most
-abbrev pub max_hypotheses : ℕ
-max_hypotheses = MAX_HYPOTHESES
-
 -- There are this many hypotheses: all of them in order are a list of this length.
 pub record HasHypotheses (graph : Tfpg) (k count : ℕ) : Type 0 where
   pub sets : List (List ℕ)
@@ -23,7 +19,8 @@ pub record Hypotheses : Type 0 where
 -- These are what the sets reach, in their order.
 pub record AreReaches (graph : Tfpg) (sets reaches : List (List ℕ)) : Type 0 where
   pub complete : length reaches ≡ length sets
-  pub exact : (number : ℕ) (set reach : List ℕ) → slice_get sets number ≡ Some set → slice_get reaches number ≡ Some reach → IsReach graph set reach
+  pub exact : (number : ℕ) (set reach : List ℕ) → slice_get sets number ≡ Some set → slice_get reaches number ≡ Some reach
+      → IsReach graph set reach
 
 -- the table of all hypotheses, with what each reaches
 pub record IsTableOf (graph : Tfpg) (k : ℕ) (table : Hypotheses) : Type 0 where

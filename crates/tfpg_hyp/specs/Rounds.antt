@@ -11,37 +11,18 @@ use Rattle.tfpg_evidence.specs.declared.finding.Status.{Status}
 use Rattle.tfpg_evidence.specs.declared.finding.Status.TheVariants.{Ranked, Covered, Rejected, Open}
 use Rattle.tfpg_evidence.specs.declared.round.Round.{Round}
 use Rattle.tfpg_evidence.specs.declared.round.Counts.{Counts}
-use Rattle.tfpg_evidence.specs.RoundOf.{is_ranked}
-use Rattle.tfpg_clause.specs.Trees.{Judged, IsRefutation, IsPartial, is_split}
+use Rattle.tfpg_evidence.specs.RoundOf.{is_ranked, is_covered, is_rejected, is_open}
+use Rattle.tfpg_clause.specs.Trees.{Judged, IsRefutation, IsPartial, split_count}
 use Rattle.tfpg_hyp.specs.Table.{IsTable}
 use Rattle.tfpg_hyp.specs.declared.place.Place.{Place}
 use Rattle.tfpg_hyp.specs.Ranking.{cost_of, robustness_of, IsRankedBefore}
 
--- the test of a status that is covered
-abbrev pub is_covered : Status → Bool
-is_covered (Ranked trace cost alarmed monitored) = false
-is_covered (Covered by) = true
-is_covered Rejected = false
-is_covered Open = false
-
--- the test of a status that rejects
-abbrev pub is_rejected : Status → Bool
-is_rejected (Ranked trace cost alarmed monitored) = false
-is_rejected (Covered by) = false
-is_rejected Rejected = true
-is_rejected Open = false
-
--- the test of a status that is open
-abbrev pub is_open : Status → Bool
-is_open (Ranked trace cost alarmed monitored) = false
-is_open (Covered by) = false
-is_open Rejected = false
-is_open Open = true
-
--- the steps of one hypothesis in a round, judged by the log of that round, which has as many events as the round's number
+-- the steps of one hypothesis in a round, judged by the log of that round, which has as many events as the round's
+-- number
 abbrev pub steps_in : ℕ → Round → List Judged
 steps_in number round =
-    map (λ step. record { seen = round.number; step = step }) (unwrap_or (option_map (λ finding. finding.steps) (slice_get round.findings number)) [])
+    map (λ step. record { seen = round.number; step = step })
+    (unwrap_or (option_map (λ finding. finding.steps) (slice_get round.findings number)) [])
 
 -- the steps of one hypothesis in these rounds
 abbrev pub steps_so_far : ℕ → List Round → List Judged
@@ -58,24 +39,29 @@ pub record IsRankedSubset (findings : List Finding) (set : List ℕ) (number : �
 abbrev pub HasRankedSubset : List Finding → List ℕ → Type 0
 HasRankedSubset findings set = (number : ℕ) × IsRankedSubset findings set number
 
+-- The number is the least of those of ranked hypotheses on a proper subset of the set.
+pub record IsLeastSubset (findings : List Finding) (set : List ℕ) (by : ℕ) : Type 0 where
+  pub part : IsRankedSubset findings set by
+  pub least : (other : ℕ) → IsRankedSubset findings set other → by ≤ other
+
 -- What each status says of a set with this reach, whose steps of all rounds so far are these.
 abbrev pub HasEvidence : Tfpg → Logbook → ℕ → List Finding → List ℕ → List Judged → Finding → Status → Type 0
 -- The steps of all rounds are a refutation.
 HasEvidence graph log budget findings reach steps finding Rejected = IsRefutation graph log reach steps
 -- A proper subset is ranked, and the least number of one is named. There is no step in this round.
 HasEvidence graph log budget findings reach steps finding (Covered by) =
-    IsPartial graph log reach steps × (finding.steps ≡ []) × IsRankedSubset findings finding.set by
-    × ((other : ℕ) → IsRankedSubset findings finding.set other → by ≤ other)
+    IsPartial graph log reach steps × (finding.steps ≡ []) × IsLeastSubset findings finding.set by
 -- A trace explains the log from the set, and no proper subset is ranked.
 HasEvidence graph log budget findings reach steps finding (Ranked trace c alarmed monitored) =
-    IsPartial graph log reach steps × Explains graph log finding.set trace × (HasRankedSubset findings finding.set → ⊥) × (c ≡ cost_of graph finding.set)
-    × (robustness_of graph log reach ≡ record { alarmed = alarmed; monitored = monitored })
+    IsPartial graph log reach steps × Explains graph log finding.set trace × (HasRankedSubset findings finding.set → ⊥)
+    × (c ≡ cost_of graph finding.set) × (robustness_of graph log reach ≡ record { alarmed = alarmed; monitored = monitored })
 -- This round spent its whole budget on splits, the tree is not closed, and no proper subset is ranked.
 HasEvidence graph log budget findings reach steps finding Open =
-    IsPartial graph log reach steps × (HasRankedSubset findings finding.set → ⊥) × (count_by is_split finding.steps ≡ budget)
+    IsPartial graph log reach steps × (HasRankedSubset findings finding.set → ⊥) × (split_count finding.steps ≡ budget)
 
 -- The finding on the hypothesis of this number.
-pub record IsFinding (graph : Tfpg) (log : Logbook) (budget : ℕ) (rounds : List Round) (findings : List Finding) (number : ℕ) (set : List ℕ) (finding : Finding) : Type 0 where
+pub record IsFinding (graph : Tfpg) (log : Logbook) (budget : ℕ) (rounds : List Round)
+    (findings : List Finding) (number : ℕ) (set : List ℕ) (finding : Finding) : Type 0 where
   pub number_is : finding.number ≡ number
   pub set_is : finding.set ≡ set
   pub reach : List ℕ
@@ -84,14 +70,16 @@ pub record IsFinding (graph : Tfpg) (log : Logbook) (budget : ℕ) (rounds : Lis
 
 -- where a ranked finding stands
 abbrev pub place_of_status : ℕ → Status → Option Place
-place_of_status number (Ranked trace cost alarmed monitored) = Some (record { cost = cost; robust = record { alarmed = alarmed; monitored = monitored }; number = number })
+place_of_status number (Ranked trace cost alarmed monitored) =
+    Some (record { cost = cost; robust = record { alarmed = alarmed; monitored = monitored }; number = number })
 place_of_status number (Covered by) = None
 place_of_status number Rejected = None
 place_of_status number Open = None
 
 -- where the hypothesis of a number stands, if it is ranked
 abbrev pub place_at : List Finding → ℕ → Option Place
-place_at findings number = option_and_then (λ finding. place_of_status number finding.status) (slice_get findings number)
+place_at findings number =
+    option_and_then (λ finding. place_of_status number finding.status) (slice_get findings number)
 
 -- The numbers of the ranked hypotheses, best first.
 pub record IsOrder (findings : List Finding) (order : List ℕ) : Type 0 where
@@ -115,14 +103,16 @@ counts_of findings =
     }
 
 -- The round of an accepted line after these rounds: a finding for each hypothesis of the table.
-pub record IsRound (graph : Tfpg) (k budget : ℕ) (rounds : List Round) (log : Logbook) (line : ℕ) (round : Round) : Type 0 where
+pub record IsRound (graph : Tfpg) (k budget : ℕ) (rounds : List Round) (log : Logbook)
+    (line : ℕ) (round : Round) : Type 0 where
   pub number : round.number ≡ length log.events
   pub line_is : round.line ≡ line
   pub now_is : round.now ≡ now_of log
   pub sets : List (List ℕ)
   pub table : IsTable graph k sets
   pub complete : length round.findings ≡ length sets
-  pub findings : (number : ℕ) (set : List ℕ) (finding : Finding) → slice_get sets number ≡ Some set → slice_get round.findings number ≡ Some finding
+  pub findings : (number : ℕ) (set : List ℕ) (finding : Finding) → slice_get sets number ≡ Some set
+      → slice_get round.findings number ≡ Some finding
       → IsFinding graph log budget (rounds ++ round ∷ []) round.findings number set finding
   pub order : IsOrder round.findings round.order
   pub counts : round.counts ≡ counts_of round.findings

@@ -1,12 +1,10 @@
 -- The table of hypotheses: all sets of so many failure modes or fewer.
-use Rattle.std.specs.Prelude.{◌≡◌, ℕ, ◌<◌, ◌≤◌, ◌⊎◌, ◌↔◌, List, [], ◌∷◌, length, All, AllPairs, Contains}
-use Rattle.std.specs.List.Sorted.{IsStrictlyIncreasing}
-use Rattle.tfpg_graph.specs.Graph.{Tfpg, failures}
+use Rattle.std.specs.Prelude.{◌≡◌, ℕ, ◌<◌, ◌≤◌, ◌⊎◌, ◌↔◌, List, [], ◌∷◌, length, AllPairs, Contains}
+use Rattle.tfpg_graph.specs.Graph.{Tfpg, IsSetOf}
 
--- a set of at most k failure modes of the graph, as the rising list of their positions
+-- a set of at most k failure modes of the graph
 pub record IsHypothesis (graph : Tfpg) (k : ℕ) (set : List ℕ) : Type 0 where
-  pub rising : IsStrictlyIncreasing set
-  pub members : All (λ position. position < length (failures graph)) set
+  pub of_graph : IsSetOf graph set
   pub size : length set ≤ k
 
 -- the one list comes before the other at the first place where they differ
@@ -20,7 +18,7 @@ ComesFirst (a ∷ as_) (b ∷ bs) = (a < b) ⊎ ((a ≡ b) × ComesFirst as_ bs)
 abbrev pub IsBefore : List ℕ → List ℕ → Type 0
 IsBefore a b = (length a < length b) ⊎ ((length a ≡ length b) × ComesFirst a b)
 
--- These are all hypotheses, in order. The number of one is its place, from 0.
+-- These are all hypotheses, in order. The number of one is its index.
 pub record IsTable (graph : Tfpg) (k : ℕ) (sets : List (List ℕ)) : Type 0 where
   pub exact : (set : List ℕ) → Contains sets set ↔ IsHypothesis graph k set
   pub in_order : AllPairs IsBefore sets

@@ -4,10 +4,10 @@
 //!
 //! - [`Table`] lists all hypotheses of a graph in order, with what each reaches. Where there are more than
 //!   [`MAX_HYPOTHESES`], [`TableFault`] says how many.
-//! - [`cost`] and [`robust`] find what ranks a hypothesis, its [`Place`], and [`before`] compares two places.
+//! - [`cost`] and [`robust`] find what ranks a hypothesis, its [`Place`], and [`is_ranked_before`] compares two places.
 //! - [`laws`] says what follows from the definitions of the table, of the ranking order and of a round.
 //!
-//! What a round is, is a definition alone so far (`specs/Rounds.antt`): no call of this crate makes one.
+//! In this crate a round is a definition alone (`specs/Rounds.antt`). `tfpg_engine` makes rounds.
 //!
 //! ```
 //! let table = Table::new(alloc, &graph, 1)?;
@@ -30,5 +30,5 @@ mod table;
 
 pub use limits::MAX_HYPOTHESES;
 pub use place::{Fraction, Place};
-pub use ranking::{before, cost, robust};
+pub use ranking::{cost, is_ranked_before, robust};
 pub use table::{Table, TableFault};

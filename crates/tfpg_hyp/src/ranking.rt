@@ -1,7 +1,7 @@
 //! By what ranked hypotheses are ordered: their cost, then their robustness, then their number.
 
-ghost use Rattle.std.specs.Prelude.{◌≡◌, ◌↔◌, ◌<◌, ◌≤◌, length, All, IsTrue};
-ghost use Rattle.tfpg_graph.specs.Graph.{failures, is_monitored};
+ghost use Rattle.std.specs.Prelude.{◌≡◌, ◌↔◌, ◌<◌, ◌≤◌, length, IsTrue};
+ghost use Rattle.tfpg_graph.specs.Graph.{failures, AreFailures};
 ghost use Rattle.tfpg_graph.specs.declared.limits.TheConstants.{MAX_RARITY};
 ghost use Rattle.tfpg_hyp.specs.Ranking.{rarity_at, cost_of, robustness_of, IsRankedBefore};
 
@@ -13,7 +13,7 @@ use tfpg_log::Log;
 /// The cost of a set of failure modes: the sum of their rarities, at most 64,000,000.
 /// Goes once over the failure modes of the graph.
 pub fn cost(graph: &Graph, set: Set) -> u64
-    requires { All (λ position. position < length (failures graph.now)) set }
+    requires { AreFailures graph.now set }
     ensures { result ≡ cost_of graph.now set }
 {
     let mut cost = 0;
@@ -34,7 +34,7 @@ pub fn robust(graph: &Graph, log: &Log, reach: &NodeSet) -> Fraction
     let mut alarmed = 0;
     let mut monitored = 0;
     for node in 0..graph.node_count() {
-        if reach.has(node) && is_monitored(graph, node) {
+        if reach.has(node) && graph.is_monitored(node) {
             monitored += 1;
             if log.alarm_of(node).is_some() {
                 alarmed += 1;
@@ -52,7 +52,7 @@ pub fn robust(graph: &Graph, log: &Log, reach: &NodeSet) -> Fraction
 
 /// Whether the one place comes before the other: where it costs less, or costs the same and is more robust, or is as
 /// robust too and has the lesser number. Robustness is compared as the fraction that it is.
-pub fn before(a: &Place, b: &Place) -> bool
+pub fn is_ranked_before(a: &Place, b: &Place) -> bool
     requires first { 1 ≤ a.now.robust.monitored }
     requires second { 1 ≤ b.now.robust.monitored }
     ensures { IsTrue result ↔ IsRankedBefore a.now b.now }
@@ -81,12 +81,4 @@ fn rarity(graph: &Graph, position: u32) -> u64
         Kind::Or { lag: _ } => 0,
         Kind::And { lag: _ } => 0,
     }
-}
-
-/// Whether the node has a monitor.
-fn is_monitored(graph: &Graph, node: u32) -> bool
-    requires { node < length graph.now.nodes }
-    ensures { result ≡ is_monitored graph.now node }
-{
-    graph.kind(node).is_monitored()
 }

@@ -1,8 +1,9 @@
 //! The table of hypotheses.
 
 ghost use Rattle.std.specs.Prelude.{◌≡◌, ◌<◌, ◌≤◌, ◌↔◌, ◌+◌, ℕ, length, slice_get, Some, All, IfOk};
-ghost use Rattle.tfpg_graph.specs.Graph.{failures};
-ghost use Rattle.tfpg_hyp.specs.Hypotheses.{max_hypotheses, HasHypotheses, IsTableOf, AreReaches};
+ghost use Rattle.tfpg_graph.specs.Graph.{failures, AreFailures};
+ghost use Rattle.tfpg_hyp.specs.Hypotheses.{HasHypotheses, IsTableOf, AreReaches};
+ghost use Rattle.tfpg_hyp.specs.declared.limits.TheConstants.{MAX_HYPOTHESES};
 ghost use Rattle.tfpg_hyp.specs.inside.Choices.{choices_below};
 
 use crate::limits::MAX_HYPOTHESES;
@@ -43,14 +44,15 @@ pub struct Table {
 
 impl Model for Table {
     ghost use Rattle.std.specs.Prelude.{◌≡◌, ◌≤◌, length};
-    ghost use Rattle.tfpg_hyp.specs.Hypotheses.{Hypotheses, max_hypotheses};
+    ghost use Rattle.tfpg_hyp.specs.Hypotheses.{Hypotheses};
+    ghost use Rattle.tfpg_hyp.specs.declared.limits.TheConstants.{MAX_HYPOTHESES};
 
     ghost Value = { Hypotheses };
 
     ghost view = { λ table. record { sets = table.sets.items; reaches = table.reaches.items } };
 
     ghost invariant = { λ table.
-        (length table.reaches.items ≡ length table.sets.items) × (length table.sets.items ≤ max_hypotheses) };
+        (length table.reaches.items ≡ length table.sets.items) × (length table.sets.items ≤ MAX_HYPOTHESES) };
 }
 
 impl Table {
@@ -59,7 +61,7 @@ impl Table {
     pub fn new(alloc: Global, graph: &Graph, k: u32) -> Result<Table, TableFault>
         ensures table { IfOk result (λ table. IsTableOf graph.now k table) }
         ensures too_many { (count : ℕ) → (result ≡ Err (TableFault.TooMany count)) ↔
-            ((max_hypotheses < count) × HasHypotheses graph.now k count) }
+            ((MAX_HYPOTHESES < count) × HasHypotheses graph.now k count) }
     {
         let _nodes = graph.node_count();
         let count = count_sets(graph.failure_count(), k);
@@ -74,7 +76,7 @@ impl Table {
     pub fn len(&self) -> u32
         ensures count { result ≡ length self.now.sets }
         ensures reaches { result ≡ length self.now.reaches }
-        ensures few { result ≤ max_hypotheses }
+        ensures few { result ≤ MAX_HYPOTHESES }
     {
         self.sets.len() as u32
     }
@@ -97,7 +99,7 @@ impl Table {
 
     /// The table, where it is known to be small enough.
     fn list(alloc: Global, graph: &Graph, k: u32) -> Result<Table, NoMemory>
-        requires { choices_below (length (failures graph.now)) (k + 1) ≤ max_hypotheses }
+        requires { choices_below (length (failures graph.now)) (k + 1) ≤ MAX_HYPOTHESES }
         ensures { IfOk result (λ table. IsTableOf graph.now k table) }
     {
         let _nodes = graph.node_count();
@@ -109,7 +111,7 @@ impl Table {
 
 /// What each of the sets reaches.
 fn reaches_of(alloc: Global, graph: &Graph, sets: &[Set]) -> Result<Vec<NodeSet>, NoMemory>
-    requires { All (λ set. All (λ position. position < length (failures graph.now)) set) sets.now }
+    requires { All (AreFailures graph.now) sets.now }
     ensures { IfOk result (λ reaches. AreReaches graph.now sets.now reaches.items) }
 {
     let mut reaches = Vec::new(alloc);

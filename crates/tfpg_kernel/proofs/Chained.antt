@@ -2,6 +2,7 @@
 use Rattle.std.proofs.Common.{◌≡◌, ℕ, ◌+◌, ◌*◌, ◌^◌, ◌<◌, List, [], ◌∷◌, ◌++◌, Bool, true, false, cond, Option, Some, None, refl, sym, ap, subst, ◌∙◌, arith, ◌-◌, inl, inr}
 use Rattle.std.specs.Prelude.{ℤ, pos, negsuc, ◌+ℤ◌, ◌<ℤ◌, ◌≤ℤ◌, neg_ℤ, fold, map, is_none, option_map, ◌&&◌, ◌==◌}
 use Rattle.std.specs.Bool.{then_some}
+use Rattle.std.proofs.Math.Bool.{and_assoc}
 use Rattle.std.proofs.lemmas.Int.{ints}
 use Rattle.std.proofs.lemmas.List.{map-append}
 use Rattle.std.proofs.lemmas.Bool.{eqb-true, eq-eqb, and_parts}
@@ -41,10 +42,6 @@ chains at end (c ∷ constraints) = (at == c.left) && chains c.right end constra
 
 abbrev round_test : Chain → Bool
 round_test chain = chain.unbroken && is_round chain.ends
-
-and_assoc : (a b c : Bool) → ((a && b) && c) ≡ (a && (b && c))
-and_assoc true b c = refl
-and_assoc false b c = refl
 
 round_from : (first last : ℕ) (unbroken : Bool) (sum : ℤ) (constraints : List Constraint)
     → round_test (chain_from (record { ends = Some (record { first = first; last = last }); unbroken = unbroken; sum = sum }) constraints) ≡ (unbroken && chains last first constraints)

@@ -33,17 +33,20 @@ reasons_fault stated reasons = first_of (map (λ reason. then_some (is_none (sta
 -- negative.
 abbrev pub ClosingBreaks : List Constraint → BadStep → Type 0
 ClosingBreaks constraints bad =
-    ((bad ≡ Unchained) × (IsCycle constraints → ⊥)) ⊎ ((bad ≡ NotNegative) × IsCycle constraints × (pos 0 ≤ℤ sum_of constraints))
+    ((bad ≡ Unchained) × (IsCycle constraints → ⊥))
+    ⊎ ((bad ≡ NotNegative) × IsCycle constraints × (pos 0 ≤ℤ sum_of constraints))
 
 -- The reasons of a cycle break this condition, and none before it: some reason states no constraint; or the constraints of all
 -- break it.
 abbrev pub CycleBreaks : (Reason → Option Constraint) → List Reason → BadStep → Type 0
 CycleBreaks stated reasons bad =
-    (reasons_fault stated reasons ≡ Some bad) ⊎ ((constraints : List Constraint) × (each_of (map stated reasons) ≡ Some constraints) × ClosingBreaks constraints bad)
+    (reasons_fault stated reasons ≡ Some bad)
+    ⊎ ((constraints : List Constraint) × (each_of (map stated reasons) ≡ Some constraints) × ClosingBreaks constraints bad)
 
 -- At a leaf of this path the step breaks this condition, and none before it, judged by the log of so many events.
 abbrev pub BreaksAt : Tfpg → Logbook → List ℕ → List PathSplit → ℕ → Step → BadStep → Type 0
-BreaksAt graph log reach path seen (Split name) bad = (bad ≡ NotAClause) × (count_of graph (first_events log seen) name ≡ None)
+BreaksAt graph log reach path seen (Split name) bad =
+    (bad ≡ NotAClause) × (count_of graph (first_events log seen) name ≡ None)
 BreaksAt graph log reach path seen (Cycle reasons) bad = CycleBreaks (stated graph log reach path seen) reasons bad
 
 -- The step that comes next after these steps breaks this condition, and none before it: they are a refutation already; or it
@@ -51,4 +54,5 @@ BreaksAt graph log reach path seen (Cycle reasons) bad = CycleBreaks (stated gra
 abbrev pub IsFirstBroken : Tfpg → Logbook → List ℕ → List Judged → Judged → BadStep → Type 0
 IsFirstBroken graph log reach steps next bad =
     ((bad ≡ AfterClosed) × IsRefutation graph log reach steps)
-    ⊎ ((path : List PathSplit) × IsPresentLeaf graph log reach steps path × BreaksAt graph log reach path next.seen next.step bad)
+    ⊎ ((path : List PathSplit) × IsPresentLeaf graph log reach steps path
+    × BreaksAt graph log reach path next.seen next.step bad)

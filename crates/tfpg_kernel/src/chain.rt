@@ -83,7 +83,7 @@ impl Chain {
         }
     }
 
-    /// What the whole cycle is at fault for first, where it is at fault.
+    /// The first fault of the whole cycle, where it has one.
     pub(crate) fn fault(self) -> Option<ClosingFault>
         ensures { result ≡ closing_fault self }
     {

@@ -10,7 +10,7 @@ ghost use Rattle.tfpg_clause.specs.Trees.{IsClosedBy};
 use crate::chain::Chain;
 use crate::taken::BadStep;
 use tfpg_base::Constraint;
-use tfpg_clause::{Frame, stated};
+use tfpg_clause::{Frame, stated_by};
 use tfpg_evidence::Reason;
 use tfpg_graph::{Graph, NodeSet};
 use tfpg_log::Log;
@@ -50,7 +50,7 @@ fn stated_or_fault(
     requires of { IsOf graph.now log.now }
     ensures { result ≡ ok_or (stated_by graph.now log.now reach.now path.now reason) (fault_of reason) }
 {
-    stated(graph, log, reach, path, reason).ok_or(fault_of(reason))
+    stated_by(graph, log, reach, path, reason).ok_or(fault_of(reason))
 }
 
 /// What is wrong with a reason that states no constraint.

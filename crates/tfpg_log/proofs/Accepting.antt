@@ -1,14 +1,16 @@
 -- What an accepted event is, and that a log with it is of its graph.
-use Rattle.std.proofs.Common.{◌≡◌, ℕ, ◌<◌, ◌≤◌, Bool, true, false, List, [], ◌∷◌, ◌++◌, length, Option, Some, None, refl, sym, ap, subst, ◌∙◌, arith}
+use Rattle.std.proofs.Common.{◌≡◌, ℕ, ◌<◌, ◌≤◌, List, [], ◌++◌, length, Option, Some, None, refl, sym, ap, subst, ◌∙◌, arith}
 use Rattle.std.specs.Prelude.{IsTrue, not, is_none, nat_lt, nat_le, bytes_eq, option_map, option_and_then, unwrap_or}
 use Rattle.std.specs.Bool.{then_some}
 use Rattle.std.specs.Option.{option_map_or}
 use Rattle.std.specs.Str.Parse.{digits_value}
-use Rattle.std.proofs.lemmas.Bool.{ltb-false, leb-false}
-use Rattle.std.proofs.lemmas.List.Elements.{All-push}
+use Rattle.std.specs.List.{AllByRecursion}
+use Rattle.std.proofs.lemmas.Bool.{ltb-false, leb-false, not-false}
+use Rattle.std.proofs.lemmas.List.Elements.{All-push, recursion_from_All}
 use Rattle.std.proofs.lemmas.List.Quantifiers.{position-Some}
 use Rattle.tfpg_base.specs.Choice.{first_of, unless_refused}
-use Rattle.tfpg_base.specs.Times.{max_time}
+use Rattle.tfpg_base.proofs.lists.Choices.{then_some-none, first_of-none, option_map-none}
+use Rattle.tfpg_base.specs.declared.limits.TheConstants.{MAX_TIME}
 use Rattle.tfpg_graph.specs.Graph.{Tfpg, node_named, mode_named, is_monitored}
 use Rattle.tfpg_log.specs.declared.event.Event.{Event}
 use Rattle.tfpg_log.specs.declared.event.Event.TheVariants as kinds
@@ -25,7 +27,7 @@ use Rattle.tfpg_log.specs.inside.LogIndex.{IsNoSecondAlarm}
 pub record MayCome (graph : Tfpg) (log : Logbook) (event : Event) : Type 0 where
   pub own : IsEventOf graph event
   pub not_back : now_of log ≤ time_of_event event
-  pub in_range : time_of_event event ≤ max_time
+  pub in_range : time_of_event event ≤ MAX_TIME
   pub room : length log.events < MAX_EVENTS
   pub first : IsNoSecondAlarm log event
 
@@ -33,21 +35,7 @@ pub record MayCome (graph : Tfpg) (log : Logbook) (event : Event) : Type 0 where
 
 -- none of the tests refuses
 abbrev AreNone : List (Option Refusal) → Type 0
-AreNone [] = Unit {0}
-AreNone (test ∷ tests) = (test ≡ None) × AreNone tests
-
-are_none : (tests : List (Option Refusal)) → first_of tests ≡ None → AreNone tests
-are_none [] e = tt
-are_none (Some refusal ∷ tests) e = absurd cc
-are_none (None ∷ tests) e = (refl, are_none tests e)
-
-not_refused : (holds : Bool) (refusal : Refusal) → then_some holds refusal ≡ None → holds ≡ false
-not_refused true refusal e = absurd cc
-not_refused false refusal e = refl
-
-not_false : (b : Bool) → not b ≡ false → b ≡ true
-not_false true e = refl
-not_false false e = absurd cc
+AreNone tests = AllByRecursion (λ test. test ≡ None) tests
 
 -- ---- the names in a statement that nothing refuses
 
@@ -63,12 +51,8 @@ monitor graph None unknown hidden = absurd cc
 monitor graph (Some node) unknown hidden = record {
   node = node;
   there = refl;
-  monitored = not_false (is_monitored graph node) (not_refused (not (is_monitored graph node)) NotMonitored hidden);
+  monitored = not-false (is_monitored graph node) (then_some-none (not (is_monitored graph node)) NotMonitored hidden);
 }
-
-no_alarm : (alarm : Option ℕ) → option_map SecondAlarm alarm ≡ None → alarm ≡ None
-no_alarm None e = refl
-no_alarm (Some time) e = absurd cc
 
 there_is : (found : Option ℕ) (refusal : Refusal) → then_some (is_none found) refusal ≡ None → (number : ℕ) × (found ≡ Some number)
 there_is None refusal e = absurd cc
@@ -81,14 +65,14 @@ module _ (graph : Tfpg) (log : Logbook) (time : List ℕ) where
     -- an event at that time, once no test refuses the line
     comes : (event : Event) → time_of_event event ≡ digits_value 10 time → room_refusal log ≡ None → IsEventOf graph event → IsNoSecondAlarm log event → MayCome graph log event
     comes event at room own first =
-        let in_range : digits_value 10 time ≤ max_time = ltb-false max_time (digits_value 10 time) (not_refused (nat_lt max_time (digits_value 10 time)) TimeTooLarge none.1.0) in
+        let in_range : digits_value 10 time ≤ MAX_TIME = ltb-false MAX_TIME (digits_value 10 time) (then_some-none (nat_lt MAX_TIME (digits_value 10 time)) TimeTooLarge none.1.0) in
         let not_back : now_of log ≤ digits_value 10 time =
-        ltb-false (digits_value 10 time) (now_of log) (not_refused (nat_lt (digits_value 10 time) (now_of log)) (TimeBack (now_of log)) none.1.1.0) in
+        ltb-false (digits_value 10 time) (now_of log) (then_some-none (nat_lt (digits_value 10 time) (now_of log)) (TimeBack (now_of log)) none.1.1.0) in
         record {
           own = own;
           not_back = omega (arith, at, not_back);
           in_range = omega (arith, at, in_range);
-          room = leb-false MAX_EVENTS (length log.events) (not_refused (nat_le MAX_EVENTS (length log.events)) LogFull room);
+          room = leb-false MAX_EVENTS (length log.events) (then_some-none (nat_le MAX_EVENTS (length log.events)) LogFull room);
           first = first;
         }
 
@@ -97,7 +81,7 @@ module _ (graph : Tfpg) (log : Logbook) (time : List ℕ) where
   may_come (Alarm name) none =
       let found = monitor graph (node_named graph name) none.1.1.1.0 none.1.1.1.1.0 in
       let first : alarm_of log found.node ≡ None =
-      no_alarm (alarm_of log found.node) (ap (λ node. option_map SecondAlarm (option_and_then (alarm_of log) node)) (sym found.there) ∙ none.1.1.1.1.1.0) in
+      option_map-none SecondAlarm (alarm_of log found.node) (ap (λ node. option_map SecondAlarm (option_and_then (alarm_of log) node)) (sym found.there) ∙ none.1.1.1.1.1.0) in
       subst (λ node. MayCome graph log (kinds.Alarm (digits_value 10 time) (unwrap_or node 0))) (sym found.there)
       (comes (Alarm name) none (kinds.Alarm (digits_value 10 time) found.node) refl none.1.1.1.1.1.1.0 found.monitored first)
   may_come (Silent name) none =
@@ -116,8 +100,9 @@ module _ (graph : Tfpg) (log : Logbook) (time : List ℕ) where
       → offered (unless_refused first (event_of graph (digits_value 10 time) statement)) ≡ Accepted event → MayCome graph log event
   by_tests statement event (Some refusal) at e = absurd cc
   by_tests statement event None at e =
+      let tests : List (Option Refusal) = time_refusals (now_of log) time ++ statement_refusals graph log statement in
       let same : event_of graph (digits_value 10 time) statement ≡ event = cc in
-      subst (MayCome graph log) same (may_come statement (are_none (time_refusals (now_of log) time ++ statement_refusals graph log statement) at))
+      subst (MayCome graph log) same (may_come statement (recursion_from_All (λ test. test ≡ None) tests (first_of-none tests at)))
 
 by_statement : (graph : Tfpg) (log : Logbook) (event : Event) (says : Option (List ℕ × LogStatement))
     → option_map_or (λ parts. reply_to_statement graph log parts.0 parts.1) says (Refused BadLine) ≡ Accepted event → MayCome graph log event

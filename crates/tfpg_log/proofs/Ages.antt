@@ -5,14 +5,13 @@ use Rattle.std.proofs.lemmas.Bool.{both_ways, cases_Bool, cases_eq, cases_lt}
 use Rattle.tfpg_base.specs.declared.activation.Activation.{Activation}
 use Rattle.tfpg_base.specs.Trace.{time_of}
 use Rattle.tfpg_graph.specs.declared.edge.Edge.{Edge}
-use Rattle.tfpg_graph.specs.Graph.{is_allowed}
-use Rattle.tfpg_log.specs.Log.{Logbook, mode_at}
+use Rattle.tfpg_log.specs.Log.{Logbook, is_allowed_at}
 use Rattle.tfpg_log.specs.Rules.{IsActive, HasAge, IsAge}
 
 module _ (log : Logbook) (trace : List Activation) (edge : Edge) where
   -- the edge is active in the mode of an instant
   abbrev IsAllowedAt : ℕ → Type 0
-  IsAllowedAt instant = IsTrue (is_allowed edge (mode_at log instant))
+  IsAllowedAt instant = IsTrue (is_allowed_at log edge instant)
 
   -- An edge has an age exactly where its source is active and its mode allows it.
   pub has_age : (instant : ℕ) → HasAge log trace edge instant 0 ↔ (IsActive trace edge.source instant × IsAllowedAt instant)
@@ -80,7 +79,7 @@ module _ (log : Logbook) (trace : List Activation) (edge : Edge) where
         greatest = λ other more. omega (arith, age_since_start instant other start at more);
       },
     )
-    to_greatest (suc left) age sum allowed = elim (cases_Bool (is_allowed edge (mode_at log (start + left)))) [
+    to_greatest (suc left) age sum allowed = elim (cases_Bool (is_allowed_at log edge (start + left))) [
       | inl allows ↦ to_greatest left (suc age) (omega arith)
           (λ other from upto. elim (cases_eq (start + left) other) [
             | inl same ↦ subst IsAllowedAt same allows
@@ -91,7 +90,7 @@ module _ (log : Logbook) (trace : List Activation) (edge : Edge) where
         record {
           has = record { start = start; source = at; since = omega arith; allowed = allowed };
           greatest = λ other more. elim (cases_lt age other) [
-            | inl above ↦ absurd (both_ways (is_allowed edge (mode_at log (start + left))) denies (more.allowed (start + left) (omega arith) (omega arith)))
+            | inl above ↦ absurd (both_ways (is_allowed_at log edge (start + left)) denies (more.allowed (start + left) (omega arith) (omega arith)))
             | inr upto ↦ upto
           ];
         },

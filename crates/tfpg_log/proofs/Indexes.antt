@@ -1,13 +1,14 @@
 -- The index of a log's events stays right as events come.
 use Rattle.std.proofs.Common.{◌≡◌, ℕ, suc, ◌+◌, ◌<◌, ◌≤◌, false, List, [], ◌∷◌, ◌++◌, length, set, Option, Some, None, refl, inl, inr, sym, subst, ◌∙◌, arith}
+use Rattle.std.proofs.lemmas.Bool.{ne_eqb}
 use Rattle.std.proofs.lemmas.Bool.Decides.{eqb_tells}
 use Rattle.std.proofs.lemmas.Grind.{get_or-set_at}
 use Rattle.std.proofs.lemmas.List.{get_or-set_other, length_push}
 use Rattle.tfpg_log.specs.declared.event.Event.{Event}
 use Rattle.tfpg_log.specs.declared.event.Event.TheVariants.{Alarm, Silent, Sweep, Tick, Mode}
 use Rattle.tfpg_log.specs.declared.mode_change.ModeChange.{ModeChange}
-use Rattle.tfpg_log.specs.Log.{Logbook, now_of, alarm_among, alarm_place, time_of_event, is_mode_change, mode_after, with_event}
-use Rattle.tfpg_base.specs.Times.{max_time}
+use Rattle.tfpg_log.specs.Log.{Logbook, now_of, is_alarm_of, alarm_among, time_of_event, is_mode_change, mode_after, with_event}
+use Rattle.tfpg_base.specs.declared.limits.TheConstants.{MAX_TIME}
 use Rattle.tfpg_log.specs.declared.limits.TheConstants.{MAX_EVENTS}
 use Rattle.tfpg_log.specs.inside.SpanIndex.{begin_of_span, BeginSpans, with_change}
 use Rattle.tfpg_log.specs.inside.LogIndex.{IsLogIndex}
@@ -15,7 +16,6 @@ use Rattle.tfpg_log.specs.declared.node_events.NodeEvents.{NodeEvents}
 use Rattle.tfpg_log.specs.inside.NodeEvents.{IsLast, IsSweep, IsNodeEvents, AreSameOfNodes, events_of, no_events}
 use Rattle.tfpg_log.proofs.Events.{now-with_event}
 use Rattle.tfpg_log.proofs.Order.{ordered-with_event}
-use Rattle.tfpg_log.proofs.AlarmPlaces.{alarm_place_other}
 use Rattle.tfpg_log.proofs.FirstAlarms.{first_alarms_kept}
 use Rattle.tfpg_log.proofs.NodesEvents.{node_kept, node_silenced, node_alarmed, last_sweep_kept, last_sweep_new}
 use Rattle.tfpg_log.proofs.ModeChanges.{mode_after-push, mode_before_change, mode_after_change, changes-push}
@@ -39,7 +39,7 @@ abbrev AreNodesEvents : List Event → Event → List NodeEvents → Type 0
 AreNodesEvents events event nodes = (node : ℕ) → IsNodeEvents (with_event (log_of events) event) node (events_of nodes node)
 
 indexed_by : (events : List Event) (nodes longer : List NodeEvents) (sweep last : Option ℕ) (changes : List ModeChange) (count : ℕ) (event : Event) → IsLogIndex events nodes sweep changes count
-    → length events < MAX_EVENTS → now_of (log_of events) ≤ time_of_event event → time_of_event event ≤ max_time → is_mode_change event ≡ false
+    → length events < MAX_EVENTS → now_of (log_of events) ≤ time_of_event event → time_of_event event ≤ MAX_TIME → is_mode_change event ≡ false
     → ((held instant : ℕ) → mode_after held (event ∷ []) instant ≡ held)
     → AreNodesEvents events event longer → IsLast (IsSweep (with_event (log_of events) event)) last
     → ((at node : ℕ) → event ≡ Alarm at node → alarm_among events node ≡ None)
@@ -59,14 +59,14 @@ indexed_by events nodes longer sweep last changes count event index room not_bac
 
 -- an event of no node leaves what is kept of each
 own_kept : (events : List Event) (nodes : List NodeEvents) (event : Event) → ((node : ℕ) → IsNodeEvents (log_of events) node (events_of nodes node))
-    → ((node : ℕ) → alarm_place (event ∷ []) node ≡ None) → ((node time : ℕ) → event ≡ Silent time node → ⊥) → AreNodesEvents events event nodes
+    → ((node : ℕ) → is_alarm_of node event ≡ false) → ((node time : ℕ) → event ≡ Silent time node → ⊥) → AreNodesEvents events event nodes
 own_kept events nodes event own quiet other node = node_kept (log_of events) event node (events_of nodes node) (quiet node) (other node) (own node)
 
 -- an event of one node leaves what is kept of the others
 own_set : (events : List Event) (nodes longer : List NodeEvents) (event : Event) (place : ℕ) (entry : NodeEvents)
     → ((node : ℕ) → IsNodeEvents (log_of events) node (events_of nodes node)) → AreSameOfNodes longer nodes → place < length longer
     → IsNodeEvents (with_event (log_of events) event) place entry
-    → ((node : ℕ) → (node ≡ place → ⊥) → (alarm_place (event ∷ []) node ≡ None) × ((time : ℕ) → event ≡ Silent time node → ⊥))
+    → ((node : ℕ) → (node ≡ place → ⊥) → (is_alarm_of node event ≡ false) × ((time : ℕ) → event ≡ Silent time node → ⊥))
     → AreNodesEvents events event (set longer place entry)
 own_set events nodes longer event place entry own same lt is others node = elim (eqb_tells place node) [
   | inl it ↦ subst (λ n. IsNodeEvents (with_event (log_of events) event) n (events_of (set longer place entry) n)) it.1
@@ -78,7 +78,7 @@ own_set events nodes longer event place entry own same lt is others node = elim 
 ]
 
 module _ (events : List Event) (nodes : List NodeEvents) (sweep : Option ℕ) (changes : List ModeChange) (count : ℕ) (index : IsLogIndex events nodes sweep changes count)
-    (room : length events < MAX_EVENTS) (time : ℕ) (not_back : now_of (record { events = events }) ≤ time) (in_range : time ≤ max_time) where
+    (room : length events < MAX_EVENTS) (time : ℕ) (not_back : now_of (record { events = events }) ≤ time) (in_range : time ≤ MAX_TIME) where
   -- A tick leaves the index as it is.
   pub indexed_tick : IsLogIndex (events ++ Tick time ∷ []) nodes sweep changes count
   indexed_tick =
@@ -138,12 +138,6 @@ module _ (events : List Event) (nodes : List NodeEvents) (sweep : Option ℕ) (c
         index room not_back in_range refl (λ held instant. refl)
         (own_set events nodes longer (Alarm time node) node (record { alarm = Some number; silence = before.silence; sweep = sweep }) index.own same lt
         (node_alarmed (log_of events) time number at node before is sweep first index.swept)
-        (λ other apart. (other_alarm other apart, λ t e. absurd cc)))
+        (λ other apart. (ne_eqb node other (λ e. apart (sym e)), λ t e. absurd cc)))
         (last_sweep_kept (log_of events) (Alarm time node) sweep (λ t e. absurd cc) index.swept)
         (λ t n e. (let it : node ≡ n = cc in subst (λ (m : ℕ). alarm_among events m ≡ None) it first))
-      where
-        other_alarm : (other : ℕ) → (other ≡ node → ⊥) → alarm_place (Alarm time node ∷ []) other ≡ None
-        other_alarm other apart = elim (eqb_tells node other) [
-          | inl it ↦ absurd (apart (sym it.1))
-          | inr distinct ↦ alarm_place_other time node other distinct.0
-        ]

@@ -8,9 +8,9 @@ use Rattle.tfpg_base.proofs.lists.Elements.{All-from_members}
 use Rattle.tfpg_graph.specs.declared.edge.Edge.{Edge}
 use Rattle.tfpg_graph.specs.Graph.{Tfpg, edges_into}
 use Rattle.tfpg_log.specs.declared.span.Window.{Window}
-use Rattle.tfpg_log.specs.Log.{Logbook}
+use Rattle.tfpg_log.specs.Log.{Logbook, is_allowed_at}
 use Rattle.tfpg_log.specs.Rules.{IsActive, HasAge}
-use Rattle.tfpg_log.specs.Spans.{is_allowed_at, are_allowed_at, joint_of}
+use Rattle.tfpg_log.specs.Spans.{are_allowed_at, joint_of}
 use Rattle.tfpg_log.specs.AgeInWindow.{HasAgeInWindow}
 use Rattle.tfpg_log.proofs.MaximalRuns.{holds_since}
 use Rattle.tfpg_log.proofs.WindowAges.{by_window}

@@ -1,33 +1,20 @@
 -- A joint window is what the windows of all edges into a node have in common.
-use Rattle.std.proofs.Common.{◌≡◌, ℕ, ◌+◌, ◌-◌, ◌<◌, ◌≤◌, Bool, true, false, List, [], ◌∷◌, Some, inl, inr, refl, sym, ap, subst, ◌∙◌, arith}
-use Rattle.std.specs.Prelude.{IsTrue, Contains, ◌&&◌}
+use Rattle.std.proofs.Common.{◌≡◌, ℕ, ◌+◌, ◌-◌, ◌<◌, ◌≤◌, false, Some, inl, inr, refl, subst, arith}
+use Rattle.std.specs.Prelude.{IsTrue, Contains}
 use Rattle.std.specs.List.{list_all}
-use Rattle.std.proofs.lemmas.Bool.{both_ways, false_from_ne_true, cases_Bool, cases_lt}
-use Rattle.std.proofs.lemmas.List.Elements.{All-contains}
+use Rattle.std.proofs.lemmas.Bool.{both_ways, false_from_ne_true, cases_lt}
 use Rattle.std.proofs.lemmas.List.Sums.{AllPass-from_list_all}
-use Rattle.tfpg_base.proofs.lists.Elements.{Contains-head, Contains-tail}
+use Rattle.tfpg_base.proofs.lists.Elements.{list_all-fails, list_all-each}
 use Rattle.tfpg_graph.specs.declared.edge.Edge.{Edge}
 use Rattle.tfpg_graph.specs.Graph.{Tfpg, is_allowed, edges_into}
 use Rattle.tfpg_log.specs.declared.span.Window.{Window}
-use Rattle.tfpg_log.specs.Log.{Logbook, now_of, mode_at}
-use Rattle.tfpg_log.specs.Spans.{span_number, is_allowed_at, are_allowed_at, window_of, joint_of}
+use Rattle.tfpg_log.specs.Log.{Logbook, now_of, mode_at, is_allowed_at}
+use Rattle.tfpg_log.specs.Spans.{span_number, are_allowed_at, window_of, joint_of}
 use Rattle.tfpg_log.specs.Runs.{LiesIn, IsWindowRound}
 use Rattle.tfpg_log.proofs.MaximalRuns.{takes_in}
 use Rattle.tfpg_log.proofs.SpanRuns.{is_span, has_span}
 use Rattle.tfpg_log.proofs.WindowRuns.{edge_window_there, node_window, node_window_there}
 use Rattle.tfpg_log.proofs.WindowInstants.{lies_in, round_each, is_window}
-
--- where not all pass, some member fails
-some_fails : {X : Type 0} (p : X → Bool) (xs : List X) → list_all p xs ≡ false → (x : X) × Contains xs x × (p x ≡ false)
-some_fails p [] fails = absurd cc
-some_fails p (x ∷ xs) fails = elim (cases_Bool (p x)) [
-  | inl passes ↦ (let more = some_fails p xs (sym (ap (λ (b : Bool). b && list_all p xs) passes) ∙ fails) in (more.0, Contains-tail x xs more.0 more.1, more.2))
-  | inr here ↦ (x, Contains-head x xs, here)
-]
-
--- where all pass, each member does
-each_passes : {X : Type 0} (p : X → Bool) (xs : List X) (x : X) → list_all p xs ≡ true → Contains xs x → p x ≡ true
-each_passes p xs x all member = All-contains (λ y. p y ≡ true) xs x (AllPass-from_list_all p xs all) member
 
 module _ (graph : Tfpg) (log : Logbook) (node : ℕ) where
   -- The joint windows of a node are runs.
@@ -67,7 +54,7 @@ module _ (graph : Tfpg) (log : Logbook) (node : ℕ) where
     -- Each edge is active throughout.
     pub allowed_throughout : (edge : Edge) → Contains (edges_into graph node) edge → (x : ℕ) → joint.lo ≤ x → x ≤ joint.hi → IsTrue (is_allowed_at log edge x)
     allowed_throughout edge member x from upto =
-        each_passes (λ other. is_allowed_at log other x) (edges_into graph node) edge ((is_joint number horizon joint e).run.throughout x from upto) member
+        list_all-each (λ other. is_allowed_at log other x) (edges_into graph node) edge ((is_joint number horizon joint e).run.throughout x from upto) member
 
     -- it has a span in common with the window of each edge
     meets_window : (edge : Edge) (window : Window) → IsWindowRound log (is_allowed_at log edge) number horizon window → (window.lo ≤ joint.hi) × (joint.lo ≤ window.hi)
@@ -101,7 +88,7 @@ module _ (graph : Tfpg) (log : Logbook) (node : ℕ) where
         let is = is_joint number horizon joint e in
         let before : ℕ = joint.lo - 1 in
         let fails : are_allowed_at graph log node before ≡ false = false_from_ne_true (are_allowed_at graph log node before) (is.run.not_before before (omega arith)) in
-        let some = some_fails (λ edge. is_allowed_at log edge before) (edges_into graph node) fails in
+        let some = list_all-fails (λ edge. is_allowed_at log edge before) (edges_into graph node) fails in
         let window = of_each some.0 some.1 in
         let run = (is_window log some.0 number horizon window.0 window.1).run in
         let from : joint.lo ≤ window.0.lo = elim (cases_lt window.0.lo joint.lo) [
@@ -117,7 +104,7 @@ module _ (graph : Tfpg) (log : Logbook) (node : ℕ) where
         let is = is_joint number horizon joint e in
         let behind : ℕ = joint.hi + 1 in
         let fails : are_allowed_at graph log node behind ≡ false = false_from_ne_true (are_allowed_at graph log node behind) (is.run.not_after behind refl (omega arith)) in
-        let some = some_fails (λ edge. is_allowed_at log edge behind) (edges_into graph node) fails in
+        let some = list_all-fails (λ edge. is_allowed_at log edge behind) (edges_into graph node) fails in
         let window = of_each some.0 some.1 in
         let run = (is_window log some.0 number horizon window.0 window.1).run in
         let upto : window.0.hi ≤ joint.hi = elim (cases_lt joint.hi window.0.hi) [

@@ -1,7 +1,9 @@
 -- The last event that silences a node is the later of its own last silence and of the last sweep that silences it.
-use Rattle.std.proofs.Common.{◌≡◌, ℕ, ◌-◌, ◌<◌, max, Bool, true, false, cond, eqb, take, Option, Some, None, ◌⊎◌, inl, inr, refl, sym, ap, subst, ◌∙◌, arith}
-use Rattle.std.specs.Prelude.{◌&&◌, IsTrue, is_none, option_and_then}
-use Rattle.std.proofs.lemmas.Bool.{eqb-true, lt-ltb, ltb-true, cases_lt}
+use Rattle.std.proofs.Common.{◌≡◌, ℕ, ◌-◌, ◌<◌, max, true, cond, eqb, take, Option, Some, None, ◌⊎◌, inl, inr, refl, sym, ap, subst, ◌∙◌, arith}
+use Rattle.std.specs.Prelude.{◌&&◌, is_none, option_and_then}
+use Rattle.std.proofs.lemmas.Bool.{eqb-true, lt-ltb, ltb-true, cases_lt, and_from, and_parts}
+use Rattle.std.proofs.lemmas.Option.{cond_some}
+use Rattle.tfpg_base.proofs.lists.Choices.{none-from_never}
 use Rattle.tfpg_graph.specs.Graph.{Tfpg, is_monitored}
 use Rattle.tfpg_log.specs.declared.event.Event.{Event}
 use Rattle.tfpg_log.specs.declared.event.Event.TheVariants.{Alarm, Silent, Sweep, Tick, Mode}
@@ -12,19 +14,11 @@ use Rattle.tfpg_log.proofs.AlarmPlaces.{same_node}
 use Rattle.tfpg_log.proofs.AlarmEvents.{alarm_event_is, none_before_alarm, none_before_none}
 use Rattle.tfpg_log.proofs.NodesEvents.{last_carried}
 
-both : (first second : Bool) → first ≡ true → second ≡ true → IsTrue (first && second)
-both true second e f = f
-both false second e f = absurd cc
-
-second_of : (first second : Bool) → IsTrue (first && second) → second ≡ true
-second_of true second e = e
-second_of false second e = absurd cc
-
 -- ---- sweeps
 
 module _ (graph : Tfpg) (log : Logbook) (node : ℕ) (monitored : is_monitored graph node ≡ true) where
   swept_where : (number : ℕ) → IsSweep log number → is_none (alarm_among (take (number - 1) log.events) node) ≡ true → IsSwept graph log node number
-  swept_where number sweep none = (sweep, both (is_monitored graph node) (is_none (alarm_among (take (number - 1) log.events) node)) monitored none)
+  swept_where number sweep none = (sweep, and_from (is_monitored graph node) (is_none (alarm_among (take (number - 1) log.events) node)) monitored none)
 
   -- none of the events before it is an alarm, where it is before the alarm
   before_alarm : (alarm number : ℕ) → alarm_event log node ≡ Some alarm → number < alarm → is_none (alarm_among (take (number - 1) log.events) node) ≡ true
@@ -33,7 +27,7 @@ module _ (graph : Tfpg) (log : Logbook) (node : ℕ) (monitored : is_monitored g
   -- a sweep that silences the node is before its alarm
   swept_before : (alarm number : ℕ) → alarm_event log node ≡ Some alarm → IsSwept graph log node number → number < alarm
   swept_before alarm number e swept =
-      let none : is_none (alarm_among (take (number - 1) log.events) node) ≡ true = second_of (is_monitored graph node) (is_none (alarm_among (take (number - 1) log.events) node)) swept.1 in
+      let none : is_none (alarm_among (take (number - 1) log.events) node) ≡ true = (and_parts (is_monitored graph node) (is_none (alarm_among (take (number - 1) log.events) node)) swept.1).1 in
       let lt : number - 1 < alarm = ltb-true (number - 1) alarm (sym (none_before_alarm log (number - 1) node alarm e) ∙ none) in
       let is = alarm_event_is log node alarm e in
       elim (cases_lt number alarm) [
@@ -116,34 +110,26 @@ module _ (graph : Tfpg) (log : Logbook) (node : ℕ) where
         ∙ ap (λ b. cond b (Some swept.0.0) None) swept.1,
   )
 
-  by_test : (number time own : ℕ) (is_it : Bool) → cond is_it (Some own) None ≡ Some time → is_it ≡ true
-  by_test number time own true e = refl
-  by_test number time own false e = absurd cc
-
   by_event : (number time : ℕ) (event : Option Event) → event_at log number ≡ event
       → option_and_then (λ event. quiet_time graph (take (number - 1) log.events) event node) event ≡ Some time → IsOwnSilence log node number ⊎ IsSwept graph log node number
   by_event number time None at e = absurd cc
   by_event number time (Some (Alarm own alarmed)) at e = absurd cc
   by_event number time (Some (Silent own silent)) at e =
-      let same : silent ≡ node = eqb-true silent node (by_test number time own (eqb silent node) e) in
+      let same : silent ≡ node = eqb-true silent node (cond_some (eqb silent node) own time e).0 in
       inl (own, at ∙ ap (λ n. Some (Silent own n)) same)
-  by_event number time (Some (Sweep own)) at e = inr ((own, at), by_test number time own (is_monitored graph node && is_none (alarm_among (take (number - 1) log.events) node)) e)
+  by_event number time (Some (Sweep own)) at e = inr ((own, at), (cond_some (is_monitored graph node && is_none (alarm_among (take (number - 1) log.events) node)) own time e).0)
   by_event number time (Some (Tick own)) at e = absurd cc
   by_event number time (Some (Mode own mode)) at e = absurd cc
 
   silences_by : (number : ℕ) → Silences graph log node number → IsOwnSilence log node number ⊎ IsSwept graph log node number
   silences_by number silences = by_event number silences.0 (event_at log number) refl silences.1
 
-  none_where : (found : Option ℕ) → ((time : ℕ) × (found ≡ Some time) → ⊥) → found ≡ None
-  none_where None never = refl
-  none_where (Some time) never = absurd (never (time, refl))
-
   as_quiet : (result : Option ℕ) → IsLast (Silences graph log node) result → IsLastQuiet graph log node result
-  as_quiet None is = λ number. none_where (quiet_at graph log number node) (is number)
+  as_quiet None is = λ number. none-from_never (quiet_at graph log number node) (λ time e. is number (time, e))
   as_quiet (Some number) is = record {
     time = is.0.0;
     silent = is.0.1;
-    last = λ later above. none_where (quiet_at graph log later node) (is.1 later above);
+    last = λ later above. none-from_never (quiet_at graph log later node) (λ time e. is.1 later above (time, e));
   }
 
   -- The last event that silences the node is the later of its own last silence and of the last sweep that does.

@@ -7,7 +7,8 @@ use Rattle.tfpg_log.specs.declared.event.Offered.{Offered}
 use Rattle.tfpg_log.specs.declared.event.Offered.TheVariants.{Accepted, Refused}
 use Rattle.tfpg_log.specs.Log.{Logbook, IsOf, IsOrdered}
 use Rattle.tfpg_log.specs.Accepted.{reply_to}
-use Rattle.tfpg_log.specs.LogOfLines.{new_log, log_after_reply, is_too_long, log_after, log_of_lines}
+use Rattle.tfpg_log.specs.LogOfLines.{new_log, log_after_reply, log_after, log_of_lines}
+use Rattle.tfpg_base.specs.Lines.{is_too_long}
 use Rattle.tfpg_log.proofs.Accepting.{accepted_may_come, of-with_event}
 use Rattle.tfpg_log.proofs.Order.{ordered-with_event}
 

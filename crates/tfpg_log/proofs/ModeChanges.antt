@@ -17,7 +17,7 @@ mode_after-push held (Sweep time ∷ events) event instant = mode_after-push hel
 mode_after-push held (Tick time ∷ events) event instant = mode_after-push held events event instant
 mode_after-push held (Mode time mode ∷ events) event instant = mode_after-push (cond (ltb time instant) mode held) events event instant
 
--- up to the time of a change of mode the modes are as before it
+-- up to the time of a change of mode the modes are unchanged by it
 pub mode_before_change : (events : List Event) (time mode instant : ℕ) → instant ≤ time
     → mode_after 0 (events ++ Mode time mode ∷ []) instant ≡ mode_after 0 events instant
 mode_before_change events time mode instant by =

@@ -1,16 +1,11 @@
 -- The modes in which all edges into a node are active at once.
-use Rattle.std.proofs.Common.{◌≡◌, ℕ, suc, ◌+◌, ◌<◌, Bool, true, false, cond, eqb, List, [], ◌∷◌, length, take, filter, get_or, min, Option, Some, None, slice_get, ◌&&◌, refl, sym, ap, ◌∙◌, arith}
+use Rattle.std.proofs.Common.{◌≡◌, ℕ, suc, ◌+◌, ◌<◌, Bool, true, false, cond, eqb, List, [], ◌∷◌, length, take, filter, get_or, Option, Some, None, slice_get, ◌&&◌, refl, sym, ap, ◌∙◌, arith}
 use Rattle.std.specs.List.{list_all}
-use Rattle.std.specs.Int.{bit_at}
-use Rattle.std.specs.Prelude.{bit_and}
-use Rattle.std.proofs.lemmas.Bool.Decides.{nat_tests}
 use Rattle.std.proofs.lemmas.List.Folds.{list_all_more}
-use Rattle.std.proofs.lemmas.Nat.Bits.{bit_at-lt, bit_at_and}
 use Rattle.tfpg_graph.specs.declared.edge.Edge.{Edge}
 use Rattle.tfpg_graph.specs.Graph.{Tfpg, incoming, edges_into, is_allowed}
 use Rattle.tfpg_base.specs.Choice.{numbers_from}
 use Rattle.tfpg_log.specs.declared.active_modes.ActiveModes.{ActiveModes}
-use Rattle.tfpg_log.specs.declared.active_modes.ActiveModes.TheVariants.{OfEdge}
 use Rattle.tfpg_log.specs.inside.ActiveModes.{has_mode}
 
 -- the edge is there and active in the mode
@@ -21,17 +16,6 @@ is_there_allowed (Some edge) mode = is_allowed edge mode
 -- the edges of these numbers are active in the mode
 abbrev pub are_allowed : List Edge → List ℕ → ℕ → Bool
 are_allowed edges numbers mode = list_all (λ number. is_there_allowed (slice_get edges number) mode) numbers
-
-both_ones : (one other both : ℕ) → one < 2 → other < 2 → both ≡ min one other → eqb both 1 ≡ (eqb one 1 && eqb other 1)
-both_ones one other both small low least = grind (arith, nat_tests)
-
--- an edge is active in both modes' common bits where each has it
-pub both_edges : (modes : ActiveModes) (own edge : Edge) → modes ≡ OfEdge own → (mode : ℕ)
-    → eqb (bit_at (bit_and own.modes edge.modes) mode) 1 ≡ (has_mode modes mode && is_allowed edge mode)
-both_edges modes own edge is mode =
-    both_ones (bit_at own.modes mode) (bit_at edge.modes mode) (bit_at (bit_and own.modes edge.modes) mode)
-    (bit_at-lt own.modes mode) (bit_at-lt edge.modes mode) (bit_at_and own.modes edge.modes mode)
-    ∙ ap (λ m. has_mode m mode && is_allowed edge mode) (sym is)
 
 -- one edge more
 pub allowed_more : (edges : List Edge) (numbers : List ℕ) (place : ℕ) (edge : Edge) (modes more : ActiveModes) → place < length numbers

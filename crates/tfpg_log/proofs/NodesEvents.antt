@@ -1,15 +1,16 @@
 -- Which events bound when a node became active, as one more event comes.
-use Rattle.std.proofs.Common.{◌≡◌, ℕ, zero, suc, ◌<◌, ◌≤◌, [], ◌∷◌, length, Option, Some, None, ◌⊎◌, inl, inr, refl, sym, ap, ◌∙◌, arith}
+use Rattle.std.proofs.Common.{◌≡◌, ℕ, zero, suc, ◌<◌, ◌≤◌, false, length, Option, Some, None, ◌⊎◌, inl, inr, refl, sym, ap, ◌∙◌, arith}
 use Rattle.std.specs.Prelude.{option_map}
 use Rattle.std.proofs.lemmas.Option.{slice_get_within}
+use Rattle.tfpg_base.proofs.lists.Positions.{position-push_no}
 use Rattle.tfpg_base.proofs.lists.Written.{slice_get-push_cases}
 use Rattle.tfpg_log.specs.declared.event.Event.{Event}
 use Rattle.tfpg_log.specs.declared.event.Event.TheVariants.{Alarm, Silent, Sweep}
 use Rattle.tfpg_log.specs.declared.node_events.NodeEvents.{NodeEvents}
-use Rattle.tfpg_log.specs.Log.{Logbook, event_at, with_event, alarm_among, alarm_place, alarm_event}
+use Rattle.tfpg_log.specs.Log.{Logbook, event_at, with_event, is_alarm_of, alarm_among, alarm_event}
 use Rattle.tfpg_log.specs.inside.NodeEvents.{IsLast, IsOwnSilence, IsSweep, IsSweepBefore, IsNodeEvents}
 use Rattle.tfpg_log.proofs.Events.{event_at-with_event, event_at-last}
-use Rattle.tfpg_log.proofs.AlarmPlaces.{alarm_place_quiet, alarm_place_new}
+use Rattle.tfpg_log.proofs.AlarmPlaces.{alarm_index_new}
 use Rattle.tfpg_log.proofs.AlarmEvents.{alarm_event_within}
 
 -- ---- the last number of which something holds
@@ -82,10 +83,10 @@ module _ (log : Logbook) (event : Event) where
 
   -- ---- the node that the event is not about
 
-  alarm_event_kept : (node : ℕ) → alarm_place (event ∷ []) node ≡ None → alarm_event (with_event log event) node ≡ alarm_event log node
-  alarm_event_kept node quiet = ap (option_map suc) (alarm_place_quiet log.events event node quiet)
+  alarm_event_kept : (node : ℕ) → is_alarm_of node event ≡ false → alarm_event (with_event log event) node ≡ alarm_event log node
+  alarm_event_kept node quiet = ap (option_map suc) (position-push_no (is_alarm_of node) log.events event quiet)
 
-  sweeps_kept : (node : ℕ) (result : Option ℕ) → alarm_place (event ∷ []) node ≡ None
+  sweeps_kept : (node : ℕ) (result : Option ℕ) → is_alarm_of node event ≡ false
       → ((alarm : ℕ) → alarm_event log node ≡ Some alarm → IsLast (IsSweepBefore log alarm) result)
       → (alarm : ℕ) → alarm_event (with_event log event) node ≡ Some alarm → IsLast (IsSweepBefore (with_event log event) alarm) result
   sweeps_kept node result quiet sweep alarm e =
@@ -93,7 +94,7 @@ module _ (log : Logbook) (event : Event) where
       last_sweep_before_kept alarm result ((alarm_event_within log node alarm at).1) (sweep alarm at)
 
   -- An event that is no alarm and no silence of the node leaves what is kept of it.
-  pub node_kept : (node : ℕ) (events : NodeEvents) → alarm_place (event ∷ []) node ≡ None → ((time : ℕ) → event ≡ Silent time node → ⊥) → IsNodeEvents log node events
+  pub node_kept : (node : ℕ) (events : NodeEvents) → is_alarm_of node event ≡ false → ((time : ℕ) → event ≡ Silent time node → ⊥) → IsNodeEvents log node events
       → IsNodeEvents (with_event log event) node events
   node_kept node events quiet other is = record {
     alarm = is.alarm ∙ sym (alarm_event_kept node quiet);
@@ -134,7 +135,7 @@ module _ (log : Logbook) (time number : ℕ) (at : number ≡ suc (length log.ev
         → IsNodeEvents (with_event log (Alarm time node)) node (record { alarm = Some number; silence = events.silence; sweep = sweep })
     node_alarmed sweep first last =
         let alarm : alarm_event (with_event log (Alarm time node)) node ≡ Some number =
-        ap (option_map suc) (alarm_place_new log.events time node first) ∙ ap Some (sym at) in
+        ap (option_map suc) (alarm_index_new log.events time node first) ∙ ap Some (sym at) in
         record {
           alarm = sym alarm;
           silence = last_silence_kept log (Alarm time node) node events.silence (λ t e. absurd cc) is.silence;
@@ -151,7 +152,7 @@ module _ (log : Logbook) (time number : ℕ) (at : number ≡ suc (length log.ev
         before : (other : ℕ) → alarm_event (with_event log (Alarm time node)) node ≡ Some other → (n : ℕ) → IsSweep log n → n < other
         before other e n swept =
             let alarm : alarm_event (with_event log (Alarm time node)) node ≡ Some (suc (length log.events)) =
-            ap (option_map suc) (alarm_place_new log.events time node first) in
+            ap (option_map suc) (alarm_index_new log.events time node first) in
             let same : other ≡ suc (length log.events) = cc in
             omega (arith, same, event_within log (Sweep swept.0) n swept.1)
 

@@ -4,7 +4,7 @@ use Rattle.std.specs.Prelude.{AllPairs, fold}
 use Rattle.std.proofs.lemmas.Bool.{cases_lt}
 use Rattle.std.proofs.lemmas.List.Elements.{All-push}
 use Rattle.std.proofs.lemmas.List.Quantifiers.{all_pairs_push}
-use Rattle.tfpg_base.specs.Times.{max_time}
+use Rattle.tfpg_base.specs.declared.limits.TheConstants.{MAX_TIME}
 use Rattle.tfpg_log.specs.declared.event.Event.{Event}
 use Rattle.tfpg_log.specs.Log.{Logbook, now_of, time_of_event, with_event, IsOrdered}
 
@@ -28,9 +28,9 @@ some_length [] k lt = absurd (omega arith)
 some_length (event ∷ events) k lt = (length events, refl)
 
 -- A log with one more event, at now or later and not too late, is in order.
-pub ordered-with_event : (log : Logbook) (event : Event) → IsOrdered log → now_of log ≤ time_of_event event → time_of_event event ≤ max_time → IsOrdered (with_event log event)
+pub ordered-with_event : (log : Logbook) (event : Event) → IsOrdered log → now_of log ≤ time_of_event event → time_of_event event ≤ MAX_TIME → IsOrdered (with_event log event)
 ordered-with_event log event ordered not_back in_range = record {
   in_order = all_pairs_push (λ earlier later. time_of_event earlier ≤ time_of_event later) log.events event ordered.in_order
       (λ k d lt. let last = some_length log.events k lt in omega (arith, before_now log.events ordered.in_order k last.0 d last.1 (omega (arith, lt, last.1)), not_back));
-  in_range = All-push (λ e. time_of_event e ≤ max_time) log.events event ordered.in_range in_range;
+  in_range = All-push (λ e. time_of_event e ≤ MAX_TIME) log.events event ordered.in_range in_range;
 }

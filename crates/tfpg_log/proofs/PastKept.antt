@@ -1,20 +1,23 @@
 -- A log that goes on keeps its past.
-use Rattle.std.proofs.Common.{◌≡◌, ℕ, zero, suc, ◌-◌, ◌≤◌, Bool, true, false, cond, ltb, eqb, List, [], ◌∷◌, ◌++◌, length, take, Option, Some, None, refl, sym, ap, subst, ◌∙◌, arith}
-use Rattle.std.specs.Prelude.{◌↔◌, fold, All, AllPairs, IsTrue, slice_get, option_map, option_and_then}
+use Rattle.std.proofs.Common.{◌≡◌, ℕ, zero, suc, ◌-◌, ◌≤◌, Bool, cond, ltb, List, [], ◌∷◌, ◌++◌, length, take, Some, refl, sym, ap, subst, ◌∙◌, arith}
+use Rattle.std.specs.Prelude.{◌↔◌, fold, All, AllPairs, IsTrue, slice_get, find, option_map, option_and_then}
+use Rattle.std.specs.Option.{option_or}
 use Rattle.std.proofs.lemmas.Bool.{le-ltb}
+use Rattle.std.proofs.lemmas.List.{take-append-le}
 use Rattle.std.proofs.lemmas.List.Elements.{All-tail}
 use Rattle.tfpg_base.specs.declared.activation.Activation.{Activation}
-use Rattle.tfpg_base.proofs.lists.Cuts.{take-append_left}
+use Rattle.std.proofs.lemmas.List.Folds.{find-append}
+use Rattle.tfpg_base.proofs.lists.Choices.{option_map-some}
 use Rattle.tfpg_base.proofs.lists.Elements.{AllPairs-head, AllPairs-tail}
 use Rattle.tfpg_base.proofs.lists.Written.{slice_get-append_left, slice_get-append_some}
 use Rattle.tfpg_graph.specs.declared.edge.Edge.{Edge}
 use Rattle.tfpg_graph.specs.Graph.{Tfpg, is_allowed}
 use Rattle.tfpg_log.specs.declared.event.Event.{Event}
 use Rattle.tfpg_log.specs.declared.event.Event.TheVariants.{Alarm, Silent, Sweep, Tick, Mode}
-use Rattle.tfpg_log.specs.Log.{Logbook, GoesOn, IsOrdered, now_of, event_at, alarm_among, alarm_of, alarm_place, alarm_event, quiet_time, quiet_at, time_of_event, mode_after, mode_at}
+use Rattle.tfpg_log.specs.Log.{Logbook, GoesOn, IsOrdered, now_of, event_at, is_alarm_of, alarm_among, alarm_of, alarm_index, alarm_event, quiet_time, quiet_at, time_of_event, mode_after, mode_at}
 use Rattle.tfpg_log.specs.Rules.{HasAge}
 use Rattle.tfpg_log.specs.Spans.{span_number, span_at, window_of, joint_of}
-use Rattle.tfpg_log.proofs.AlarmEvents.{number_of_place}
+use Rattle.tfpg_base.proofs.lists.FirstFound.{position-append}
 use Rattle.tfpg_log.proofs.SameModes.{same_number, same_span, same_window, same_joint}
 
 -- the times of the events never fall
@@ -131,44 +134,22 @@ events_kept earlier later goes_on zero event e = absurd cc
 events_kept earlier later goes_on (suc before) event e =
     ap (λ events. slice_get events before) goes_on.1 ∙ slice_get-append_some earlier.events goes_on.0 before event e
 
-alarm_or : (is_it : Bool) (time found : ℕ) (rest longer : Option ℕ) → (rest ≡ Some found → longer ≡ Some found) → cond is_it (Some time) rest ≡ Some found
-    → cond is_it (Some time) longer ≡ Some found
-alarm_or true time found rest longer kept e = e
-alarm_or false time found rest longer kept e = kept e
-
-alarm_kept : (events more : List Event) (node time : ℕ) → alarm_among events node ≡ Some time → alarm_among (events ++ more) node ≡ Some time
-alarm_kept [] more node time e = absurd cc
-alarm_kept (Alarm at alarmed ∷ events) more node time e =
-    alarm_or (eqb alarmed node) at time (alarm_among events node) (alarm_among (events ++ more) node) (alarm_kept events more node time) e
-alarm_kept (Silent at silent ∷ events) more node time e = alarm_kept events more node time e
-alarm_kept (Sweep at ∷ events) more node time e = alarm_kept events more node time e
-alarm_kept (Tick at ∷ events) more node time e = alarm_kept events more node time e
-alarm_kept (Mode at mode ∷ events) more node time e = alarm_kept events more node time e
-
 -- An alarm keeps its time.
 pub alarms_kept : (earlier later : Logbook) → GoesOn earlier later → (node time : ℕ) → alarm_of earlier node ≡ Some time → alarm_of later node ≡ Some time
-alarms_kept earlier later goes_on node time e = ap (λ events. alarm_among events node) goes_on.1 ∙ alarm_kept earlier.events goes_on.0 node time e
-
-alarm_event_or : (is_it : Bool) (place : ℕ) (rest longer : Option ℕ) → ((p : ℕ) → rest ≡ Some p → longer ≡ Some p) → cond is_it (Some 0) (option_map suc rest) ≡ Some place
-    → cond is_it (Some 0) (option_map suc longer) ≡ Some place
-alarm_event_or true place rest longer kept e = e
-alarm_event_or false place None longer kept e = absurd cc
-alarm_event_or false place (Some p) longer kept e = ap (option_map suc) (kept p refl) ∙ e
-
-place_kept : (events more : List Event) (node place : ℕ) → alarm_place events node ≡ Some place → alarm_place (events ++ more) node ≡ Some place
-place_kept [] more node place e = absurd cc
-place_kept (Alarm at alarmed ∷ events) more node place e =
-    alarm_event_or (eqb alarmed node) place (alarm_place events node) (alarm_place (events ++ more) node) (place_kept events more node) e
-place_kept (Silent at silent ∷ events) more node place e = alarm_event_or false place (alarm_place events node) (alarm_place (events ++ more) node) (place_kept events more node) e
-place_kept (Sweep at ∷ events) more node place e = alarm_event_or false place (alarm_place events node) (alarm_place (events ++ more) node) (place_kept events more node) e
-place_kept (Tick at ∷ events) more node place e = alarm_event_or false place (alarm_place events node) (alarm_place (events ++ more) node) (place_kept events more node) e
-place_kept (Mode at mode ∷ events) more node place e = alarm_event_or false place (alarm_place events node) (alarm_place (events ++ more) node) (place_kept events more node) e
+alarms_kept earlier later goes_on node time e =
+    let found = option_map-some time_of_event (find (is_alarm_of node) earlier.events) time e in
+    ap (λ events. alarm_among events node) goes_on.1
+    ∙ ap (option_map time_of_event)
+    (find-append (is_alarm_of node) earlier.events goes_on.0 ∙ ap (λ first. option_or first (find (is_alarm_of node) goes_on.0)) found.1)
+    ∙ ap Some found.2
 
 -- An alarm keeps its number.
 pub alarm_events_kept : (earlier later : Logbook) → GoesOn earlier later → (node number : ℕ) → alarm_event earlier node ≡ Some number → alarm_event later node ≡ Some number
 alarm_events_kept earlier later goes_on node number e =
-    let at = number_of_place (alarm_place earlier.events node) number e in
-    ap (λ events. option_map suc (alarm_place events node)) goes_on.1 ∙ ap (option_map suc) (place_kept earlier.events goes_on.0 node at.0 at.1) ∙ ap Some (sym at.2)
+    let at = option_map-some suc (alarm_index earlier.events node) number e in
+    ap (λ events. option_map suc (alarm_index events node)) goes_on.1
+    ∙ ap (option_map suc) (position-append (is_alarm_of node) earlier.events goes_on.0 at.0 at.1)
+    ∙ ap Some at.2
 
 -- An event that was there is a silence of the same nodes.
 pub silences_kept : (graph : Tfpg) (earlier later : Logbook) → GoesOn earlier later → (number node : ℕ) → number ≤ length earlier.events
@@ -177,5 +158,5 @@ silences_kept graph earlier later goes_on zero node within = refl
 silences_kept graph earlier later goes_on (suc before) node within =
     ap (λ events. option_and_then (λ event. quiet_time graph (take (suc before - 1) events) event node) (slice_get events before)) goes_on.1
     ∙ ap (λ first. option_and_then (λ event. quiet_time graph first event node) (slice_get (earlier.events ++ goes_on.0) before))
-    (take-append_left earlier.events goes_on.0 (suc before - 1) (omega arith))
+    (take-append-le (suc before - 1) earlier.events goes_on.0 (omega arith))
     ∙ ap (option_and_then (λ event. quiet_time graph (take (suc before - 1) earlier.events) event node)) (slice_get-append_left earlier.events goes_on.0 before (omega arith))

@@ -7,9 +7,9 @@ use Rattle.tfpg_graph.specs.declared.edge.Edge.{Edge}
 use Rattle.tfpg_graph.specs.Graph.{Tfpg, is_allowed, edges_into}
 use Rattle.tfpg_log.specs.declared.span.Span.{Span}
 use Rattle.tfpg_log.specs.declared.span.Window.{Window}
-use Rattle.tfpg_log.specs.Log.{Logbook, now_of, mode_at}
+use Rattle.tfpg_log.specs.Log.{Logbook, now_of, mode_at, is_allowed_at}
 use Rattle.std.specs.Option.{option_or}
-use Rattle.tfpg_log.specs.Spans.{least, greatest, span_number, span_between, span_at, run_start, run_end, window_between, window_round, is_allowed_at, are_allowed_at, window_of, joint_of}
+use Rattle.tfpg_log.specs.Spans.{least, greatest, span_number, span_between, span_at, run_start, run_end, window_between, window_round, are_allowed_at, window_of, joint_of}
 use Rattle.tfpg_log.proofs.Trials.{NonePassesUpTo, IsLeast, least_found}
 use Rattle.tfpg_log.proofs.SpanRuns.{found_span}
 

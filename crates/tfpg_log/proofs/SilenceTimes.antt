@@ -1,8 +1,8 @@
 -- The times of events that silence a node: of the last such event it is the greatest.
-use Rattle.std.proofs.Common.{◌≡◌, ℕ, zero, suc, ◌-◌, ◌≤◌, Bool, true, false, cond, eqb, List, get_or, take, Option, Some, None, inl, inr, refl, sym, ap, ◌∙◌, arith}
+use Rattle.std.proofs.Common.{◌≡◌, ℕ, zero, suc, ◌-◌, ◌≤◌, eqb, List, get_or, take, Option, Some, None, inl, inr, refl, sym, ap, ◌∙◌, arith}
 use Rattle.std.specs.Prelude.{◌&&◌, is_none, option_and_then, slice_get}
 use Rattle.std.proofs.lemmas.Bool.{cases_lt}
-use Rattle.std.proofs.lemmas.Option.{slice_get_within, get_or_from_slice_get}
+use Rattle.std.proofs.lemmas.Option.{cond_some, slice_get_within, get_or_from_slice_get}
 use Rattle.tfpg_graph.specs.Graph.{Tfpg, is_monitored}
 use Rattle.tfpg_log.specs.declared.event.Event.{Event}
 use Rattle.tfpg_log.specs.declared.event.Event.TheVariants.{Alarm, Silent, Sweep, Tick, Mode}
@@ -11,15 +11,11 @@ use Rattle.tfpg_log.specs.Quiet.{IsLastQuiet}
 use Rattle.tfpg_log.proofs.NodesEvents.{event_within}
 use Rattle.tfpg_log.proofs.PastKept.{silences_kept}
 
-own_time : (passes : Bool) (own time : ℕ) → cond passes (Some own) None ≡ Some time → time ≡ own
-own_time true own time e = cc
-own_time false own time e = absurd cc
-
 -- An event is a silence at its own time.
 pub silence_time : (graph : Tfpg) (before : List Event) (event : Event) (node time : ℕ) → quiet_time graph before event node ≡ Some time → time ≡ time_of_event event
 silence_time graph before (Alarm own alarmed) node time e = absurd cc
-silence_time graph before (Silent own silent) node time e = own_time (eqb silent node) own time e
-silence_time graph before (Sweep own) node time e = own_time (is_monitored graph node && is_none (alarm_among before node)) own time e
+silence_time graph before (Silent own silent) node time e = sym (cond_some (eqb silent node) own time e).1
+silence_time graph before (Sweep own) node time e = sym (cond_some (is_monitored graph node && is_none (alarm_among before node)) own time e).1
 silence_time graph before (Tick own) node time e = absurd cc
 silence_time graph before (Mode own mode) node time e = absurd cc
 

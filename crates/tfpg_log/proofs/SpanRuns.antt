@@ -18,7 +18,8 @@ count_rises before here count = omega arith
 mode_kept : (before here count : ℕ) → count + cond (eqb before here) 0 1 ≡ count → before ≡ here
 mode_kept before here count e = grind (arith, nat_tests)
 
-count_kept : (before here count : ℕ) → before ≡ here → count + cond (eqb before here) 0 1 ≡ count
+-- a mode that stays counts as no change
+pub count_kept : (before here count : ℕ) → before ≡ here → count + cond (eqb before here) 0 1 ≡ count
 count_kept before here count e = grind (arith, nat_tests)
 
 module _ (log : Logbook) where

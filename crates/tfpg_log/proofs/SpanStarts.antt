@@ -10,10 +10,7 @@ use Rattle.tfpg_log.specs.Spans.{span_number, span_at}
 use Rattle.tfpg_log.specs.Runs.{IsSpanOf}
 use Rattle.tfpg_log.specs.inside.SpanIndex.{change_at, begin_of_span, mode_of_span, end_of_span, span_in, IsInSpan, BeginSpans}
 use Rattle.tfpg_log.proofs.SpanChanges.{one_span}
-use Rattle.tfpg_log.proofs.SpanRuns.{is_span, span_is_found}
-
-count_kept : (before here count : ℕ) → before ≡ here → count + cond (eqb before here) 0 1 ≡ count
-count_kept before here count e = grind (arith, nat_tests)
+use Rattle.tfpg_log.proofs.SpanRuns.{count_kept, is_span, span_is_found}
 
 count_more : (before here count : ℕ) → (before ≡ here → ⊥) → count + cond (eqb before here) 0 1 ≡ suc count
 count_more before here count unlike = grind (arith, nat_tests)

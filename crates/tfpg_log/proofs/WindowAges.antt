@@ -5,9 +5,9 @@ use Rattle.tfpg_base.specs.declared.activation.Activation.{Activation}
 use Rattle.tfpg_base.specs.Trace.{time_of}
 use Rattle.tfpg_graph.specs.declared.edge.Edge.{Edge}
 use Rattle.tfpg_log.specs.declared.span.Window.{Window}
-use Rattle.tfpg_log.specs.Log.{Logbook, now_of}
+use Rattle.tfpg_log.specs.Log.{Logbook, now_of, is_allowed_at}
 use Rattle.tfpg_log.specs.Rules.{HasAge, IsAge}
-use Rattle.tfpg_log.specs.Spans.{span_number, is_allowed_at, window_of}
+use Rattle.tfpg_log.specs.Spans.{span_number, window_of}
 use Rattle.tfpg_log.specs.AgeInWindow.{HasAgeInWindow}
 use Rattle.tfpg_log.proofs.Ages.{age_since_start}
 use Rattle.tfpg_log.proofs.MaximalRuns.{holds_since}

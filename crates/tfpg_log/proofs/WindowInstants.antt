@@ -4,8 +4,8 @@ use Rattle.std.specs.Prelude.{IsTrue}
 use Rattle.tfpg_graph.specs.declared.edge.Edge.{Edge}
 use Rattle.tfpg_graph.specs.Graph.{is_allowed}
 use Rattle.tfpg_log.specs.declared.span.Window.{Window}
-use Rattle.tfpg_log.specs.Log.{Logbook, now_of, mode_at}
-use Rattle.tfpg_log.specs.Spans.{span_number, is_allowed_at, window_of}
+use Rattle.tfpg_log.specs.Log.{Logbook, now_of, mode_at, is_allowed_at}
+use Rattle.tfpg_log.specs.Spans.{span_number, window_of}
 use Rattle.tfpg_log.specs.Runs.{LiesIn, IsWindowRound}
 use Rattle.tfpg_log.proofs.MaximalRuns.{one_beginning}
 use Rattle.tfpg_log.proofs.SpanRuns.{is_span, has_span}

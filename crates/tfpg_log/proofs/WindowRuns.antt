@@ -8,8 +8,8 @@ use Rattle.tfpg_graph.specs.declared.edge.Edge.{Edge}
 use Rattle.tfpg_graph.specs.Graph.{Tfpg, is_allowed, edges_into}
 use Rattle.tfpg_log.specs.declared.span.Span.{Span}
 use Rattle.tfpg_log.specs.declared.span.Window.{Window}
-use Rattle.tfpg_log.specs.Log.{Logbook, mode_at}
-use Rattle.tfpg_log.specs.Spans.{span_number, span_at, run_start, run_end, window_between, window_round, is_allowed_at, are_allowed_at, window_of, joint_of}
+use Rattle.tfpg_log.specs.Log.{Logbook, mode_at, is_allowed_at}
+use Rattle.tfpg_log.specs.Spans.{span_number, span_at, run_start, run_end, window_between, window_round, are_allowed_at, window_of, joint_of}
 use Rattle.tfpg_log.specs.Runs.{IsMaximalRun, Overlaps, LiesIn, IsWindowRound}
 use Rattle.tfpg_log.proofs.MaximalRuns.{takes_in, one_run}
 use Rattle.tfpg_log.proofs.Trials.{NonePassesUpTo, IsGreatest, greatest_found, greatest_there}

@@ -1,9 +1,10 @@
 -- A line is read as the statement that it is written with.
-use Rattle.std.proofs.Common.{◌≡◌, ℕ, Bool, true, false, cond, eqb, List, [], ◌∷◌, length, Option, Some, None, refl, sym, ap, subst, ◌∙◌, arith}
+use Rattle.std.proofs.Common.{◌≡◌, ℕ, Bool, true, false, cond, eqb, List, [], ◌∷◌, length, Some, None, refl, sym, ap, subst, ◌∙◌, arith}
 use Rattle.std.specs.Prelude.{◌↔◌, All, codes, bytes_eq}
 use Rattle.std.specs.List.{list_any}
-use Rattle.std.proofs.lemmas.Slice.Eq.{bytes_eq-Decides}
 use Rattle.tfpg_base.specs.Words.{words_of, line_of}
+use Rattle.tfpg_base.proofs.lists.Choices.{cond-some_second}
+use Rattle.tfpg_base.proofs.lists.SameBytes.{bytes_eq-true}
 use Rattle.tfpg_base.proofs.Separators.{join_with_byte-words_of, slice_split-join}
 use Rattle.tfpg_graph.specs.Statements.{IsLineWord}
 use Rattle.tfpg_graph.proofs.lemmas.reading.LinesSay.{no_empty_word, no_space}
@@ -12,18 +13,15 @@ use Rattle.tfpg_log.specs.LogStatements.{LogStatement, Alarm, Silent, Sweep, Tic
 
 -- ---- statements
 
-is_text : (word text : List ℕ) → bytes_eq word text ≡ true → word ≡ text
-is_text word text same = (bytes_eq-Decides word text).0 same
-
 -- the words of a line with a statement are those of the statement
 read_alone : (time word : List ℕ) (sweep tick : Bool) (parts : List ℕ × LogStatement) → bytes_eq word (codes "sweep") ≡ sweep → bytes_eq word (codes "tick") ≡ tick
     → cond sweep (Some (time, Sweep)) (cond tick (Some (time, Tick)) None) ≡ Some parts → time ∷ word ∷ [] ≡ parts.0 ∷ words_of_log_statement parts.1
 read_alone time word true tick parts is also e =
     let same : (time, Sweep) ≡ parts = cc in
-    subst (λ (p : List ℕ × LogStatement). time ∷ word ∷ [] ≡ p.0 ∷ words_of_log_statement p.1) same (ap (λ w. time ∷ w ∷ []) (is_text word (codes "sweep") is))
+    subst (λ (p : List ℕ × LogStatement). time ∷ word ∷ [] ≡ p.0 ∷ words_of_log_statement p.1) same (ap (λ w. time ∷ w ∷ []) (bytes_eq-true word (codes "sweep") is))
 read_alone time word false true parts is also e =
     let same : (time, Tick) ≡ parts = cc in
-    subst (λ (p : List ℕ × LogStatement). time ∷ word ∷ [] ≡ p.0 ∷ words_of_log_statement p.1) same (ap (λ w. time ∷ w ∷ []) (is_text word (codes "tick") also))
+    subst (λ (p : List ℕ × LogStatement). time ∷ word ∷ [] ≡ p.0 ∷ words_of_log_statement p.1) same (ap (λ w. time ∷ w ∷ []) (bytes_eq-true word (codes "tick") also))
 read_alone time word false false parts is also e = absurd cc
 
 read_named : (time word name : List ℕ) (alarm silent mode : Bool) (parts : List ℕ × LogStatement)
@@ -32,13 +30,13 @@ read_named : (time word name : List ℕ) (alarm silent mode : Bool) (parts : Lis
     → time ∷ word ∷ name ∷ [] ≡ parts.0 ∷ words_of_log_statement parts.1
 read_named time word name true silent mode parts is also more e =
     let same : (time, Alarm name) ≡ parts = cc in
-    subst (λ (p : List ℕ × LogStatement). time ∷ word ∷ name ∷ [] ≡ p.0 ∷ words_of_log_statement p.1) same (ap (λ w. time ∷ w ∷ name ∷ []) (is_text word (codes "alarm") is))
+    subst (λ (p : List ℕ × LogStatement). time ∷ word ∷ name ∷ [] ≡ p.0 ∷ words_of_log_statement p.1) same (ap (λ w. time ∷ w ∷ name ∷ []) (bytes_eq-true word (codes "alarm") is))
 read_named time word name false true mode parts is also more e =
     let same : (time, Silent name) ≡ parts = cc in
-    subst (λ (p : List ℕ × LogStatement). time ∷ word ∷ name ∷ [] ≡ p.0 ∷ words_of_log_statement p.1) same (ap (λ w. time ∷ w ∷ name ∷ []) (is_text word (codes "silent") also))
+    subst (λ (p : List ℕ × LogStatement). time ∷ word ∷ name ∷ [] ≡ p.0 ∷ words_of_log_statement p.1) same (ap (λ w. time ∷ w ∷ name ∷ []) (bytes_eq-true word (codes "silent") also))
 read_named time word name false false true parts is also more e =
     let same : (time, Mode name) ≡ parts = cc in
-    subst (λ (p : List ℕ × LogStatement). time ∷ word ∷ name ∷ [] ≡ p.0 ∷ words_of_log_statement p.1) same (ap (λ w. time ∷ w ∷ name ∷ []) (is_text word (codes "mode") more))
+    subst (λ (p : List ℕ × LogStatement). time ∷ word ∷ name ∷ [] ≡ p.0 ∷ words_of_log_statement p.1) same (ap (λ w. time ∷ w ∷ name ∷ []) (bytes_eq-true word (codes "mode") more))
 read_named time word name false false false parts is also more e = absurd cc
 
 words_read : (words : List (List ℕ)) (parts : List ℕ × LogStatement) → log_statement_in words ≡ Some parts → words ≡ parts.0 ∷ words_of_log_statement parts.1
@@ -57,17 +55,13 @@ statement_read time Sweep = refl
 statement_read time Tick = refl
 statement_read time (Mode name) = refl
 
-unless_empty : (empty : Bool) (read : Option (List ℕ × LogStatement)) (parts : List ℕ × LogStatement) → cond empty None read ≡ Some parts → (empty ≡ false) × (read ≡ Some parts)
-unless_empty true read parts e = absurd cc
-unless_empty false read parts e = (refl, e)
-
 -- ---- lines
 
 -- A line is read as a statement exactly where it says it.
 pub read_as_written : (line time : List ℕ) (statement : LogStatement) → (log_statement_of line ≡ Some (time, statement)) ↔ SaysLogStatement line time statement
 read_as_written line time statement = (
   λ read.
-      let both = unless_empty (list_any (λ word. eqb (length word) 0) (words_of line)) (log_statement_in (words_of line)) (time, statement) read in
+      let both = cond-some_second (list_any (λ word. eqb (length word) 0) (words_of line)) (log_statement_in (words_of line)) (time, statement) read in
       let words : words_of line ≡ time ∷ words_of_log_statement statement = words_read (words_of line) (time, statement) both.1 in
       record {
         words = sym (join_with_byte-words_of line) ∙ ap line_of words;

@@ -5,7 +5,7 @@ use Rattle.std.specs.Option.{option_map_or}
 use Rattle.std.specs.Str.Parse.{digits_value}
 use Rattle.tfpg_base.specs.Choice.{first_of, unless_refused}
 use Rattle.tfpg_base.specs.Words.{is_number}
-use Rattle.tfpg_base.specs.Times.{max_time}
+use Rattle.tfpg_base.specs.declared.limits.TheConstants.{MAX_TIME}
 use Rattle.tfpg_graph.specs.Graph.{Tfpg, node_named, mode_named, is_monitored}
 use Rattle.tfpg_log.specs.declared.event.Event.{Event}
 use Rattle.tfpg_log.specs.declared.event.Event.TheVariants as kinds
@@ -21,7 +21,7 @@ use Rattle.tfpg_log.specs.LogStatements.{LogStatement, Alarm, Silent, Sweep, Tic
 abbrev pub time_refusals : ℕ → List ℕ → List (Option Refusal)
 time_refusals now time =
     then_some (not (is_number time)) BadNumber
-    ∷ then_some (nat_lt max_time (digits_value 10 time)) TimeTooLarge
+    ∷ then_some (nat_lt MAX_TIME (digits_value 10 time)) TimeTooLarge
     ∷ then_some (nat_lt (digits_value 10 time) now) (TimeBack now)
     ∷ []
 
@@ -54,8 +54,8 @@ statement_refusals graph log (Mode name) =
     ∷ then_some (nat_le MAX_MODE_CHANGES (count_by is_mode_change log.events)) ModesFull
     ∷ []
 
--- The event of a statement at a time. A name of the graph has its number; what another would have is never asked, since
--- that name is refused.
+-- The event of a statement at a time. A name of the graph has its number. What number another name gets does not
+-- matter, since that name is refused.
 abbrev pub event_of : Tfpg → ℕ → LogStatement → Event
 event_of graph time (Alarm name) = kinds.Alarm time (unwrap_or (node_named graph name) 0)
 event_of graph time (Silent name) = kinds.Silent time (unwrap_or (node_named graph name) 0)
@@ -71,8 +71,10 @@ offered (Err refusal) = Refused refusal
 -- A line with a statement is refused for the first test that holds. Where none does, its event is accepted.
 abbrev pub reply_to_statement : Tfpg → Logbook → List ℕ → LogStatement → Offered
 reply_to_statement graph log time statement =
-    offered (unless_refused (first_of (time_refusals (now_of log) time ++ statement_refusals graph log statement)) (event_of graph (digits_value 10 time) statement))
+    offered (unless_refused (first_of (time_refusals (now_of log) time ++ statement_refusals graph log statement))
+    (event_of graph (digits_value 10 time) statement))
 
 -- What becomes of a line that is offered to a log. One that says nothing is a bad line.
 abbrev pub reply_to : Tfpg → Logbook → List ℕ → Offered
-reply_to graph log line = option_map_or (λ parts. reply_to_statement graph log parts.0 parts.1) (log_statement_of line) (Refused BadLine)
+reply_to graph log line =
+    option_map_or (λ parts. reply_to_statement graph log parts.0 parts.1) (log_statement_of line) (Refused BadLine)

@@ -9,7 +9,8 @@ use Rattle.tfpg_log.specs.Spans.{window_of}
 
 -- By an instant both are at least so many milliseconds old: the edge's window round a span, up to a horizon, and the
 -- activation of its source.
-pub record HasAgeInWindow (log : Logbook) (trace : List Activation) (edge : Edge) (number horizon instant age : ℕ) : Type 0 where
+pub record HasAgeInWindow (log : Logbook) (trace : List Activation) (edge : Edge)
+    (number horizon instant age : ℕ) : Type 0 where
   pub window : Window
   pub there : window_of log edge number horizon ≡ Some window
   pub start : ℕ

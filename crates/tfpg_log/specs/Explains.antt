@@ -11,13 +11,15 @@ use Rattle.tfpg_log.specs.Rules.{IsActive, KeepsRules, IsTraceOf}
 -- The node became active at most its lag before the alarm, and not after it.
 abbrev pub ShowsAlarm : Tfpg → List Activation → ℕ → ℕ → Type 0
 ShowsAlarm graph trace node time =
-    (lag active : ℕ) × (lag_at graph node ≡ Some lag) × (time_of trace node ≡ Some active) × (time ≤ active + lag) × (active ≤ time)
+    (lag active : ℕ) × (lag_at graph node ≡ Some lag) × (time_of trace node ≡ Some active)
+    × (time ≤ active + lag) × (active ≤ time)
 
 -- The node is not active.
 abbrev pub ShowsSilence : List Activation → ℕ → ℕ → Type 0
 ShowsSilence trace node time = IsActive trace node time → ⊥
 
--- The trace shows an event, where these came before it. A sweep is a silence of each monitored node without an alarm so far.
+-- The trace shows an event, where these came before it. A sweep is a silence of each monitored node without an alarm so
+-- far.
 abbrev pub Shows : Tfpg → List Activation → List Event → Event → Type 0
 Shows graph trace before (Alarm time node) = ShowsAlarm graph trace node time
 Shows graph trace before (Silent time node) = ShowsSilence trace node time
@@ -26,7 +28,7 @@ Shows graph trace before (Sweep time) =
 Shows graph trace before (Tick time) = Unit {0}
 Shows graph trace before (Mode time mode) = Unit {0}
 
--- The trace shows each event. Places count from 0.
+-- The trace shows each event, by its index.
 abbrev pub ShowsAll : Tfpg → List Activation → List Event → Type 0
 ShowsAll graph trace events =
     (place : ℕ) (event : Event) → slice_get events place ≡ Some event → Shows graph trace (take place events) event
@@ -40,7 +42,8 @@ IsMember graph set node = (place : ℕ) × Contains set place × (failure_at gra
 pub record Explains (graph : Tfpg) (log : Logbook) (set : List ℕ) (trace : List Activation) : Type 0 where
   pub trace_of : IsTraceOf graph trace
   pub by_now : All (λ activation. activation.time ≤ now_of log) trace
-  pub from_set : All (λ activation. IsTrue (is_kind_at is_failure graph activation.node) → IsMember graph set activation.node) trace
+  pub from_set : All
+      (λ activation. IsTrue (is_kind_at is_failure graph activation.node) → IsMember graph set activation.node) trace
   pub rules : KeepsRules graph log trace
   pub shows : ShowsAll graph trace log.events
 

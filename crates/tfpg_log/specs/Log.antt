@@ -1,9 +1,11 @@
 -- What a log is: its events, its time, its alarms, and the mode of an instant.
-use Rattle.std.specs.Prelude.{◌≤◌, AllPairs, ◌≡◌, ℕ, zero, suc, ◌-◌, ◌<◌, List, [], ◌∷◌, ◌++◌, length, take, All, fold, Bool, true, false, ◌&&◌, nat_lt, ◌==◌, if◌then◌else◌, IsTrue, Option, Some, None, is_none, option_map, option_and_then, slice_get}
+use Rattle.std.specs.Prelude.{◌≤◌, AllPairs, ◌≡◌, ℕ, suc, ◌-◌, ◌<◌, List, [], ◌∷◌, ◌++◌, length, take, All, fold, Bool, true, false, ◌&&◌, nat_lt, ◌==◌, if◌then◌else◌, IsTrue, Option, Some, None, is_none, option_map, option_and_then, find, position}
 use Rattle.tfpg_log.specs.declared.event.Event.{Event}
 use Rattle.tfpg_log.specs.declared.event.Event.TheVariants.{Alarm, Silent, Sweep, Tick, Mode}
-use Rattle.tfpg_graph.specs.Graph.{Tfpg, is_monitored}
-use Rattle.tfpg_base.specs.Times.{max_time}
+use Rattle.tfpg_graph.specs.declared.edge.Edge.{Edge}
+use Rattle.tfpg_graph.specs.Graph.{Tfpg, is_monitored, is_allowed}
+use Rattle.tfpg_base.specs.Choice.{item_at}
+use Rattle.tfpg_base.specs.declared.limits.TheConstants.{MAX_TIME}
 
 -- a log: its events in order, numbered from 1
 pub record Logbook : Type 0 where
@@ -23,8 +25,7 @@ now_of log = fold (λ last event. time_of_event event) 0 log.events
 
 -- the event of a number
 abbrev pub event_at : Logbook → ℕ → Option Event
-event_at log zero = None
-event_at log (suc before) = slice_get log.events before
+event_at log number = item_at log.events number
 
 -- the log of the first events alone
 abbrev pub first_events : Logbook → ℕ → Logbook
@@ -38,32 +39,29 @@ with_event log event = record { events = log.events ++ event ∷ [] }
 abbrev pub GoesOn : Logbook → Logbook → Type 0
 GoesOn earlier later = (more : List Event) × (later.events ≡ earlier.events ++ more)
 
+-- whether an event is an alarm of the node
+abbrev pub is_alarm_of : ℕ → Event → Bool
+is_alarm_of node (Alarm time alarmed) = alarmed == node
+is_alarm_of node (Silent time silent) = false
+is_alarm_of node (Sweep time) = false
+is_alarm_of node (Tick time) = false
+is_alarm_of node (Mode time mode) = false
+
 -- the time of the first alarm of a node
 abbrev pub alarm_among : List Event → ℕ → Option ℕ
-alarm_among [] node = None
-alarm_among (Alarm time alarmed ∷ events) node = if alarmed == node then Some time else alarm_among events node
-alarm_among (Silent time silent ∷ events) node = alarm_among events node
-alarm_among (Sweep time ∷ events) node = alarm_among events node
-alarm_among (Tick time ∷ events) node = alarm_among events node
-alarm_among (Mode time mode ∷ events) node = alarm_among events node
+alarm_among events node = option_map time_of_event (find (is_alarm_of node) events)
 
 -- the time of the first alarm of a node in the log
 abbrev pub alarm_of : Logbook → ℕ → Option ℕ
 alarm_of log node = alarm_among log.events node
 
--- the place of the first alarm of a node among events; places count from 0
-abbrev pub alarm_place : List Event → ℕ → Option ℕ
-alarm_place [] node = None
-alarm_place (Alarm time alarmed ∷ events) node =
-    if alarmed == node then Some 0 else option_map suc (alarm_place events node)
-alarm_place (Silent time silent ∷ events) node = option_map suc (alarm_place events node)
-alarm_place (Sweep time ∷ events) node = option_map suc (alarm_place events node)
-alarm_place (Tick time ∷ events) node = option_map suc (alarm_place events node)
-alarm_place (Mode time mode ∷ events) node = option_map suc (alarm_place events node)
+-- the index of the first alarm of a node among events
+abbrev pub alarm_index : List Event → ℕ → Option ℕ
+alarm_index events node = position (is_alarm_of node) events
 
 -- the number of the event that is the first alarm of a node
 abbrev pub alarm_event : Logbook → ℕ → Option ℕ
-alarm_event log node = option_map suc (alarm_place log.events node)
+alarm_event log node = option_map suc (alarm_index log.events node)
 
 -- whether an event is a change of mode
 abbrev pub is_mode_change : Event → Bool
@@ -86,6 +84,10 @@ mode_after held (Tick time ∷ events) instant = mode_after held events instant
 -- change does not hold at its own instant, and of two with one time the later line decides.
 abbrev pub mode_at : Logbook → ℕ → ℕ
 mode_at log instant = mode_after 0 log.events instant
+
+-- the edge is active in the mode of the instant
+abbrev pub is_allowed_at : Logbook → Edge → ℕ → Bool
+is_allowed_at log edge instant = is_allowed edge (mode_at log instant)
 
 -- The time of the event, where it is a silence of the node and these came before it. A sweep is a silence of each
 -- monitored node without an alarm so far.
@@ -114,7 +116,8 @@ IsEventOf graph (Mode time mode) = mode < length graph.modes
 pub record IsOf (graph : Tfpg) (log : Logbook) : Type 0 where
   pub own : All (IsEventOf graph) log.events
 
--- The times of a log never fall from one event to the next, and none is too large. Each log that lines were offered to is so.
+-- The times of a log never fall from one event to the next, and none is too large. Each log made by offering lines is
+-- ordered.
 pub record IsOrdered (log : Logbook) : Type 0 where
   pub in_order : AllPairs (λ earlier later. time_of_event earlier ≤ time_of_event later) log.events
-  pub in_range : All (λ event. time_of_event event ≤ max_time) log.events
+  pub in_range : All (λ event. time_of_event event ≤ MAX_TIME) log.events

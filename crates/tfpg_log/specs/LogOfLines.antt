@@ -1,6 +1,6 @@
 -- How a log grows line by line.
-use Rattle.std.specs.Prelude.{ℕ, List, [], length, fold, nat_lt, Bool, if◌then◌else◌}
-use Rattle.tfpg_base.specs.Lines.{longest_line}
+use Rattle.std.specs.Prelude.{ℕ, List, [], fold, if◌then◌else◌}
+use Rattle.tfpg_base.specs.Lines.{is_too_long}
 use Rattle.tfpg_graph.specs.Graph.{Tfpg}
 use Rattle.tfpg_log.specs.declared.event.Offered.{Offered}
 use Rattle.tfpg_log.specs.declared.event.Offered.TheVariants.{Accepted, Refused}
@@ -15,10 +15,6 @@ new_log = record { events = [] }
 abbrev pub log_after_reply : Logbook → Offered → Logbook
 log_after_reply log (Accepted event) = with_event log event
 log_after_reply log (Refused refusal) = log
-
--- a line that is too long, which never reaches the log
-abbrev pub is_too_long : List ℕ → Bool
-is_too_long line = nat_lt longest_line (length line)
 
 -- the log after one more line
 abbrev pub log_after : Tfpg → Logbook → List ℕ → Logbook

@@ -1,7 +1,6 @@
 -- What a line of a log says by its words alone: no name is looked up, and no number is read.
-use Rattle.std.specs.Prelude.{◌≡◌, ℕ, List, [], ◌∷◌, length, All, ◌==◌, if◌then◌else◌, Option, Some, None, codes, bytes_eq}
-use Rattle.std.specs.List.{list_any}
-use Rattle.tfpg_base.specs.Words.{words_of, line_of}
+use Rattle.std.specs.Prelude.{◌≡◌, ℕ, List, [], ◌∷◌, All, if◌then◌else◌, Option, Some, None, codes, bytes_eq}
+use Rattle.tfpg_base.specs.Words.{has_empty_word, words_of, line_of}
 use Rattle.tfpg_graph.specs.Statements.{IsLineWord}
 
 -- what a line of a log says after its time
@@ -32,12 +31,14 @@ abbrev pub log_statement_in : List (List ℕ) → Option (List ℕ × LogStateme
 log_statement_in [] = None
 log_statement_in (time ∷ []) = None
 log_statement_in (time ∷ word ∷ []) =
-    if bytes_eq word (codes "sweep") then Some (time, Sweep) else (if bytes_eq word (codes "tick") then Some (time, Tick) else None)
+    if bytes_eq word (codes "sweep") then Some (time, Sweep)
+    else (if bytes_eq word (codes "tick") then Some (time, Tick) else None)
 log_statement_in (time ∷ word ∷ name ∷ []) =
     if bytes_eq word (codes "alarm") then Some (time, Alarm name)
-    else (if bytes_eq word (codes "silent") then Some (time, Silent name) else (if bytes_eq word (codes "mode") then Some (time, Mode name) else None))
+    else (if bytes_eq word (codes "silent") then Some (time, Silent name)
+    else (if bytes_eq word (codes "mode") then Some (time, Mode name) else None))
 log_statement_in (time ∷ word ∷ name ∷ more ∷ others) = None
 
 -- the same of a line: one with an empty word says nothing
 abbrev pub log_statement_of : List ℕ → Option (List ℕ × LogStatement)
-log_statement_of line = if list_any (λ word. length word == 0) (words_of line) then None else log_statement_in (words_of line)
+log_statement_of line = if has_empty_word (words_of line) then None else log_statement_in (words_of line)

@@ -3,8 +3,8 @@ use Rattle.std.specs.Prelude.{◌≡◌, ℕ, ◌+◌, ◌<◌, ◌≤◌, List,
 use Rattle.tfpg_base.specs.declared.activation.Activation.{Activation}
 use Rattle.tfpg_base.specs.Trace.{time_of, IsRisingByNode}
 use Rattle.tfpg_graph.specs.declared.edge.Edge.{Edge}
-use Rattle.tfpg_graph.specs.Graph.{Tfpg, is_kind_at, is_or, is_and, is_allowed, edges_into}
-use Rattle.tfpg_log.specs.Log.{Logbook, now_of, mode_at}
+use Rattle.tfpg_graph.specs.Graph.{Tfpg, is_kind_at, is_or, is_and, edges_into}
+use Rattle.tfpg_log.specs.Log.{Logbook, now_of, is_allowed_at}
 
 -- the trace gives the node a time of at most this instant
 abbrev pub IsActive : List Activation → ℕ → ℕ → Type 0
@@ -16,7 +16,7 @@ pub record HasAge (log : Logbook) (trace : List Activation) (edge : Edge) (insta
   pub start : ℕ
   pub source : time_of trace edge.source ≡ Some start
   pub since : start + age ≤ instant
-  pub allowed : (x : ℕ) → instant ≤ x + age → x ≤ instant → IsTrue (is_allowed edge (mode_at log x))
+  pub allowed : (x : ℕ) → instant ≤ x + age → x ≤ instant → IsTrue (is_allowed_at log edge x)
 
 -- the age of an edge at an instant: the greatest that it has
 pub record IsAge (log : Logbook) (trace : List Activation) (edge : Edge) (instant age : ℕ) : Type 0 where
@@ -28,14 +28,17 @@ abbrev pub SomeArrives : Tfpg → Logbook → List Activation → ℕ → ℕ �
 SomeArrives graph log trace node instant =
     (edge : Edge) × Contains (edges_into graph node) edge × HasAge log trace edge instant edge.tmin
 
--- each edge into the node has
+-- each edge into the node has carried the failure for its least delay
 abbrev pub AllArrive : Tfpg → Logbook → List Activation → ℕ → ℕ → Type 0
 AllArrive graph log trace node instant = All (λ edge. HasAge log trace edge instant edge.tmin) (edges_into graph node)
 
--- A discrepancy becomes active only where the failure arrives: by some edge at an OR node, by all edges at once at an AND node.
+-- A discrepancy becomes active only where the failure arrives: by some edge at an OR node, by all edges at once at an
+-- AND node.
 pub record KeepsMay (graph : Tfpg) (log : Logbook) (trace : List Activation) (node instant : ℕ) : Type 0 where
-  pub or_node : IsTrue (is_kind_at is_or graph node) → time_of trace node ≡ Some instant → SomeArrives graph log trace node instant
-  pub and_node : IsTrue (is_kind_at is_and graph node) → time_of trace node ≡ Some instant → AllArrive graph log trace node instant
+  pub or_node : IsTrue (is_kind_at is_or graph node) → time_of trace node ≡ Some instant
+      → SomeArrives graph log trace node instant
+  pub and_node : IsTrue (is_kind_at is_and graph node) → time_of trace node ≡ Some instant
+      → AllArrive graph log trace node instant
 
 -- the edge has carried the failure for its greatest delay, which is finite
 abbrev pub IsDue : Logbook → List Activation → Edge → ℕ → Type 0
@@ -43,8 +46,10 @@ IsDue log trace edge instant = (tmax : ℕ) × (edge.tmax ≡ Some tmax) × HasA
 
 -- A discrepancy is active once the failure is due: by some edge at an OR node, by all edges at once at an AND node.
 pub record KeepsMust (graph : Tfpg) (log : Logbook) (trace : List Activation) (node instant : ℕ) : Type 0 where
-  pub or_node : IsTrue (is_kind_at is_or graph node) → (edge : Edge) → Contains (edges_into graph node) edge → IsDue log trace edge instant → IsActive trace node instant
-  pub and_node : IsTrue (is_kind_at is_and graph node) → All (λ edge. IsDue log trace edge instant) (edges_into graph node) → IsActive trace node instant
+  pub or_node : IsTrue (is_kind_at is_or graph node) → (edge : Edge) → Contains (edges_into graph node) edge
+      → IsDue log trace edge instant → IsActive trace node instant
+  pub and_node : IsTrue (is_kind_at is_and graph node)
+      → All (λ edge. IsDue log trace edge instant) (edges_into graph node) → IsActive trace node instant
 
 -- The propagation rules hold for a node at each instant up to now.
 pub record KeepsRulesOf (graph : Tfpg) (log : Logbook) (trace : List Activation) (node : ℕ) : Type 0 where

@@ -25,7 +25,7 @@ pub record IsSpanOf (log : Logbook) (number horizon : ℕ) (span : Span) : Type 
 abbrev pub Overlaps : Span → Window → Type 0
 Overlaps span window = (window.lo ≤ span.hi) × (span.lo ≤ window.hi)
 
--- each instant of the span does
+-- each instant of the span lies in the window
 abbrev pub LiesIn : Span → Window → Type 0
 LiesIn span window = (window.lo ≤ span.lo) × (span.hi ≤ window.hi)
 

@@ -3,10 +3,10 @@ use Rattle.std.specs.Prelude.{ℕ, zero, suc, ◌+◌, Bool, ◌&&◌, nat_le, �
 use Rattle.std.specs.List.{list_all}
 use Rattle.std.specs.Option.{option_or}
 use Rattle.tfpg_graph.specs.declared.edge.Edge.{Edge}
-use Rattle.tfpg_graph.specs.Graph.{Tfpg, is_allowed, edges_into}
+use Rattle.tfpg_graph.specs.Graph.{Tfpg, edges_into}
 use Rattle.tfpg_log.specs.declared.span.Span.{Span}
 use Rattle.tfpg_log.specs.declared.span.Window.{Window}
-use Rattle.tfpg_log.specs.Log.{Logbook, now_of, mode_at}
+use Rattle.tfpg_log.specs.Log.{Logbook, now_of, mode_at, is_allowed_at}
 
 -- the least number up to a limit that passes
 abbrev pub least : (ℕ → Bool) → ℕ → Option ℕ
@@ -21,7 +21,8 @@ greatest passes (suc limit) = if passes (suc limit) then Some (suc limit) else g
 -- the number of the span of an instant: how many times the mode changed from one instant to the next up to it
 abbrev pub span_number : Logbook → ℕ → ℕ
 span_number log zero = 0
-span_number log (suc instant) = span_number log instant + (if mode_at log instant == mode_at log (suc instant) then 0 else 1)
+span_number log (suc instant) =
+    span_number log instant + (if mode_at log instant == mode_at log (suc instant) then 0 else 1)
 
 -- the span between two instants
 abbrev pub span_between : Logbook → Option ℕ → Option ℕ → Option Span
@@ -33,7 +34,8 @@ span_between log (Some lo) (Some hi) = Some (record { lo = lo; hi = hi; mode = m
 abbrev pub span_at : Logbook → ℕ → ℕ → Option Span
 span_at log number horizon =
     if nat_le horizon (now_of log)
-    then span_between log (least (λ instant. span_number log instant == number) horizon) (greatest (λ instant. span_number log instant == number) horizon)
+    then span_between log (least (λ instant. span_number log instant == number) horizon)
+    (greatest (λ instant. span_number log instant == number) horizon)
     else None
 
 -- the first instant of the run of passing instants up to one that passes
@@ -57,11 +59,7 @@ abbrev pub window_round : Logbook → (ℕ → Bool) → Span → ℕ → Option
 window_round log passes span horizon =
     if passes span.lo then window_between log (run_start passes span.lo) (run_end passes span.lo horizon) else None
 
--- the edge is active in the mode of the instant
-abbrev pub is_allowed_at : Logbook → Edge → ℕ → Bool
-is_allowed_at log edge instant = is_allowed edge (mode_at log instant)
-
--- so is each edge into the node
+-- each edge into the node is active in the mode of the instant
 abbrev pub are_allowed_at : Tfpg → Logbook → ℕ → ℕ → Bool
 are_allowed_at graph log node instant = list_all (λ edge. is_allowed_at log edge instant) (edges_into graph node)
 

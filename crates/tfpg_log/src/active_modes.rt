@@ -27,16 +27,13 @@ impl ActiveModes {
         }
     }
 
-    /// Those of them in which the edge is active too: as of an edge that is active in both.
+    /// Those of them in which the edge is active too.
     fn and(self, edge: Edge) -> ActiveModes
         ensures { (mode : ℕ) → has_mode result mode ≡ (has_mode self mode && is_allowed edge mode) }
     {
         match self {
             ActiveModes::Every => ActiveModes::OfEdge(edge),
-            ActiveModes::OfEdge(own) => ActiveModes::OfEdge(Edge {
-                modes: own.modes & edge.modes,
-                ..edge
-            }),
+            ActiveModes::OfEdge(own) => ActiveModes::OfEdge(own.active_with(&edge)),
         }
     }
 }

@@ -10,10 +10,10 @@ ghost use Rattle.tfpg_graph.specs.Valid.{IsValid};
 ghost use Rattle.tfpg_log.specs.declared.event.Event.{Event};
 ghost use Rattle.tfpg_log.specs.declared.span.Span.{Span};
 ghost use Rattle.tfpg_log.specs.declared.span.Window.{Window};
-ghost use Rattle.tfpg_log.specs.Log.{Logbook, GoesOn, IsOf, IsOrdered, now_of, event_at, alarm_of, alarm_event, mode_at, quiet_at};
+ghost use Rattle.tfpg_log.specs.Log.{Logbook, GoesOn, IsOf, IsOrdered, now_of, event_at, alarm_of, alarm_event, mode_at, quiet_at, is_allowed_at};
 ghost use Rattle.tfpg_log.specs.Quiet.{IsLastQuiet};
 ghost use Rattle.tfpg_log.specs.Rules.{IsActive, HasAge, IsAge};
-ghost use Rattle.tfpg_log.specs.Spans.{span_number, span_at, is_allowed_at, are_allowed_at, window_of, joint_of};
+ghost use Rattle.tfpg_log.specs.Spans.{span_number, span_at, are_allowed_at, window_of, joint_of};
 ghost use Rattle.tfpg_log.specs.Runs.{IsSpanOf, IsWindowRound};
 ghost use Rattle.tfpg_log.specs.Explains.{Explains, Fits};
 ghost use Rattle.tfpg_log.specs.LogOfLines.{log_after, log_of_lines};
@@ -83,7 +83,7 @@ pub fn nothing_without_failures()
 pub fn age_is_the_greatest()
     ensures begins { (log : Logbook) (trace : List Activation) (edge : Edge) (instant : ℕ) →
         HasAge log trace edge instant 0
-        ↔ (IsActive trace edge.source instant × IsTrue (is_allowed edge (mode_at log instant))) }
+        ↔ (IsActive trace edge.source instant × IsTrue (is_allowed_at log edge instant)) }
     ensures lesser { (log : Logbook) (trace : List Activation) (edge : Edge) (instant age : ℕ) →
         HasAge log trace edge instant (age + 1) → HasAge log trace edge instant age }
     ensures bounded { (log : Logbook) (trace : List Activation) (edge : Edge) (instant age start : ℕ) →
@@ -94,7 +94,7 @@ pub fn age_is_the_greatest()
         IsAge log trace edge instant one → IsAge log trace edge instant other → one ≡ other }
     ensures grows { (log : Logbook) (trace : List Activation) (edge : Edge) (instant age : ℕ) →
         HasAge log trace edge (instant + 1) (age + 1)
-        ↔ (HasAge log trace edge instant age × IsTrue (is_allowed edge (mode_at log (instant + 1)))) }
+        ↔ (HasAge log trace edge instant age × IsTrue (is_allowed_at log edge (instant + 1))) }
 {}
 
 /// A span is a maximal run of instants of one mode, and up to now each instant lies in the span of its number.

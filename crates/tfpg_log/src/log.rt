@@ -18,7 +18,7 @@ use crate::limits::{MAX_EVENTS, MAX_MODE_CHANGES};
 use crate::mode_change::ModeChange;
 use crate::node_events::NodeEvents;
 use crate::span::{Span, Window};
-use crate::spans::{mode_of_span, number_of, span_in};
+use crate::spans::{mode_of_span, span_in, span_number};
 use crate::windows::window_round;
 use std::alloc::Global;
 use std::marker::Model;
@@ -124,7 +124,7 @@ impl Log {
     pub fn mode_at(&self, instant: u64) -> u32
         ensures { result ≡ mode_at self.now instant }
     {
-        mode_of_span(&self.changes, number_of(&self.changes, instant))
+        mode_of_span(&self.changes, span_number(&self.changes, instant))
     }
 
     /// The number of the span of an instant, in milliseconds: how many times the mode changed from one instant to the
@@ -136,7 +136,7 @@ impl Log {
         if instant > self.now() {
             return None;
         }
-        Some(number_of(&self.changes, instant) as u32)
+        Some(span_number(&self.changes, instant) as u32)
     }
 
     /// The span of this number, of the instants up to a horizon in milliseconds. There is none where the horizon is after
@@ -253,7 +253,7 @@ impl Log {
     fn last_swept(&self, graph: &Graph, node: u32) -> Option<u32>
         ensures { IsLast (IsSwept graph.now self.now node) result }
     {
-        if !has_monitor(graph, node) {
+        if !graph.is_monitored(node) {
             return None;
         }
         let events = self.node_events(node);
@@ -276,7 +276,7 @@ impl Log {
         ensures { result ≡ (is_monitored graph.now node
             && is_none (alarm_among (take (number - 1) self.now.events) node)) }
     {
-        has_monitor(graph, node) && self.is_without_alarm(number.saturating_sub(1), node)
+        graph.is_monitored(node) && self.is_without_alarm(number.saturating_sub(1), node)
     }
 
     /// Whether none of so many first events is an alarm of the node.
@@ -299,13 +299,6 @@ fn later_of(one: Option<u32>, other: Option<u32>) -> Option<u32>
         (Some(first), None) => Some(first),
         (None, _) => other,
     }
-}
-
-/// Whether this is a node that has a monitor. The number may be any.
-fn has_monitor(graph: &Graph, node: u32) -> bool
-    ensures { result ≡ is_monitored graph.now node }
-{
-    node < graph.node_count() && graph.kind(node).is_monitored()
 }
 
 /// The time, where the test holds.

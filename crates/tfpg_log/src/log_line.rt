@@ -32,11 +32,11 @@ pub(crate) fn read_line(line: &[u8]) -> Option<LogLine<'_>>
     if has_empty_word(words) {
         return None;
     }
-    line_of(words)
+    log_line_in(words)
 }
 
 /// The line of these words.
-fn line_of<'a>(words: &[&'a [u8]]) -> Option<LogLine<'a>>
+fn log_line_in<'a>(words: &[&'a [u8]]) -> Option<LogLine<'a>>
     ensures { option_map log_line_seen result ≡ log_statement_in (map (λ word. word.now) words.now) }
 {
     match words {

@@ -14,7 +14,7 @@ use crate::span::Span;
 use tfpg_base::NoMemory;
 
 /// The number of the span of the instant. Takes time in the logarithm of the number of changes.
-pub(crate) fn number_of(changes: &[ModeChange], instant: u64) -> usize
+pub(crate) fn span_number(changes: &[ModeChange], instant: u64) -> usize
     requires { IsNonDecreasingBy (λ (change : ModeChange). change.time) changes.now }
     ensures { IsInSpan changes.now result instant }
 {

@@ -28,8 +28,8 @@ pub(crate) fn window_round(
     if !modes.has(span.mode) {
         return None;
     }
-    let first = first_of(changes, modes, number as usize);
-    let last = last_of(changes, modes, number as usize, horizon);
+    let first = run_start(changes, modes, number as usize);
+    let last = run_end(changes, modes, number as usize, horizon);
     let lo = begin_by(changes, first, horizon)?;
     let hi = end_of_span(changes, last, horizon);
     Some(Window {
@@ -40,7 +40,7 @@ pub(crate) fn window_round(
 }
 
 /// The first span of the run up to the span of this number.
-fn first_of(changes: &[ModeChange], modes: &ActiveModes, number: usize) -> usize
+fn run_start(changes: &[ModeChange], modes: &ActiveModes, number: usize) -> usize
     requires counted { number ≤ length changes.now }
     requires active { IsTrue (has_mode modes.now (mode_of_span changes.now number)) }
     ensures { IsRunStart modes.now changes.now number result }
@@ -53,7 +53,7 @@ fn first_of(changes: &[ModeChange], modes: &ActiveModes, number: usize) -> usize
 }
 
 /// The last span of the run from the span of this number on, among those that begin by the horizon.
-fn last_of(changes: &[ModeChange], modes: &ActiveModes, number: usize, horizon: u64) -> usize
+fn run_end(changes: &[ModeChange], modes: &ActiveModes, number: usize, horizon: u64) -> usize
     requires counted { number ≤ length changes.now }
     requires begun { begin_of_span changes.now number ≤ horizon }
     requires active { IsTrue (has_mode modes.now (mode_of_span changes.now number)) }

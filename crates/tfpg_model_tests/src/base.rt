@@ -219,13 +219,13 @@ fn short_lines(rt: HostRuntime) -> Result<(), Fail> {
             assert_eq!(rt;
                 returned(rt.alloc(), text, piece, &[])?.as_slice(),
                 ended,
-                "{row}"
+                "{row}, in pieces of {piece}"
             );
             let after_all = text.len().div_ceil(piece) as u64 + 1;
             assert_eq!(rt;
                 returned(rt.alloc(), text, piece, &[after_all])?.as_slice(),
                 failed,
-                "{row}, then a failure"
+                "{row}, in pieces of {piece}, then a failure"
             );
         }
     }
@@ -234,34 +234,26 @@ fn short_lines(rt: HostRuntime) -> Result<(), Fail> {
 
 #[test]
 fn long_lines(rt: HostRuntime) -> Result<(), Fail> {
-    for (count, answer) in [
-        (4_096, b'|'),
-        (4_097, b'x'),
-        (65_536, b'x'),
-        (200_000, b'x'),
+    for (row, count, answer) in [
+        ("as long as a line may be", 4_096, b'|'),
+        ("a byte too long", 4_097, b'x'),
+        ("as long as the buffer", 65_536, b'x'),
+        ("longer than three buffers", 200_000, b'x'),
     ] {
         let mut text = vec![in rt.alloc(); b'a'; count]?;
         let bare = returned(rt.alloc(), text.as_slice(), 1_000, &[])?;
-        assert_eq!(rt;
-            bare.first().copied(),
-            Some(answer),
-            "{count} bytes at the end"
-        );
-        assert_eq!(rt;
-            bare.last().copied(),
-            Some(b'.'),
-            "{count} bytes at the end"
-        );
+        assert_eq!(rt; bare.first().copied(), Some(answer), "{row}, at the end");
+        assert_eq!(rt; bare.last().copied(), Some(b'.'), "{row}, at the end");
         text.extend_from_slice(b"\nb\n")?;
         let followed = returned(rt.alloc(), text.as_slice(), 70_000, &[])?;
         assert_eq!(rt;
             followed.first().copied(),
             Some(answer),
-            "{count} bytes and a line end"
+            "{row}, and a line end"
         );
         assert!(rt;
             followed.as_slice().ends_with(b"|b...."),
-            "{count} bytes and a line"
+            "{row}, and another line"
         );
     }
     Ok(())
@@ -402,9 +394,11 @@ fn a_set_holds_its_members(rt: HostRuntime) {
     ] {
         assert_eq!(rt; set.has(place), is_member, "{row}");
     }
-    assert!(rt; Set::empty().is_empty() && !set.is_empty());
+    assert!(rt; Set::empty().is_empty());
+    assert!(rt; !set.is_empty());
     assert!(rt; Set::empty().with(63).is_proper_part(set));
-    assert!(rt; !set.is_proper_part(set) && !Set::empty().with(1).is_proper_part(set));
+    assert!(rt; !set.is_proper_part(set));
+    assert!(rt; !Set::empty().with(1).is_proper_part(set));
     assert!(rt; set == Set::empty().with(0).with(63));
 }
 

@@ -26,9 +26,16 @@ fn second_after_first<L: Ledger>(
     let mut work = Steps::<L>::new(blank);
     let mut system = System::new(alloc, 2)?;
     system.reserve(1)?;
-    assert!(rt; system.raise(0, 5, 50, &mut work).is_ok());
-    assert!(rt; system.lower(1, most, 70, &mut work).is_ok());
-    assert_eq!(rt; system.solution(), [1_000_000_000_001, most].as_slice());
+    assert!(rt; system.raise(0, 5, 50, &mut work).is_ok(), "up to {most}");
+    assert!(rt;
+        system.lower(1, most, 70, &mut work).is_ok(),
+        "up to {most}"
+    );
+    assert_eq!(rt;
+        system.solution(),
+        [1_000_000_000_001, most].as_slice(),
+        "up to {most}"
+    );
     let constraint = Constraint {
         left: 1,
         right: 2,
@@ -36,16 +43,28 @@ fn second_after_first<L: Ledger>(
     };
     let pushed = system.push(constraint, 45, &mut work);
     if pushed == Err(Conflict) {
-        assert_eq!(rt; system.cycle().len(), 3);
-        assert!(rt; system.cycle().contains(&Why::Given(50)));
-        assert!(rt; system.cycle().contains(&Why::Given(70)));
-        assert!(rt; system.cycle().contains(&Why::Given(45)));
-        assert_eq!(rt; system.solution(), [1_000_000_000_001, most].as_slice());
+        assert_eq!(rt; system.cycle().len(), 3, "up to {most}");
+        assert!(rt; system.cycle().contains(&Why::Given(50)), "up to {most}");
+        assert!(rt; system.cycle().contains(&Why::Given(70)), "up to {most}");
+        assert!(rt; system.cycle().contains(&Why::Given(45)), "up to {most}");
+        assert_eq!(rt;
+            system.solution(),
+            [1_000_000_000_001, most].as_slice(),
+            "up to {most}"
+        );
     } else {
-        assert_eq!(rt; system.solution(), [most - 4, most].as_slice());
+        assert_eq!(rt;
+            system.solution(),
+            [most - 4, most].as_slice(),
+            "up to {most}"
+        );
     }
     system.pop_to(0);
-    assert_eq!(rt; system.solution(), [1_000_000_000_001, most].as_slice());
+    assert_eq!(rt;
+        system.solution(),
+        [1_000_000_000_001, most].as_slice(),
+        "up to {most}"
+    );
     Ok(pushed.is_ok())
 }
 

@@ -219,20 +219,32 @@ const ACCEPTED: [(&str, &str, Event); 5] = [
 
 /// Lines that a log refuses that takes no further change of mode, and whose last event is an alarm of A at 10.
 const REFUSED_WITH_ALL_MODES: [(&str, &str, Refusal); 6] = [
-    ("a word too many", "11 mode D D", Refusal::BadLine),
-    ("a zero in front", "011 mode D", Refusal::BadNumber),
     (
-        "a time too large",
+        "a mode with a word too many",
+        "11 mode D D",
+        Refusal::BadLine,
+    ),
+    (
+        "a mode with a zero in front",
+        "011 mode D",
+        Refusal::BadNumber,
+    ),
+    (
+        "a mode at a time too large",
         "1000000000001 mode D",
         Refusal::TimeTooLarge,
     ),
     (
-        "a time that falls",
+        "a mode at a time that falls",
         "9 mode D",
         Refusal::TimeBack { last: 10 },
     ),
-    ("a node in place of a mode", "11 mode B", Refusal::NotAMode),
-    ("a change of mode", "11 mode D", Refusal::ModesFull),
+    (
+        "a node in place of a last mode",
+        "11 mode B",
+        Refusal::NotAMode,
+    ),
+    ("a change of mode too many", "11 mode D", Refusal::ModesFull),
 ];
 
 /// Lines that a full log refuses with such an alarm, and as many changes of mode.
@@ -359,26 +371,30 @@ const LINES: [&[u8]; 8] = [
 ];
 
 /// Numbers, also of no event, with the silences of the five first nodes, of which the last is none.
-const SILENCES: [(u32, [Option<u64>; 5]); 7] = [
-    (0, [None; 5]),
-    (1, [None, Some(5), None, Some(5), None]),
-    (2, [None; 5]),
-    (3, [None, Some(10), None, None, None]),
-    (4, [None, Some(12), None, None, None]),
-    (5, [None; 5]),
-    (9, [None; 5]),
+const SILENCES: [(&str, u32, [Option<u64>; 5]); 7] = [
+    ("event 0", 0, [None; 5]),
+    ("a sweep", 1, [None, Some(5), None, Some(5), None]),
+    ("an alarm", 2, [None; 5]),
+    (
+        "a sweep after an alarm",
+        3,
+        [None, Some(10), None, None, None],
+    ),
+    ("a silence", 4, [None, Some(12), None, None, None]),
+    ("a change of mode", 5, [None; 5]),
+    ("an event past the end", 9, [None; 5]),
 ];
 
 /// Instants with their modes.
-const MODES: [(u64, u32); 8] = [
-    (0, 0),
-    (12, 0),
-    (13, 1),
-    (20, 1),
-    (21, 1),
-    (25, 1),
-    (26, 0),
-    (u64::MAX, 0),
+const MODES: [(&str, u64, u32); 8] = [
+    ("at 0", 0, 0),
+    ("at the first change", 12, 0),
+    ("after the first change", 13, 1),
+    ("at two changes", 20, 1),
+    ("after two changes", 21, 1),
+    ("at the last change", 25, 1),
+    ("after the last change", 26, 0),
+    ("at the greatest number", u64::MAX, 0),
 ];
 
 /// The silences of the five first nodes by the event of this number.
@@ -394,15 +410,11 @@ fn silences_of(graph: &Graph, log: &Log, number: u32) -> [Option<u64>; 5] {
 
 /// Asserts what the look-ups of a log of these lines say.
 fn assert_looks_up(rt: &impl Abort, graph: &Graph, log: &Log) {
-    for (number, wanted) in &SILENCES {
-        assert_eq!(rt;
-            silences_of(graph, log, *number),
-            *wanted,
-            "by event {number}"
-        );
+    for (row, number, wanted) in &SILENCES {
+        assert_eq!(rt; silences_of(graph, log, *number), *wanted, "{row}");
     }
-    for (instant, mode) in &MODES {
-        assert_eq!(rt; log.mode_at(*instant), *mode, "at {instant}");
+    for (row, instant, mode) in &MODES {
+        assert_eq!(rt; log.mode_at(*instant), *mode, "{row}");
     }
     assert_eq!(rt; log.now(), 25);
     assert_eq!(rt; log.len(), 8);
@@ -417,11 +429,18 @@ fn assert_looks_up(rt: &impl Abort, graph: &Graph, log: &Log) {
 }
 
 #[test]
-fn a_log_and_its_copy_have_the_same_look_ups(rt: HostRuntime) -> Result<(), Fail> {
+fn a_log_has_its_look_ups(rt: HostRuntime) -> Result<(), Fail> {
+    let graph = read(rt.alloc(), GRAPH)?;
+    let log = log_of(rt.alloc(), &graph, &LINES)?;
+    assert_looks_up(&rt, &graph, &log);
+    Ok(())
+}
+
+#[test]
+fn a_copy_has_the_look_ups_of_its_log(rt: HostRuntime) -> Result<(), Fail> {
     let graph = read(rt.alloc(), GRAPH)?;
     let log = log_of(rt.alloc(), &graph, &LINES)?;
     let copy = log.copy()?;
-    assert_looks_up(&rt, &graph, &log);
     assert_looks_up(&rt, &graph, &copy);
     assert_eq!(rt; copy.len(), 8);
     assert_eq!(rt; copy.event(2), Event::Alarm { time: 10, node: 3 });
@@ -445,49 +464,54 @@ const CHANGES: [&[u8]; 7] = [
 ];
 
 /// Instants with the numbers of their spans.
-const NUMBERS: [(u64, Option<u32>); 8] = [
-    (0, Some(0)),
-    (11, Some(0)),
-    (20, Some(0)),
-    (21, Some(1)),
-    (40, Some(1)),
-    (41, Some(2)),
-    (50, Some(2)),
-    (51, None),
+const NUMBERS: [(&str, u64, Option<u32>); 8] = [
+    ("at 0", 0, Some(0)),
+    ("after two changes at one time", 11, Some(0)),
+    ("at the end of the first span", 20, Some(0)),
+    ("at the beginning of the second span", 21, Some(1)),
+    ("at the end of the second span", 40, Some(1)),
+    ("at the beginning of the last span", 41, Some(2)),
+    ("at now", 50, Some(2)),
+    ("after now", 51, None),
 ];
 
 /// Numbers and horizons with their spans, as first and last instant and mode.
-const SPANS: [(u32, u64, Option<(u64, u64, u32)>); 8] = [
-    (0, 0, Some((0, 0, 0))),
-    (0, 50, Some((0, 20, 0))),
-    (0, 51, None),
-    (1, 20, None),
-    (1, 21, Some((21, 21, 1))),
-    (1, 50, Some((21, 40, 1))),
-    (2, 50, Some((41, 50, 0))),
-    (3, 50, None),
+const SPANS: [(&str, u32, u64, Option<(u64, u64, u32)>); 8] = [
+    ("the first instant alone", 0, 0, Some((0, 0, 0))),
+    ("the first span", 0, 50, Some((0, 20, 0))),
+    ("a span up to a horizon after now", 0, 51, None),
+    ("a span that begins after the horizon", 1, 20, None),
+    (
+        "a span that begins at the horizon",
+        1,
+        21,
+        Some((21, 21, 1)),
+    ),
+    ("the second span", 1, 50, Some((21, 40, 1))),
+    ("the last span", 2, 50, Some((41, 50, 0))),
+    ("a span past the end", 3, 50, None),
 ];
 
 /// Edges, numbers and horizons with their windows, as first span, and first and last instant.
-const WINDOWS: [(u32, u32, u64, Option<(u32, u64, u64)>); 9] = [
-    (0, 0, 15, Some((0, 0, 15))),
-    (0, 0, 50, Some((0, 0, 20))),
-    (0, 1, 50, None),
-    (0, 2, 50, Some((2, 41, 50))),
-    (1, 1, 20, None),
-    (1, 1, 30, Some((0, 0, 30))),
-    (1, 1, 50, Some((0, 0, 50))),
-    (2, 1, 50, Some((1, 21, 40))),
-    (2, 2, 51, None),
+const WINDOWS: [(&str, u32, u32, u64, Option<(u32, u64, u64)>); 9] = [
+    ("of mode N, up to a horizon", 0, 0, 15, Some((0, 0, 15))),
+    ("of mode N", 0, 0, 50, Some((0, 0, 20))),
+    ("of mode N, in mode D", 0, 1, 50, None),
+    ("of mode N once more", 0, 2, 50, Some((2, 41, 50))),
+    ("of both modes, after the horizon", 1, 1, 20, None),
+    ("of both modes, up to a horizon", 1, 1, 30, Some((0, 0, 30))),
+    ("of both modes", 1, 1, 50, Some((0, 0, 50))),
+    ("of mode D", 2, 1, 50, Some((1, 21, 40))),
+    ("of mode D, up to a horizon after now", 2, 2, 51, None),
 ];
 
 /// The same of all edges into a node.
-const JOINT_WINDOWS: [(u32, u32, u64, Option<(u32, u64, u64)>); 5] = [
-    (0, 1, 50, Some((0, 0, 50))),
-    (2, 0, 50, Some((0, 0, 20))),
-    (2, 1, 50, None),
-    (2, 2, 45, Some((2, 41, 45))),
-    (3, 1, 50, Some((1, 21, 40))),
+const JOINT_WINDOWS: [(&str, u32, u32, u64, Option<(u32, u64, u64)>); 5] = [
+    ("a node without edges", 0, 1, 50, Some((0, 0, 50))),
+    ("two edges that are active", 2, 0, 50, Some((0, 0, 20))),
+    ("two edges, of which one is not active", 2, 1, 50, None),
+    ("two edges, up to a horizon", 2, 2, 45, Some((2, 41, 45))),
+    ("a node with one edge", 3, 1, 50, Some((1, 21, 40))),
 ];
 
 /// The first and last instant and the mode of a span.
@@ -522,28 +546,20 @@ fn joint_at(graph: &Graph, log: &Log, node: u32, number: u32, horizon: u64) -> O
 fn finds_spans_and_windows(rt: HostRuntime) -> Result<(), Fail> {
     let graph = read(rt.alloc(), TWO_EDGES)?;
     let log = log_of(rt.alloc(), &graph, &CHANGES)?;
-    for (instant, wanted) in &NUMBERS {
-        assert_eq!(rt; log.span_of(*instant), *wanted, "at {instant}");
+    for (row, instant, wanted) in &NUMBERS {
+        assert_eq!(rt; log.span_of(*instant), *wanted, "{row}");
     }
-    for (number, horizon, wanted) in &SPANS {
+    for (row, number, horizon, wanted) in &SPANS {
         let found = ends_of_span(log.span(*number, *horizon));
-        assert_eq!(rt; found, *wanted, "span {number} up to {horizon}");
+        assert_eq!(rt; found, *wanted, "{row}");
     }
-    for (edge, number, horizon, wanted) in &WINDOWS {
+    for (row, edge, number, horizon, wanted) in &WINDOWS {
         let found = ends_of_window(window_at(&graph, &log, *edge, *number, *horizon));
-        assert_eq!(rt;
-            found,
-            *wanted,
-            "edge {edge} round span {number} up to {horizon}"
-        );
+        assert_eq!(rt; found, *wanted, "an edge {row}");
     }
-    for (node, number, horizon, wanted) in &JOINT_WINDOWS {
+    for (row, node, number, horizon, wanted) in &JOINT_WINDOWS {
         let found = ends_of_window(joint_at(&graph, &log, *node, *number, *horizon));
-        assert_eq!(rt;
-            found,
-            *wanted,
-            "node {node} round span {number} up to {horizon}"
-        );
+        assert_eq!(rt; found, *wanted, "{row}");
     }
     Ok(())
 }

@@ -1,9 +1,10 @@
 -- The text of each block of a report.
 use Rattle.std.specs.Prelude.{ℕ, List, [], ◌∷◌, ◌++◌, length, map, filter_map, flat_map, Bool, if◌then◌else◌, ◌==◌, Option, Some, None, option_map, option_and_then, unwrap_or, slice_get, codes, decimal}
-use Rattle.std.specs.List.{join_with_byte}
 use Rattle.tfpg_base.specs.TextLine.{text_line}
+use Rattle.tfpg_base.specs.Lines.{with_line_end}
+use Rattle.tfpg_base.specs.Words.{joined_by_commas, line_of}
 use Rattle.tfpg_base.specs.declared.activation.Activation.{Activation}
-use Rattle.tfpg_graph.specs.Graph.{Tfpg, name_at, failures, failure_at}
+use Rattle.tfpg_graph.specs.Graph.{Tfpg, name_at, name_word, failure_at}
 use Rattle.tfpg_log.specs.declared.refusal.Refusal.{Refusal}
 use Rattle.tfpg_log.specs.declared.refusal.Refusal.TheVariants.{BadLine, BadNumber, TimeTooLarge, TimeBack, UnknownName, NotMonitored, NotAMode, SecondAlarm, SilentAfterAlarm, LogFull, ModesFull}
 use Rattle.tfpg_evidence.specs.declared.clause_name.ClauseName.{ClauseName}
@@ -17,13 +18,14 @@ use Rattle.tfpg_evidence.specs.declared.finding.Status.TheVariants.{Ranked, Cove
 use Rattle.tfpg_evidence.specs.declared.finding.Finding.{Finding}
 use Rattle.tfpg_evidence.specs.declared.round.Counts.{Counts}
 use Rattle.tfpg_evidence.specs.declared.round.Round.{Round}
-use Rattle.tfpg_evidence.specs.RoundOf.{Sizes, finding_numbered}
+use Rattle.tfpg_evidence.specs.RoundOf.{finding_numbered}
 use Rattle.tfpg_report.specs.declared.refused_line.RefusedLine.{RefusedLine}
 use Rattle.tfpg_report.specs.declared.refused_line.RefusedLine.TheVariants.{TooLong, Offer}
 
 -- the first line of a report
 abbrev pub head_text : ℕ → ℕ → List ℕ
-head_text k budget = text_line (codes "report" ∷ codes "1" ∷ codes "k" ∷ decimal k ∷ codes "budget" ∷ decimal budget ∷ [])
+head_text k budget =
+    text_line (codes "report" ∷ codes "1" ∷ codes "k" ∷ decimal k ∷ codes "budget" ∷ decimal budget ∷ [])
 
 -- the name of a refusal
 abbrev pub refusal_name : Refusal → List ℕ
@@ -67,10 +69,6 @@ cause_words (Offer refusal) = refusal_name refusal ∷ time_words (refusal_time 
 abbrev pub refused_text : ℕ → RefusedLine → List ℕ
 refused_text line cause = text_line (codes "refused" ∷ decimal line ∷ cause_words cause)
 
--- a node's name
-abbrev pub name_word : Tfpg → ℕ → List ℕ
-name_word graph node = unwrap_or (name_at graph node) []
-
 -- the names of an edge's source and target
 abbrev pub edge_words : Tfpg → ℕ → List (List ℕ)
 edge_words graph edge =
@@ -83,14 +81,18 @@ failure_word graph position = unwrap_or (option_and_then (name_at graph) (failur
 -- a set: a hyphen for the empty set, else the names of its members with commas between
 abbrev pub set_word : Tfpg → List ℕ → List ℕ
 set_word graph [] = codes "-"
-set_word graph (position ∷ positions) = join_with_byte 44 (map (failure_word graph) (position ∷ positions))
+set_word graph (position ∷ positions) = joined_by_commas (map (failure_word graph) (position ∷ positions))
 
 -- the words that name a clause
 abbrev pub clause_words : Tfpg → ClauseName → List (List ℕ)
-clause_words graph (OrMay node span horizon) = codes "ormay" ∷ name_word graph node ∷ decimal span ∷ decimal horizon ∷ []
-clause_words graph (AndMay edge span horizon) = codes "andmay" ∷ edge_words graph edge ++ decimal span ∷ decimal horizon ∷ []
-clause_words graph (OrMust edge span horizon) = codes "ormust" ∷ edge_words graph edge ++ decimal span ∷ decimal horizon ∷ []
-clause_words graph (AndMust node span horizon) = codes "andmust" ∷ name_word graph node ∷ decimal span ∷ decimal horizon ∷ []
+clause_words graph (OrMay node span horizon) =
+    codes "ormay" ∷ name_word graph node ∷ decimal span ∷ decimal horizon ∷ []
+clause_words graph (AndMay edge span horizon) =
+    codes "andmay" ∷ edge_words graph edge ++ decimal span ∷ decimal horizon ∷ []
+clause_words graph (OrMust edge span horizon) =
+    codes "ormust" ∷ edge_words graph edge ++ decimal span ∷ decimal horizon ∷ []
+clause_words graph (AndMust node span horizon) =
+    codes "andmust" ∷ name_word graph node ∷ decimal span ∷ decimal horizon ∷ []
 
 -- the words for a reason
 abbrev pub reason_words : Tfpg → Reason → List (List ℕ)
@@ -123,9 +125,12 @@ abbrev pub hypothesis_words : Tfpg → Finding → List (List ℕ)
 hypothesis_words graph finding = decimal finding.number ∷ codes "set" ∷ set_word graph finding.set ∷ []
 
 -- the line of an activation
+abbrev pub activation_line : Tfpg → Activation → List ℕ
+activation_line graph activation = line_of (codes "at" ∷ name_word graph activation.node ∷ decimal activation.time ∷ [])
+
+-- the line of an activation, with its line end
 abbrev pub activation_text : Tfpg → Activation → List ℕ
-activation_text graph activation =
-    text_line (codes "at" ∷ name_word graph activation.node ∷ decimal activation.time ∷ [])
+activation_text graph activation = with_line_end (activation_line graph activation)
 
 -- how many of the monitored nodes have an alarm
 abbrev pub robustness_word : ℕ → ℕ → List ℕ
@@ -160,22 +165,22 @@ rejected_text graph finding Rejected =
     if length finding.steps == 0 then [] else text_line (codes "rejected" ∷ hypothesis_words graph finding)
 rejected_text graph finding Open = []
 
+-- the words that say how many hypotheses have each status
+abbrev pub counts_words : Counts → List (List ℕ)
+counts_words counts =
+    codes "ranked" ∷ decimal counts.ranked ∷ codes "covered" ∷ decimal counts.covered
+    ∷ codes "rejected" ∷ decimal counts.rejected ∷ codes "open" ∷ decimal counts.unsettled ∷ []
+
 -- the line that says how many hypotheses have each status
 abbrev pub counts_text : Counts → List ℕ
-counts_text counts =
-    text_line (codes "counts" ∷ codes "ranked" ∷ decimal counts.ranked ∷ codes "covered" ∷ decimal counts.covered
-    ∷ codes "rejected" ∷ decimal counts.rejected ∷ codes "open" ∷ decimal counts.unsettled ∷ [])
-
--- how many nodes, edges and failure modes the graph has
-abbrev pub sizes_of : Tfpg → Sizes
-sizes_of graph = record { nodes = length graph.nodes; edges = length graph.edges; failures = length (failures graph) }
+counts_text counts = text_line (codes "counts" ∷ counts_words counts)
 
 -- the findings of these numbers
 abbrev pub findings_at : List Finding → List ℕ → List Finding
 findings_at findings numbers = filter_map (finding_numbered findings) numbers
 
--- The block of a round: its first line; the steps by rising numbers; the ranked hypotheses in ranking order; the open ones
--- and those that this round rejected by rising numbers; the counts.
+-- The block of a round: its first line; the steps by rising numbers; the ranked hypotheses in ranking order; the open
+-- ones and those that this round rejected by rising numbers; the counts.
 abbrev pub round_text : Tfpg → Round → List ℕ
 round_text graph round =
     text_line (codes "round" ∷ decimal round.number ∷ decimal round.line ∷ decimal round.now ∷ [])

@@ -4,7 +4,8 @@ ghost use Rattle.std.specs.Prelude.{◌≡◌, ◌++◌};
 ghost use Rattle.tfpg_base.specs.Append.{Appends};
 ghost use Rattle.tfpg_evidence.specs.RoundOf.{IsFindingOf};
 ghost use Rattle.tfpg_base.specs.TextLine.{text_line};
-ghost use Rattle.tfpg_report.specs.Blocks.{hypothesis_words, open_text, rejected_text, sizes_of};
+ghost use Rattle.tfpg_graph.specs.Graph.{sizes_of};
+ghost use Rattle.tfpg_report.specs.Blocks.{hypothesis_words, open_text, rejected_text};
 
 use crate::set_line::append_set_line;
 use itoa::Buffer;

@@ -3,8 +3,9 @@
 //! - [`head`] appends its first line.
 //! - [`refused`] appends the block of a line that was refused.
 //! - [`render`] appends the block of a round.
-//! - [`lost`] appends the line of a panel, which is a listener to rounds, that was lost.
-//! - [`append_set`] and [`append_activations`] append a set and the lines of a trace, for other texts that have them.
+//! - [`lost`] appends the line of a lost panel. A panel is a listener to rounds.
+//! - [`append_set`], [`append_set_line`], [`append_activations`] and [`append_counts`] append a set, a line that ends with one,
+//!   the lines of a trace and the counts of a round, for other texts that have them.
 //! - [`RefusedLine`] is why a line has a block of its own in place of a round.
 //!
 //! ```
@@ -35,5 +36,5 @@ pub use lost_line::lost;
 pub use ranked_lines::append_activations;
 pub use refused_block::refused;
 pub use refused_line::RefusedLine;
-pub use round_block::render;
-pub use set_line::append_set;
+pub use round_block::{append_counts, render};
+pub use set_line::{append_set, append_set_line};

@@ -2,17 +2,9 @@
 
 ghost use Rattle.std.specs.Prelude.{◌≡◌, ◌<◌, ◌∷◌, [], length};
 ghost use Rattle.tfpg_graph.specs.Graph.{failures};
-ghost use Rattle.tfpg_report.specs.Blocks.{edge_words, failure_word, name_word};
+ghost use Rattle.tfpg_report.specs.Blocks.{edge_words, failure_word};
 
 use tfpg_graph::Graph;
-
-/// The name of a node.
-pub(crate) fn node_name(graph: &Graph, node: u32) -> &[u8]
-    requires { node < length graph.now.nodes }
-    ensures { result.now ≡ name_word graph.now node }
-{
-    graph.name(node)
-}
 
 /// The names of the nodes that an edge leaves and enters.
 pub(crate) fn edge_names(graph: &Graph, edge: u32) -> (&[u8], &[u8])
@@ -22,11 +14,11 @@ pub(crate) fn edge_names(graph: &Graph, edge: u32) -> (&[u8], &[u8])
     let nodes = graph.node_count();
     let edge = graph.edge(edge);
     prove!(edge.source < nodes && edge.target < nodes);
-    (node_name(graph, edge.source), node_name(graph, edge.target))
+    (graph.name(edge.source), graph.name(edge.target))
 }
 
 /// The name of the failure mode at a position.
-pub(crate) fn failure_name(graph: &Graph, position: u32) -> &[u8]
+pub(crate) fn failure_word(graph: &Graph, position: u32) -> &[u8]
     requires { position < length (failures graph.now) }
     ensures { result.now ≡ failure_word graph.now position }
 {

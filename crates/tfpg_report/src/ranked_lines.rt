@@ -4,10 +4,10 @@ ghost use Rattle.std.specs.Prelude.{◌≡◌, ◌<◌, All, AllPairs, flat_map,
 ghost use Rattle.std.specs.Option.{option_copied};
 ghost use Rattle.tfpg_base.specs.Append.{Appends};
 ghost use Rattle.tfpg_evidence.specs.RoundOf.{IsFindingOf, finding_numbered};
-ghost use Rattle.tfpg_report.specs.Blocks.{activation_text, findings_at, ranked_line, ranked_text, sizes_of};
+ghost use Rattle.tfpg_graph.specs.Graph.{sizes_of};
+ghost use Rattle.tfpg_report.specs.Blocks.{activation_text, findings_at, ranked_line, ranked_text};
 ghost use Rattle.tfpg_report.specs.inside.Numbered.{numbered_text};
 
-use crate::names::node_name;
 use crate::set_line::append_set_line;
 use itoa::Buffer;
 use tfpg_base::{Activation, NoMemory, append_line};
@@ -147,5 +147,5 @@ fn append_activation(
 {
     let mut digits = Buffer::new();
     let time = digits.format(activation.time).as_bytes();
-    append_line(into, &[b"at", node_name(graph, activation.node), time])
+    append_line(into, &[b"at", graph.name(activation.node), time])
 }

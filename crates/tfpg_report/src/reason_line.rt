@@ -3,9 +3,9 @@
 ghost use Rattle.std.specs.Prelude.{◌≡◌};
 ghost use Rattle.tfpg_base.specs.Append.{Appends};
 ghost use Rattle.tfpg_evidence.specs.RoundOf.{IsReasonOf};
-ghost use Rattle.tfpg_report.specs.Blocks.{reason_text, sizes_of};
+ghost use Rattle.tfpg_graph.specs.Graph.{sizes_of};
+ghost use Rattle.tfpg_report.specs.Blocks.{reason_text};
 
-use crate::names::node_name;
 use itoa::Buffer;
 use tfpg_base::{NoMemory, append_line};
 use tfpg_evidence::Reason;
@@ -22,14 +22,11 @@ pub(crate) fn append_reason(
 {
     let mut digits = Buffer::new();
     match reason {
-        Reason::Zero { node } => append_line(into, &[b"why", b"zero", node_name(graph, node)]),
-        Reason::Top { node } => append_line(into, &[b"why", b"top", node_name(graph, node)]),
+        Reason::Zero { node } => append_line(into, &[b"why", b"zero", graph.name(node)]),
+        Reason::Top { node } => append_line(into, &[b"why", b"top", graph.name(node)]),
         Reason::Unreached { node, horizon } => {
             let horizon = digits.format(horizon).as_bytes();
-            append_line(
-                into,
-                &[b"why", b"unreached", node_name(graph, node), horizon],
-            )
+            append_line(into, &[b"why", b"unreached", graph.name(node), horizon])
         }
         Reason::From { event } => append_line(
             into,
@@ -41,7 +38,7 @@ pub(crate) fn append_reason(
         ),
         Reason::Quiet { event, node } => {
             let event = digits.format(event).as_bytes();
-            append_line(into, &[b"why", b"quiet", event, node_name(graph, node)])
+            append_line(into, &[b"why", b"quiet", event, graph.name(node)])
         }
         Reason::Pick { split, place } => {
             let mut place_digits = Buffer::new();

@@ -35,18 +35,21 @@ fn append_refusal(line: u64, refusal: Refusal, into: &mut Vec<u8>) -> Result<(),
 {
     let mut line_digits = Buffer::new();
     let line_word = line_digits.format(line).as_bytes();
-    match time_of(refusal) {
-        None => append_line(into, &[b"refused", line_word, name_of(refusal)]),
+    match refusal_time(refusal) {
+        None => append_line(into, &[b"refused", line_word, refusal_name(refusal)]),
         Some(time) => {
             let mut time_digits = Buffer::new();
             let time_word = time_digits.format(time).as_bytes();
-            append_line(into, &[b"refused", line_word, name_of(refusal), time_word])
+            append_line(
+                into,
+                &[b"refused", line_word, refusal_name(refusal), time_word],
+            )
         }
     }
 }
 
 /// The name of a refusal.
-fn name_of(refusal: Refusal) -> &'static [u8]
+fn refusal_name(refusal: Refusal) -> &'static [u8]
     ensures { result.now ≡ refusal_name refusal }
 {
     match refusal {
@@ -65,7 +68,7 @@ fn name_of(refusal: Refusal) -> &'static [u8]
 }
 
 /// The time that a refusal carries, in milliseconds.
-fn time_of(refusal: Refusal) -> Option<u64>
+fn refusal_time(refusal: Refusal) -> Option<u64>
     ensures { result ≡ refusal_time refusal }
 {
     match refusal {

@@ -4,7 +4,8 @@ ghost use Rattle.std.specs.Prelude.{◌≡◌, ◌∷◌, [], codes, decimal};
 ghost use Rattle.tfpg_base.specs.Append.{Appends};
 ghost use Rattle.tfpg_evidence.specs.RoundOf.{IsRoundOf};
 ghost use Rattle.tfpg_base.specs.TextLine.{text_line};
-ghost use Rattle.tfpg_report.specs.Blocks.{counts_text, round_text, sizes_of};
+ghost use Rattle.tfpg_graph.specs.Graph.{sizes_of};
+ghost use Rattle.tfpg_report.specs.Blocks.{counts_text, counts_words, round_text};
 
 use crate::ranked_lines::append_all_ranked;
 use crate::sections::{Section, append_section};
@@ -27,7 +28,7 @@ pub fn render(graph: &Graph, round: &Round, into: &mut Vec<u8>) -> Result<(), No
     append_all_ranked(graph, findings, round.order.as_slice(), into)?;
     append_section(graph, Section::Open, findings, into)?;
     append_section(graph, Section::Rejected, findings, into)?;
-    append_counts(round.counts, into)
+    append_counts_line(round.counts, into)
 }
 
 /// Appends the first line of a round.
@@ -45,8 +46,16 @@ fn append_round_line(number: u32, line: u64, now: u64, into: &mut Vec<u8>) -> Re
 }
 
 /// Appends the line of the counts.
-fn append_counts(counts: Counts, into: &mut Vec<u8>) -> Result<(), NoMemory>
+fn append_counts_line(counts: Counts, into: &mut Vec<u8>) -> Result<(), NoMemory>
     ensures { Appends result into.old.items into.new.items (counts_text counts) }
+{
+    into.extend_from_slice(b"counts ")?;
+    append_counts(counts, into)
+}
+
+/// Appends the words of the counts with a space between each two, and a line end.
+pub fn append_counts(counts: Counts, into: &mut Vec<u8>) -> Result<(), NoMemory>
+    ensures { Appends result into.old.items into.new.items (text_line (counts_words counts)) }
 {
     let mut ranked_digits = Buffer::new();
     let mut covered_digits = Buffer::new();
@@ -59,7 +68,6 @@ fn append_counts(counts: Counts, into: &mut Vec<u8>) -> Result<(), NoMemory>
     append_line(
         into,
         &[
-            b"counts",
             b"ranked",
             ranked,
             b"covered",

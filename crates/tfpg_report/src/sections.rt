@@ -3,7 +3,7 @@
 ghost use Rattle.std.specs.Prelude.{◌≡◌, All, flat_map};
 ghost use Rattle.tfpg_base.specs.Append.{Appends};
 ghost use Rattle.tfpg_evidence.specs.RoundOf.{IsFindingOf};
-ghost use Rattle.tfpg_report.specs.Blocks.{sizes_of};
+ghost use Rattle.tfpg_graph.specs.Graph.{sizes_of};
 ghost use Rattle.tfpg_report.specs.inside.Sections.{section_text};
 
 use crate::hypothesis_lines::{append_open, append_rejected};

@@ -4,9 +4,10 @@ ghost use Rattle.std.specs.Prelude.{◌≡◌, ◌<◌, ◌++◌, ◌∷◌, [],
 ghost use Rattle.tfpg_base.specs.Append.{Appends};
 ghost use Rattle.tfpg_evidence.specs.RoundOf.{IsClauseOf};
 ghost use Rattle.tfpg_base.specs.TextLine.{text_line};
-ghost use Rattle.tfpg_report.specs.Blocks.{clause_words, edge_words, name_word, sizes_of};
+ghost use Rattle.tfpg_graph.specs.Graph.{name_word, sizes_of};
+ghost use Rattle.tfpg_report.specs.Blocks.{clause_words, edge_words};
 
-use crate::names::{edge_names, node_name};
+use crate::names::edge_names;
 use itoa::Buffer;
 use tfpg_base::{NoMemory, append_line};
 use tfpg_evidence::ClauseName;
@@ -64,10 +65,7 @@ fn append_node_split(
     let mut horizon_digits = Buffer::new();
     let span = span_digits.format(span).as_bytes();
     let horizon = horizon_digits.format(horizon).as_bytes();
-    append_line(
-        into,
-        &[b"split", kind, node_name(graph, node), span, horizon],
-    )
+    append_line(into, &[b"split", kind, graph.name(node), span, horizon])
 }
 
 /// Appends the line of a split on a clause of an edge.

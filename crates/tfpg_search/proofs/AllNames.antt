@@ -1,126 +1,60 @@
 -- The clause names of a log are finitely many: they can be listed.
-use Rattle.std.proofs.Common.{◌≡◌, ◌≢◌, ◌⊎◌, ℕ, zero, suc, ◌+◌, ◌<◌, ◌≤◌, List, [], ◌∷◌, ◌++◌, length, Bool, true, false, Option, Some, None, refl, sym, ap, subst, ◌∙◌, inl, inr, arith}
-use Rattle.std.specs.Prelude.{All, AllPairs, Contains, cond, map, filter, flat_map, nat_le, ◌==◌, ◌&&◌, if◌then◌else◌, is_some, option_map, option_and_then, slice_get, filter_map}
+use Rattle.std.proofs.Common.{◌≡◌, ℕ, zero, suc, ◌+◌, ◌<◌, ◌≤◌, List, [], ◌∷◌, ◌++◌, length, Bool, true, false, Option, Some, None, refl, sym, ap, subst, ◌∙◌, arith}
+use Rattle.std.specs.Prelude.{Contains, map, filter, flat_map, nat_le, ◌==◌, ◌&&◌, if◌then◌else◌, is_some, option_and_then, slice_get, filter_map}
 use Rattle.std.specs.Bool.{then_some}
-use Rattle.std.specs.Option.{option_or, option_map_or}
-use Rattle.std.specs.List.{list_any}
-use Rattle.std.proofs.lemmas.Bool.{and_parts, and_from}
+use Rattle.std.specs.Option.{option_or}
+use Rattle.std.specs.List.{list_any, range_with_len}
+use Rattle.std.proofs.lemmas.Bool.{and_parts, and_from, eqb-true, eq-eqb}
 use Rattle.std.proofs.lemmas.Bool.Decides.{nat_tests}
-use Rattle.std.proofs.lemmas.List.Folds.{list_any_at}
-use Rattle.std.proofs.lemmas.List.Elements.{All-nil, All-cons, Contains-append_left, Contains-append_right}
+use Rattle.std.proofs.lemmas.List.FromFn.{length-range_with_len, get_or-range_with_len}
 use Rattle.std.proofs.lemmas.Option.{slice_get_within}
-use Rattle.std.proofs.lemmas.List.Kept.{AllPairs-cons}
 use Rattle.tfpg_base.specs.declared.constraint.Constraint.{Constraint}
 use Rattle.tfpg_graph.specs.declared.edge.Edge.{Edge}
-use Rattle.tfpg_graph.specs.declared.kind.Kind.{Kind}
-use Rattle.tfpg_graph.specs.Graph.{Tfpg, Node, is_kind_at, is_or, is_and, edges_into}
+use Rattle.tfpg_graph.specs.Graph.{Tfpg, is_kind_at, is_or, is_and, edges_into}
+use Rattle.tfpg_graph.proofs.NodeAt.{kind_within}
 use Rattle.tfpg_log.specs.declared.span.Span.{Span}
 use Rattle.tfpg_log.specs.declared.span.Window.{Window}
-use Rattle.tfpg_log.specs.Log.{Logbook, now_of, mode_at, time_of_event}
-use Rattle.tfpg_log.specs.Spans.{least, greatest, span_number, span_between, span_at, window_round, window_of, joint_of, is_allowed_at, are_allowed_at}
+use Rattle.tfpg_log.specs.Log.{Logbook, now_of, mode_at, time_of_event, is_allowed_at}
+use Rattle.tfpg_log.specs.Spans.{least, greatest, span_number, span_between, span_at, window_round, window_of, joint_of, are_allowed_at}
 use Rattle.tfpg_evidence.specs.declared.clause_name.ClauseName.{ClauseName}
 use Rattle.tfpg_evidence.specs.declared.clause_name.ClauseName.TheVariants.{OrMay, AndMay, OrMust, AndMust}
 use Rattle.tfpg_base.specs.Choice.{each_of}
 use Rattle.tfpg_clause.specs.Clauses.{alternatives, outside_span, arrival, due_over, may_by, must_by}
 use Rattle.tfpg_clause.specs.Order.{horizon_of}
 use Rattle.tfpg_search.specs.Enough.{IsNameAt, AreNamesAt}
-use Rattle.tfpg_base.proofs.lists.Elements.{Contains-head, Contains-tail, Contains-cons_cases, slice_get-contains, list_any-found}
+use Rattle.tfpg_base.proofs.lists.Elements.{slice_get-contains, list_any-found, list_any-passes}
 use Rattle.tfpg_base.proofs.lists.Choices.{is_some-there}
+use Rattle.tfpg_base.proofs.lists.Distinct.{once, in_once, from_once, once_differ}
+use Rattle.tfpg_base.proofs.lists.Images.{Contains-flat_map}
 use Rattle.tfpg_base.proofs.lists.Passing.{Contains-filter, Contains-filter_only}
 
--- ---- lists
-
-module _ {X : Type 0} where
-  -- the test passes some where an item passes
-  pub passes_any : (p : X → Bool) (xs : List X) (x : X) → Contains xs x → p x ≡ true → list_any p xs ≡ true
-  passes_any p xs x has is = list_any_at p xs has.0 x has.1 (ap p has.2 ∙ is)
-
-  module _ (same : X → X → Bool) (exact : (x y : X) → same x y ≡ true → x ≡ y) (itself : (x : X) → same x x ≡ true) where
-    -- the list, of each item the last time that it stands there
-    abbrev pub once : List X → List X
-    once [] = []
-    once (x ∷ xs) = cond (list_any (same x) xs) (once xs) (x ∷ once xs)
-
-    pub in_once : (xs : List X) (x : X) → Contains xs x → Contains (once xs) x
-    in_once [] x has = absurd (omega (arith, has.1))
-    in_once (y ∷ xs) x has = by (λ there. in_once xs x there) (list_any (same y) xs) refl (Contains-cons_cases y xs x has)
-      where
-        by : (Contains xs x → Contains (once xs) x) → (b : Bool) → list_any (same y) xs ≡ b → (y ≡ x) ⊎ Contains xs x → Contains (cond b (once xs) (y ∷ once xs)) x
-        by next true at (inl is) =
-            let found = list_any-found (same y) xs at in
-            next (subst (Contains xs) (sym (exact y found.0 found.2) ∙ is) found.1)
-        by next true at (inr there) = next there
-        by next false at (inl is) = subst (Contains (y ∷ once xs)) is (Contains-head y (once xs))
-        by next false at (inr there) = Contains-tail y (once xs) x (next there)
-
-    pub from_once : (xs : List X) (x : X) → Contains (once xs) x → Contains xs x
-    from_once [] x has = has
-    from_once (y ∷ xs) x has = by (λ there. from_once xs x there) (list_any (same y) xs) has
-      where
-        by : (Contains (once xs) x → Contains xs x) → (b : Bool) → Contains (cond b (once xs) (y ∷ once xs)) x → Contains (y ∷ xs) x
-        by next true there = Contains-tail y xs x (next there)
-        by next false there =
-            elim (Contains-cons_cases y (once xs) x there) [
-              | inl is ↦ subst (Contains (y ∷ xs)) is (Contains-head y xs)
-              | inr later ↦ Contains-tail y xs x (next later)
-            ]
-
-    none_later : (y : X) (xs all : List X) → list_any (same y) all ≡ false → ((x : X) → Contains xs x → Contains all x) → All (λ (x : X). y ≢ x) xs
-    none_later y [] all none in_all = All-nil (λ (x : X). y ≢ x)
-    none_later y (x ∷ xs) all none in_all =
-        All-cons (λ (z : X). y ≢ z) x xs
-        (λ is. (let there : list_any (same y) all ≡ true = passes_any (same y) all x (in_all x (Contains-head x xs)) (ap (same y) (sym is) ∙ itself y) in absurd cc))
-        (none_later y xs all none (λ z has. in_all z (Contains-tail x xs z has)))
-
-    pub once_differ : (xs : List X) → AllPairs ◌≢◌ (once xs)
-    once_differ [] = λ i j d less within. absurd (omega (arith, within))
-    once_differ (y ∷ xs) = by (once_differ xs) (list_any (same y) xs) refl
-      where
-        by : AllPairs ◌≢◌ (once xs) → (b : Bool) → list_any (same y) xs ≡ b → AllPairs ◌≢◌ (cond b (once xs) (y ∷ once xs))
-        by others true at = others
-        by others false at = AllPairs-cons ◌≢◌ y (once xs) (none_later y (once xs) xs at (λ x has. from_once xs x has)) others
-
-in_flat_map : {X Y : Type 0} (f : X → List Y) (xs : List X) (x : X) (y : Y) → Contains xs x → Contains (f x) y → Contains (flat_map f xs) y
-in_flat_map f [] x y has there = absurd (omega (arith, has.1))
-in_flat_map f (z ∷ xs) x y has there =
-    elim (Contains-cons_cases z xs x has) [
-      | inl is ↦ Contains-append_left (f z) (flat_map f xs) y (subst (λ w. Contains (f w) y) (sym is) there)
-      | inr later ↦ Contains-append_right (f z) (flat_map f xs) y (in_flat_map f xs x y later there)
-    ]
+-- ---- names
 
 -- the numbers below a limit
-abbrev below : ℕ → List ℕ
-below zero = []
-below (suc n) = n ∷ below n
+abbrev numbers : ℕ → List ℕ
+numbers limit = range_with_len 0 limit
 
-in_below : (limit k : ℕ) → k < limit → Contains (below limit) k
-in_below zero k less = absurd (omega arith)
-in_below (suc n) k less = by (λ smaller. in_below n k smaller) (k == n) refl
-  where
-    by : (k < n → Contains (below n) k) → (b : Bool) → (k == n) ≡ b → Contains (n ∷ below n) k
-    by next true at = (let is : n ≡ k = grind (arith, nat_tests) in subst (Contains (n ∷ below n)) is (Contains-head n (below n)))
-    by next false at = (let smaller : k < n = grind (arith, nat_tests) in Contains-tail n (below n) k (next smaller))
-
--- ---- names
+in_numbers : (limit k : ℕ) → k < limit → Contains (numbers limit) k
+in_numbers limit k less = (k, omega (arith, less, length-range_with_len 0 limit), (let same : 0 + k ≡ k = omega arith in get_or-range_with_len 0 limit k k less ∙ same))
 
 abbrev names_of_subject : ℕ → ℕ → ℕ → List ClauseName
 names_of_subject horizon span subject = OrMay subject span horizon ∷ AndMay subject span horizon ∷ OrMust subject span horizon ∷ AndMust subject span horizon ∷ []
 
 abbrev names_of_span : ℕ → ℕ → ℕ → List ClauseName
-names_of_span limit horizon span = flat_map (names_of_subject horizon span) (below limit)
+names_of_span limit horizon span = flat_map (names_of_subject horizon span) (numbers limit)
 
 abbrev names_of_horizon : ℕ → ℕ → List ClauseName
-names_of_horizon limit horizon = flat_map (names_of_span limit horizon) (below limit)
+names_of_horizon limit horizon = flat_map (names_of_span limit horizon) (numbers limit)
 
 -- all names of numbers below a limit
 abbrev names_below : ℕ → List ClauseName
-names_below limit = flat_map (names_of_horizon limit) (below limit)
+names_below limit = flat_map (names_of_horizon limit) (numbers limit)
 
 in_names : (limit horizon span subject : ℕ) (name : ClauseName) → Contains (names_of_subject horizon span subject) name → horizon < limit → span < limit → subject < limit → Contains (names_below limit) name
 in_names limit horizon span subject name there low_horizon low_span low_subject =
-    in_flat_map (names_of_horizon limit) (below limit) horizon name (in_below limit horizon low_horizon)
-    (in_flat_map (names_of_span limit horizon) (below limit) span name (in_below limit span low_span)
-    (in_flat_map (names_of_subject horizon span) (below limit) subject name (in_below limit subject low_subject) there))
+    Contains-flat_map (names_of_horizon limit) (numbers limit) horizon name (in_numbers limit horizon low_horizon)
+    (Contains-flat_map (names_of_span limit horizon) (numbers limit) span name (in_numbers limit span low_span)
+    (Contains-flat_map (names_of_subject horizon span) (numbers limit) subject name (in_numbers limit subject low_subject) there))
 
 -- the test of being the same name
 abbrev same_numbers : ℕ → ℕ → ℕ → ℕ → ℕ → ℕ → Bool
@@ -144,20 +78,14 @@ same_name (AndMust a b c) (AndMay x y z) = false
 same_name (AndMust a b c) (OrMust x y z) = false
 same_name (AndMust a b c) (AndMust x y z) = same_numbers a b c x y z
 
-number_is : (a x : ℕ) → (a == x) ≡ true → a ≡ x
-number_is a x is = grind (arith, nat_tests)
-
-number_itself : (a : ℕ) → (a == a) ≡ true
-number_itself a = grind (arith, nat_tests)
-
 three_are : {Y : Type 0} (f : ℕ → ℕ → ℕ → Y) (a b c x y z : ℕ) → same_numbers a b c x y z ≡ true → f a b c ≡ f x y z
 three_are f a b c x y z is =
     let all = and_parts (a == x) ((b == y) && (c == z)) is in
     let others = and_parts (b == y) (c == z) all.1 in
-    ap (λ n. f n b c) (number_is a x all.0) ∙ ap (λ n. f x n c) (number_is b y others.0) ∙ ap (λ n. f x y n) (number_is c z others.1)
+    ap (λ n. f n b c) (eqb-true a x all.0) ∙ ap (λ n. f x n c) (eqb-true b y others.0) ∙ ap (λ n. f x y n) (eqb-true c z others.1)
 
 three_itself : (a b c : ℕ) → same_numbers a b c a b c ≡ true
-three_itself a b c = and_from (a == a) ((b == b) && (c == c)) (number_itself a) (and_from (b == b) (c == c) (number_itself b) (number_itself c))
+three_itself a b c = and_from (a == a) ((b == b) && (c == c)) (eq-eqb a a refl) (and_from (b == b) (c == c) (eq-eqb b b refl) (eq-eqb c c refl))
 
 exact_name : (one other : ClauseName) → same_name one other ≡ true → one ≡ other
 exact_name (OrMay a b c) (OrMay x y z) is = three_are OrMay a b c x y z is
@@ -228,7 +156,7 @@ span_small_at log number horizon some = by (nat_le horizon (now_of log)) refl so
     found_by None at hi there = absurd cc
     found_by (Some lo) at hi there =
         let is = least_is (λ instant. span_number log instant == number) horizon lo at in
-        let same : span_number log lo ≡ number = number_is (span_number log lo) number is.1 in
+        let same : span_number log lo ≡ number = eqb-true (span_number log lo) number is.1 in
         omega (arith, is.0, same, number_small log lo)
 
     by : (b : Bool) → nat_le horizon (now_of log) ≡ b
@@ -241,13 +169,6 @@ span_small_at log number horizon some = by (nat_le horizon (now_of log)) refl so
     by false at there = absurd cc
 
 -- ---- allowed names
-
-kind_within : (is_kind : Kind → Bool) (graph : Tfpg) (node : ℕ) → is_kind_at is_kind graph node ≡ true → node < length graph.nodes
-kind_within is_kind graph node is = by (slice_get graph.nodes node) refl is
-  where
-    by : (found : Option Node) → slice_get graph.nodes node ≡ found → option_map_or is_kind (option_map (λ (n : Node). n.kind) found) false ≡ true → node < length graph.nodes
-    by None at there = absurd cc
-    by (Some n) at there = slice_get_within graph.nodes node n at
 
 first_there : {X Y : Type 0} (f : X → Option Y) (found : Option X) → is_some (option_and_then f found) ≡ true → is_some found ≡ true
 first_there f None is = cc
@@ -307,7 +228,7 @@ module _ (graph : Tfpg) (log : Logbook) where
   listed : (name : ClauseName) → allowed name ≡ true → Contains (names_below limit) name
   listed (OrMay node number horizon) some =
       let there = may_there log (is_kind_at is_or graph node) node (edges_into graph node) number horizon some in
-      small horizon number node (OrMay node number horizon) (0, omega arith, refl) there.0 (omega (arith, kind_within is_or graph node there.1))
+      small horizon number node (OrMay node number horizon) (0, omega arith, refl) there.0 (omega (arith, kind_within graph is_or node there.1))
   listed (AndMay edge number horizon) some =
       let own = of_edge (λ (e : Edge). may_by log (is_kind_at is_and graph e.target) e.target (e ∷ []) number horizon) edge (slice_get graph.edges edge) refl some in
       let there = may_there log (is_kind_at is_and graph own.1.target) own.1.target (own.1 ∷ []) number horizon own.2 in
@@ -320,7 +241,7 @@ module _ (graph : Tfpg) (log : Logbook) where
   listed (AndMust node number horizon) some =
       let there = must_there log (is_kind_at is_and graph node) node (edges_into graph node) (joint_of graph log node number horizon) number horizon some in
       small horizon number node (AndMust node number horizon) (3, omega arith, refl)
-      (of_window (λ span. window_round log (are_allowed_at graph log node) span horizon) number horizon there.0) (omega (arith, kind_within is_and graph node there.1))
+      (of_window (λ span. window_round log (are_allowed_at graph log node) span horizon) number horizon there.0) (omega (arith, kind_within graph is_and node there.1))
 
   -- the test of a name whose horizon is the time of an event
   abbrev at_event : ClauseName → Bool
@@ -334,13 +255,13 @@ module _ (graph : Tfpg) (log : Logbook) where
       let parts = and_parts (allowed name) (at_event name) is in
       let clause = is_some-there (alternatives graph log name) parts.0 in
       let event = list_any-found (λ event. time_of_event event == horizon_of name) log.events parts.1 in
-      record { clause = clause.0; allowed = clause.1; horizon = record { event = event.0; accepted = event.1; at = number_is (time_of_event event.0) (horizon_of name) event.2 } }
+      record { clause = clause.0; allowed = clause.1; horizon = record { event = event.0; accepted = event.1; at = eqb-true (time_of_event event.0) (horizon_of name) event.2 } }
 
   name_to : (name : ClauseName) → IsNameAt graph log name → is_name name ≡ true
   name_to name is =
       and_from (allowed name) (at_event name) (ap is_some is.allowed)
-      (passes_any (λ event. time_of_event event == horizon_of name) log.events is.horizon.event is.horizon.accepted
-      (ap (λ n. n == horizon_of name) is.horizon.at ∙ number_itself (horizon_of name)))
+      (list_any-passes (λ event. time_of_event event == horizon_of name) log.events is.horizon.event is.horizon.accepted
+      (ap (λ n. n == horizon_of name) is.horizon.at ∙ eq-eqb (horizon_of name) (horizon_of name) refl))
 
   -- those of small numbers
   abbrev small_names : List ClauseName

@@ -1,17 +1,18 @@
 -- A new search represents no steps.
-use Rattle.std.proofs.Common.{◌≡◌, ℕ, ◌<◌, List, [], ◌∷◌, length, Bool, true, Some, refl, sym, ap, subst, arith}
-use Rattle.std.specs.Prelude.{nat_lt, pos}
+use Rattle.std.proofs.Common.{◌≡◌, ℕ, ◌<◌, List, [], ◌∷◌, length, Bool, Some, refl, sym, ap, subst, arith}
+use Rattle.std.specs.Prelude.{pos}
 use Rattle.std.specs.Bool.{then_some}
 use Rattle.std.proofs.lemmas.List.Elements.{All-nil}
-use Rattle.std.proofs.lemmas.Bool.Decides.{nat_tests}
-use Rattle.tfpg_base.specs.Times.{never}
+use Rattle.std.proofs.lemmas.Bool.{lt-ltb}
+use Rattle.tfpg_base.specs.declared.limits.TheConstants.{NEVER}
 use Rattle.tfpg_graph.specs.Graph.{Tfpg}
 use Rattle.tfpg_graph.specs.Reach.{IsReach}
 use Rattle.tfpg_log.specs.Log.{Logbook}
 use Rattle.tfpg_log.specs.LogOfLines.{new_log}
 use Rattle.tfpg_evidence.specs.declared.reason.Reason.TheVariants.{Zero, Top}
-use Rattle.tfpg_clause.specs.Bounds.{at_most, at_least}
+use Rattle.tfpg_base.specs.Bounds.{at_most, at_least}
 use Rattle.tfpg_clause.specs.Facts.{fact}
+use Rattle.tfpg_clause.specs.Trees.{PathSplit, IsPresentLeaf}
 use Rattle.tfpg_clause.specs.Paths.{stated_by}
 use Rattle.tfpg_clause.specs.declared.path.Frame.{Frame}
 use Rattle.tfpg_clause.specs.Order.{horizon_of}
@@ -23,22 +24,17 @@ use Rattle.tfpg_search.specs.Searching.{Searching, SearchRepresents}
 use Rattle.tfpg_search.specs.inside.ClauseLaws.{ClauseLaws}
 use Rattle.tfpg_search.proofs.Standing.{restated, fact_stated}
 
-within_is : (a b : ℕ) → a < b → nat_lt a b ≡ true
-within_is a b less = grind (arith, nat_tests)
-
-no_names : HasDistinctNames []
-no_names i j d before inside = absurd (omega arith)
+-- Without a step no name stands twice, where the one present leaf has an empty path.
+pub none_twice : (graph : Tfpg) (log : Logbook) (reach : List ℕ) → ((path : List PathSplit) → IsPresentLeaf graph log reach [] path → [] ≡ path) → HasNoNameTwice graph log reach []
+none_twice graph log reach begins [] back path is leaf = subst HasDistinctNames (begins path leaf) (λ i j d before inside. absurd (omega (arith, inside)))
+none_twice graph log reach begins (first ∷ front) back path is leaf = cc
 
 module _ (graph : Tfpg) (reach : List ℕ) where
   pub zero_is : (log : Logbook) (node : ℕ) → node < length graph.nodes → fact graph log reach (Zero node) ≡ Some (at_least node 0)
-  zero_is log node less = ap (λ (b : Bool). then_some b (at_least node 0)) (within_is node (length graph.nodes) less)
+  zero_is log node less = ap (λ (b : Bool). then_some b (at_least node 0)) (lt-ltb node (length graph.nodes) less)
 
-  pub top_is : (log : Logbook) (node : ℕ) → node < length graph.nodes → fact graph log reach (Top node) ≡ Some (at_most node (pos never))
-  top_is log node less = ap (λ (b : Bool). then_some b (at_most node (pos never))) (within_is node (length graph.nodes) less)
-
-  none_twice : ClauseLaws → (log : Logbook) → HasNoNameTwice graph log reach []
-  none_twice laws log [] back path is leaf = subst HasDistinctNames (laws.one_leaf graph log reach [] [] path (laws.leaf_begins graph log reach) leaf) no_names
-  none_twice laws log (first ∷ front) back path is leaf = cc
+  pub top_is : (log : Logbook) (node : ℕ) → node < length graph.nodes → fact graph log reach (Top node) ≡ Some (at_most node (pos NEVER))
+  top_is log node less = ap (λ (b : Bool). then_some b (at_most node (pos NEVER))) (lt-ltb node (length graph.nodes) less)
 
   pub new_represents : ClauseLaws → (search : Searching) → search.reach ≡ reach → IsReach graph search.set reach → search.seen ≡ 0 → search.path ≡ [] → search.entered ≡ []
       → length search.leaf.demands.bounds ≡ length graph.nodes → pick_reasons search.leaf ≡ [] → IsStated (fact graph new_log reach) (fact graph new_log reach) search.leaf
@@ -49,7 +45,7 @@ module _ (graph : Tfpg) (reach : List ℕ) where
       (record {
         seen = refl;
         leaf = laws.frames_begin graph new_log reach;
-        names = none_twice laws new_log;
+        names = none_twice graph new_log reach (λ path leaf. laws.one_leaf graph new_log reach [] [] path (laws.leaf_begins graph new_log reach) leaf);
         horizons = All-nil (λ (frame : Frame). IsEventTime new_log (horizon_of frame.name));
         system = record {
           reach_is = is_reach;

@@ -17,9 +17,10 @@ use Rattle.tfpg_search.specs.Searching.{Searching, IsAtItsLeaf}
 use Rattle.tfpg_search.specs.inside.Leaving.{KeepsBounds, Leaves}
 use Rattle.tfpg_search.specs.inside.Moves.{untaken}
 use Rattle.tfpg_search.proofs.Names.{range_after}
-use Rattle.tfpg_search.proofs.Picking.{none_past, picks_are, picks_take, picks_fewer}
+use Rattle.tfpg_search.proofs.Picking.{picks_are, picks_take, picks_fewer}
 use Rattle.tfpg_search.proofs.Standing.{restated, of_same, fact_stated}
 use Rattle.tfpg_base.proofs.lists.Cuts.{slice_get-taken}
+use Rattle.tfpg_base.proofs.lists.Elements.{slice_get-none}
 use Rattle.tfpg_base.proofs.lists.Written.{slice_get-append_left, slice_get-after}
 use Rattle.tfpg_search.proofs.PathAfter.{After, after_is, all_after}
 
@@ -79,7 +80,7 @@ module _ (graph : Tfpg) (log : Logbook) (old : Searching) (at : IsAtItsLeaf grap
 
     picks_left : (left : Leaf) (o : Option ℕ) → slice_get old.entered stay ≡ o → Leaves o old.leaf left → pick_reasons left ≡ picks_of graph log (take stay old.path)
     picks_left left None there same =
-        let past = none_past old.entered stay there in
+        let past = slice_get-none old.entered stay there in
         let number : length old.entered ≡ stay = let m = most in grind arith in
         ap (λ (l : Leaf). pick_reasons l) same ∙ at.picks.reasons ∙ ap (λ (n : ℕ). picks_of graph log (take n old.path)) number
     picks_left left (Some before) there leaves =

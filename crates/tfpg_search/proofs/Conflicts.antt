@@ -107,11 +107,12 @@ Closes-cycle stated demands reasons tags NoMemory names found is = tt
 Closes-cycle stated demands reasons tags (Conflict list) names found is =
     let by_reason : AreDemandsNamed demands (λ (why : Why). stated (reason_of reasons why)) =
     λ e demanded. stated_of-named stated reasons e.why e.constraint (names e demanded) in
-    let cycle = IsCycleOf-named demands (λ (why : Why). stated (reason_of reasons why)) tags by_reason found in
-    record {
-      constraints = cycle.0;
-      hold = ap (λ (rs : List Reason). each_of (map stated rs)) is ∙ ap each_of (map-map stated (reason_of reasons) tags) ∙ cycle.1.are_named;
-      cycle = cycle.1.chained;
-      simple = cycle.1.simple;
-      negative = cycle.1.negative;
-    }
+    let cycle = IsCycleOf-named demands (λ (why : Why). stated (reason_of reasons why)) tags by_reason found in (
+      cycle.0,
+      record {
+        are_named = ap (λ (rs : List Reason). each_of (map stated rs)) is ∙ ap each_of (map-map stated (reason_of reasons) tags) ∙ cycle.1.are_named;
+        chained = cycle.1.chained;
+        simple = cycle.1.simple;
+        negative = cycle.1.negative;
+      },
+    )

@@ -1,23 +1,12 @@
--- Times ts a trace, one node more.
+-- Times as a trace, one node more.
 use Rattle.std.proofs.Common.{◌≡◌, ℕ, suc, ◌+◌, ◌<◌, ◌≤◌, List, [], ◌∷◌, ◌++◌, length, take, get_or, Bool, true, false, if◌then◌else◌, refl, sym, ap, ◌∙◌, arith}
-use Rattle.std.specs.Prelude.{nat_le, nat_lt, ◌==◌}
+use Rattle.std.specs.Prelude.{nat_le, ◌==◌}
 use Rattle.std.proofs.lemmas.List.{take_all, take_more, length-take-le}
+use Rattle.std.proofs.lemmas.Bool.{le-leb, lt-leb, le-ltb, ne_eqb}
 use Rattle.std.proofs.lemmas.Bool.Decides.{nat_tests}
 use Rattle.tfpg_base.specs.declared.activation.Activation.{Activation}
 use Rattle.tfpg_base.specs.Trace.{with_time}
 use Rattle.tfpg_clause.specs.Cut.{cut_from, cut}
-
-le_is : (a b : ℕ) → a ≤ b → nat_le a b ≡ true
-le_is a b less = grind (arith, nat_tests)
-
-not_le : (a b : ℕ) → b < a → nat_le a b ≡ false
-not_le a b less = grind (arith, nat_tests)
-
-past : (first n : ℕ) → nat_lt (first + suc n) first ≡ false
-past first n = grind (arith, nat_tests)
-
-other : (first n : ℕ) → ((first + suc n) == first) ≡ false
-other first n = grind (arith, nat_tests)
 
 abbrev at : ℕ → ℕ → Activation
 at node time = record { node = node; time = time }
@@ -26,8 +15,8 @@ at node time = record { node = node; time = time }
 later : (first n time y : ℕ) (others : List Activation) → with_time (first + suc n) time (at first y ∷ others) ≡ at first y ∷ with_time (first + suc n) time others
 later first n time y others =
     ap (λ (b : Bool). if b then at (first + suc n) time ∷ at first y ∷ others
-    else (if (first + suc n) == first then at (first + suc n) time ∷ others else at first y ∷ with_time (first + suc n) time others)) (past first n)
-    ∙ ap (λ (b : Bool). if b then at (first + suc n) time ∷ others else at first y ∷ with_time (first + suc n) time others) (other first n)
+    else (if (first + suc n) == first then at (first + suc n) time ∷ others else at first y ∷ with_time (first + suc n) time others)) (le-ltb (first + suc n) first (omega arith))
+    ∙ ap (λ (b : Bool). if b then at (first + suc n) time ∷ others else at first y ∷ with_time (first + suc n) time others) (ne_eqb (first + suc n) first (λ same. omega (arith, same)))
 
 module _ (instant time : ℕ) where
   active_more : (first y : ℕ) (times : List ℕ) → cut_from (first + 1) instant (times ++ time ∷ []) ≡ with_time (first + suc (length times)) time (cut_from (first + 1) instant times)
@@ -40,13 +29,13 @@ module _ (instant time : ℕ) where
   cut_active : time ≤ instant → (first : ℕ) (times : List ℕ) → cut_from first instant (times ++ time ∷ []) ≡ with_time (first + length times) time (cut_from first instant times)
   cut_active upto first [] =
       let same : first ≡ first + 0 = omega arith in
-      ap (λ (b : Bool). if b then at first time ∷ [] else []) (le_is time instant upto) ∙ ap (λ (n : ℕ). at n time ∷ []) same
+      ap (λ (b : Bool). if b then at first time ∷ [] else []) (le-leb time instant upto) ∙ ap (λ (n : ℕ). at n time ∷ []) same
   cut_active upto first (y ∷ times) =
       let same : first + 1 + length times ≡ first + suc (length times) = omega arith in
       active_more first y times (cut_active upto (first + 1) times ∙ ap (λ (n : ℕ). with_time n time (cut_from (first + 1) instant times)) same) (nat_le y instant)
 
   cut_inactive : instant < time → (first : ℕ) (times : List ℕ) → cut_from first instant (times ++ time ∷ []) ≡ cut_from first instant times
-  cut_inactive past_it first [] = ap (λ (b : Bool). if b then at first time ∷ [] else []) (not_le time instant past_it)
+  cut_inactive past_it first [] = ap (λ (b : Bool). if b then at first time ∷ [] else []) (lt-leb time instant past_it)
   cut_inactive past_it first (y ∷ times) =
       ap (λ (ts : List Activation). if nat_le y instant then at first y ∷ ts else ts) (cut_inactive past_it (first + 1) times)
 

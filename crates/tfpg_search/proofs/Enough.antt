@@ -9,10 +9,9 @@ use Rattle.tfpg_log.specs.Log.{Logbook, IsOrdered, now_of}
 use Rattle.tfpg_evidence.specs.declared.clause_name.ClauseName.{ClauseName}
 use Rattle.tfpg_evidence.specs.declared.step.Step.{Step}
 use Rattle.tfpg_evidence.specs.declared.step.Step.TheVariants.{Split, Cycle}
-use Rattle.tfpg_clause.specs.Trees.{Judged, is_split}
+use Rattle.tfpg_clause.specs.Trees.{Judged, is_split, split_count}
 use Rattle.tfpg_clause.specs.Paths.{with_step, new_frame, path_after}
 use Rattle.tfpg_clause.specs.declared.path.Frame.{Frame}
-use Rattle.tfpg_search.specs.Searched.{split_count}
 use Rattle.tfpg_search.specs.Enough.{IsEventTime, IsNameAt, IsEnough}
 use Rattle.tfpg_search.specs.Picks.{IsAllowed}
 use Rattle.tfpg_search.specs.inside.ClauseLaws.{ClauseLaws}

@@ -3,7 +3,7 @@ use Rattle.std.proofs.Common.{◌≡◌, ◌≢◌, ℕ, zero, suc, ◌+◌, ◌
 use Rattle.std.specs.Prelude.{slice_get, pos, is_none, option_map, option_and_then, unwrap_or, ◌-◌}
 use Rattle.std.proofs.lemmas.Bool.{ltb-true, ltb-false, eqb-true, and_parts}
 use Rattle.std.proofs.lemmas.Option.{same_Some, cond_some, none-some, slice_get-get_or}
-use Rattle.tfpg_base.specs.Times.{never}
+use Rattle.tfpg_base.specs.declared.limits.TheConstants.{NEVER}
 use Rattle.tfpg_base.specs.Constraint.{Meets}
 use Rattle.tfpg_base.specs.declared.constraint.Constraint.{Constraint}
 use Rattle.tfpg_graph.specs.Graph.{Tfpg, is_monitored, lag_at}
@@ -13,7 +13,7 @@ use Rattle.tfpg_log.specs.declared.event.Event.TheVariants.{Alarm, Silent, Sweep
 use Rattle.tfpg_log.specs.Log.{Logbook, IsOf, IsEventOf, now_of, event_at, alarm_among, quiet_time, quiet_at}
 use Rattle.tfpg_evidence.specs.declared.reason.Reason.{Reason}
 use Rattle.tfpg_evidence.specs.declared.reason.Reason.TheVariants.{Zero, Top, Unreached, From, Upto, Quiet, Pick}
-use Rattle.tfpg_clause.specs.Bounds.{at_most, at_least}
+use Rattle.tfpg_base.specs.Bounds.{at_most, at_least}
 use Rattle.tfpg_clause.specs.Facts.{fact, from_alarm, upto_alarm}
 use Rattle.tfpg_base.proofs.lists.Elements.{All-at}
 use Rattle.tfpg_base.proofs.lists.Choices.{then_some-true}
@@ -105,8 +105,8 @@ module _ (graph : Tfpg) (log : Logbook) (of : IsOf graph log) where
         let parts = then_some-true (ltb node (length graph.nodes)) (at_least node 0) constraint is in
         inl (record { node = node; bound = 0; within = ltb-true node (length graph.nodes) parts.0; is = sym parts.1 })
     fact_bounds (Top node) is =
-        let parts = then_some-true (ltb node (length graph.nodes)) (at_most node (pos never)) constraint is in
-        inr (record { node = node; bound = never; within = ltb-true node (length graph.nodes) parts.0; is = sym parts.1 })
+        let parts = then_some-true (ltb node (length graph.nodes)) (at_most node (pos NEVER)) constraint is in
+        inr (record { node = node; bound = NEVER; within = ltb-true node (length graph.nodes) parts.0; is = sym parts.1 })
     fact_bounds (Unreached node horizon) is =
         let parts = then_some-true (ltb node (length graph.nodes) && (leb horizon (now_of log) && not (is_among reach node))) (at_least node (horizon + 1)) constraint is in
         let both = and_parts (ltb node (length graph.nodes)) (leb horizon (now_of log) && not (is_among reach node)) parts.0 in

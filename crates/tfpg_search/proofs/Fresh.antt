@@ -2,11 +2,11 @@
 use Rattle.std.proofs.Common.{◌≡◌, ℕ, zero, suc, ◌+◌, ◌*◌, ◌<◌, List, [], length, Option, Some, sym, ◌∙◌, ap, inl, zero-add, arith}
 use Rattle.std.specs.Prelude.{slice_get, pos}
 use Rattle.std.proofs.lemmas.Option.{same_Some, none-some, slice_get_within}
-use Rattle.tfpg_base.specs.Times.{never}
+use Rattle.tfpg_base.specs.declared.limits.TheConstants.{NEVER}
 use Rattle.tfpg_base.specs.declared.constraint.Constraint.{Constraint}
 use Rattle.tfpg_evidence.specs.declared.reason.Reason.{Reason}
 use Rattle.tfpg_evidence.specs.declared.reason.Reason.TheVariants.{Zero, Top}
-use Rattle.tfpg_clause.specs.Bounds.{at_most, at_least}
+use Rattle.tfpg_base.specs.Bounds.{at_most, at_least}
 use Rattle.tfpg_diff.specs.declared.bounds.Bounds.{Bounds}
 use Rattle.tfpg_diff.specs.declared.pick.Pick.{Pick}
 use Rattle.tfpg_diff.specs.Demands.{Demands, Bounded}
@@ -48,7 +48,7 @@ module _ (demands : Demands) (reasons : List Reason) (nodes : ℕ) (is : demands
   -- times lie in range
   pub IsStated-new : (fact : Reason → Option Constraint) →
       ((node : ℕ) → node < nodes → fact (Zero node) ≡ Some (at_least node 0)) →
-      ((node : ℕ) → node < nodes → fact (Top node) ≡ Some (at_most node (pos never))) →
+      ((node : ℕ) → node < nodes → fact (Top node) ≡ Some (at_most node (pos NEVER))) →
       IsStated fact fact (leaf_of demands reasons)
   IsStated-new fact zeros tops = record {
     wider = λ reason constraint states. states;

@@ -5,9 +5,8 @@ use Rattle.std.proofs.lemmas.List.Sums.{sum_by-append}
 use Rattle.tfpg_graph.specs.Graph.{Tfpg}
 use Rattle.tfpg_log.specs.Log.{Logbook}
 use Rattle.tfpg_evidence.specs.declared.step.Step.{Step}
-use Rattle.tfpg_clause.specs.Trees.{is_split}
+use Rattle.tfpg_clause.specs.Trees.{is_split, split_count}
 use Rattle.tfpg_clause.specs.declared.path.Frame.{Frame}
-use Rattle.tfpg_search.specs.Searched.{split_count}
 use Rattle.tfpg_search.specs.inside.Moves.{Goes, Leads, Grows}
 
 module _ (graph : Tfpg) (log : Logbook) (reach : List ℕ) where

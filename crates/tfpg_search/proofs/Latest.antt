@@ -1,5 +1,5 @@
 -- At a settled leaf the solutions of the system are the times that solve what holds at the leaf.
-use Rattle.std.proofs.Common.{◌≡◌, ℕ, zero, suc, ◌+◌, ◌<◌, List, length, get_or, Option, Some, None, sym, ap, subst, ◌∙◌, arith}
+use Rattle.std.proofs.Common.{◌≡◌, ℕ, zero, suc, ◌+◌, ◌<◌, List, length, get_or, Option, Some, sym, ap, subst, ◌∙◌, arith}
 use Rattle.std.specs.Prelude.{slice_get, option_and_then, pos}
 use Rattle.std.proofs.lemmas.List.{take_all}
 use Rattle.std.proofs.lemmas.List.Elements.{All-get_or}
@@ -10,7 +10,7 @@ use Rattle.tfpg_graph.specs.Graph.{Tfpg}
 use Rattle.tfpg_log.specs.Log.{Logbook}
 use Rattle.tfpg_evidence.specs.declared.reason.Reason.{Reason}
 use Rattle.tfpg_evidence.specs.declared.reason.Reason.TheVariants.{Zero, Top, Unreached, From, Upto, Quiet, Pick}
-use Rattle.tfpg_clause.specs.Bounds.{at_most, at_least}
+use Rattle.tfpg_base.specs.Bounds.{at_most, at_least}
 use Rattle.tfpg_clause.specs.Facts.{fact}
 use Rattle.tfpg_clause.specs.Paths.{framed, stated_by}
 use Rattle.tfpg_clause.specs.declared.path.Frame.{Frame}
@@ -23,6 +23,7 @@ use Rattle.tfpg_search.specs.Leaf.{tagged_by, pick_reasons}
 use Rattle.tfpg_search.specs.Picks.{picks_of}
 use Rattle.tfpg_search.specs.Searching.{Searching, IsAtItsLeaf}
 use Rattle.tfpg_search.specs.inside.Moves.{SolvesFramed, IsLatestFramed, IsSettled}
+use Rattle.tfpg_base.proofs.lists.Choices.{option_and_then-some}
 use Rattle.tfpg_base.proofs.lists.Elements.{All-from_places}
 use Rattle.tfpg_search.proofs.Picking.{picks_have}
 
@@ -30,15 +31,7 @@ use Rattle.tfpg_search.proofs.Picking.{picks_have}
 named_fact : (facts : Reason → Option Constraint) (reasons : List Reason) (why : Why) (c : Constraint) → tagged_by facts reasons why ≡ Some c → (r : Reason) × (facts r ≡ Some c)
 named_fact facts reasons (Floor node) c is = (Zero node, is)
 named_fact facts reasons (Ceiling node) c is = (Top node, is)
-named_fact facts reasons (Given tag) c is = by (slice_get reasons tag) is
-  where
-    by : (o : Option Reason) → option_and_then facts o ≡ Some c → (r : Reason) × (facts r ≡ Some c)
-    by None none = cc
-    by (Some r) some = (r, some)
-
-some_reason : (stated : Reason → Option Constraint) (o : Option Reason) (c : Constraint) → option_and_then stated o ≡ Some c → (r : Reason) × (stated r ≡ Some c)
-some_reason stated None c is = cc
-some_reason stated (Some r) c is = (r, is)
+named_fact facts reasons (Given tag) c is = let found = option_and_then-some facts (slice_get reasons tag) c is in (found.0, found.2)
 
 module _ (laws : ClauseLaws) (graph : Tfpg) (log : Logbook) (search : Searching) (at : IsAtItsLeaf graph log search) (settled : IsSettled graph log search)
     (as_many : length search.leaf.demands.picks ≡ length (pick_reasons search.leaf)) where
@@ -96,8 +89,8 @@ module _ (laws : ClauseLaws) (graph : Tfpg) (log : Logbook) (search : Searching)
           };
       met = All-from_places (λ (p : PickOf). Meets times p.constraint) search.leaf.demands.picks
           (λ place pick there.
-          let reason = some_reason states (slice_get (pick_reasons search.leaf) place) pick.constraint (at.stated.picks place pick there) in
-          met_by_reason reason.0 pick.constraint reason.1);
+          let reason = option_and_then-some states (slice_get (pick_reasons search.leaf) place) pick.constraint (at.stated.picks place pick there) in
+          met_by_reason reason.0 pick.constraint reason.2);
     }
 
   -- The latest solution of the system is the latest at the leaf.

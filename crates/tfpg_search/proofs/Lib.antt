@@ -8,7 +8,6 @@ mod Fresh
 mod StatedBounds
 mod FactsAdded
 -- Trees: steps that lead on, and what they come to for all steps before.
-mod Cuts
 mod PathAfter
 mod Names
 mod Lifted
@@ -24,7 +23,7 @@ mod Moving
 mod CutTimes
 mod Settling
 mod Rounds
-mod Beginning
+pub mod Beginning
 -- The budget that is always enough.
 mod Measure
 mod Horizons

@@ -12,16 +12,16 @@ use Rattle.tfpg_evidence.specs.declared.reason.Reason.TheVariants.{Pick}
 use Rattle.tfpg_evidence.specs.declared.step.Step.{Step}
 use Rattle.tfpg_evidence.specs.declared.step.Step.TheVariants.{Split, Cycle}
 use Rattle.tfpg_clause.specs.Trees.{Judged, PathSplit, IsRefutation, IsPresentLeaf, picked}
-use Rattle.tfpg_clause.specs.Paths.{judged_by, with_step, IsAtLeaf, framed, stated_by, new_frame, path_after, IsClosedBy}
+use Rattle.tfpg_clause.specs.Paths.{judged_by, with_step, IsAtLeaf, framed, stated_by, new_frame, path_after, IsClosedBy, with_steps}
 use Rattle.tfpg_clause.specs.declared.path.Frame.{Frame}
 use Rattle.tfpg_search.specs.inside.Closing.{IsSimpleCycle}
 use Rattle.tfpg_search.specs.Solutions.{IsLatestBy}
 use Rattle.tfpg_search.specs.Live.{IsLive, IsSimpleAfter, HasDistinctNames, HasNoNameTwice}
-use Rattle.tfpg_search.specs.Searched.{with_steps, IsSearchStep, AreSearchSteps}
+use Rattle.tfpg_search.specs.Searched.{IsSearchStep, AreSearchSteps}
 use Rattle.tfpg_search.specs.inside.Moves.{IsLiveFramed, Goes, Leads, LeadsTo}
 use Rattle.tfpg_search.specs.Picks.{AreInRange}
 use Rattle.tfpg_search.specs.inside.ClauseLaws.{ClauseLaws}
-use Rattle.tfpg_search.proofs.Cuts.{cut_last}
+use Rattle.tfpg_base.proofs.lists.Cuts.{cut_last}
 use Rattle.tfpg_search.proofs.Names.{same_names, all_allowed, new_name, AreDistinct, distinct_push, distinct_after, range_after, range_push}
 
 module _ (laws : ClauseLaws) (graph : Tfpg) (log : Logbook) (reach : List ℕ) (ordered : IsOrdered log) where
@@ -45,11 +45,11 @@ module _ (laws : ClauseLaws) (graph : Tfpg) (log : Logbook) (reach : List ℕ) (
     simple_here reasons closes = record {
       path = at.path;
       leaf = at.leaf;
-      constraints = closes.constraints;
+      constraints = closes.0;
       hold =
           ap (λ (f : Reason → Option Constraint). each_of (map f reasons)) (λ i reason. sym (laws.states_same graph log reach at.path frames reason ordered at.frames_are) i)
-          ∙ closes.hold;
-      simple = closes.simple;
+          ∙ closes.1.are_named;
+      simple = closes.1.simple;
     }
 
     right_here : (step : Step) (next : Option (List Frame)) → Goes graph log reach frames step next → IsSearchStep graph log reach earlier step
@@ -94,7 +94,7 @@ module _ (laws : ClauseLaws) (graph : Tfpg) (log : Logbook) (reach : List ℕ) (
       )
 
   closed_by : (frames : List Frame) (reasons : List Reason) → IsSimpleCycle (stated_by graph log reach frames) reasons → IsClosedBy (stated_by graph log reach frames) reasons
-  closed_by frames reasons closes = record { constraints = closes.constraints; hold = closes.hold; cycle = closes.cycle; negative = closes.negative }
+  closed_by frames reasons closes = record { constraints = closes.0; hold = closes.1.are_named; cycle = closes.1.chained; negative = closes.1.negative }
 
   after_cycle : (frames : List Frame) (earlier : List Judged) → Here frames earlier → (reasons : List Reason) (next : Option (List Frame)) → IsSimpleCycle (stated_by graph log reach frames) reasons
       → path_after frames ≡ next → LeadsTo graph log reach (with_step earlier log (Cycle reasons)) next

@@ -19,11 +19,8 @@ module _ (a : ℕ) (some : 1 ≤ a) where
   weight (frame ∷ deeper) zero = 0
   weight (frame ∷ deeper) (suc n) = (frame.alternatives - frame.alternative) * a ^ n + weight deeper n
 
-  power_some : (n : ℕ) → 1 ≤ a ^ n
-  power_some n = one-le-pow n a some
-
   pub weight_some : (frames : List Frame) (n : ℕ) → length frames ≤ n → 1 ≤ weight frames n
-  weight_some [] n within = power_some n
+  weight_some [] n within = one-le-pow n a some
   weight_some (frame ∷ deeper) zero within = absurd (omega arith)
   weight_some (frame ∷ deeper) (suc n) within = omega (arith, weight_some deeper n (omega arith))
 
@@ -55,7 +52,7 @@ module _ (a : ℕ) (some : 1 ≤ a) where
   split_lowers [] name count zero less low high = absurd (omega arith)
   split_lowers [] name count (suc n) less low high =
       let rows : (count - 1) * a ^ n + a ^ n + a ^ n ≤ a * a ^ n = two_rows (count - 1) (a ^ n) (omega (arith, low, high)) in
-      omega (arith, rows, power_some n, pow-succ' a n)
+      omega (arith, rows, one-le-pow n a some, pow-succ' a n)
   split_lowers (frame ∷ deeper) name count zero less low high = absurd (omega arith)
   split_lowers (frame ∷ deeper) name count (suc n) less low high = omega (arith, split_lowers deeper name count n (omega arith) low high)
 

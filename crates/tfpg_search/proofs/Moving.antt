@@ -15,7 +15,8 @@ use Rattle.tfpg_evidence.specs.declared.step.Step.{Step}
 use Rattle.tfpg_evidence.specs.declared.step.Step.TheVariants.{Split, Cycle}
 use Rattle.tfpg_clause.specs.declared.limits.TheConstants.{MAX_CONSTRAINTS}
 use Rattle.tfpg_clause.specs.Facts.{fact}
-use Rattle.tfpg_clause.specs.Clauses.{alternatives, count_of, item_at, constraint_at, IsOver, IsSmall}
+use Rattle.tfpg_clause.specs.Clauses.{alternatives, count_of, constraint_at, IsOver, IsSmall}
+use Rattle.tfpg_base.specs.Choice.{item_at}
 use Rattle.tfpg_graph.specs.Valid.{IsValid}
 use Rattle.tfpg_search.proofs.Picking.{of_frame, chosen, in_place, in_place_is, place_in, place_out, picks_push}
 use Rattle.tfpg_search.specs.inside.ClauseLaws.{ClauseLaws}
@@ -30,9 +31,9 @@ use Rattle.tfpg_search.specs.Leaf.{Leaf, pick_reasons, IsStated}
 use Rattle.tfpg_search.specs.inside.Closing.{IsSimpleCycle}
 use Rattle.tfpg_search.specs.Picks.{place_count, picks_from}
 use Rattle.tfpg_search.specs.inside.Leaving.{places_at}
-use Rattle.tfpg_search.specs.Searching.{Searching, IsAtItsLeaf}
+use Rattle.tfpg_search.specs.Searching.{Searching, IsAtItsLeaf, HasEnteredAll}
 use Rattle.tfpg_search.specs.inside.Leaving.{Leaves, Pushing, PushesOne}
-use Rattle.tfpg_search.specs.inside.Moves.{IsLiveFramed, Grows, KeepsSet, HasEnteredAll, IsSettled, untaken}
+use Rattle.tfpg_search.specs.inside.Moves.{IsLiveFramed, Grows, KeepsSet, IsSettled, untaken}
 use Rattle.tfpg_search.proofs.Growing.{grows_none, grows_one}
 use Rattle.tfpg_search.proofs.Standing.{leaf_stands, split_stands, enter_stands, left_again}
 use Rattle.tfpg_base.proofs.lists.Written.{slice_get-push_last}

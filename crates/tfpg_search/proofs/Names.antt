@@ -10,7 +10,8 @@ use Rattle.tfpg_base.specs.Constraint.{Meets}
 use Rattle.tfpg_graph.specs.Graph.{Tfpg}
 use Rattle.tfpg_log.specs.Log.{Logbook, GoesOn, IsOrdered, first_events}
 use Rattle.tfpg_evidence.specs.declared.clause_name.ClauseName.{ClauseName}
-use Rattle.tfpg_clause.specs.Clauses.{alternatives, count_of, item_at, constraint_at, MeetsClause, Violates}
+use Rattle.tfpg_clause.specs.Clauses.{alternatives, count_of, constraint_at, MeetsClause, Violates}
+use Rattle.tfpg_base.specs.Choice.{item_at}
 use Rattle.tfpg_clause.specs.Trees.{PathSplit}
 use Rattle.tfpg_clause.specs.Paths.{AreFramesOf, framed, path_after, next_alternative, new_frame}
 use Rattle.tfpg_clause.specs.declared.path.Frame.{Frame}

@@ -1,35 +1,21 @@
 -- The picks of a path: which they are, and where each stands.
-use Rattle.std.proofs.Common.{◌≡◌, ◌⊎◌, ℕ, zero, suc, ◌+◌, ◌<◌, ◌≤◌, List, [], ◌∷◌, ◌++◌, length, take, min, Option, Some, None, refl, sym, ap, ◌∙◌, inl, inr, arith, append_assoc}
+use Rattle.std.proofs.Common.{◌≡◌, ℕ, zero, suc, ◌+◌, ◌<◌, ◌≤◌, List, [], ◌∷◌, ◌++◌, length, take, min, Option, Some, None, refl, sym, ap, ◌∙◌, inl, inr, arith, append_assoc}
 use Rattle.std.specs.Prelude.{slice_get, option_and_then}
 use Rattle.std.specs.Option.{option_map_or}
-use Rattle.std.proofs.lemmas.List.{append-nil, length-take}
+use Rattle.std.proofs.Math.Seq.{take-append-add}
+use Rattle.std.proofs.lemmas.List.{append-nil, length-append, length-take}
 use Rattle.std.proofs.lemmas.Option.{slice_get_within}
 use Rattle.tfpg_base.specs.declared.constraint.Constraint.{Constraint}
 use Rattle.tfpg_graph.specs.Graph.{Tfpg}
 use Rattle.tfpg_log.specs.Log.{Logbook}
 use Rattle.tfpg_evidence.specs.declared.reason.Reason.{Reason}
 use Rattle.tfpg_evidence.specs.declared.reason.Reason.TheVariants.{Pick}
-use Rattle.tfpg_clause.specs.Clauses.{alternatives, item_at, constraint_at}
+use Rattle.tfpg_clause.specs.Clauses.{alternatives, constraint_at}
+use Rattle.tfpg_base.specs.Choice.{item_at}
 use Rattle.tfpg_clause.specs.declared.path.Frame.{Frame}
 use Rattle.tfpg_search.specs.Picks.{place_count, picks_from, picks_of_from}
-use Rattle.tfpg_base.proofs.lists.Written.{slice_get-append_some}
-
--- ---- lists
-
--- an item of two lists stands in the one or in the other
-pub get_append : {X : Type 0} (xs ys : List X) (i : ℕ) (x : X) → slice_get (xs ++ ys) i ≡ Some x → (slice_get xs i ≡ Some x) ⊎ ((j : ℕ) × (slice_get ys j ≡ Some x))
-get_append [] ys i x is = inr (i, is)
-get_append (y ∷ xs) ys zero x is = inl is
-get_append (y ∷ xs) ys (suc i) x is = get_append xs ys i x is
-
--- an item of the second list stands somewhere in both
-pub get_back : {X : Type 0} (xs ys : List X) (j : ℕ) (x : X) → slice_get ys j ≡ Some x → (i : ℕ) × (slice_get (xs ++ ys) i ≡ Some x)
-get_back [] ys j x is = (j, is)
-get_back (y ∷ xs) ys j x is = let there = get_back xs ys j x is in (suc there.0, there.1)
-
-take_on : {X : Type 0} (xs ys zs : List X) → take (length ys) zs ≡ ys → take (length (xs ++ ys)) (xs ++ zs) ≡ xs ++ ys
-take_on [] ys zs is = is
-take_on (x ∷ xs) ys zs is = ap (λ l. x ∷ l) (take_on xs ys zs is)
+use Rattle.tfpg_base.proofs.lists.Elements.{slice_get-none}
+use Rattle.tfpg_base.proofs.lists.Written.{slice_get-append_cases, slice_get-append_some, slice_get-append_right}
 
 -- ---- the picks of one alternative
 
@@ -68,15 +54,10 @@ place_in None place c is = cc
 place_in (Some constraints) zero c is = cc
 place_in (Some constraints) (suc before) c is = let within = slice_get_within constraints before c is in (omega arith, omega arith)
 
-pub none_past : {X : Type 0} (xs : List X) (i : ℕ) → slice_get xs i ≡ None → length xs ≤ i
-none_past [] i is = omega arith
-none_past (x ∷ xs) zero is = cc
-none_past (x ∷ xs) (suc i) is = let others = none_past xs i is in omega arith
-
 pub place_out : (alternative : Option (List Constraint)) (place : ℕ) → in_place alternative place ≡ None → 1 ≤ place → option_map_or length alternative 0 < place
 place_out None place is low = omega arith
 place_out (Some constraints) zero is low = absurd (omega arith)
-place_out (Some constraints) (suc before) is low = let past = none_past constraints before is in omega arith
+place_out (Some constraints) (suc before) is low = let past = slice_get-none constraints before is in omega arith
 
 -- ---- the picks of a path
 
@@ -99,7 +80,7 @@ module _ (graph : Tfpg) (log : Logbook) where
   pub picks_are : (start : ℕ) (frames : List Frame) (i : ℕ) (r : Reason) → slice_get (picks_of_from graph log start frames) i ≡ Some r → IsPickOf start frames r
   picks_are start [] i r is = cc
   picks_are start (frame ∷ deeper) i r is =
-      elim (get_append (picks_from start 1 (place_count graph log frame)) (picks_of_from graph log (start + 1) deeper) i r is) [
+      elim (slice_get-append_cases (picks_from start 1 (place_count graph log frame)) (picks_of_from graph log (start + 1) deeper) i r is) [
         | inl first ↦
             let pick = pick_of start 1 (place_count graph log frame) i r first in
             let same : start ≡ start + 0 = omega arith in
@@ -132,8 +113,8 @@ module _ (graph : Tfpg) (log : Logbook) where
   picks_have start (frame ∷ deeper) (suc k) place c is =
       let there = picks_have (start + 1) deeper k place c is in
       let same : start + 1 + k ≡ start + suc k = omega arith in
-      let back = get_back (picks_from start 1 (place_count graph log frame)) (picks_of_from graph log (start + 1) deeper) there.0 (Pick (start + 1 + k) place) there.1 in
-      (back.0, back.1 ∙ ap (λ (n : ℕ). Some (Pick n place)) same)
+      let front = picks_from start 1 (place_count graph log frame) in
+      (length front + there.0, slice_get-append_right front (picks_of_from graph log (start + 1) deeper) there.0 ∙ there.1 ∙ ap (λ (n : ℕ). Some (Pick n place)) same)
 
   pub picks_last : (start : ℕ) (frames : List Frame) (frame : Frame)
       → picks_of_from graph log start (frames ++ frame ∷ []) ≡ picks_of_from graph log start frames ++ picks_from (start + length frames) 1 (place_count graph log frame)
@@ -153,8 +134,10 @@ module _ (graph : Tfpg) (log : Logbook) where
   picks_take start frames (suc n) zero less = absurd (omega arith)
   picks_take start [] (suc n) (suc m) less = refl
   picks_take start (frame ∷ deeper) (suc n) (suc m) less =
-      take_on (picks_from start 1 (place_count graph log frame)) (picks_of_from graph log (start + 1) (take n deeper)) (picks_of_from graph log (start + 1) (take m deeper))
-      (picks_take (start + 1) deeper n m (omega arith))
+      let front = picks_from start 1 (place_count graph log frame) in
+      let few = picks_of_from graph log (start + 1) (take n deeper) in
+      let many = picks_of_from graph log (start + 1) (take m deeper) in
+      ap (λ (count : ℕ). take count (front ++ many)) (length-append front few) ∙ take-append-add front many (length few) ∙ ap (λ (rs : List Reason). front ++ rs) (picks_take (start + 1) deeper n m (omega arith))
 
   pub picks_fewer : (start : ℕ) (frames : List Frame) (n m : ℕ) → n ≤ m
       → length (picks_of_from graph log start (take n frames)) ≤ length (picks_of_from graph log start (take m frames))

@@ -7,17 +7,18 @@ use Rattle.tfpg_base.specs.declared.no_memory.NoMemory.{NoMemory}
 use Rattle.tfpg_graph.specs.Graph.{Tfpg}
 use Rattle.tfpg_log.specs.Log.{Logbook, IsOrdered, first_events}
 use Rattle.tfpg_evidence.specs.declared.step.Step.{Step}
-use Rattle.tfpg_clause.specs.Trees.{Judged, IsPartial}
+use Rattle.tfpg_clause.specs.Trees.{Judged, IsPartial, split_count}
 use Rattle.tfpg_clause.specs.Clauses.{alternatives}
 use Rattle.tfpg_clause.specs.Order.{horizon_of}
 use Rattle.tfpg_clause.specs.declared.path.Frame.{Frame}
 use Rattle.tfpg_search.specs.declared.found.Found.{Found}
 use Rattle.tfpg_search.specs.declared.found.Found.TheVariants.{Shown, Closed, Spent}
 use Rattle.tfpg_search.specs.Live.{HasDistinctNames, HasNoNameTwice}
-use Rattle.tfpg_search.specs.Searching.{Searching, IsAtItsLeaf, SearchRepresents, RepresentsSome}
-use Rattle.tfpg_search.specs.Searched.{with_steps, split_count, AreSearchSteps, FindsOrNot, IsSearched}
+use Rattle.tfpg_search.specs.Searching.{Searching, IsAtItsLeaf, SearchRepresents, RepresentsSome, HasEnteredAll}
+use Rattle.tfpg_clause.specs.Paths.{with_steps}
+use Rattle.tfpg_search.specs.Searched.{AreSearchSteps, FindsOrNot, IsSearched}
 use Rattle.tfpg_search.specs.inside.ClauseLaws.{ClauseLaws}
-use Rattle.tfpg_search.specs.inside.Moves.{Leads, LeadsTo, HasEnteredAll, FoundAtLeaf, SearchesOn}
+use Rattle.tfpg_search.specs.inside.Moves.{Leads, LeadsTo, FoundAtLeaf, SearchesOn}
 use Rattle.tfpg_search.proofs.Lifted.{live_here, lift}
 use Rattle.tfpg_search.proofs.Carried.{carried}
 use Rattle.tfpg_search.specs.Enough.{IsEventTime, IsNameAt, IsEnough}

@@ -13,15 +13,15 @@ use Rattle.tfpg_evidence.specs.declared.clause_name.ClauseName.TheVariants.{OrMa
 use Rattle.tfpg_evidence.specs.declared.reason.Reason.{Reason}
 use Rattle.tfpg_evidence.specs.declared.reason.Reason.TheVariants.{Zero, Top, Unreached, From, Upto, Quiet, Pick}
 use Rattle.tfpg_clause.specs.Facts.{fact}
-use Rattle.tfpg_clause.specs.Clauses.{count_of, item_at}
+use Rattle.tfpg_clause.specs.Clauses.{count_of}
+use Rattle.tfpg_base.specs.Choice.{item_at}
 use Rattle.tfpg_clause.specs.Paths.{framed, stated_by, new_frame}
 use Rattle.tfpg_clause.specs.declared.path.Frame.{Frame}
 use Rattle.tfpg_search.specs.Leaf.{Leaf, pick_reasons, IsStated}
 use Rattle.tfpg_search.specs.Picks.{IsAllowed, place_count, picks_from, picks_of}
 use Rattle.tfpg_search.specs.inside.Leaving.{places_at}
-use Rattle.tfpg_search.specs.Searching.{Searching, IsAtItsLeaf}
+use Rattle.tfpg_search.specs.Searching.{Searching, IsAtItsLeaf, HasEnteredAll}
 use Rattle.tfpg_search.specs.inside.Leaving.{KeepsBounds, Leaves, Pushing}
-use Rattle.tfpg_search.specs.inside.Moves.{HasEnteredAll}
 use Rattle.tfpg_search.proofs.Names.{range_push}
 use Rattle.tfpg_search.proofs.Picking.{of_frame, picks_last}
 use Rattle.tfpg_base.proofs.lists.Written.{slice_get-push_cases, slice_get-push_last, slice_get-append_some}

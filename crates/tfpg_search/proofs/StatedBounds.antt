@@ -4,7 +4,7 @@ use Rattle.std.specs.Prelude.{pos, ℤ, neg_ℤ, unwrap_or, option_map, option_a
 use Rattle.std.proofs.lemmas.Bool.{leb-true, le-leb, lt-ltb, and_parts, and_from, not-true}
 use Rattle.std.specs.Bool.{then_some}
 use Rattle.std.proofs.lemmas.Int.{ints}
-use Rattle.tfpg_base.specs.Times.{never}
+use Rattle.tfpg_base.specs.declared.limits.TheConstants.{NEVER}
 use Rattle.tfpg_base.specs.declared.constraint.Constraint.{Constraint}
 use Rattle.tfpg_graph.specs.Graph.{Tfpg, lag_at}
 use Rattle.tfpg_graph.specs.Reach.{is_among}
@@ -15,7 +15,7 @@ use Rattle.tfpg_log.proofs.AlarmEvents.{alarm_event_is}
 use Rattle.tfpg_log.proofs.SilenceTimes.{silence_at}
 use Rattle.tfpg_evidence.specs.declared.reason.Reason.{Reason}
 use Rattle.tfpg_evidence.specs.declared.reason.Reason.TheVariants.{Zero, Top, Unreached, From, Upto, Quiet, Pick}
-use Rattle.tfpg_clause.specs.Bounds.{at_most, at_least}
+use Rattle.tfpg_base.specs.Bounds.{at_most, at_least}
 use Rattle.tfpg_clause.specs.Facts.{fact, from_alarm, upto_alarm}
 use Rattle.tfpg_base.proofs.lists.Choices.{then_some-true}
 use Rattle.tfpg_clause.proofs.InRange.{now_in_range}
@@ -121,8 +121,8 @@ module _ (graph : Tfpg) (log : Logbook) (reach : List ℕ) (node bound : ℕ) wh
       let parts = then_some-true (ltb u (length graph.nodes)) (at_least u 0) (at_least node bound) is in
       inl (sym (at_least-same u node 0 bound parts.1).1)
   low_cause (Top u) is =
-      let parts = then_some-true (ltb u (length graph.nodes)) (at_most u (pos never)) (at_least node bound) is in
-      absurd (at_most-least u node bound (pos never) parts.1)
+      let parts = then_some-true (ltb u (length graph.nodes)) (at_most u (pos NEVER)) (at_least node bound) is in
+      absurd (at_most-least u node bound (pos NEVER) parts.1)
   low_cause (Unreached u horizon) is =
       let parts = then_some-true (ltb u (length graph.nodes) && (leb horizon (now_of log) && not (is_among reach u))) (at_least u (horizon + 1)) (at_least node bound) is in
       let both = and_parts (ltb u (length graph.nodes)) (leb horizon (now_of log) && not (is_among reach u)) parts.0 in
@@ -168,13 +168,13 @@ module _ (graph : Tfpg) (log : Logbook) (reach : List ℕ) (node bound : ℕ) wh
       at_most-least node u (time + 1) (pos bound) (sym constraints)
 
   -- why a fact states an upper bound of the node
-  pub high_cause : (reason : Reason) → fact graph log reach reason ≡ Some (at_most node (pos bound)) → (bound ≡ never) ⊎ IsActiveBy log node bound
+  pub high_cause : (reason : Reason) → fact graph log reach reason ≡ Some (at_most node (pos bound)) → (bound ≡ NEVER) ⊎ IsActiveBy log node bound
   high_cause (Zero u) is =
       let parts = then_some-true (ltb u (length graph.nodes)) (at_least u 0) (at_most node (pos bound)) is in
       absurd (at_most-least node u 0 (pos bound) (sym parts.1))
   high_cause (Top u) is =
-      let parts = then_some-true (ltb u (length graph.nodes)) (at_most u (pos never)) (at_most node (pos bound)) is in
-      inl (sym (at_most-same u node never bound parts.1).1)
+      let parts = then_some-true (ltb u (length graph.nodes)) (at_most u (pos NEVER)) (at_most node (pos bound)) is in
+      inl (sym (at_most-same u node NEVER bound parts.1).1)
   high_cause (Unreached u horizon) is =
       let parts = then_some-true (ltb u (length graph.nodes) && (leb horizon (now_of log) && not (is_among reach u))) (at_least u (horizon + 1)) (at_most node (pos bound)) is in
       absurd (at_most-least node u (horizon + 1) (pos bound) (sym parts.1))
@@ -250,7 +250,7 @@ module _ (log : Logbook) (node number : ℕ) (event : Event) (first : alarm_even
   pub high_of_event : (graph : Tfpg) (reach : List ℕ) → IsOrdered log → ((other time : ℕ) → event_at log other ≡ Some (Alarm time node) → Some number ≡ Some other) →
       (reason : Reason) (bound : ℕ) → fact graph log reach reason ≡ Some (at_most node (pos bound)) → time_of_event event ≤ bound
   high_of_event graph reach ordered only reason bound is = ⊎_elim
-      (λ (top : bound ≡ never). omega (arith, number_by_now log number event ordered at, now_in_range log ordered))
+      (λ (top : bound ≡ NEVER). omega (arith, number_by_now log number event ordered at, now_in_range log ordered))
       (λ (active : IsActiveBy log node bound).
       let same : number ≡ active.number = cc (only active.number active.time active.at) in
       let read : Some (Alarm active.time node) ≡ Some event = sym active.at ∙ ap (event_at log) (sym same) ∙ at in

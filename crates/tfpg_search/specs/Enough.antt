@@ -1,11 +1,11 @@
 -- The budget that is always enough.
-use Rattle.std.specs.Prelude.{◌≡◌, ◌≢◌, ◌↔◌, ℕ, ◌+◌, ◌*◌, ◌^◌, ◌≤◌, List, length, AllPairs, Contains, Some}
+use Rattle.std.specs.Prelude.{◌≡◌, ◌≢◌, ◌↔◌, ℕ, ◌^◌, ◌≤◌, List, length, AllPairs, Contains, Some}
 use Rattle.tfpg_base.specs.declared.constraint.Constraint.{Constraint}
 use Rattle.tfpg_graph.specs.Graph.{Tfpg, edges_into}
 use Rattle.tfpg_log.specs.declared.event.Event.{Event}
 use Rattle.tfpg_log.specs.Log.{Logbook, time_of_event}
 use Rattle.tfpg_evidence.specs.declared.clause_name.ClauseName.{ClauseName}
-use Rattle.tfpg_clause.specs.Clauses.{alternatives}
+use Rattle.tfpg_clause.specs.Clauses.{alternatives, alternatives_bound}
 use Rattle.tfpg_clause.specs.Order.{horizon_of}
 
 -- some accepted event has this time
@@ -32,10 +32,10 @@ pub record IsMostIncoming (graph : Tfpg) (most : ℕ) : Type 0 where
   pub reached : length (edges_into graph node) ≡ most
 
 -- The budget is at least the number that is always enough: where `most` edges enter a node at most, a clause has fewer than
--- `2 * most + 3` alternatives, and this number to the power of how many names there are is enough.
+-- `alternatives_bound most` alternatives, and this number to the power of how many names there are is enough.
 pub record IsEnough (graph : Tfpg) (log : Logbook) (budget : ℕ) : Type 0 where
   pub most : ℕ
   pub incoming : IsMostIncoming graph most
   pub names : List ClauseName
   pub names_are : AreNamesAt graph log names
-  pub enough : (2 * most + 3) ^ length names ≤ budget
+  pub enough : alternatives_bound most ^ length names ≤ budget

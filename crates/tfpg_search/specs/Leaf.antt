@@ -3,15 +3,16 @@ use Rattle.std.specs.Prelude.{◌≡◌, ℕ, ◌*◌, pos, List, length, drop, 
 use Rattle.tfpg_base.specs.declared.constraint.Constraint.{Constraint}
 use Rattle.tfpg_evidence.specs.declared.reason.Reason.{Reason}
 use Rattle.tfpg_evidence.specs.declared.reason.Reason.TheVariants.{Zero, Top}
-use Rattle.tfpg_clause.specs.Bounds.{at_most, at_least}
+use Rattle.tfpg_base.specs.Bounds.{at_most, at_least}
 use Rattle.tfpg_diff.specs.declared.why.Why.{Why}
 use Rattle.tfpg_diff.specs.declared.why.Why.TheVariants.{Floor, Ceiling, Given}
 use Rattle.tfpg_diff.specs.declared.bounds.Bounds.{Bounds}
 use Rattle.tfpg_diff.specs.declared.pick.Pick.{Pick}
 use Rattle.tfpg_diff.specs.Demands.{Demands, Bounded}
 
--- What contracts see of it: the demands, and the reason of each tag. The lower bound of a node has the node's number as its
--- tag, the upper bound that number after all lower bounds, and a pick its place after all bounds.
+-- What contracts see of it: the demands, and the reason of each tag. The tag of a node's lower bound is the node's
+-- number. The tag of its upper bound is that number plus the number of nodes. The tag of a pick is its index plus the
+-- number of all bounds.
 pub record Leaf : Type 0 where
   pub demands : Demands
   pub reasons : List Reason
@@ -33,13 +34,16 @@ pub record AreBoundsStated (fact : Reason → Option Constraint) (leaf : Leaf) :
   pub ceilings : (node : ℕ) (bounds : Bounds) → Bounded leaf.demands node bounds →
       tagged_by fact leaf.reasons bounds.ceiling_why ≡ Some (at_most node (pos bounds.ceiling))
 
--- Each pick is stated by the reason in its place.
+-- Each pick is stated by the reason at the same index.
 abbrev pub ArePicksStated : (Reason → Option Constraint) → Leaf → Type 0
 ArePicksStated stated leaf =
-    (place : ℕ) (pick : Pick) → slice_get leaf.demands.picks place ≡ Some pick → option_and_then stated (slice_get (pick_reasons leaf) place) ≡ Some pick.constraint
+    (place : ℕ) (pick : Pick) → slice_get leaf.demands.picks place ≡ Some pick
+    → option_and_then stated (slice_get (pick_reasons leaf) place) ≡ Some pick.constraint
 
--- All that the system demands is stated: bounds by facts, picks by reasons that hold at the leaf, among them all facts.
+-- All that the system demands is stated: bounds by facts, and picks by reasons that hold at the leaf. Each fact holds
+-- at the leaf.
 pub record IsStated (fact stated : Reason → Option Constraint) (leaf : Leaf) : Type 0 where
-  pub wider : (reason : Reason) (constraint : Constraint) → fact reason ≡ Some constraint → stated reason ≡ Some constraint
+  pub wider : (reason : Reason) (constraint : Constraint) → fact reason ≡ Some constraint
+      → stated reason ≡ Some constraint
   pub bounds : AreBoundsStated fact leaf
   pub picks : ArePicksStated stated leaf

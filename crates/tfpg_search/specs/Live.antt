@@ -13,7 +13,8 @@ use Rattle.tfpg_search.specs.Solutions.{IsLatestAt}
 
 -- A split on the name is live after these steps: the latest solution at their present leaf violates its clause, whose horizon
 -- is now, and no earlier clause of that horizon.
-pub record IsLive (graph : Tfpg) (log : Logbook) (reach : List ℕ) (steps : List Judged) (name : ClauseName) : Type 0 where
+pub record IsLive (graph : Tfpg) (log : Logbook) (reach : List ℕ) (steps : List Judged)
+    (name : ClauseName) : Type 0 where
   pub path : List PathSplit
   pub leaf : IsPresentLeaf graph log reach steps path
   pub times : List ℕ
@@ -25,7 +26,8 @@ abbrev pub IsUnsettled : Tfpg → Logbook → List ℕ → List Judged → Type 
 IsUnsettled graph log reach steps = (name : ClauseName) × IsLive graph log reach steps name
 
 -- In the cycle of these reasons at the present leaf no left side stands twice.
-pub record IsSimpleAfter (graph : Tfpg) (log : Logbook) (reach : List ℕ) (steps : List Judged) (reasons : List Reason) : Type 0 where
+pub record IsSimpleAfter (graph : Tfpg) (log : Logbook) (reach : List ℕ) (steps : List Judged)
+    (reasons : List Reason) : Type 0 where
   pub path : List PathSplit
   pub leaf : IsPresentLeaf graph log reach steps path
   pub constraints : List Constraint
@@ -39,4 +41,5 @@ HasDistinctNames path = AllPairs ◌≢◌ (map (λ (split : PathSplit). split.n
 -- No clause name stands twice on a path of the tree of these steps: at none of their leaves, when it was the present one.
 abbrev pub HasNoNameTwice : Tfpg → Logbook → List ℕ → List Judged → Type 0
 HasNoNameTwice graph log reach steps =
-    (front back : List Judged) (path : List PathSplit) → steps ≡ front ++ back → IsPresentLeaf graph log reach front path → HasDistinctNames path
+    (front back : List Judged) (path : List PathSplit) → steps ≡ front ++ back → IsPresentLeaf graph log reach front path
+    → HasDistinctNames path

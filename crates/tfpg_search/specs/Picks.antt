@@ -5,7 +5,8 @@ use Rattle.tfpg_graph.specs.Graph.{Tfpg}
 use Rattle.tfpg_log.specs.Log.{Logbook}
 use Rattle.tfpg_evidence.specs.declared.reason.Reason.{Reason}
 use Rattle.tfpg_evidence.specs.declared.reason.Reason.TheVariants.{Pick}
-use Rattle.tfpg_clause.specs.Clauses.{alternatives, count_of, item_at}
+use Rattle.tfpg_clause.specs.Clauses.{alternatives, count_of}
+use Rattle.tfpg_base.specs.Choice.{item_at}
 use Rattle.tfpg_clause.specs.declared.path.Frame.{Frame}
 use Rattle.tfpg_search.specs.Leaf.{Leaf, pick_reasons}
 
@@ -18,13 +19,14 @@ pub record IsInRange (frame : Frame) : Type 0 where
   pub first : 1 ≤ frame.alternative
   pub last : frame.alternative ≤ frame.alternatives
 
--- so it is of each frame
+-- the alternative of each frame is one of those that it has
 abbrev pub AreInRange : List Frame → Type 0
 AreInRange frames = All IsInRange frames
 
 -- how many constraints the alternative of a frame has
 abbrev pub place_count : Tfpg → Logbook → Frame → ℕ
-place_count graph log frame = option_map_or length (option_and_then (λ clause. item_at clause frame.alternative) (alternatives graph log frame.name)) 0
+place_count graph log frame =
+    option_map_or length (option_and_then (λ clause. item_at clause frame.alternative) (alternatives graph log frame.name)) 0
 
 -- so many picks at the split of this number, from this place on
 abbrev pub picks_from : ℕ → ℕ → ℕ → List Reason
@@ -34,16 +36,18 @@ picks_from split place (suc more) = Pick split place ∷ picks_from split (place
 -- the picks of these frames, the first of which is the split of this number
 abbrev pub picks_of_from : Tfpg → Logbook → ℕ → List Frame → List Reason
 picks_of_from graph log split [] = []
-picks_of_from graph log split (frame ∷ deeper) = picks_from split 1 (place_count graph log frame) ++ picks_of_from graph log (split + 1) deeper
+picks_of_from graph log split (frame ∷ deeper) =
+    picks_from split 1 (place_count graph log frame) ++ picks_of_from graph log (split + 1) deeper
 
 -- the picks of a path
 abbrev pub picks_of : Tfpg → Logbook → List Frame → List Reason
 picks_of graph log path = picks_of_from graph log 1 path
 
--- The system has the picks of the first so many splits of the path, of all or of all but the last, and these are the numbers
--- of picks before each.
+-- The system has the picks of all splits of the path, or of all but the last. These are the numbers of picks before
+-- each.
 pub record HasEntered (graph : Tfpg) (log : Logbook) (path : List Frame) (entered : List ℕ) (leaf : Leaf) : Type 0 where
   pub few : length entered ≤ length path
   pub many : length path ≤ length entered + 1
-  pub counts : (split before : ℕ) → slice_get entered split ≡ Some before → before ≡ length (picks_of graph log (take split path))
+  pub counts : (split before : ℕ) → slice_get entered split ≡ Some before
+      → before ≡ length (picks_of graph log (take split path))
   pub reasons : pick_reasons leaf ≡ picks_of graph log (take (length entered) path)

@@ -23,6 +23,10 @@ pub record Searching : Type 0 where
   pub entered : List ℕ
   pub leaf : Leaf
 
+-- Each alternative on the path was entered.
+abbrev pub HasEnteredAll : Searching → Type 0
+HasEnteredAll search = length search.entered ≡ length search.path
+
 -- The system of the search is that of a leaf of its path, at this log.
 pub record IsAtItsLeaf (graph : Tfpg) (log : Logbook) (search : Searching) : Type 0 where
   pub reach_is : IsReach graph search.set search.reach
@@ -40,8 +44,9 @@ pub record SearchRepresents (graph : Tfpg) (log : Logbook) (search : Searching) 
   pub names : HasNoNameTwice graph log search.reach steps
   pub horizons : All (λ (frame : Frame). IsEventTime log (horizon_of frame.name)) search.path
   pub system : IsAtItsLeaf graph log search
-  pub all_entered : length search.entered ≡ length search.path
+  pub all_entered : HasEnteredAll search
 
 -- It represents some steps, at the first events of this log.
 abbrev pub RepresentsSome : Tfpg → Logbook → Searching → Type 0
-RepresentsSome graph log search = (steps : List Judged) × SearchRepresents graph (first_events log search.seen) search steps
+RepresentsSome graph log search =
+    (steps : List Judged) × SearchRepresents graph (first_events log search.seen) search steps

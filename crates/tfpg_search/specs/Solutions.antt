@@ -10,13 +10,16 @@ use Rattle.tfpg_clause.specs.Trees.{PathSplit, picked}
 
 -- The times solve what holds at a leaf, where this picks the constraints of its path: there is one for each node, and they meet
 -- each fact of the log and each constraint that is picked in some place of some split.
-pub record SolvesBy (graph : Tfpg) (log : Logbook) (reach : List ℕ) (pick : ℕ → ℕ → Option Constraint) (times : List ℕ) : Type 0 where
+pub record SolvesBy (graph : Tfpg) (log : Logbook) (reach : List ℕ) (pick : ℕ → ℕ → Option Constraint)
+    (times : List ℕ) : Type 0 where
   pub one_each : length times ≡ length graph.nodes
-  pub facts : (reason : Reason) (constraint : Constraint) → fact graph log reach reason ≡ Some constraint → Meets times constraint
+  pub facts : (reason : Reason) (constraint : Constraint) → fact graph log reach reason ≡ Some constraint
+      → Meets times constraint
   pub picks : (split place : ℕ) (constraint : Constraint) → pick split place ≡ Some constraint → Meets times constraint
 
--- They are the latest that do: no others that do give any node a later time.
-pub record IsLatestBy (graph : Tfpg) (log : Logbook) (reach : List ℕ) (pick : ℕ → ℕ → Option Constraint) (times : List ℕ) : Type 0 where
+-- The times are the latest solution: no other solution gives any node a later time.
+pub record IsLatestBy (graph : Tfpg) (log : Logbook) (reach : List ℕ) (pick : ℕ → ℕ → Option Constraint)
+    (times : List ℕ) : Type 0 where
   pub solves : SolvesBy graph log reach pick times
   pub latest : (other : List ℕ) → SolvesBy graph log reach pick other →
       (node : ℕ) → node < length graph.nodes → slice_index other node ≤ slice_index times node

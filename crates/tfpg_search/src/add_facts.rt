@@ -5,7 +5,7 @@ ghost use Rattle.tfpg_base.specs.declared.constraint.Constraint.{Constraint};
 ghost use Rattle.tfpg_base.specs.Constraint.{Meets};
 ghost use Rattle.tfpg_evidence.specs.declared.reason.Reason.{Reason};
 ghost use Rattle.tfpg_log.specs.Log.{IsOf};
-ghost use Rattle.tfpg_clause.specs.Bounds.{at_most, at_least};
+ghost use Rattle.tfpg_base.specs.Bounds.{at_most, at_least};
 ghost use Rattle.tfpg_clause.specs.Facts.{fact};
 ghost use Rattle.tfpg_diff.specs.Solution.{IsSolution};
 ghost use Rattle.tfpg_diff.specs.State.{with_floor, with_ceiling};

@@ -1,12 +1,12 @@
 //! The bounds that the facts of a log give the time of a node.
 
 ghost use Rattle.std.specs.Prelude.{◌≡◌, ℕ, ◌<◌, ◌≤◌, ◌+◌, ◌-◌, List, pos, length, Some, unwrap_or, if◌then◌else◌, nat_lt};
-ghost use Rattle.tfpg_base.specs.Times.{never};
+ghost use Rattle.tfpg_base.specs.declared.limits.TheConstants.{NEVER};
 ghost use Rattle.tfpg_evidence.specs.declared.reason.Reason.{Reason};
 ghost use Rattle.tfpg_graph.specs.Graph.{Tfpg, lag_at};
 ghost use Rattle.tfpg_log.specs.declared.event.Event.TheVariants.{Alarm};
 ghost use Rattle.tfpg_log.specs.Log.{now_of, event_at, quiet_at};
-ghost use Rattle.tfpg_clause.specs.Bounds.{at_most, at_least};
+ghost use Rattle.tfpg_base.specs.Bounds.{at_most, at_least};
 ghost use Rattle.tfpg_clause.specs.Facts.{fact};
 
 use tfpg_base::NEVER;
@@ -28,7 +28,7 @@ pub(crate) fn low(graph: &Graph, log: &Log, reach: &NodeSet, node: u32) -> Bound
     ensures stated { fact graph.now log.now reach.now result.reason ≡ Some (at_least node result.time) }
     ensures greatest { (other : Reason) (bound : ℕ) →
         fact graph.now log.now reach.now other ≡ Some (at_least node bound) → bound ≤ result.time }
-    ensures in_range { result.time ≤ never }
+    ensures in_range { result.time ≤ NEVER }
 {
     if !reach.has(node) {
         return after_now(log, node);
@@ -46,7 +46,7 @@ pub(crate) fn high(graph: &Graph, log: &Log, node: u32) -> Bound
         fact graph.now log.now reach result.reason ≡ Some (at_most node (pos result.time)) }
     ensures least { (reach : List ℕ) (other : Reason) (bound : ℕ) →
         fact graph.now log.now reach other ≡ Some (at_most node (pos bound)) → result.time ≤ bound }
-    ensures in_range { result.time ≤ never }
+    ensures in_range { result.time ≤ NEVER }
 {
     let _ordered = log.len();
     match log.alarm_event(node) {
@@ -67,7 +67,7 @@ fn after_now(log: &Log, node: u32) -> Bound
     ensures reason { result.reason ≡ Reason.Unreached node (now_of log.now) }
     ensures greatest { (graph : Tfpg) (reach : List ℕ) (other : Reason) (bound : ℕ) →
         fact graph log.now reach other ≡ Some (at_least node bound) → bound ≤ result.time }
-    ensures in_range { result.time ≤ never }
+    ensures in_range { result.time ≤ NEVER }
 {
     let _ordered = log.len();
     let now = log.now();
@@ -84,12 +84,12 @@ fn after_alarm(graph: &Graph, log: &Log, node: u32) -> Bound
         fact graph.now log.now reach result.reason ≡ Some (at_least node result.time) }
     ensures greatest { (number time : ℕ) → event_at log.now number ≡ Some (Alarm time node) →
         time - unwrap_or (lag_at graph.now node) 0 ≤ result.time }
-    ensures in_range { result.time ≤ never }
+    ensures in_range { result.time ≤ NEVER }
 {
     let _ordered = log.len();
     match log.alarm_event(node) {
         Some(event) => {
-            let lag = graph.kind(node).lag().unwrap_or(0);
+            let lag = graph.lag_or_zero(node);
             Bound {
                 time: log.event(event).time().saturating_sub(lag),
                 reason: Reason::From { event },
@@ -106,7 +106,7 @@ fn after_silence(graph: &Graph, log: &Log, node: u32) -> Bound
         fact graph.now log.now reach result.reason ≡ Some (at_least node result.time) }
     ensures greatest { (number time : ℕ) → quiet_at graph.now log.now number node ≡ Some time →
         time + 1 ≤ result.time }
-    ensures in_range { result.time ≤ never }
+    ensures in_range { result.time ≤ NEVER }
 {
     let _ordered = log.len();
     match log.last_quiet(graph, node) {

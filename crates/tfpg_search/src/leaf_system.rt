@@ -2,11 +2,11 @@
 //! each with its reason.
 
 ghost use Rattle.std.specs.Prelude.{◌≡◌, ◌<◌, ◌≤◌, ◌+◌, ◌*◌, ◌++◌, ◌∷◌, [], ℕ, pos, length, take, All, Option, Some, Ok, Err, IfOk, OnOk, OnErr, IfErr};
-ghost use Rattle.tfpg_base.specs.Times.{never};
+ghost use Rattle.tfpg_base.specs.declared.limits.TheConstants.{NEVER};
 ghost use Rattle.tfpg_base.specs.declared.constraint.Constraint.{Constraint};
 ghost use Rattle.tfpg_evidence.specs.declared.reason.Reason.{Reason};
 ghost use Rattle.tfpg_evidence.specs.declared.reason.Reason.TheVariants.{Zero, Top};
-ghost use Rattle.tfpg_clause.specs.Bounds.{at_most, at_least};
+ghost use Rattle.tfpg_base.specs.Bounds.{at_most, at_least};
 ghost use Rattle.tfpg_diff.specs.declared.bounds.Bounds.{Bounds};
 ghost use Rattle.tfpg_diff.specs.Demands.{Bounded};
 ghost use Rattle.tfpg_diff.specs.Solution.{IsLatest};
@@ -26,7 +26,7 @@ use tfpg_evidence::Reason;
 /// A difference system over the times of the nodes, with the reason of each of its tags.
 ///
 /// The tag of a node's lower bound is the node's number, that of its upper bound stands after all lower bounds, and that of
-/// a pick after all bounds: so a tag is the place of its reason.
+/// a pick after all bounds: so a tag is the index of its reason.
 #[derive(Drop)]
 pub(crate) struct LeafSystem {
     alloc: Global,
@@ -56,7 +56,7 @@ impl LeafSystem {
         ensures no_reasons { IfOk result (λ leaf. pick_reasons leaf ≡ []) }
         ensures stated { (fact : Reason → Option Constraint) →
             ((node : ℕ) → node < nodes → fact (Zero node) ≡ Some (at_least node 0)) →
-            ((node : ℕ) → node < nodes → fact (Top node) ≡ Some (at_most node (pos never))) →
+            ((node : ℕ) → node < nodes → fact (Top node) ≡ Some (at_most node (pos NEVER))) →
             IfOk result (λ leaf. IsStated fact fact leaf) }
     {
         let system = System::new(alloc, nodes)?;
@@ -79,7 +79,7 @@ impl LeafSystem {
     /// The latest solution, a time for each node.
     pub(crate) fn solution(&self) -> &[u64]
         ensures latest { IsLatest self.now.demands result.now }
-        ensures within { All (λ time. time ≤ never) result.now }
+        ensures within { All (λ time. time ≤ NEVER) result.now }
     {
         self.system.solution()
     }

@@ -94,8 +94,8 @@ impl Search {
         self.seen
     }
 
-    /// Searches on, for a log that goes on from that of the last round, and appends the steps of this round: at most as
-    /// many splits as the budget says.
+    /// Continues the search, for a log that goes on from that of the last round. Appends the steps of this round, with
+    /// at most as many splits as the budget says.
     pub fn round<L: Ledger>(
         &mut self,
         graph: &Graph,

@@ -6,17 +6,18 @@ use Rattle.std.specs.Option.{option_map_or}
 use Rattle.std.specs.List.{AllByRecursion}
 use Rattle.std.specs.Str.Parse.{digits_value}
 use Rattle.std.proofs.lemmas.Bool.{le-ltb, lt-leb}
-use Rattle.std.proofs.lemmas.List.Elements.{All-cons, All-append}
+use Rattle.std.proofs.lemmas.List.Elements.{All-cons, All-append, All-from_recursion}
 use Rattle.std.proofs.lemmas.Fmt.{decimal_is_IsNumeral}
 use Rattle.std.proofs.lemmas.Option.{slice_get-get_or}
 use Rattle.tfpg_base.specs.Choice.{first_of, unless_refused}
-use Rattle.tfpg_base.specs.Lines.{with_line_end, longest_line, HasNoLineEnd}
-use Rattle.tfpg_base.specs.Times.{max_time}
+use Rattle.tfpg_base.specs.Lines.{with_line_end, HasNoLineEnd, is_too_long}
+use Rattle.tfpg_base.specs.declared.limits.TheConstants.{LONGEST_LINE, MAX_TIME}
 use Rattle.tfpg_base.specs.Words.{line_of, is_name, is_number}
 use Rattle.tfpg_base.proofs.Numbers.{is_number-decimal}
 use Rattle.tfpg_base.proofs.Separators.{lacks_checked, name_lacks, decimal_lacks}
 use Rattle.tfpg_base.proofs.WordLengths.{name_short, number_short}
-use Rattle.tfpg_graph.specs.Graph.{Tfpg, node_named, mode_named, is_monitored}
+use Rattle.tfpg_base.proofs.lists.Choices.{first_of-all_none}
+use Rattle.tfpg_graph.specs.Graph.{Tfpg, node_named, mode_named, is_monitored, name_word}
 use Rattle.tfpg_graph.specs.Valid.{IsValid}
 use Rattle.tfpg_graph.proofs.lemmas.reading.LinesSay.{IsWord, IsWord-name, IsWord-decimal, keyword, no_empty_word, no_space}
 use Rattle.tfpg_graph.proofs.lemmas.reading.SaidLines.{line_words}
@@ -29,12 +30,11 @@ use Rattle.tfpg_log.specs.declared.limits.TheConstants.{MAX_EVENTS, MAX_MODE_CHA
 use Rattle.tfpg_log.specs.declared.refusal.Refusal.{Refusal}
 use Rattle.tfpg_log.specs.declared.refusal.Refusal.TheVariants.{BadLine, BadNumber, TimeTooLarge, TimeBack, UnknownName, NotMonitored, NotAMode, SecondAlarm, SilentAfterAlarm, LogFull, ModesFull}
 use Rattle.tfpg_log.specs.Log.{Logbook, now_of, alarm_of, is_mode_change, time_of_event, IsEventOf}
-use Rattle.tfpg_log.specs.LogOfLines.{is_too_long}
 use Rattle.tfpg_log.specs.LogStatements.{LogStatement, Alarm, Silent, Sweep, Tick, Mode, words_of_log_statement, log_statement_of}
-use Rattle.tfpg_log.specs.Accepted.{time_refusals, statement_refusals, event_of, offered, reply_to_statement, reply_to}
+use Rattle.tfpg_log.specs.Accepted.{time_refusals, statement_refusals, event_of, offered, reply_to_statement, reply_to, monitor_refusals, alarm_of_named, room_refusal}
 use Rattle.tfpg_log.proofs.WrittenLines.{read_as_written}
 use Rattle.tfpg_graph.proofs.NodeAt.{monitored_within}
-use Rattle.tfpg_sim.specs.SimulatedLog.{node_word, mode_word, event_line}
+use Rattle.tfpg_sim.specs.SimulatedLog.{mode_word, event_line}
 
 -- no alarm of its node came before, where it is an alarm or a silence
 abbrev pub IsUnalarmed : Logbook → Event → Type 0
@@ -48,15 +48,15 @@ IsUnalarmed log (event.Mode time mode) = Unit {0}
 pub record IsNext (graph : Tfpg) (log : Logbook) (e : Event) : Type 0 where
   pub own : IsEventOf graph e
   pub not_back : now_of log ≤ time_of_event e
-  pub in_range : time_of_event e ≤ max_time
+  pub in_range : time_of_event e ≤ MAX_TIME
   pub unalarmed : IsUnalarmed log e
   pub room : length log.events < MAX_EVENTS
   pub mode_room : IsTrue (is_mode_change e) → count_by is_mode_change log.events < MAX_MODE_CHANGES
 
 -- what the line of an event says after its time
 abbrev pub said : Tfpg → Event → LogStatement
-said graph (event.Alarm time node) = Alarm (node_word graph node)
-said graph (event.Silent time node) = Silent (node_word graph node)
+said graph (event.Alarm time node) = Alarm (name_word graph node)
+said graph (event.Silent time node) = Silent (name_word graph node)
 said graph (event.Sweep time) = Sweep
 said graph (event.Tick time) = Tick
 said graph (event.Mode time mode) = Mode (mode_word graph mode)
@@ -80,23 +80,37 @@ clean word [] own rest = own
 clean word (next ∷ words) own rest =
     All-append (λ byte. eqb byte 10 ≡ false) word (32 ∷ line_of (next ∷ words)) own (All-cons (λ byte. eqb byte 10 ≡ false) 32 (line_of (next ∷ words)) refl rest)
 
-pub number_clean : (number : ℕ) → number ≤ max_time → HasNoLineEnd (decimal number)
+pub number_clean : (number : ℕ) → number ≤ MAX_TIME → HasNoLineEnd (decimal number)
 number_clean number small = decimal_lacks 10 number refl (omega arith)
+
+-- so has a line of a time, a keyword and a name
+pub named_clean : (time : ℕ) (word name : List ℕ) → time ≤ MAX_TIME → HasNoLineEnd word → IsTrue (is_name name) → HasNoLineEnd (line_of (decimal time ∷ word ∷ name ∷ []))
+named_clean time word name small own named =
+    clean (decimal time) (word ∷ name ∷ []) (number_clean time small) (clean word (name ∷ []) own (name_lacks 10 name refl named))
+
+-- and such a line is short
+named_short : (time : ℕ) (word name : List ℕ) → time ≤ MAX_TIME → length word ≤ 6 → IsTrue (is_name name) → length (line_of (decimal time ∷ word ∷ name ∷ [])) ≤ LONGEST_LINE
+named_short time word name small short named =
+    omega (
+      arith,
+      length-append (decimal time) (32 ∷ (word ++ 32 ∷ name)),
+      length-append word (32 ∷ name),
+      number_short time small,
+      name_short name named,
+    )
 
 -- ---- tests
 
+-- no test refuses
 abbrev AreNone : List (Option Refusal) → Type 0
-AreNone [] = Unit {0}
-AreNone (test ∷ tests) = (test ≡ None) × AreNone tests
+AreNone tests = AllByRecursion (λ test. test ≡ None) tests
 
 none_first : (tests : List (Option Refusal)) → AreNone tests → first_of tests ≡ None
-none_first [] are = refl
-none_first (None ∷ tests) are = none_first tests are.1
-none_first (Some refusal ∷ tests) are = absurd (let no : Some refusal ≡ None = are.0 in cc)
+none_first tests are = first_of-all_none tests (All-from_recursion (λ test. test ≡ None) tests are)
 
 module _ (graph : Tfpg) (valid : IsValid graph) (log : Logbook) where
   -- the name of a node is found, and that of a mode
-  node_found : (node : ℕ) → node < length graph.nodes → node_named graph (node_word graph node) ≡ Some node
+  node_found : (node : ℕ) → node < length graph.nodes → node_named graph (name_word graph node) ≡ Some node
   node_found node within = node_named-name_of graph node within valid.so_far.nodes_differ
 
   mode_at : (mode : ℕ) → mode < length graph.modes → mode_word graph mode ≡ get_or graph.modes mode []
@@ -105,11 +119,23 @@ module _ (graph : Tfpg) (valid : IsValid graph) (log : Logbook) where
   mode_found : (mode : ℕ) → mode < length graph.modes → mode_named graph (mode_word graph mode) ≡ Some mode
   mode_found mode within = ap (mode_named graph) (mode_at mode within) ∙ position-named graph.modes mode [] valid.so_far.modes_differ within
 
-  node_name : (node : ℕ) → node < length graph.nodes → IsTrue (is_name (node_word graph node))
+  node_name : (node : ℕ) → node < length graph.nodes → IsTrue (is_name (name_word graph node))
   node_name node within = is_name-name_of graph node within valid.so_far.node_names
 
   mode_name : (mode : ℕ) → mode < length graph.modes → IsTrue (is_name (mode_word graph mode))
   mode_name mode within = ap is_name (mode_at mode within) ∙ valid.so_far.mode_names mode [] within
+
+  -- no test of the name of an alarm or a silence refuses
+  own_none : (node : ℕ) (cause : ℕ → Refusal) → IsTrue (is_monitored graph node) → alarm_of log node ≡ None → room_refusal log ≡ None
+      → AreNone (monitor_refusals graph (name_word graph node) ++ option_map cause (alarm_of_named graph log (name_word graph node)) ∷ room_refusal log ∷ [])
+  own_none node cause monitored unalarmed room =
+      let found = node_found node (monitored_within graph node monitored) in (
+        ap (λ o. then_some (is_none o) UnknownName) found,
+        (
+          ap (option_and_then (λ n. then_some (not (is_monitored graph n)) NotMonitored)) found ∙ ap (λ b. then_some (not b) NotMonitored) monitored,
+          (ap (λ o. option_map cause (option_and_then (alarm_of log) o)) found ∙ ap (option_map cause) unalarmed, (room, tt)),
+        ),
+      )
 
   module _ (e : Event) (next : IsNext graph log e) where
     abbrev time : ℕ
@@ -123,8 +149,8 @@ module _ (graph : Tfpg) (valid : IsValid graph) (log : Logbook) where
     number : then_some (not (is_number (decimal time))) BadNumber ≡ None
     number = ap (λ b. then_some (not b) BadNumber) (is_number-decimal time (let small = next.in_range in omega arith))
 
-    not_late : then_some (ltb max_time (digits_value 10 (decimal time))) TimeTooLarge ≡ None
-    not_late = ap (λ b. then_some b TimeTooLarge) (ap (ltb max_time) value ∙ le-ltb max_time time next.in_range)
+    not_late : then_some (ltb MAX_TIME (digits_value 10 (decimal time))) TimeTooLarge ≡ None
+    not_late = ap (λ b. then_some b TimeTooLarge) (ap (ltb MAX_TIME) value ∙ le-ltb MAX_TIME time next.in_range)
 
     not_before : then_some (ltb (digits_value 10 (decimal time)) (now_of log)) (TimeBack (now_of log)) ≡ None
     not_before = ap (λ b. then_some b (TimeBack (now_of log))) (ap (λ n. ltb n (now_of log)) value ∙ le-ltb time (now_of log) next.not_back)
@@ -157,24 +183,14 @@ module _ (graph : Tfpg) (valid : IsValid graph) (log : Logbook) where
       let e = event.Alarm time node in
       let within = monitored_within graph node next.own in
       let found = node_found node within in
-      accepted e next (Alarm (node_word graph node)) e (keyword (codes "alarm") refl refl, (IsWord-name (node_word graph node) (node_name node within), tt)) (
-        ap (λ o. then_some (is_none o) UnknownName) found,
-        (
-          ap (option_and_then (λ n. then_some (not (is_monitored graph n)) NotMonitored)) found ∙ ap (λ b. then_some (not b) NotMonitored) next.own,
-          (ap (λ o. option_map SecondAlarm (option_and_then (alarm_of log) o)) found ∙ ap (option_map SecondAlarm) next.unalarmed, (room e next, tt)),
-        ),
-      ) (λ i. event.Alarm (value e next i) (unwrap_or (found i) 0))
+      accepted e next (Alarm (name_word graph node)) e (keyword (codes "alarm") refl refl, (IsWord-name (name_word graph node) (node_name node within), tt))
+      (own_none node SecondAlarm next.own next.unalarmed (room e next)) (λ i. event.Alarm (value e next i) (unwrap_or (found i) 0))
   is_accepted (event.Silent time node) next =
       let e = event.Silent time node in
       let within = monitored_within graph node next.own in
       let found = node_found node within in
-      accepted e next (Silent (node_word graph node)) e (keyword (codes "silent") refl refl, (IsWord-name (node_word graph node) (node_name node within), tt)) (
-        ap (λ o. then_some (is_none o) UnknownName) found,
-        (
-          ap (option_and_then (λ n. then_some (not (is_monitored graph n)) NotMonitored)) found ∙ ap (λ b. then_some (not b) NotMonitored) next.own,
-          (ap (λ o. option_map SilentAfterAlarm (option_and_then (alarm_of log) o)) found ∙ ap (option_map SilentAfterAlarm) next.unalarmed, (room e next, tt)),
-        ),
-      ) (λ i. event.Silent (value e next i) (unwrap_or (found i) 0))
+      accepted e next (Silent (name_word graph node)) e (keyword (codes "silent") refl refl, (IsWord-name (name_word graph node) (node_name node within), tt))
+      (own_none node SilentAfterAlarm next.own next.unalarmed (room e next)) (λ i. event.Silent (value e next i) (unwrap_or (found i) 0))
   is_accepted (event.Sweep time) next =
       let e = event.Sweep time in
       accepted e next Sweep e (keyword (codes "sweep") refl refl, tt) (room e next, tt) (ap event.Sweep (value e next))
@@ -191,45 +207,22 @@ module _ (graph : Tfpg) (valid : IsValid graph) (log : Logbook) where
 
   -- It is not too long.
   pub is_short : (e : Event) → IsNext graph log e → is_too_long (line_said graph e) ≡ false
-  is_short e next = le-ltb longest_line (length (line_said graph e)) (by e next)
+  is_short e next = le-ltb LONGEST_LINE (length (line_said graph e)) (by e next)
     where
-      by : (e : Event) → IsNext graph log e → length (line_said graph e) ≤ longest_line
-      by (event.Alarm time node) next =
-          let within = monitored_within graph node next.own in
-          omega (
-            arith,
-            length-append (decimal time) (32 ∷ (codes "alarm" ++ 32 ∷ node_word graph node)),
-            number_short time next.in_range,
-            name_short (node_word graph node) (node_name node within),
-          )
-      by (event.Silent time node) next =
-          let within = monitored_within graph node next.own in
-          omega (
-            arith,
-            length-append (decimal time) (32 ∷ (codes "silent" ++ 32 ∷ node_word graph node)),
-            number_short time next.in_range,
-            name_short (node_word graph node) (node_name node within),
-          )
+      by : (e : Event) → IsNext graph log e → length (line_said graph e) ≤ LONGEST_LINE
+      by (event.Alarm time node) next = named_short time (codes "alarm") (name_word graph node) next.in_range (omega arith) (node_name node (monitored_within graph node next.own))
+      by (event.Silent time node) next = named_short time (codes "silent") (name_word graph node) next.in_range (omega arith) (node_name node (monitored_within graph node next.own))
       by (event.Sweep time) next = omega (arith, length-append (decimal time) (32 ∷ codes "sweep"), number_short time next.in_range)
       by (event.Tick time) next = omega (arith, length-append (decimal time) (32 ∷ codes "tick"), number_short time next.in_range)
-      by (event.Mode time mode) next =
-          omega (
-            arith,
-            length-append (decimal time) (32 ∷ (codes "mode" ++ 32 ∷ mode_word graph mode)),
-            number_short time next.in_range,
-            name_short (mode_word graph mode) (mode_name mode next.own),
-          )
+      by (event.Mode time mode) next = named_short time (codes "mode") (mode_word graph mode) next.in_range (omega arith) (mode_name mode next.own)
 
   -- No byte of it ends a line.
   pub is_clean : (e : Event) → IsNext graph log e → HasNoLineEnd (line_said graph e)
   is_clean (event.Alarm time node) next =
-      clean (decimal time) (codes "alarm" ∷ node_word graph node ∷ []) (number_clean time next.in_range)
-      (clean (codes "alarm") (node_word graph node ∷ []) (lacks_checked 10 (codes "alarm") refl) (name_lacks 10 (node_word graph node) refl (node_name node (monitored_within graph node next.own))))
+      named_clean time (codes "alarm") (name_word graph node) next.in_range (lacks_checked 10 (codes "alarm") refl) (node_name node (monitored_within graph node next.own))
   is_clean (event.Silent time node) next =
-      clean (decimal time) (codes "silent" ∷ node_word graph node ∷ []) (number_clean time next.in_range)
-      (clean (codes "silent") (node_word graph node ∷ []) (lacks_checked 10 (codes "silent") refl) (name_lacks 10 (node_word graph node) refl (node_name node (monitored_within graph node next.own))))
+      named_clean time (codes "silent") (name_word graph node) next.in_range (lacks_checked 10 (codes "silent") refl) (node_name node (monitored_within graph node next.own))
   is_clean (event.Sweep time) next = clean (decimal time) (codes "sweep" ∷ []) (number_clean time next.in_range) (lacks_checked 10 (codes "sweep") refl)
   is_clean (event.Tick time) next = clean (decimal time) (codes "tick" ∷ []) (number_clean time next.in_range) (lacks_checked 10 (codes "tick") refl)
   is_clean (event.Mode time mode) next =
-      clean (decimal time) (codes "mode" ∷ mode_word graph mode ∷ []) (number_clean time next.in_range)
-      (clean (codes "mode") (mode_word graph mode ∷ []) (lacks_checked 10 (codes "mode") refl) (name_lacks 10 (mode_word graph mode) refl (mode_name mode next.own)))
+      named_clean time (codes "mode") (mode_word graph mode) next.in_range (lacks_checked 10 (codes "mode") refl) (mode_name mode next.own)

@@ -1,24 +1,25 @@
 -- The lines of a simulated log are accepted, and make its events.
-use Rattle.std.proofs.Common.{◌≡◌, ℕ, zero, suc, ◌≤◌, cond, eqb, List, [], ◌∷◌, ◌++◌, length, map, get_or, take, drop, fold, All, Contains, Option, Some, None, slice_get, refl, sym, ap, ◌∙◌, subst, arith, length-append, append_assoc, append-nil}
-use Rattle.std.specs.Prelude.{count_by, is_some}
+use Rattle.std.proofs.Common.{◌≡◌, ℕ, zero, suc, ◌≤◌, cond, List, [], ◌∷◌, ◌++◌, length, map, get_or, take, drop, fold, All, Contains, Option, Some, None, slice_get, refl, sym, ap, ◌∙◌, subst, arith, length-append, append_assoc, append-nil, eqb}
+use Rattle.std.specs.Prelude.{count_by, is_some, option_map}
 use Rattle.std.specs.List.{flat_map}
-use Rattle.std.proofs.lemmas.Bool.{ne_eqb, cond-false}
+use Rattle.std.proofs.lemmas.Bool.{cond-false}
 use Rattle.std.proofs.lemmas.List.Elements.{All-head, All-tail, All-contains, All-cons, All-nil, Contains-append_right}
 use Rattle.std.proofs.lemmas.List.Sums.{sum_by-append, sum_by-cons}
 use Rattle.std.proofs.lemmas.List.{take-map}
-use Rattle.std.proofs.lemmas.Option.{slice_get-map}
 use Rattle.tfpg_base.proofs.lists.Elements.{Contains-head}
 use Rattle.tfpg_base.proofs.LinesOf.{lines_of-after}
+use Rattle.tfpg_base.proofs.lists.Cuts.{cut_at}
+use Rattle.tfpg_base.proofs.lists.Images.{slice_get-map_only}
 use Rattle.tfpg_base.specs.declared.activation.Activation.{Activation}
-use Rattle.tfpg_base.specs.Lines.{lines_of, with_line_end, HasNoLineEnd}
-use Rattle.tfpg_base.proofs.lists.Choices.{option_map-some}
+use Rattle.tfpg_base.specs.Lines.{lines_of, with_line_end, HasNoLineEnd, is_too_long}
 use Rattle.tfpg_graph.specs.Graph.{Tfpg}
 use Rattle.tfpg_graph.specs.Valid.{IsValid}
 use Rattle.tfpg_log.specs.declared.event.Event.{Event}
 use Rattle.tfpg_log.specs.declared.event.Event.TheVariants as event
 use Rattle.tfpg_log.specs.Accepted.{reply_to}
-use Rattle.tfpg_log.specs.Log.{Logbook, alarm_among, is_mode_change, time_of_event, IsEventOf}
-use Rattle.tfpg_log.specs.LogOfLines.{log_after_reply, is_too_long, log_after, log_of_lines}
+use Rattle.tfpg_log.specs.Log.{Logbook, is_alarm_of, alarm_among, is_mode_change, time_of_event, IsEventOf}
+use Rattle.tfpg_base.proofs.lists.FirstFound.{find-All_fail}
+use Rattle.tfpg_log.specs.LogOfLines.{log_after_reply, log_after, log_of_lines}
 use Rattle.tfpg_sim.specs.declared.entry.Entry.{Entry}
 use Rattle.tfpg_sim.specs.AcceptedLog.{AreAccepted}
 use Rattle.tfpg_sim.specs.Draws.{latenesses}
@@ -31,18 +32,6 @@ use Rattle.tfpg_sim.proofs.LoggedEvents.{IsLogged, AreLogged}
 use Rattle.tfpg_sim.proofs.PutAlarms.{IsOther, Precedes, AreInOrder, before_each, not_later}
 use Rattle.tfpg_sim.proofs.ScriptOrder.{small}
 
--- ---- lists cut at an item
-
--- a list is what stands before an item, the item and what stands after it
-pub cut_at : {X : Type 0} (xs : List X) (n : ℕ) (x : X) → slice_get xs n ≡ Some x → xs ≡ take n xs ++ x ∷ drop (suc n) xs
-cut_at [] n x at = absurd (let none : None ≡ Some x = at in cc)
-cut_at (y ∷ xs) zero x at = let same : y ≡ x = cc in ap (λ z. z ∷ xs) same
-cut_at (y ∷ xs) (suc n) x at = ap (λ zs. y ∷ zs) (cut_at xs n x at)
-
--- the image of an item
-image_at : {X Y : Type 0} (f : X → Y) (xs : List X) (n : ℕ) (y : Y) → slice_get (map f xs) n ≡ Some y → (x : X) × (slice_get xs n ≡ Some x) × (f x ≡ y)
-image_at f xs n y at = option_map-some f (slice_get xs n) y (sym (slice_get-map f xs n) ∙ at)
-
 -- lines with their line ends
 ended_lines : {X : Type 0} (whole line : X → List ℕ) (xs : List X) → ((x : X) → whole x ≡ with_line_end (line x)) → flat_map whole xs ≡ flat_map with_line_end (map line xs)
 ended_lines whole line [] is = refl
@@ -51,22 +40,14 @@ ended_lines whole line (x ∷ xs) is = (λ i. is x i ++ ended_lines whole line x
 -- ---- what comes before an event
 
 -- now is not later than what no event is later than
-now_upto : (events : List Event) (start time : ℕ) → start ≤ time → All (λ e. time_of_event e ≤ time) events → fold (λ last e. time_of_event e) start events ≤ time
+pub now_upto : (events : List Event) (start time : ℕ) → start ≤ time → All (λ e. time_of_event e ≤ time) events → fold (λ last e. time_of_event e) start events ≤ time
 now_upto [] start time upto all = upto
 now_upto (first ∷ events) start time upto all =
     now_upto events (time_of_event first) time (All-head (λ e. time_of_event e ≤ time) first events all) (All-tail (λ e. time_of_event e ≤ time) first events all)
 
 -- where no event is an alarm of the node, none is found
 no_alarm : (events : List Event) (node : ℕ) → All (IsOther node) events → alarm_among events node ≡ None
-no_alarm [] node all = refl
-no_alarm (first ∷ events) node all = by first (All-head (IsOther node) first events all) (no_alarm events node (All-tail (IsOther node) first events all))
-  where
-    by : (e : Event) → IsOther node e → alarm_among events node ≡ None → alarm_among (e ∷ events) node ≡ None
-    by (event.Alarm time alarmed) other rest = cond-false (eqb alarmed node) (Some time) (alarm_among events node) (ne_eqb alarmed node other) ∙ rest
-    by (event.Silent time silent) other rest = rest
-    by (event.Sweep time) other rest = rest
-    by (event.Tick time) other rest = rest
-    by (event.Mode time mode) other rest = rest
+no_alarm events node all = ap (option_map time_of_event) (find-All_fail (is_alarm_of node) events all)
 
 module _ (graph : Tfpg) (valid : IsValid graph) (entries : List Entry) (script : IsScript graph entries) (trace : List Activation) (number : ℕ) (events : List Event)
     (logged : AreLogged graph entries trace (latenesses graph number) (length (latenesses graph number)) events) where
@@ -170,7 +151,7 @@ module _ (graph : Tfpg) (valid : IsValid graph) (entries : List Entry) (script :
   -- Each line is accepted.
   pub lines_accepted : AreAccepted graph (lines_of (log_text graph events))
   lines_accepted = subst (AreAccepted graph) (sym lines_there) (λ place line at.
-      let item = image_at (line_said graph) events place line at in
+      let item = slice_get-map_only (line_said graph) events place line at in
       let are = cut_at events place item.0 item.1 in
       let front = take place events in
       let back = drop (suc place) events in

@@ -16,6 +16,7 @@ use Rattle.tfpg_sim.specs.declared.entry.Entry.TheVariants.{Start, Mode, Sweep, 
 use Rattle.tfpg_sim.specs.Draws.{drawn, after_edges, after_lag, generator, lateness_of, latenesses_from, latenesses}
 use Rattle.tfpg_sim.specs.Script.{time_of_entry}
 use Rattle.tfpg_sim.specs.SimulatedLog.{sweep_time, first_sweep, due_time, alarm_time}
+use Rattle.tfpg_sim.specs.declared.limits.TheConstants.{DELAY_STREAM}
 
 -- ---- latenesses
 
@@ -45,18 +46,18 @@ has_lateness value (Some lag) some = (value % (lag + 1), refl)
 
 module _ (graph : Tfpg) (number : ℕ) where
   pub length-latenesses : length (latenesses graph number) ≡ length graph.nodes
-  length-latenesses = length-latenesses_from (after_edges (generator number 2) graph.edges) graph.nodes
+  length-latenesses = length-latenesses_from (after_edges (generator number DELAY_STREAM) graph.edges) graph.nodes
 
   pub lateness_within : (node late : ℕ) → node < length graph.nodes → get_or (latenesses graph number) node None ≡ Some late
       → (lag : ℕ) × (lag_at graph node ≡ Some lag) × (late ≤ lag)
   lateness_within node late within is =
-      let at = lateness_at (after_edges (generator number 2) graph.edges) graph.nodes node within in
+      let at = lateness_at (after_edges (generator number DELAY_STREAM) graph.edges) graph.nodes node within in
       let found = within_lag (drawn at.0) late (lag_of at.1.kind) (sym at.3 ∙ is) in
       (found.0, ap (λ (o : Option Node). option_and_then lag_of (option_map (λ n. n.kind) o)) at.2 ∙ found.1, found.2)
 
   pub monitored_lateness : (node : ℕ) → IsTrue (is_monitored graph node) → (late : ℕ) × (get_or (latenesses graph number) node None ≡ Some late)
   monitored_lateness node monitored =
-      let at = lateness_at (after_edges (generator number 2) graph.edges) graph.nodes node (monitored_within graph node monitored) in
+      let at = lateness_at (after_edges (generator number DELAY_STREAM) graph.edges) graph.nodes node (monitored_within graph node monitored) in
       let lag : lag_at graph node ≡ lag_of at.1.kind = ap (λ (o : Option Node). option_and_then lag_of (option_map (λ n. n.kind) o)) at.2 in
       let found = has_lateness (drawn at.0) (lag_of at.1.kind) (sym (ap is_some lag) ∙ monitored) in
       (found.0, at.3 ∙ found.1)

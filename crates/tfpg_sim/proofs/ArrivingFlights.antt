@@ -1,6 +1,5 @@
 -- The failure arrives at a discrepancy exactly where the flights over its edges have landed.
-use Rattle.std.proofs.Common.{◌≡◌, ℕ, suc, ◌^◌, ◌⊎◌, ⊎_elim, cond, [], ◌∷◌, ◌<◌, ◌≤◌, Bool, true, false, eqb, IsTrue, List, length, get_or, filter_map, All, Option, Some, None, option_map, option_and_then, slice_get, slice_index, refl, sym, ap, ◌∙◌, subst, arith}
-use Rattle.std.specs.Option.{option_map_or}
+use Rattle.std.proofs.Common.{◌≡◌, ℕ, suc, ◌⊎◌, ⊎_elim, cond, [], ◌∷◌, ◌<◌, ◌≤◌, Bool, true, false, eqb, List, length, get_or, filter_map, All, Option, Some, None, option_map, option_and_then, slice_get, slice_index, refl, sym, ap, ◌∙◌, subst, arith}
 use Rattle.std.proofs.lemmas.List.{get_or_past}
 use Rattle.std.proofs.lemmas.Option.{slice_get-get_or, slice_get_within, get_or_from_slice_get}
 use Rattle.std.proofs.lemmas.List.Elements.{All-contains}
@@ -10,13 +9,13 @@ use Rattle.tfpg_base.specs.Trace.{time_of}
 use Rattle.tfpg_base.proofs.lists.Choices.{option_and_then-some, option_map-some}
 use Rattle.tfpg_base.proofs.lists.Passing.{slice_get-filter_map, slice_get-filter_map_only, each_from_length-filter_map, not_each_from_length-filter_map}
 use Rattle.tfpg_graph.specs.declared.edge.Edge.{Edge}
-use Rattle.tfpg_graph.specs.declared.kind.Kind.{Kind}
 use Rattle.tfpg_graph.specs.declared.kind.Kind.TheVariants.{Or, And}
-use Rattle.tfpg_graph.specs.Graph.{Tfpg, kind_at, is_kind_at, is_or, is_and, incoming}
+use Rattle.tfpg_graph.specs.Graph.{Tfpg, kind_at, is_or, is_and, incoming}
+use Rattle.tfpg_graph.proofs.NodeAt.{not_so, kind_test}
 use Rattle.tfpg_log.specs.Log.{Logbook}
 use Rattle.tfpg_sim.specs.declared.flight.Flight.{Flight}
 use Rattle.tfpg_sim.specs.inside.Flights.{Lands, LandsBy}
-use Rattle.tfpg_sim.specs.inside.Arrivals.{flight_over}
+use Rattle.tfpg_sim.specs.inside.Arrivals.{flight_over, AreNearTimes, AreNearDelays, AreNearFlights, far}
 use Rattle.tfpg_sim.specs.Simulation.{Carries, Arrives, IsFirst}
 
 -- the first instant at which the one holds is that of the other
@@ -36,17 +35,17 @@ time_small limit (first ∷ others) node start all is = by (eqb first.node node)
 
 -- the flights have small numbers
 pub flights_small : (graph : Tfpg) (delays : List ℕ) (trace : List Activation) (numbers : List ℕ)
-    → All (λ delay. delay ≤ 2 ^ 42) delays → All (λ activation. activation.time ≤ 2 ^ 42) trace
-    → All (λ (flight : Flight). (flight.start ≤ 2 ^ 42) × (flight.delay ≤ 2 ^ 42)) (filter_map (flight_over graph delays trace) numbers)
+    → AreNearDelays delays → AreNearTimes trace
+    → AreNearFlights (filter_map (flight_over graph delays trace) numbers)
 flights_small graph delays trace numbers small times = λ k d within.
     let at = slice_get-get_or (filter_map (flight_over graph delays trace) numbers) k d within in
     let item = slice_get-filter_map_only (flight_over graph delays trace) numbers k _ at in
     let edge = option_and_then-some (λ (e : Edge). option_map (λ start. record { edge = e; start = start; delay = slice_index delays item.0 }) (time_of trace e.source)) (slice_get graph.edges item.0) _ item.2 in
     let start = option_map-some (λ start. record { edge = edge.0; start = start; delay = slice_index delays item.0 }) (time_of trace edge.0.source) _ edge.2 in
-    subst (λ (flight : Flight). (flight.start ≤ 2 ^ 42) × (flight.delay ≤ 2 ^ 42)) start.2
-    (time_small (2 ^ 42) trace edge.0.source start.0 times start.1, delay_small item.0)
+    subst (λ (flight : Flight). (flight.start ≤ far) × (flight.delay ≤ far)) start.2
+    (time_small far trace edge.0.source start.0 times start.1, delay_small item.0)
   where
-    delay_small : (number : ℕ) → slice_index delays number ≤ 2 ^ 42
+    delay_small : (number : ℕ) → slice_index delays number ≤ far
     delay_small number = ⊎_elim (λ within. small number 0 within) (λ past. let none : get_or delays number 0 ≡ 0 = get_or_past delays number 0 past in omega arith)
         (let cases : (number < length delays) ⊎ (length delays ≤ number) = grind arith in cases)
 
@@ -86,23 +85,15 @@ module _ (graph : Tfpg) (log : Logbook) (delays : List ℕ) (trace : List Activa
     abbrev pub flights : List Flight
     flights = filter_map (flight_over graph delays trace) (incoming graph node)
 
-    -- what a node of a kind is not
-    not_kind : (is_kind : Kind → Bool) (kind : Kind) → kind_at graph node ≡ Some kind → is_kind kind ≡ false → IsTrue (is_kind_at is_kind graph node) → ⊥
-    not_kind is_kind kind here unlike is =
-        let false_true : false ≡ true = sym unlike ∙ sym (ap (λ o. option_map_or is_kind o false) here) ∙ is in cc
-
-    has_kind : (is_kind : Kind → Bool) (kind : Kind) → kind_at graph node ≡ Some kind → is_kind kind ≡ true → IsTrue (is_kind_at is_kind graph node)
-    has_kind is_kind kind here alike = ap (λ o. option_map_or is_kind o false) here ∙ alike
-
     pub or_arrival : (lag : Option ℕ) (limit : ℕ) (first : Option ℕ) → kind_at graph node ≡ Some (Or lag)
         → IsFirst (LandsBy false log flights) limit first → IsFirst (Arrives graph log delays trace node) limit first
     or_arrival lag limit first kind = IsFirst-same (LandsBy false log flights) (Arrives graph log delays trace node) limit first
         (λ x some. record {
           or_node = λ _. let item = slice_get-filter_map_only (flight_over graph delays trace) (incoming graph node) some.0 some.1 some.2 in
               (item.0, item.1, landed x item.0 some.1 item.2 some.3);
-          and_node = λ other. absurd (not_kind is_and (Or lag) kind refl other);
+          and_node = λ other. absurd (not_so graph node is_and (Or lag) kind refl other);
         })
-        (λ x arrives. let some = arrives.or_node (has_kind is_or (Or lag) kind refl) in
+        (λ x arrives. let some = arrives.or_node (kind_test graph node is_or (Or lag) kind) in
         let flight = carried x some.0 some.2 in
         let place = slice_get-filter_map (flight_over graph delays trace) (incoming graph node) some.0 flight.0 some.1 flight.1 in
         (place.0, flight.0, place.1, flight.2))
@@ -112,14 +103,14 @@ module _ (graph : Tfpg) (log : Logbook) (delays : List ℕ) (trace : List Activa
         → IsFirst (LandsBy true log flights) limit first → IsFirst (Arrives graph log delays trace node) limit first
     and_arrival lag limit first kind many = IsFirst-same (LandsBy true log flights) (Arrives graph log delays trace node) limit first
         (λ x all. record {
-          or_node = λ other. absurd (not_kind is_or (And lag) kind refl other);
+          or_node = λ other. absurd (not_so graph node is_or (And lag) kind refl other);
           and_node = λ _. All-from_members (Carries graph log delays trace x) (incoming graph node) (λ number member.
               let valued = each_from_length-filter_map (flight_over graph delays trace) (incoming graph node) many number member in
               let place = slice_get-filter_map (flight_over graph delays trace) (incoming graph node) number valued.0 member valued.1 in
               landed x number valued.0 valued.1 (all place.0 valued.0 place.1));
         })
         (λ x arrives place flight at. let item = slice_get-filter_map_only (flight_over graph delays trace) (incoming graph node) place flight at in
-        let own = carried x item.0 (All-contains (Carries graph log delays trace x) (incoming graph node) item.0 (arrives.and_node (has_kind is_and (And lag) kind refl)) item.1) in
+        let own = carried x item.0 (All-contains (Carries graph log delays trace x) (incoming graph node) item.0 (arrives.and_node (kind_test graph node is_and (And lag) kind)) item.1) in
         subst (Lands log x) (let same : own.0 ≡ flight = (let somes : Some own.0 ≡ Some flight = sym own.1 ∙ item.2 in cc) in same) own.2)
 
     -- an AND node one of whose sources is not active
@@ -127,5 +118,5 @@ module _ (graph : Tfpg) (log : Logbook) (delays : List ℕ) (trace : List Activa
         → IsFirst (Arrives graph log delays trace node) limit None
     no_arrival lag limit kind few = λ x upto arrives.
         not_each_from_length-filter_map (flight_over graph delays trace) (incoming graph node) few (λ number member.
-        let own = carried x number (All-contains (Carries graph log delays trace x) (incoming graph node) number (arrives.and_node (has_kind is_and (And lag) kind refl)) member) in
+        let own = carried x number (All-contains (Carries graph log delays trace x) (incoming graph node) number (arrives.and_node (kind_test graph node is_and (And lag) kind)) member) in
         (own.0, own.1))

@@ -1,29 +1,14 @@
 -- What is drawn for a list, step by step.
-use Rattle.std.proofs.Common.{◌≡◌, ℕ, zero, suc, ◌+◌, List, [], ◌∷◌, ◌++◌, ◌%◌, take, fold, Some, slice_get, option_map, refl, ap, ◌∙◌, add-one}
-use Rattle.std.specs.List.{scan}
+use Rattle.std.proofs.Common.{◌≡◌, ℕ, ◌+◌, List, [], ◌∷◌, ◌++◌, ◌%◌, take, fold, Some, slice_get, option_map, ap, ◌∙◌}
 use Rattle.std.proofs.lemmas.List.Sums.{fold_push}
 use Rattle.tfpg_graph.specs.declared.edge.Edge.{Edge}
 use Rattle.tfpg_graph.specs.declared.kind.Kind.{Kind}
 use Rattle.tfpg_graph.specs.Graph.{Node, lag_of}
 use Rattle.rand_pcg.specs.Lcg.{Lcg}
 use Rattle.tfpg_sim.specs.Draws.{after_draw, drawn, delay_of, after_edges, delays_from, after_lag, lateness_of, latenesses_from}
-
-module _ {X : Type 0} where
-  -- one item more
-  pub take-item : (xs : List X) (n : ℕ) (x : X) → slice_get xs n ≡ Some x → take (suc n) xs ≡ take n xs ++ x ∷ []
-  take-item [] n x is = cc
-  take-item (y ∷ xs) zero x is = let same : y ≡ x = cc in ap (λ z. z ∷ []) same
-  take-item (y ∷ xs) (suc n) x is = ap (λ zs. y ∷ zs) (take-item xs n x is)
-
-  -- the same, as code counts
-  pub take-next : (xs : List X) (n : ℕ) (x : X) → slice_get xs n ≡ Some x → take (n + 1) xs ≡ take n xs ++ x ∷ []
-  take-next xs n x is = ap (λ m. take m xs) (add-one n) ∙ take-item xs n x is
-
-module _ {S X Y : Type 0} (next : S → X → S) (out : S → X → Y) where
-  -- one item more
-  pub scan-push : (state : S) (xs : List X) (x : X) → scan next out state (xs ++ x ∷ []) ≡ scan next out state xs ++ out (fold next state xs) x ∷ []
-  scan-push state [] x = refl
-  scan-push state (y ∷ xs) x = ap (λ ys. out state y ∷ ys) (scan-push (next state y) xs x)
+use Rattle.tfpg_base.proofs.lists.Choices.{option_map-some}
+use Rattle.tfpg_base.proofs.lists.Cuts.{take-next}
+use Rattle.tfpg_base.proofs.lists.Scans.{scan-push}
 
 module _ (state : Lcg) (edges : List Edge) (number : ℕ) (edge : Edge) where
   pub delays_from-more : slice_get edges number ≡ Some edge
@@ -38,13 +23,6 @@ module _ (state : Lcg) (edges : List Edge) (number : ℕ) (edge : Edge) where
       ap (after_edges state) (take-next edges number edge is)
       ∙ fold_push (λ before e. after_draw before) state (take number edges) edge
 
--- the node whose kind a look-up gives
-node_of_kind : (nodes : List Node) (n : ℕ) (kind : Kind) → option_map (λ node. node.kind) (slice_get nodes n) ≡ Some kind
-    → (node : Node) × (slice_get nodes n ≡ Some node) × (node.kind ≡ kind)
-node_of_kind [] n kind is = absurd (cc)
-node_of_kind (node ∷ nodes) zero kind is = (node, refl, let same : node.kind ≡ kind = cc in same)
-node_of_kind (node ∷ nodes) (suc n) kind is = node_of_kind nodes n kind is
-
 module _ (state : Lcg) (nodes : List Node) (n : ℕ) (kind : Kind) where
   -- the generator after the nodes before one
   abbrev at_node : Lcg
@@ -53,7 +31,7 @@ module _ (state : Lcg) (nodes : List Node) (n : ℕ) (kind : Kind) where
   pub latenesses_from-more : option_map (λ node. node.kind) (slice_get nodes n) ≡ Some kind
       → latenesses_from state (take (n + 1) nodes) ≡ latenesses_from state (take n nodes) ++ option_map (λ lag. drawn at_node % (lag + 1)) (lag_of kind) ∷ []
   latenesses_from-more is =
-      let found = node_of_kind nodes n kind is in
+      let found = option_map-some (λ (node : Node). node.kind) (slice_get nodes n) kind is in
       ap (latenesses_from state) (take-next nodes n found.0 found.1)
       ∙ scan-push (λ before node. after_lag before (lag_of node.kind)) lateness_of state (take n nodes) found.0
       ∙ ap (λ k. latenesses_from state (take n nodes) ++ option_map (λ lag. drawn at_node % (lag + 1)) (lag_of k) ∷ []) found.2
@@ -61,7 +39,7 @@ module _ (state : Lcg) (nodes : List Node) (n : ℕ) (kind : Kind) where
   pub after_nodes-more : option_map (λ node. node.kind) (slice_get nodes n) ≡ Some kind
       → fold (λ before node. after_lag before (lag_of node.kind)) state (take (n + 1) nodes) ≡ after_lag at_node (lag_of kind)
   after_nodes-more is =
-      let found = node_of_kind nodes n kind is in
+      let found = option_map-some (λ (node : Node). node.kind) (slice_get nodes n) kind is in
       ap (fold (λ before node. after_lag before (lag_of node.kind)) state) (take-next nodes n found.0 found.1)
       ∙ fold_push (λ before node. after_lag before (lag_of node.kind)) state (take n nodes) found.0
       ∙ ap (λ k. after_lag at_node (lag_of k)) found.2

@@ -5,6 +5,7 @@ use Rattle.std.proofs.lemmas.List.Elements.{All-head, All-tail, All-contains, Al
 use Rattle.tfpg_base.proofs.lists.Elements.{Contains-head, Contains-tail, Contains-cons_cases, Contains-nil, All-from_members}
 use Rattle.tfpg_base.proofs.Sets.{Contains-with_member, with_member-keeps}
 use Rattle.tfpg_base.proofs.TraceTimes.{time_there}
+use Rattle.tfpg_base.proofs.lists.Cuts.{cut_at}
 use Rattle.tfpg_base.specs.declared.activation.Activation.{Activation}
 use Rattle.tfpg_base.specs.Lines.{lines_of}
 use Rattle.tfpg_base.specs.Set.{with_member}
@@ -29,7 +30,7 @@ use Rattle.tfpg_sim.specs.Simulated.{IsSimulationOf}
 use Rattle.tfpg_sim.specs.SimulatedLog.{log_events, with_started}
 use Rattle.tfpg_sim.specs.Simulation.{Arrives, IsFirst, script_log, start_of}
 use Rattle.tfpg_sim.specs.inside.Entries.{IsScript}
-use Rattle.tfpg_sim.proofs.AcceptedLines.{cut_at, by_stop, its, log_there, lines_accepted}
+use Rattle.tfpg_sim.proofs.AcceptedLines.{by_stop, its, now_upto, log_there, lines_accepted}
 use Rattle.tfpg_sim.proofs.KeptRules.{keeps}
 use Rattle.tfpg_sim.proofs.LoggedEvents.{AreLogged, logged}
 use Rattle.tfpg_sim.proofs.PutAlarms.{AreInOrder, not_later}
@@ -164,12 +165,7 @@ module _ (graph : Tfpg) (script : List ℕ) (number : ℕ) (simulated : Simulate
   stop_by_now = now_from events 0 (event.Tick (time_so_far entries)) logs.order logs.last
 
   now_by_stop : now_of log ≤ time_so_far entries
-  now_by_stop = upto events 0 (omega arith) (λ k d within. by_stop graph valid entries is_script trace number events logs _ (logs.each k d within))
-    where
-      upto : (es : List Event) (start : ℕ) → start ≤ time_so_far entries → All (λ e. time_of_event e ≤ time_so_far entries) es → fold (λ last e. time_of_event e) start es ≤ time_so_far entries
-      upto [] start small all = small
-      upto (first ∷ es) start small all =
-          upto es (time_of_event first) (All-head (λ e. time_of_event e ≤ time_so_far entries) first es all) (All-tail (λ e. time_of_event e ≤ time_so_far entries) first es all)
+  now_by_stop = now_upto events 0 (time_so_far entries) (omega arith) (λ k d within. by_stop graph valid entries is_script trace number events logs _ (logs.each k d within))
 
   -- a node is active by the stop
   active_by_stop : (node time : ℕ) → node < length graph.nodes → time_of trace node ≡ Some time → time ≤ time_so_far entries
@@ -184,7 +180,7 @@ module _ (graph : Tfpg) (script : List ℕ) (number : ℕ) (simulated : Simulate
           (is.trace.discrepancies node within (ap not discrepancy))).0
 
   activation_time : (activation : Activation) → Contains trace activation → time_of trace activation.node ≡ Some activation.time
-  activation_time activation member = time_there trace is.trace.rising activation member
+  activation_time activation member = time_there trace is.trace.trace_of.0 activation member
 
   -- a failure mode in it is a member of the set
   started : (node time : ℕ) → time_of trace node ≡ Some time → IsTrue (is_kind_at is_failure graph node) → IsMember graph simulated.set node
@@ -204,9 +200,9 @@ module _ (graph : Tfpg) (script : List ℕ) (number : ℕ) (simulated : Simulate
 
   explains_log : Explains graph log simulated.set trace
   explains_log = record {
-    trace_of = (is.trace.rising, is.trace.within);
+    trace_of = is.trace.trace_of;
     by_now = All-from_members (λ (a : Activation). a.time ≤ now_of log) trace (λ a member.
-        let within = All-contains (λ (b : Activation). b.node < length graph.nodes) trace a is.trace.within member in
+        let within = All-contains (λ (b : Activation). b.node < length graph.nodes) trace a is.trace.trace_of.1 member in
         let upto = active_by_stop a.node a.time within (activation_time a member) in omega (arith, stop_by_now));
     from_set = All-from_members (λ (a : Activation). IsTrue (is_kind_at is_failure graph a.node) → IsMember graph simulated.set a.node) trace
         (λ a member failure. started a.node a.time (activation_time a member) failure);

@@ -1,10 +1,10 @@
 -- A generated graph is valid.
-use Rattle.std.proofs.Common.{◌≡◌, ◌≢◌, ℕ, zero, suc, ◌+◌, ◌-◌, ◌*◌, ◌<◌, ◌≤◌, ◌⊎◌, inl, inr, ⊎_elim, Bool, true, false, not, cond, eqb, ltb, List, [], ◌∷◌, ◌++◌, length, get_or, All, IsTrue, Option, Some, None, IfSome, refl, sym, ap, ◌∙◌, subst, arith, length-append, append_assoc}
+use Rattle.std.proofs.Common.{◌≡◌, ◌≢◌, ℕ, zero, suc, ◌+◌, ◌-◌, ◌*◌, ◌<◌, ◌≤◌, ◌⊎◌, inl, inr, ⊎_elim, true, false, not, cond, eqb, ltb, List, [], ◌∷◌, ◌++◌, length, get_or, All, IsTrue, Option, Some, None, IfSome, refl, sym, ap, ◌∙◌, subst, arith, length-append, append_assoc}
 use Rattle.std.specs.Prelude.{bytes_eq, AllPairs, count_by, decimal, codes, option_map}
 use Rattle.std.specs.Option.{option_map_or}
 use Rattle.std.specs.List.{list_all}
 use Rattle.std.specs.Char.{is_ascii_digit}
-use Rattle.std.proofs.lemmas.Bool.{cond_both, cond-true, cond-false, lt-ltb, le-ltb, eqb-false, eq-eqb, ne_eqb, le-leb, and_from, and_parts, or_left, or_right, not-true, cases_lt, cases_eq, false≢true}
+use Rattle.std.proofs.lemmas.Bool.{cond_both, cond-true, cond-false, lt-ltb, le-ltb, eqb-false, eq-eqb, ne_eqb, and_from, and_parts, or_left, or_right, not-true, cases_lt, cases_eq, false≢true}
 use Rattle.std.proofs.lemmas.Fmt.{length-decimal-le, decimal_injective}
 use Rattle.std.proofs.lemmas.List.{get_or-append_right, get_or_append_left, get_or_push, length_push}
 use Rattle.std.proofs.lemmas.List.Elements.{All-nil, All-cons, All-push, All-append, All-head, All-tail, All-weaker, All-contains}
@@ -12,28 +12,29 @@ use Rattle.std.proofs.lemmas.List.Quantifiers.{all_pairs_push}
 use Rattle.std.proofs.lemmas.List.Sums.{sum_by-append, sum_by-cons, sum_by_push, count_by-le-length}
 use Rattle.std.proofs.lemmas.Option.{slice_get-get_or}
 use Rattle.tfpg_base.proofs.Numbers.{AllDigits-from_number, list_all-from_AllDigits, is_number-decimal}
-use Rattle.tfpg_base.specs.Times.{max_time}
+use Rattle.tfpg_base.proofs.lists.Numbered.{length-numbers_from}
+use Rattle.tfpg_base.specs.declared.limits.TheConstants.{MAX_TIME}
 use Rattle.tfpg_base.specs.Words.{is_name, is_letter, is_name_byte}
 use Rattle.tfpg_graph.specs.declared.edge.Edge.{Edge}
 use Rattle.tfpg_graph.specs.declared.kind.Kind.{Kind}
 use Rattle.tfpg_graph.specs.declared.kind.Kind.TheVariants.{Failure, Or, And}
 use Rattle.tfpg_graph.specs.Graph.{Tfpg, Node, is_failure, is_kind_at, failures, incoming}
-use Rattle.tfpg_base.specs.Choice.{numbers_from}
-use Rattle.tfpg_graph.specs.Valid.{HasValidNumber, IsValidEdge, IsSamePair, WalksInNoTime, IsValidSoFar, IsValid}
+use Rattle.tfpg_graph.specs.Valid.{HasValidNumber, IsValidEdge, IsSamePair, WalksInNoTime, IsValidSoFar, IsValid, HasIncomingBefore}
 use Rattle.rand_pcg.specs.Lcg.{Lcg}
 use Rattle.tfpg_sim.specs.Draws.{generator}
 use Rattle.tfpg_sim.specs.inside.GraphText.{HasDrawnModes}
-use Rattle.tfpg_sim.specs.Generated.{after_words, draw, node_name, failure_kinds, has_two, is_and_drawn, lag_drawn, kind_drawn, first_source, second_source, edge_drawn, edges_drawn, draft_after, named_nodes, drawn_graph, draft_of, generated_graph}
+use Rattle.tfpg_sim.specs.Generated.{after_words, draw, drawn_name, failure_kinds, has_two, is_and_drawn, lag_drawn, kind_drawn, first_source, second_source, edge_drawn, edges_drawn, draft_after, named_nodes, drawn_graph, draft_of, generated_graph}
+use Rattle.tfpg_sim.specs.declared.limits.TheConstants.{GRAPH_STREAM}
 
 -- ---- names
 
 abbrev lettered : ℕ → ℕ → List ℕ
 lettered letter number = letter ∷ decimal number
 
-failure_name : (node : ℕ) → node < 16 → node_name node ≡ lettered 70 node
+failure_name : (node : ℕ) → node < 16 → drawn_name node ≡ lettered 70 node
 failure_name node low = cond-true (ltb node 16) (codes "F" ++ decimal node) (codes "D" ++ decimal (node - 16)) (lt-ltb node 16 low)
 
-discrepancy_name : (node : ℕ) → 16 ≤ node → node_name node ≡ lettered 68 (node - 16)
+discrepancy_name : (node : ℕ) → 16 ≤ node → drawn_name node ≡ lettered 68 (node - 16)
 discrepancy_name node high = cond-false (ltb node 16) (codes "F" ++ decimal node) (codes "D" ++ decimal (node - 16)) (le-ltb node 16 high)
 
 digits_in_name : (word : List ℕ) → list_all is_ascii_digit word ≡ true → list_all is_name_byte word ≡ true
@@ -47,11 +48,11 @@ lettered_name letter number is small =
     and_from (is_letter letter) _ is
     (and_from (list_all is_name_byte (decimal number)) _
     (digits_in_name (decimal number) (list_all-from_AllDigits (decimal number) (AllDigits-from_number (decimal number) (is_number-decimal number (omega arith)))))
-    (le-leb (length (decimal number)) 31 (let short : length (decimal number) ≤ 13 = length-decimal-le 13 number (omega arith) (omega arith) (omega arith) in omega arith)))
+    (lt-ltb (length (decimal number)) 32 (let short : length (decimal number) ≤ 13 = length-decimal-le 13 number (omega arith) (omega arith) (omega arith) in omega arith)))
 
 -- each node has a name
-pub is_name-node : (node : ℕ) → node < 1000 → IsTrue (is_name (node_name node))
-is_name-node node small = ⊎_elim
+pub is_name-drawn_name : (node : ℕ) → node < 1000 → IsTrue (is_name (drawn_name node))
+is_name-drawn_name node small = ⊎_elim
     (λ low. ap is_name (failure_name node low) ∙ lettered_name 70 node refl small)
     (λ high. ap is_name (discrepancy_name node high) ∙ lettered_name 68 (node - 16) refl (omega arith)) (cases_lt node 16)
 
@@ -63,7 +64,7 @@ number_same : (a b m n : ℕ) → lettered a m ≡ lettered b n → decimal m �
 number_same a b m n same = cc
 
 -- no two nodes have one name
-name_once : (one other : ℕ) → one < 1000 → other < 1000 → node_name one ≡ node_name other → one ≡ other
+name_once : (one other : ℕ) → one < 1000 → other < 1000 → drawn_name one ≡ drawn_name other → one ≡ other
 name_once one other small too same = ⊎_elim
     (λ low. ⊎_elim
     (λ also. decimal_injective one other (omega arith) (omega arith)
@@ -82,8 +83,8 @@ name_once one other small too same = ⊎_elim
 -- the kind is that of a discrepancy, and its lag is not too large
 abbrev IsDiscrepancy : Kind → Type 0
 IsDiscrepancy (Failure rarity) = ⊥
-IsDiscrepancy (Or lag) = IfSome lag (λ l. l ≤ max_time)
-IsDiscrepancy (And lag) = IfSome lag (λ l. l ≤ max_time)
+IsDiscrepancy (Or lag) = IfSome lag (λ l. l ≤ MAX_TIME)
+IsDiscrepancy (And lag) = IfSome lag (λ l. l ≤ MAX_TIME)
 
 discrepancy_number : (kind : Kind) → IsDiscrepancy kind → HasValidNumber kind
 discrepancy_number (Failure rarity) is = absurd is
@@ -117,7 +118,7 @@ length-named_nodes number (kind ∷ kinds) = ap suc (length-named_nodes (number 
 
 -- a node by its number and kind
 abbrev pub node_of : ℕ → Kind → Node
-node_of number kind = record { name = node_name number; kind = kind }
+node_of number kind = record { name = drawn_name number; kind = kind }
 
 pub get_or-named_nodes : (number : ℕ) (kinds : List Kind) (k : ℕ) (d : Node) (e : Kind) → k < length kinds → get_or (named_nodes number kinds) k d ≡ node_of (number + k) (get_or kinds k e)
 get_or-named_nodes number [] k d e within = absurd (omega arith)
@@ -126,13 +127,6 @@ get_or-named_nodes number (kind ∷ kinds) (suc k) d e within =
     get_or-named_nodes (number + 1) kinds k d e (omega arith) ∙ ap (λ n. node_of n (get_or kinds k e)) (let same : number + 1 + k ≡ number + suc k = omega arith in same)
 
 -- ---- counts
-
-length-numbers_from : {X : Type 0} (p : X → Bool) (n : ℕ) (xs : List X) → length (numbers_from n p xs) ≡ count_by p xs
-length-numbers_from p n [] = refl
-length-numbers_from p n (x ∷ xs) =
-    cond_both (p x) (n ∷ numbers_from (n + 1) p xs) (numbers_from (n + 1) p xs) (λ ns. length ns ≡ count_by p (x ∷ xs))
-    (λ yes_it. omega (arith, length-numbers_from p (n + 1) xs, sum_by-cons (λ y. cond (p y) 1 0) x xs, ap {B = ℕ} (λ b. cond b 1 0) yes_it))
-    (λ not_it. omega (arith, length-numbers_from p (n + 1) xs, sum_by-cons (λ y. cond (p y) 1 0) x xs, ap {B = ℕ} (λ b. cond b 1 0) not_it))
 
 count-named_nodes : (number : ℕ) (kinds : List Kind) → count_by (λ node. is_failure node.kind) (named_nodes number kinds) ≡ count_by is_failure kinds
 count-named_nodes number [] = refl
@@ -158,8 +152,8 @@ record IsDrawn (end : ℕ) (edge : Edge) : Type 0 where
   low : 16 ≤ edge.target
   high : edge.target < end
   earlier : edge.source < edge.target
-  least : edge.tmin ≤ max_time
-  most : IfSome edge.tmax (λ tmax. (edge.tmin ≤ tmax) × (tmax ≤ max_time))
+  least : edge.tmin ≤ MAX_TIME
+  most : IfSome edge.tmax (λ tmax. (edge.tmin ≤ tmax) × (tmax ≤ MAX_TIME))
   modes : (edge.modes ≡ 1) ⊎ (edge.modes ≡ 3)
 
 is_drawn : (end source node : ℕ) (state : Lcg) → 16 ≤ node → node < end → source < node → IsDrawn end (edge_drawn source node state)
@@ -171,7 +165,7 @@ is_drawn end source node state low high earlier = record {
   most =
       let below : draw 50 0 state < 50 = omega arith in
       let more : draw 50 1 state < 50 = omega arith in
-      cond_both (eqb (draw 16 2 state) 0) None (Some (draw 50 0 state + draw 50 1 state)) (λ o. IfSome o (λ tmax. (draw 50 0 state ≤ tmax) × (tmax ≤ max_time)))
+      cond_both (eqb (draw 16 2 state) 0) None (Some (draw 50 0 state + draw 50 1 state)) (λ o. IfSome o (λ tmax. (draw 50 0 state ≤ tmax) × (tmax ≤ MAX_TIME)))
       (λ _. tt) (λ _. (omega arith, omega arith));
   modes = cond_both (eqb (draw 8 3 state) 0) 1 3 (λ m. (m ≡ 1) ⊎ (m ≡ 3)) (λ _. inl refl) (λ _. inr refl);
 }
@@ -221,8 +215,8 @@ is_discrepancy : (node : ℕ) (state : Lcg) → IsDiscrepancy (kind_drawn node s
 is_discrepancy node state =
     cond_both (is_and_drawn node state) (And (lag_drawn state)) (Or (lag_drawn state)) IsDiscrepancy (λ _. small) (λ _. small)
   where
-    small : IfSome (lag_drawn state) (λ l. l ≤ max_time)
-    small = cond_both (eqb (draw 4 3 state) 0) None (Some (draw 20 4 state)) (λ o. IfSome o (λ l. l ≤ max_time)) (λ _. tt)
+    small : IfSome (lag_drawn state) (λ l. l ≤ MAX_TIME)
+    small = cond_both (eqb (draw 4 3 state) 0) None (Some (draw 20 4 state)) (λ o. IfSome o (λ l. l ≤ MAX_TIME)) (λ _. tt)
         (λ _. let below : draw 20 4 state < 20 = omega arith in omega arith)
 
 module _ (place : ℕ) (edges : List Edge) (drawn : AreDrawn (16 + place) edges) where
@@ -397,7 +391,7 @@ module _ (place : ℕ) (some : 1 ≤ place) (few : place ≤ 400) (kinds : List 
   incoming_is : (node : ℕ) → length (incoming graph node) ≡ count_into edges node
   incoming_is node = length-numbers_from (λ (edge : Edge). eqb edge.target node) 0 edges
 
-  has_edge : (node : ℕ) → node < 16 + place → IsTrue (not (is_kind_at is_failure graph node)) → incoming graph node ≢ []
+  has_edge : HasIncomingBefore graph (16 + place)
   has_edge node within discrepancy none = ⊎_elim
       (λ low. false≢true (sym (ap not (failure_at node low)) ∙ discrepancy))
       (λ high. let into = is.drawn in let own = is.some_into node high within in omega (arith, incoming_is node, ap length none)) (cases_lt node 16)
@@ -406,7 +400,7 @@ module _ (place : ℕ) (some : 1 ≤ place) (few : place ≤ 400) (kinds : List 
   valid_so_far = record {
     node_names = λ k d within.
         let inside : k < 16 + place = omega (arith, node_count) in
-        subst (λ (node : Node). IsTrue (is_name node.name)) (sym (node_is k d inside)) (is_name-node k (omega arith));
+        subst (λ (node : Node). IsTrue (is_name node.name)) (sym (node_is k d inside)) (is_name-drawn_name k (omega arith));
     nodes_differ = λ i j d before within same.
         let inside : j < 16 + place = omega (arith, node_count) in
         let one : i ≡ j = name_once i j (omega arith) (omega arith)
@@ -441,17 +435,17 @@ module _ (place : ℕ) (some : 1 ≤ place) (few : place ≤ 400) (kinds : List 
 -- A generated graph is valid.
 pub generated_valid : (number size : ℕ) → 1 ≤ size → size ≤ 100 → IsValid (generated_graph number size)
 generated_valid number size some few =
-    valid (4 * size) (omega arith) (omega arith) (draft_of number size).kinds (draft_of number size).edges (drafts (generator number 1) (4 * size))
+    valid (4 * size) (omega arith) (omega arith) (draft_of number size).kinds (draft_of number size).edges (drafts (generator number GRAPH_STREAM) (4 * size))
 
 -- It has as many discrepancies as its size says.
 pub generated_kinds : (number size : ℕ) → length (draft_of number size).kinds ≡ 4 * size
-generated_kinds number size = (drafts (generator number 1) (4 * size)).count
+generated_kinds number size = (drafts (generator number GRAPH_STREAM) (4 * size)).count
 
 -- It has 16 failure modes.
 pub generated_failures : (number size : ℕ) → length (failures (generated_graph number size)) ≡ 16
 generated_failures number size =
     let kinds : List Kind = (draft_of number size).kinds in
-    let is = drafts (generator number 1) (4 * size) in
+    let is = drafts (generator number GRAPH_STREAM) (4 * size) in
     let own : count_by is_failure (failure_kinds 16) ≡ 16 = refl in
     omega (
       arith,
@@ -464,4 +458,4 @@ generated_failures number size =
 
 -- Each of its edges is active in the first mode alone, or in both.
 pub generated_modes : (number size : ℕ) → All HasDrawnModes (draft_of number size).edges
-generated_modes number size = λ k d within. ((drafts (generator number 1) (4 * size)).drawn.each k d within).modes
+generated_modes number size = λ k d within. ((drafts (generator number GRAPH_STREAM) (4 * size)).drawn.each k d within).modes

@@ -13,7 +13,7 @@ use Rattle.rand_pcg.specs.Lcg.{Lcg}
 use Rattle.tfpg_base.specs.declared.activation.Activation.{Activation}
 use Rattle.tfpg_base.specs.Lines.{lines_of, with_line_end, HasNoLineEnd}
 use Rattle.tfpg_base.specs.Set.{with_member, IsSet}
-use Rattle.tfpg_base.specs.Times.{max_time}
+use Rattle.tfpg_base.specs.declared.limits.TheConstants.{MAX_TIME}
 use Rattle.tfpg_base.specs.Words.{line_of}
 use Rattle.tfpg_base.proofs.Sets.{IsSet-with_member}
 use Rattle.tfpg_base.proofs.LinesOf.{lines_of-after}
@@ -30,18 +30,19 @@ use Rattle.tfpg_sim.specs.declared.entry.Entry.TheVariants.{Start, Mode, Sweep, 
 use Rattle.tfpg_sim.specs.declared.simulated.Simulated.{Simulated}
 use Rattle.tfpg_sim.specs.Draws.{latenesses}
 use Rattle.tfpg_sim.specs.Simulated.{IsSimulationOf}
-use Rattle.tfpg_sim.specs.Generated.{draw, failure_count, node_name, failure_kinds, draft_of, generated_graph, generated_script, start_text, last_lines}
+use Rattle.tfpg_sim.specs.Generated.{draw, drawn_name, failure_kinds, draft_of, generated_graph, generated_script, start_text, last_lines}
+use Rattle.tfpg_sim.specs.declared.limits.TheConstants.{FAILURE_COUNT}
 use Rattle.tfpg_sim.specs.Simulation.{event_of_entry}
 use Rattle.tfpg_sim.specs.SimulatedLog.{with_started, set_of, alarm_time, with_alarm, with_alarms, log_events}
 use Rattle.tfpg_sim.specs.Script.{entry_in, entry_of, entry_with_name, failure_named, may_follow, with_script_line, with_next, read_lines, stopped, script_of, time_so_far}
-use Rattle.tfpg_sim.proofs.AcceptedEvents.{clean, number_clean}
+use Rattle.tfpg_sim.proofs.AcceptedEvents.{named_clean}
 use Rattle.tfpg_sim.proofs.ExplainedLogs.{events_are}
 use Rattle.tfpg_sim.proofs.PutAlarms.{put_there, one_more}
-use Rattle.tfpg_sim.proofs.GeneratedGraphs.{generated_valid, generated_failures, length-failure_kinds, failure_kind, length-named_nodes, get_or-named_nodes, node_of, is_name-node}
+use Rattle.tfpg_sim.proofs.GeneratedGraphs.{generated_valid, generated_failures, length-failure_kinds, failure_kind, length-named_nodes, get_or-named_nodes, node_of, is_name-drawn_name}
 
 -- the line by which a failure mode starts
 abbrev start_line : ℕ → ℕ → List ℕ
-start_line time node = line_of (decimal time ∷ codes "start" ∷ node_name node ∷ [])
+start_line time node = line_of (decimal time ∷ codes "start" ∷ drawn_name node ∷ [])
 
 -- the lines after the starts
 abbrev fixed_lines : List (List ℕ)
@@ -51,10 +52,9 @@ fixed_lines = codes "100 mode M1" ∷ codes "140 mode M0" ∷ codes "200 sweep" 
 abbrev pub fixed_entries : List Entry
 fixed_entries = Mode 100 1 ∷ Mode 140 0 ∷ Sweep 200 ∷ Sweep 300 ∷ Stop 400 ∷ []
 
-start_clean : (time node : ℕ) → time ≤ max_time → node < 16 → HasNoLineEnd (start_line time node)
+start_clean : (time node : ℕ) → time ≤ MAX_TIME → node < 16 → HasNoLineEnd (start_line time node)
 start_clean time node small low =
-    clean (decimal time) (codes "start" ∷ node_name node ∷ []) (number_clean time small)
-    (clean (codes "start") (node_name node ∷ []) (lacks_checked 10 (codes "start") refl) (name_lacks 10 (node_name node) refl (is_name-node node (omega arith))))
+    named_clean time (codes "start") (drawn_name node) small (lacks_checked 10 (codes "start") refl) (is_name-drawn_name node (omega arith))
 
 -- a line without a line end before others
 clean_line : (line : List ℕ) (lines : List (List ℕ)) → list_all (λ byte. not (eqb byte 10)) line ≡ true → All HasNoLineEnd lines → All HasNoLineEnd (line ∷ lines)
@@ -87,7 +87,7 @@ module _ (number size : ℕ) (some : 1 ≤ size) (few : size ≤ 100) where
   graph = generated_graph number size
 
   abbrev kinds : List Kind
-  kinds = failure_kinds failure_count ++ (draft_of number size).kinds
+  kinds = failure_kinds FAILURE_COUNT ++ (draft_of number size).kinds
 
   -- a failure mode stands at its number
   node_at : (node : ℕ) → node < 16 → slice_get graph.nodes node ≡ Some (node_of node (Failure (node + 1)))
@@ -103,23 +103,23 @@ module _ (number size : ℕ) (some : 1 ≤ size) (few : size ≤ 100) where
   node_within node low = omega (arith, length-append (failure_kinds 16) (draft_of number size).kinds, length-failure_kinds 16, length-named_nodes 0 kinds)
 
   -- and is found by its name
-  failure_there : (node : ℕ) → node < 16 → failure_named graph (node_name node) ≡ Some node
+  failure_there : (node : ℕ) → node < 16 → failure_named graph (drawn_name node) ≡ Some node
   failure_there node low =
       let at = node_at node low in
-      let name : name_of graph node ≡ node_name node = ap (λ o. unwrap_or (option_map (λ n. n.name) o) []) at in
+      let name : name_of graph node ≡ drawn_name node = ap (λ o. unwrap_or (option_map (λ n. n.name) o) []) at in
       let valid = generated_valid number size some few in
-      let found : node_named graph (node_name node) ≡ Some node =
+      let found : node_named graph (drawn_name node) ≡ Some node =
       ap (node_named graph) (sym name) ∙ node_named-name_of graph node (node_within node low) valid.so_far.nodes_differ in
       ap (option_and_then (λ n. then_some (is_kind_at is_failure graph n) n)) found
       ∙ ap (λ o. then_some (option_map_or is_failure (option_map (λ n. n.kind) o) false) node) at
 
   -- so the line of a start says so
-  start_said : (time node : ℕ) → time ≤ max_time → node < 16 → entry_of graph (start_line time node) ≡ Some (Start time node)
+  start_said : (time node : ℕ) → time ≤ MAX_TIME → node < 16 → entry_of graph (start_line time node) ≡ Some (Start time node)
   start_said time node small low =
-      ap (entry_in graph) (slice_split-join 32 (decimal time ∷ codes "start" ∷ node_name node ∷ []) (omega arith)
-      (decimal_lacks 32 time refl (omega arith), (lacks_checked 32 (codes "start") refl, (name_lacks 32 (node_name node) refl (is_name-node node (omega arith)), tt))))
-      ∙ ap (λ o. option_and_then (λ t. entry_with_name graph (codes "start") (node_name node) t) (option_and_then (λ t. then_some (nat_le t max_time) t) o)) (number_of-decimal time (omega arith))
-      ∙ ap (λ b. option_and_then (λ t. entry_with_name graph (codes "start") (node_name node) t) (then_some b time)) (le-leb time max_time small)
+      ap (entry_in graph) (slice_split-join 32 (decimal time ∷ codes "start" ∷ drawn_name node ∷ []) (omega arith)
+      (decimal_lacks 32 time refl (omega arith), (lacks_checked 32 (codes "start") refl, (name_lacks 32 (drawn_name node) refl (is_name-drawn_name node (omega arith)), tt))))
+      ∙ ap (λ o. option_and_then (λ t. entry_with_name graph (codes "start") (drawn_name node) t) (option_and_then (λ t. then_some (nat_le t MAX_TIME) t) o)) (number_of-decimal time (omega arith))
+      ∙ ap (λ b. option_and_then (λ t. entry_with_name graph (codes "start") (drawn_name node) t) (then_some b time)) (le-leb time MAX_TIME small)
       ∙ ap (option_map (λ n. Start time n)) (failure_there node low)
 
   -- one start and the lines after it
@@ -162,8 +162,8 @@ pub script_right : (number size : ℕ) → 1 ≤ size → size ≤ 100
     → (entries : List Entry) × (script_of (generated_graph number size) (generated_script number size) ≡ Ok entries) × IsDrawnScript entries
 script_right number size some few =
     let state : Lcg = (draft_of number size).state in
-    let x = draw failure_count 0 state in
-    let y = draw failure_count 1 state in
+    let x = draw FAILURE_COUNT 0 state in
+    let y = draw FAILURE_COUNT 1 state in
     subst (λ (text : List ℕ). (entries : List Entry) × (script_of (generated_graph number size) text ≡ Ok entries) × IsDrawnScript entries)
     (sym (append_assoc (start_text 0 x) (cond (eqb x y) [] (start_text 50 y)) last_lines))
     (text_right number size some few x y (omega arith) (omega arith) (eqb x y) refl)

@@ -1,18 +1,18 @@
 -- The simulated trace keeps the propagation rules.
-use Rattle.std.proofs.Common.{◌≡◌, ℕ, zero, suc, ◌+◌, ◌-◌, ◌%◌, ◌<◌, ◌≤◌, ◌⊎◌, ⊎_elim, true, false, not, eqb, IsTrue, IfSome, List, [], ◌∷◌, length, Option, Some, None, slice_get, refl, sym, ap, ◌∙◌, subst, arith}
-use Rattle.std.specs.List.{scan, Contains}
-use Rattle.std.specs.Option.{option_map_or}
+use Rattle.std.proofs.Common.{◌≡◌, ℕ, ◌+◌, ◌-◌, ◌%◌, ◌<◌, ◌≤◌, ◌⊎◌, ⊎_elim, true, false, eqb, IsTrue, IfSome, List, [], length, Option, Some, None, slice_get, refl, sym, ◌∙◌, subst, arith}
+use Rattle.std.specs.List.{Contains}
 use Rattle.std.proofs.lemmas.List.Elements.{All-contains}
 use Rattle.tfpg_base.proofs.lists.Elements.{All-from_members, All-at}
+use Rattle.tfpg_base.proofs.lists.Scans.{scan_at}
+use Rattle.tfpg_base.proofs.lists.Numbered.{item_among}
 use Rattle.tfpg_base.specs.declared.activation.Activation.{Activation}
-use Rattle.tfpg_base.specs.Times.{max_time}
+use Rattle.tfpg_base.specs.declared.limits.TheConstants.{MAX_TIME}
 use Rattle.tfpg_base.specs.Trace.{time_of}
 use Rattle.tfpg_graph.specs.declared.edge.Edge.{Edge}
-use Rattle.tfpg_graph.specs.declared.kind.Kind.{Kind}
-use Rattle.tfpg_graph.specs.declared.kind.Kind.TheVariants.{Failure, Or, And}
-use Rattle.tfpg_graph.specs.Graph.{Tfpg, kind_at, is_kind_at, is_failure, is_or, is_and, incoming, edges_into}
+use Rattle.tfpg_graph.specs.Graph.{Tfpg, kind_at, is_discrepancy, incoming, edges_into}
 use Rattle.tfpg_graph.specs.Valid.{IsValid, IsValidEdge}
-use Rattle.tfpg_trace.proofs.IncomingEdges.{item_among, number_among}
+use Rattle.tfpg_graph.proofs.lemmas.reach.Sources.{number_of_edge}
+use Rattle.tfpg_graph.proofs.NodeAt.{or_alone, and_alone}
 use Rattle.tfpg_log.specs.Log.{Logbook}
 use Rattle.tfpg_log.specs.Rules.{IsActive, HasAge, KeepsMay, IsDue, KeepsMust}
 use Rattle.rand_pcg.specs.Lcg.{Lcg}
@@ -20,13 +20,7 @@ use Rattle.tfpg_sim.specs.declared.entry.Entry.{Entry}
 use Rattle.tfpg_sim.specs.Script.{time_so_far}
 use Rattle.tfpg_sim.specs.Draws.{delays, delay_of, delay_count, generator, drawn, after_draw}
 use Rattle.tfpg_sim.specs.Simulation.{Carries, Arrives, IsFirst, IsSimulated, script_log}
-
-module _ {S X Y : Type 0} (next : S → X → S) (out : S → X → Y) where
-  -- what is drawn for an item
-  scan_at : (state : S) (xs : List X) (n : ℕ) (x : X) → slice_get xs n ≡ Some x → (s : S) × (slice_get (scan next out state xs) n ≡ Some (out s x))
-  scan_at state [] n x is = absurd (let none : None ≡ Some x = is in cc)
-  scan_at state (y ∷ xs) zero x is = (state, ap Some (ap (out state) (let same : y ≡ x = cc in same)))
-  scan_at state (y ∷ xs) (suc n) x is = scan_at (next state y) xs n x is
+use Rattle.tfpg_sim.specs.declared.limits.TheConstants.{DELAY_STREAM}
 
 -- a delay is between the least and the greatest one
 delay_most : (tmin value m : ℕ) (tmax : Option ℕ) → tmax ≡ Some m → tmin ≤ m → tmin + value % delay_count tmin tmax ≤ m
@@ -38,12 +32,12 @@ delay_most tmin value m tmax is order = subst (λ t. tmin + value % delay_count 
 delay_at : (graph : Tfpg) (number n : ℕ) (edge : Edge) → IsValid graph → slice_get graph.edges n ≡ Some edge
     → (delay : ℕ) × (slice_get (delays graph number) n ≡ Some delay) × (edge.tmin ≤ delay) × ((m : ℕ) → edge.tmax ≡ Some m → delay ≤ m)
 delay_at graph number n edge valid at =
-    let found = scan_at (λ (before : Lcg) (e : Edge). after_draw before) (λ before e. delay_of e (drawn before)) (generator number 2) graph.edges n edge at in
+    let found = scan_at (λ (before : Lcg) (e : Edge). after_draw before) (λ before e. delay_of e (drawn before)) (generator number DELAY_STREAM) graph.edges n edge at in
     let own = All-at (IsValidEdge graph) graph.edges n edge valid.so_far.edges at in (
       delay_of edge (drawn found.0),
       found.1,
       omega arith,
-      (λ m is. let bounds = subst (λ t. IfSome t (λ tmax. (edge.tmin ≤ tmax) × (tmax ≤ max_time))) is own.most in
+      (λ m is. let bounds = subst (λ t. IfSome t (λ tmax. (edge.tmin ≤ tmax) × (tmax ≤ MAX_TIME))) is own.most in
           delay_most edge.tmin (drawn found.0) m edge.tmax is bounds.0),
     )
 
@@ -55,19 +49,6 @@ HasAge-less log trace edge x age less upto has = record {
   since = let since = has.since in omega arith;
   allowed = λ y after within. has.allowed y (omega arith) within;
 }
-
--- what a node of one kind is not
-or_alone : (o : Option Kind) → IsTrue (option_map_or is_or o false) → IsTrue (not (option_map_or is_failure o false)) × (IsTrue (option_map_or is_and o false) → ⊥)
-or_alone None is = absurd (let both : false ≡ true = is in cc)
-or_alone (Some (Failure rarity)) is = absurd (let both : false ≡ true = is in cc)
-or_alone (Some (Or lag)) is = (refl, (λ other. let both : false ≡ true = other in cc))
-or_alone (Some (And lag)) is = absurd (let both : false ≡ true = is in cc)
-
-and_alone : (o : Option Kind) → IsTrue (option_map_or is_and o false) → IsTrue (not (option_map_or is_failure o false)) × (IsTrue (option_map_or is_or o false) → ⊥)
-and_alone None is = absurd (let both : false ≡ true = is in cc)
-and_alone (Some (Failure rarity)) is = absurd (let both : false ≡ true = is in cc)
-and_alone (Some (Or lag)) is = absurd (let both : false ≡ true = is in cc)
-and_alone (Some (And lag)) is = (refl, (λ other. let both : false ≡ true = other in cc))
 
 module _ (graph : Tfpg) (entries : List Entry) (number : ℕ) (trace : List Activation) (valid : IsValid graph)
     (simulated : IsSimulated graph entries (delays graph number) trace) (node instant : ℕ) (within : node < length graph.nodes) (upto : instant ≤ time_so_far entries) where
@@ -99,11 +80,8 @@ module _ (graph : Tfpg) (entries : List Entry) (number : ℕ) (trace : List Acti
   edge_of : (n : ℕ) → Contains (incoming graph node) n → (edge : Edge) × Contains (edges_into graph node) edge × (slice_get graph.edges n ≡ Some edge)
   edge_of n member = item_among (λ (e : Edge). eqb e.target node) graph.edges n member
 
-  number_of : (edge : Edge) → Contains (edges_into graph node) edge → (n : ℕ) × Contains (incoming graph node) n × (slice_get graph.edges n ≡ Some edge)
-  number_of edge member = number_among (λ (e : Edge). eqb e.target node) graph.edges edge member
-
   -- the node is active where the failure arrives
-  active : IsTrue (not (is_kind_at is_failure graph node)) → Arrives graph log (delays graph number) trace node instant → IsActive trace node instant
+  active : IsTrue (is_discrepancy graph node) → Arrives graph log (delays graph number) trace node instant → IsActive trace node instant
   active discrepancy arrives = by (time_of trace node) refl (simulated.discrepancies node within discrepancy)
     where
       by : (o : Option ℕ) → time_of trace node ≡ o → IsFirst (Arrives graph log (delays graph number) trace node) (time_so_far entries) (time_of trace node) → IsActive trace node instant
@@ -112,7 +90,7 @@ module _ (graph : Tfpg) (entries : List Entry) (number : ℕ) (trace : List Acti
           let here = subst (IsFirst (Arrives graph log (delays graph number) trace node) (time_so_far entries)) at first in
           (time, at, ⊎_elim (λ early. absurd (here.2 instant early arrives)) (λ late. late) (let cases : (instant < time) ⊎ (time ≤ instant) = grind arith in cases))
 
-  arrived : IsTrue (not (is_kind_at is_failure graph node)) → time_of trace node ≡ Some instant → Arrives graph log (delays graph number) trace node instant
+  arrived : IsTrue (is_discrepancy graph node) → time_of trace node ≡ Some instant → Arrives graph log (delays graph number) trace node instant
   arrived discrepancy at =
       (subst (IsFirst (Arrives graph log (delays graph number) trace node) (time_so_far entries)) at (simulated.discrepancies node within discrepancy)).1
 
@@ -126,12 +104,12 @@ module _ (graph : Tfpg) (entries : List Entry) (number : ℕ) (trace : List Acti
       and_node = λ is at.
           let all = (arrived (and_alone (kind_at graph node) is).0 at).and_node is in
           All-from_members (λ edge. HasAge log trace edge instant edge.tmin) (edges_into graph node) (λ edge member.
-          let n = number_of edge member in
+          let n = number_of_edge graph node edge member in
           least n.0 edge n.2 (All-contains (Carries graph log (delays graph number) trace instant) (incoming graph node) n.0 all n.1));
     },
     record {
       or_node = λ is edge member due.
-          let n = number_of edge member in
+          let n = number_of_edge graph node edge member in
           active (or_alone (kind_at graph node) is).0 (record {
             or_node = λ _. (n.0, n.1, greatest n.0 edge n.2 due);
             and_node = λ other. absurd ((or_alone (kind_at graph node) is).1 other);

@@ -150,7 +150,7 @@ module _ (log : Logbook) (limit : ℕ) (flights : List Flight) (needs_all : Bool
       left = before.left.3;
       pending = at span.hi before.left.1 (omega arith);
       none = λ x within landed. ⊎_elim (λ less. none_before x less landed)
-          (λ from. subst (IsFirstIn (IsReached reached) span.lo span.hi) none is_first x from (omega arith) (lands x from (omega arith) landed))
+          (λ from. subst (IsFirstIn (IsReached reached) span.lo span.hi) none is_first x (omega arith) (from, lands x from (omega arith) landed))
           (let cases : (x < span.lo) ⊎ (span.lo ≤ x) = grind arith in cases);
     }
 
@@ -159,12 +159,12 @@ module _ (log : Logbook) (limit : ℕ) (flights : List Flight) (needs_all : Bool
     ends_at time some =
         let here = subst (IsFirstIn (IsReached reached) span.lo span.hi) some is_first in
         let end = spans_rise log (limit + 1) (span.hi + 1) spans before.left.3 in
-        let upto : time ≤ span.hi = here.1 in
+        let upto : time ≤ span.hi = here.0 in
         subst (IsFirst (LandsBy needs_all log flights) limit) (sym some) (
           omega arith,
-          (lands_reached log flights needs_all time entered same (at time here.0 here.1)).1 ((reaches time).0 here.2),
+          (lands_reached log flights needs_all time entered same (at time here.1.0 here.0)).1 ((reaches time).0 here.1.1),
           (λ x less landed. ⊎_elim (λ early. none_before x early landed)
-              (λ from. here.3 x from less (lands x from (omega arith) landed))
+              (λ from. here.2 x less (from, lands x from (omega arith) landed))
               (let cases : (x < span.lo) ⊎ (span.lo ≤ x) = grind arith in cases)),
         )
 

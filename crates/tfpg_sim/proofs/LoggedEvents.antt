@@ -2,7 +2,7 @@
 use Rattle.std.proofs.Common.{◌≡◌, ℕ, zero, suc, ◌+◌, ◌-◌, ◌<◌, ◌≤◌, ⊎_elim, false, cond, List, [], ◌∷◌, length, get_or, filter_map, All, Contains, Option, Some, None, refl, sym, ap, ◌∙◌, subst, arith}
 use Rattle.std.specs.Prelude.{AllPairs, IsTrue, count_by, slice_index_or}
 use Rattle.std.specs.Option.{option_map_or}
-use Rattle.std.proofs.lemmas.Bool.{cases_eq, false≢true}
+use Rattle.std.proofs.lemmas.Bool.{cases_eq, ne_eqb, false≢true}
 use Rattle.std.proofs.lemmas.List.Elements.{All-nil, All-cons, All-head, All-tail, All-weaker, Contains-get_or}
 use Rattle.std.proofs.lemmas.List.Sums.{sum_by-cons}
 use Rattle.tfpg_base.proofs.lists.Elements.{AllPairs-head, AllPairs-tail, Contains-at}
@@ -14,7 +14,9 @@ use Rattle.tfpg_log.specs.declared.event.Event.TheVariants as event
 use Rattle.tfpg_log.specs.Log.{time_of_event, is_mode_change, mode_after}
 use Rattle.tfpg_sim.specs.declared.entry.Entry.{Entry}
 use Rattle.tfpg_sim.specs.declared.entry.Entry.TheVariants.{Start, Mode, Sweep, Tick, Stop}
-use Rattle.tfpg_sim.specs.Script.{time_of_entry, time_so_far, last_of, has_stopped, is_stop, changes_mode, max_entries, max_mode_lines}
+use Rattle.tfpg_sim.specs.Script.{time_of_entry, time_so_far, last_of, has_stopped, is_stop, changes_mode}
+use Rattle.tfpg_sim.specs.declared.limits.TheConstants.{MAX_ENTRIES}
+use Rattle.tfpg_log.specs.declared.limits.TheConstants.{MAX_MODE_CHANGES}
 use Rattle.tfpg_sim.specs.Simulation.{event_of_entry}
 use Rattle.tfpg_sim.specs.SimulatedLog.{alarm_time, with_alarm, with_alarms}
 use Rattle.tfpg_sim.specs.inside.Entries.{IsEntryOf, IsScript}
@@ -124,8 +126,8 @@ module _ (graph : Tfpg) (entries : List Entry) (trace : List Activation) (latene
     pub order : AreInOrder events
     pub each : All (IsLogged count) events
     pub alarmed : (node time : ℕ) → node < count → alarm_at node ≡ Some time → Contains events (event.Alarm time node)
-    pub few : length events ≤ max_entries + count
-    pub changes : count_by is_mode_change events ≤ max_mode_lines
+    pub few : length events ≤ MAX_ENTRIES + count
+    pub changes : count_by is_mode_change events ≤ MAX_MODE_CHANGES
     pub modes : (instant : ℕ) → mode_after 0 events instant ≡ mode_after 0 (filter_map event_of_entry entries) instant
     pub last : Contains events (event.Tick stop)
 
@@ -137,11 +139,11 @@ module _ (graph : Tfpg) (entries : List Entry) (trace : List Activation) (latene
   one_later count (event.Mode time mode) is = is
 
   other_node : (count : ℕ) (e : Event) → IsLogged count e → IsOther count e
-  other_node count (event.Alarm time node) is = λ same. let less = is.0 in omega arith
-  other_node count (event.Silent time node) is = tt
-  other_node count (event.Sweep time) is = tt
-  other_node count (event.Tick time) is = tt
-  other_node count (event.Mode time mode) is = tt
+  other_node count (event.Alarm time node) is = ne_eqb node count (λ same. let less = is.0 in omega arith)
+  other_node count (event.Silent time node) is = refl
+  other_node count (event.Sweep time) is = refl
+  other_node count (event.Tick time) is = refl
+  other_node count (event.Mode time mode) is = refl
 
   -- the alarm of one more node, where it has one
   logged_more : (count : ℕ) (o : Option ℕ) (events : List Event) → alarm_at count ≡ o → AreLogged count events → AreLogged (suc count) (with_alarm o count events)

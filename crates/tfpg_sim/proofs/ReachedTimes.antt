@@ -1,5 +1,6 @@
 -- When some or each of several times is reached, time by time.
 use Rattle.std.proofs.Common.{◌≡◌, ℕ, ◌+◌, ◌<◌, ◌≤◌, ◌↔◌, max, ◌⊎◌, inl, inr, ⊎_elim, List, get_or, Option, Some, None, sym, ap, subst, ◌∙◌, arith}
+use Rattle.tfpg_base.proofs.lists.Sequences.{below_or_last}
 use Rattle.tfpg_sim.specs.inside.Flights.{IsReached, ReachedByEither}
 
 -- each of the first times is reached
@@ -10,16 +11,12 @@ EachBelow times count instant = (place : ℕ) → place < count → IsReached (g
 abbrev pub SomeBelow : List (Option ℕ) → ℕ → ℕ → Type 0
 SomeBelow times count instant = (place : ℕ) × (place < count) × IsReached (get_or times place None) instant
 
--- a place before the next is before this or is this
-before_or_at : (place count : ℕ) → place < count + 1 → (place < count) ⊎ (count ≡ place)
-before_or_at place count within = grind arith
-
 module _ (times : List (Option ℕ)) (count : ℕ) where
   pub each_more : (last time : ℕ) → get_or times count None ≡ Some time → ((x : ℕ) → (last ≤ x) ↔ EachBelow times count x)
       → (x : ℕ) → (max time last ≤ x) ↔ EachBelow times (count + 1) x
   each_more last time is before x = (
     (λ reached place within. ⊎_elim (λ less. (before x).0 (omega arith) place less)
-        (λ same. subst (λ n. IsReached (get_or times n None) x) same (subst (λ t. IsReached t x) (sym is) (omega arith))) (before_or_at place count within)),
+        (λ same. subst (λ n. IsReached (get_or times n None) x) (sym same) (subst (λ t. IsReached t x) (sym is) (omega arith))) (below_or_last place count within)),
     (λ each. let one : time ≤ x = subst (λ t. IsReached t x) is (each count (omega arith)) in
         let others : last ≤ x = (before x).1 (λ place less. each place (omega arith)) in omega arith),
   )
@@ -33,5 +30,5 @@ module _ (times : List (Option ℕ)) (count : ℕ) where
     (λ reached. ⊎_elim (λ old. let some = (before x).0 old in (some.0, omega (arith, some.1), some.2))
         (λ new. (count, omega arith, subst (λ t. IsReached t x) (sym is) new)) ((either x).0 reached)),
     (λ some. (either x).1 (⊎_elim (λ less. inl ((before x).1 (some.0, less, some.2)))
-        (λ same. inr (subst (λ t. IsReached t x) (ap (λ n. get_or times n None) (sym same) ∙ is) some.2)) (before_or_at some.0 count some.1))),
+        (λ same. inr (subst (λ t. IsReached t x) (ap (λ n. get_or times n None) same ∙ is) some.2)) (below_or_last some.0 count some.1))),
   )

@@ -6,12 +6,14 @@ use Rattle.std.proofs.lemmas.List.{take_all, length-take}
 use Rattle.std.proofs.lemmas.List.Sums.{sum_by_push}
 use Rattle.std.proofs.lemmas.Option.{slice_get-get_or}
 use Rattle.tfpg_base.specs.Lines.{lines_of}
+use Rattle.tfpg_base.proofs.lists.Cuts.{take-item}
 use Rattle.tfpg_graph.specs.Graph.{Tfpg}
 use Rattle.tfpg_sim.specs.declared.entry.Entry.{Entry}
 use Rattle.tfpg_sim.specs.declared.entry.Entry.TheVariants.{Start, Mode, Sweep, Tick, Stop}
-use Rattle.tfpg_sim.specs.Script.{next_entry, with_next, with_script_line, read_lines, stopped, script_of, has_stopped, is_new, changes_mode, max_entries, max_mode_lines}
+use Rattle.tfpg_sim.specs.Script.{next_entry, with_next, with_script_line, read_lines, stopped, script_of, has_stopped, is_new, changes_mode}
+use Rattle.tfpg_sim.specs.declared.limits.TheConstants.{MAX_ENTRIES}
+use Rattle.tfpg_log.specs.declared.limits.TheConstants.{MAX_MODE_CHANGES}
 use Rattle.tfpg_sim.specs.inside.Entries.{IsScript}
-use Rattle.tfpg_sim.proofs.DrawLists.{take-item}
 use Rattle.tfpg_sim.proofs.ReadLines.{fault_stays}
 use Rattle.tfpg_sim.proofs.ScriptLines.{script_push, script_none}
 use Rattle.tfpg_sim.proofs.ScriptOrder.{new_there}
@@ -46,27 +48,27 @@ module _ (graph : Tfpg) where
 
   module _ (entries : List Entry) (script : IsScript graph entries) where
     -- they are not too many
-    pub few_entries : length entries ≤ max_entries
+    pub few_entries : length entries ≤ MAX_ENTRIES
     few_entries = by (length entries) refl
       where
-        by : (n : ℕ) → length entries ≡ n → length entries ≤ max_entries
+        by : (n : ℕ) → length entries ≡ n → length entries ≤ MAX_ENTRIES
         by zero count = omega arith
         by (suc last) count =
             let at = slice_get-get_or entries last (Start 0 0) (omega arith) in
-            let test = and_parts (nat_lt (length (take last entries)) max_entries) _ (script.follows last (get_or entries last (Start 0 0)) at) in
-            let below = ltb-true (length (take last entries)) max_entries test.0 in
+            let test = and_parts (nat_lt (length (take last entries)) MAX_ENTRIES) _ (script.follows last (get_or entries last (Start 0 0)) at) in
+            let below = ltb-true (length (take last entries)) MAX_ENTRIES test.0 in
             omega (arith, length-take last entries)
 
     -- a line that changes the mode is not one too many
-    one_new : (before : List Entry) (entry : Entry) → is_new before entry ≡ true → count_by changes_mode before ≤ max_mode_lines
-        → count_by changes_mode before + cond (changes_mode entry) 1 0 ≤ max_mode_lines
+    one_new : (before : List Entry) (entry : Entry) → is_new before entry ≡ true → count_by changes_mode before ≤ MAX_MODE_CHANGES
+        → count_by changes_mode before + cond (changes_mode entry) 1 0 ≤ MAX_MODE_CHANGES
     one_new before (Start time node) new few = omega arith
-    one_new before (Mode time mode) new few = let below = ltb-true (count_by changes_mode before) max_mode_lines new in omega arith
+    one_new before (Mode time mode) new few = let below = ltb-true (count_by changes_mode before) MAX_MODE_CHANGES new in omega arith
     one_new before (Sweep time) new few = omega arith
     one_new before (Tick time) new few = omega arith
     one_new before (Stop time) new few = omega arith
 
-    few_before : (n : ℕ) → n ≤ length entries → count_by changes_mode (take n entries) ≤ max_mode_lines
+    few_before : (n : ℕ) → n ≤ length entries → count_by changes_mode (take n entries) ≤ MAX_MODE_CHANGES
     few_before zero within = omega arith
     few_before (suc n) within =
         let entry : Entry = get_or entries n (Start 0 0) in
@@ -75,5 +77,5 @@ module _ (graph : Tfpg) where
         omega (arith, ap (count_by changes_mode) (take-item entries n entry at), sum_by_push (λ e. cond (changes_mode e) 1 0) (take n entries) entry)
 
     -- nor are those too many that change the mode
-    pub few_changes : count_by changes_mode entries ≤ max_mode_lines
-    few_changes = subst (λ es. count_by changes_mode es ≤ max_mode_lines) (take_all (length entries) entries (omega arith)) (few_before (length entries) (omega arith))
+    pub few_changes : count_by changes_mode entries ≤ MAX_MODE_CHANGES
+    few_changes = subst (λ es. count_by changes_mode es ≤ MAX_MODE_CHANGES) (take_all (length entries) entries (omega arith)) (few_before (length entries) (omega arith))

@@ -1,5 +1,5 @@
 -- What is read of a script is one.
-use Rattle.std.proofs.Common.{◌≡◌, ℕ, ◌<◌, ◌≤◌, ◌⊎◌, ⊎_elim, true, nat_le, List, [], ◌∷◌, ◌++◌, length, take, Some, None, IsTrue, codes, bytes_eq, sym, ap, ◌∙◌, subst, arith}
+use Rattle.std.proofs.Common.{◌≡◌, ℕ, ◌≤◌, ◌⊎◌, ⊎_elim, true, nat_le, List, [], ◌∷◌, ◌++◌, length, take, Some, None, IsTrue, codes, bytes_eq, sym, ap, ◌∙◌, subst, arith}
 use Rattle.std.specs.Bool.{then_some}
 use Rattle.std.proofs.lemmas.Bool.{cond_both}
 use Rattle.std.proofs.lemmas.Bool.Decides.{nat_tests}
@@ -8,24 +8,25 @@ use Rattle.std.proofs.lemmas.List.Elements.{All-nil, All-cons, All-append}
 use Rattle.std.proofs.lemmas.List.Quantifiers.{position-Some}
 use Rattle.std.proofs.lemmas.Option.{slice_get_within}
 use Rattle.tfpg_base.specs.Words.{words_of, number_of}
-use Rattle.tfpg_base.specs.Times.{max_time}
+use Rattle.tfpg_base.specs.declared.limits.TheConstants.{MAX_TIME}
 use Rattle.tfpg_graph.specs.Graph.{Tfpg, is_kind_at, is_failure, node_named, mode_named}
 use Rattle.tfpg_base.proofs.lists.Written.{slice_get-push_before, slice_get-push_at as slice_get-push_last}
 use Rattle.tfpg_base.proofs.lists.Choices.{option_and_then-some, option_map-some, then_some-true}
+use Rattle.tfpg_base.proofs.lists.Sequences.{below_or_last}
 use Rattle.tfpg_sim.specs.declared.entry.Entry.{Entry}
 use Rattle.tfpg_sim.specs.declared.entry.Entry.TheVariants.{Start, Mode, Sweep, Tick, Stop}
 use Rattle.tfpg_sim.specs.Script.{time_in, failure_named, entry_alone, entry_with_name, entry_in, entry_of, may_follow, next_entry}
 use Rattle.tfpg_sim.specs.inside.Entries.{IsEntryOf, IsScript}
 
 -- a time that is read is not too large
-time_small : (word : List ℕ) (time : ℕ) → time_in word ≡ Some time → time ≤ max_time
+time_small : (word : List ℕ) (time : ℕ) → time_in word ≡ Some time → time ≤ MAX_TIME
 time_small word time is =
-    let number = option_and_then-some (λ n. then_some (nat_le n max_time) n) (number_of word) time is in
-    let test = then_some-true (nat_le number.0 max_time) number.0 time number.2 in
-    let upto : number.0 ≤ max_time = (let holds = test.0 in grind (arith, nat_tests, holds)) in let same = test.1 in omega arith
+    let number = option_and_then-some (λ n. then_some (nat_le n MAX_TIME) n) (number_of word) time is in
+    let test = then_some-true (nat_le number.0 MAX_TIME) number.0 time number.2 in
+    let upto : number.0 ≤ MAX_TIME = (let holds = test.0 in grind (arith, nat_tests, holds)) in let same = test.1 in omega arith
 
 -- what a line says by one word is of the graph
-alone_own : (graph : Tfpg) (word : List ℕ) (time : ℕ) (entry : Entry) → time ≤ max_time → entry_alone word time ≡ Some entry → IsEntryOf graph entry
+alone_own : (graph : Tfpg) (word : List ℕ) (time : ℕ) (entry : Entry) → time ≤ MAX_TIME → entry_alone word time ≡ Some entry → IsEntryOf graph entry
 alone_own graph word time entry small =
     cond_both (bytes_eq word (codes "sweep")) _ _ (λ o. o ≡ Some entry → IsEntryOf graph entry)
     (λ _ is. subst (IsEntryOf graph) (let same : Sweep time ≡ entry = cc in same) small)
@@ -43,7 +44,7 @@ failure_own graph name node is =
     subst (λ n. IsTrue (is_kind_at is_failure graph n)) test.1 test.0
 
 -- what a line says by a word and a name is of the graph
-named_own : (graph : Tfpg) (word name : List ℕ) (time : ℕ) (entry : Entry) → time ≤ max_time → entry_with_name graph word name time ≡ Some entry → IsEntryOf graph entry
+named_own : (graph : Tfpg) (word name : List ℕ) (time : ℕ) (entry : Entry) → time ≤ MAX_TIME → entry_with_name graph word name time ≡ Some entry → IsEntryOf graph entry
 named_own graph word name time entry small =
     cond_both (bytes_eq word (codes "start")) _ _ (λ o. o ≡ Some entry → IsEntryOf graph entry)
     (λ _ is. let found = option_map-some (λ node. Start time node) (failure_named graph name) entry is in
@@ -78,7 +79,7 @@ script_push graph before more line entry is are script = subst (IsScript graph) 
       subst (λ es. may_follow es other ≡ true)
       (sym (ap (λ n. take n (before ++ entry ∷ [])) here ∙ take-append-le (length before) before (entry ∷ []) (omega arith) ∙ take_all (length before) before (omega arith)))
       (subst (λ e. may_follow before e ≡ true) same test.0))
-      (within place (slice_get_within (before ++ entry ∷ []) place other at));
+      (below_or_last place (length before) (omega (arith, length_push before entry, slice_get_within (before ++ entry ∷ []) place other at)));
 })
   where
     found : (e : Entry) × (entry_of graph line ≡ Some e) × (then_some (may_follow before e) e ≡ Some entry)
@@ -92,9 +93,6 @@ script_push graph before more line entry is are script = subst (IsScript graph) 
 
     own : IsEntryOf graph entry
     own = subst (IsEntryOf graph) tested.1 (entry_own graph (words_of line) found.0 found.1)
-
-    within : (place : ℕ) → place < length (before ++ entry ∷ []) → (place < length before) ⊎ (place ≡ length before)
-    within place below = let count = length_push before entry in grind arith
 
 pub script_none : (graph : Tfpg) → IsScript graph []
 script_none graph = record { own = All-nil (IsEntryOf graph); follows = λ place entry at. absurd (let none : None ≡ Some entry = at in cc) }

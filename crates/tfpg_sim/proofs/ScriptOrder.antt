@@ -1,31 +1,27 @@
 -- The order of a script's lines, and what it starts.
-use Rattle.std.proofs.Common.{◌≡◌, ℕ, zero, suc, ◌+◌, ◌-◌, ◌≤◌, ⊎_elim, Bool, true, false, not, ◌&&◌, ◌||◌, cond, eqb, nat_le, nat_lt, List, [], ◌∷◌, ◌++◌, length, take, get_or, All, AllPairs, Option, Some, None, slice_get, refl, sym, ap, ◌∙◌, subst, arith}
+use Rattle.std.proofs.Common.{◌≡◌, ℕ, zero, suc, ◌+◌, ◌-◌, ◌≤◌, ⊎_elim, Bool, true, false, not, ◌||◌, cond, eqb, nat_le, nat_lt, List, [], ◌∷◌, ◌++◌, length, take, get_or, All, AllPairs, Option, Some, None, slice_get, refl, sym, ap, ◌∙◌, subst, arith}
 use Rattle.std.specs.List.{list_any}
 use Rattle.std.specs.Option.{option_or, option_map_or}
-use Rattle.std.proofs.lemmas.Bool.{cond-true, cond-false, eqb-true, ne_eqb, eq-eqb, cases_eq, not-true}
+use Rattle.std.proofs.lemmas.Bool.{cond-true, cond-false, eqb-true, ne_eqb, eq-eqb, cases_eq, not-true, and_parts}
 use Rattle.std.proofs.lemmas.Bool.Decides.{nat_tests}
 use Rattle.std.proofs.lemmas.List.{take_all, get_or-take, length-take, length_push}
 use Rattle.std.proofs.lemmas.List.Elements.{All-nil, All-cons, All-append}
 use Rattle.std.proofs.lemmas.Option.{slice_get-get_or}
 use Rattle.tfpg_base.specs.declared.activation.Activation.{Activation}
 use Rattle.tfpg_base.specs.Trace.{time_of, with_time}
-use Rattle.tfpg_base.specs.Times.{max_time}
+use Rattle.tfpg_base.specs.declared.limits.TheConstants.{MAX_TIME}
 use Rattle.tfpg_base.proofs.Traces.{time_of-with_time, time_of-with_time_other}
 use Rattle.tfpg_graph.specs.Graph.{Tfpg}
 use Rattle.tfpg_sim.specs.declared.entry.Entry.{Entry}
 use Rattle.tfpg_sim.specs.declared.entry.Entry.TheVariants.{Start, Mode, Sweep, Tick, Stop}
-use Rattle.tfpg_sim.specs.Script.{time_of_entry, time_so_far, last_of, may_follow, is_new, starts, has_stopped, max_entries}
+use Rattle.tfpg_sim.specs.Script.{time_of_entry, time_so_far, last_of, may_follow, is_new, starts, has_stopped}
+use Rattle.tfpg_sim.specs.declared.limits.TheConstants.{MAX_ENTRIES}
 use Rattle.tfpg_sim.specs.inside.Entries.{IsEntryOf, IsScript}
 use Rattle.tfpg_sim.specs.Simulation.{start_of}
-use Rattle.tfpg_sim.proofs.DrawLists.{take-next}
 use Rattle.tfpg_sim.specs.inside.Settling.{IsFailureStart, with_start}
 use Rattle.tfpg_base.proofs.lists.Elements.{All-at}
 use Rattle.tfpg_base.proofs.lists.Written.{slice_get-push_last}
-
--- both of two tests that hold together
-and_both : (a b : Bool) → a && b ≡ true → (a ≡ true) × (b ≡ true)
-and_both true b is = (refl, is)
-and_both false b is = absurd (let no : false ≡ true = is in cc)
+use Rattle.tfpg_base.proofs.lists.Cuts.{take-item, take-next}
 
 last-push : (entries : List Entry) (entry : Entry) → last_of (entries ++ entry ∷ []) ≡ Some entry
 last-push entries entry =
@@ -38,15 +34,15 @@ time-push entries entry = ap (λ o. option_map_or time_of_entry o 0) (last-push 
 -- what a line that may follow says of those before it
 not_back : (before : List Entry) (entry : Entry) → may_follow before entry ≡ true → time_so_far before ≤ time_of_entry entry
 not_back before entry follows =
-    let rest = (and_both (nat_lt (length before) max_entries) _ follows).1 in
-    let later = (and_both (not (has_stopped before)) _ rest).1 in
-    let back = (and_both (nat_le (time_so_far before) (time_of_entry entry)) _ later).0 in grind (arith, nat_tests, back)
+    let rest = (and_parts (nat_lt (length before) MAX_ENTRIES) _ follows).1 in
+    let later = (and_parts (not (has_stopped before)) _ rest).1 in
+    let back = (and_parts (nat_le (time_so_far before) (time_of_entry entry)) _ later).0 in grind (arith, nat_tests, back)
 
 pub new_there : (before : List Entry) (entry : Entry) → may_follow before entry ≡ true → is_new before entry ≡ true
 new_there before entry follows =
-    let rest = (and_both (nat_lt (length before) max_entries) _ follows).1 in
-    let later = (and_both (not (has_stopped before)) _ rest).1 in
-    (and_both (nat_le (time_so_far before) (time_of_entry entry)) _ later).1
+    let rest = (and_parts (nat_lt (length before) MAX_ENTRIES) _ follows).1 in
+    let later = (and_parts (not (has_stopped before)) _ rest).1 in
+    (and_parts (nat_le (time_so_far before) (time_of_entry entry)) _ later).1
 
 module _ (graph : Tfpg) (entries : List Entry) (script : IsScript graph entries) where
   -- no line is after the last of the first so many
@@ -55,16 +51,13 @@ module _ (graph : Tfpg) (entries : List Entry) (script : IsScript graph entries)
   up_to (suc n) within =
       let item = slice_get-get_or entries n (Start 0 0) (omega arith) in
       let entry : Entry = get_or entries n (Start 0 0) in
-      let grown = take-item' n entry item in
+      let grown = take-item entries n entry item in
       subst (λ es. All (λ e. time_of_entry e ≤ time_so_far es) es) (sym grown)
       (subst (λ t. All (λ e. time_of_entry e ≤ t) (take n entries ++ entry ∷ [])) (sym (time-push (take n entries) entry))
       (All-append (λ e. time_of_entry e ≤ time_of_entry entry) (take n entries) (entry ∷ [])
       (All-up (take n entries) (time_so_far (take n entries)) (time_of_entry entry) (not_back (take n entries) entry (script.follows n entry item)) (up_to n (omega arith)))
       (All-cons (λ e. time_of_entry e ≤ time_of_entry entry) entry [] (omega arith) (All-nil (λ e. time_of_entry e ≤ time_of_entry entry)))))
     where
-      take-item' : (n : ℕ) (entry : Entry) → slice_get entries n ≡ Some entry → take (suc n) entries ≡ take n entries ++ entry ∷ []
-      take-item' n entry is = ap (λ m. take m entries) (let one : suc n ≡ n + 1 = omega arith in one) ∙ take-next entries n entry is
-
       All-up : (es : List Entry) (low high : ℕ) → low ≤ high → All (λ e. time_of_entry e ≤ low) es → All (λ e. time_of_entry e ≤ high) es
       All-up es low high upto all = λ k d within'. let one = all k d within' in omega arith
 
@@ -81,19 +74,19 @@ module _ (graph : Tfpg) (entries : List Entry) (script : IsScript graph entries)
       let same = ap time_of_entry (get_or-take j entries i d less) in omega arith
 
   -- no time is too large
-  pub small : time_so_far entries ≤ max_time
+  pub small : time_so_far entries ≤ MAX_TIME
   small = by (last_of entries) refl
     where
-      own_time : (entry : Entry) → IsEntryOf graph entry → time_of_entry entry ≤ max_time
+      own_time : (entry : Entry) → IsEntryOf graph entry → time_of_entry entry ≤ MAX_TIME
       own_time (Start time node) own = own.0
       own_time (Mode time mode) own = own.0
       own_time (Sweep time) own = own
       own_time (Tick time) own = own
       own_time (Stop time) own = own
 
-      by : (o : Option Entry) → last_of entries ≡ o → option_map_or time_of_entry (last_of entries) 0 ≤ max_time
-      by None is = subst (λ o. option_map_or time_of_entry o 0 ≤ max_time) (sym is) (omega arith)
-      by (Some entry) is = subst (λ o. option_map_or time_of_entry o 0 ≤ max_time) (sym is)
+      by : (o : Option Entry) → last_of entries ≡ o → option_map_or time_of_entry (last_of entries) 0 ≤ MAX_TIME
+      by None is = subst (λ o. option_map_or time_of_entry o 0 ≤ MAX_TIME) (sym is) (omega arith)
+      by (Some entry) is = subst (λ o. option_map_or time_of_entry o 0 ≤ MAX_TIME) (sym is)
           (own_time entry (All-at (IsEntryOf graph) entries (length entries - 1) entry script.own is))
 
 -- ---- what a script starts

@@ -4,6 +4,7 @@ use Rattle.std.specs.List.{Contains}
 use Rattle.std.proofs.lemmas.Bool.{eq-eqb, cases_eq}
 use Rattle.std.proofs.lemmas.List.{get_or_past}
 use Rattle.std.proofs.lemmas.List.Elements.{All-contains}
+use Rattle.std.proofs.lemmas.Option.{none-some}
 use Rattle.tfpg_base.proofs.lists.Elements.{All-from_members, Contains-at}
 use Rattle.tfpg_base.proofs.lists.Passing.{Contains-filter_only}
 use Rattle.tfpg_base.specs.declared.activation.Activation.{Activation}
@@ -12,15 +13,11 @@ use Rattle.tfpg_base.proofs.Traces.{time_of-with_time, time_of-with_time_other}
 use Rattle.tfpg_graph.specs.declared.edge.Edge.{Edge}
 use Rattle.tfpg_graph.specs.Graph.{Tfpg, is_kind_at, is_failure, incoming, edge_from_to}
 use Rattle.tfpg_base.proofs.lists.Positions.{All-none}
-use Rattle.tfpg_trace.proofs.IncomingEdges.{item_among}
+use Rattle.tfpg_base.proofs.lists.Numbered.{item_among}
 use Rattle.tfpg_log.specs.Log.{Logbook}
 use Rattle.tfpg_sim.specs.Simulation.{Carries, Arrives, IsFirst}
 use Rattle.tfpg_sim.proofs.ArrivingFlights.{IsFirst-same}
 use Rattle.tfpg_sim.specs.inside.Settling.{candidate_at, IsCandidate, AreCandidates, IsEarliest, IsEarliestBelow, IsUnderWay}
-
--- an option that is there is not absent
-some_none : {X : Type 0} (o : Option X) (x : X) → o ≡ Some x → o ≡ None → ⊥
-some_none o x some none = let both : Some x ≡ None = sym some ∙ none in cc
 
 -- no edge goes from the one node to the other
 no_edge : (graph : Tfpg) (settled node : ℕ) → edge_from_to graph settled node ≡ None
@@ -63,7 +60,7 @@ module _ (graph : Tfpg) (log : Logbook) (delays : List ℕ) where
 
     -- what is active stays so
     pub keeps : (node start : ℕ) → time_of trace node ≡ Some start → time_of after node ≡ Some start
-    keeps node start is = ⊎_elim (λ same. absurd (some_none (time_of trace settled) start (ap (time_of trace) same ∙ is) absent))
+    keeps node start is = ⊎_elim (λ same. absurd (none-some start (sym absent ∙ ap (time_of trace) same ∙ is)))
         (λ unlike. time_of-with_time_other trace settled time node unlike ∙ is) (cases_eq settled node)
 
     -- the failure still arrives where it did
@@ -95,7 +92,7 @@ module _ (graph : Tfpg) (log : Logbook) (delays : List ℕ) where
 -- a candidate is that of a node
 pub candidate_in : (candidates : List (Option ℕ)) (node time : ℕ) → candidate_at candidates node ≡ Some time → node < length candidates
 candidate_in candidates node time is = ⊎_elim (λ within. within)
-    (λ past. absurd (some_none (candidate_at candidates node) time is (get_or_past candidates node None past)))
+    (λ past. absurd (none-some time (sym (get_or_past candidates node None past) ∙ is)))
     (let cases : (node < length candidates) ⊎ (length candidates ≤ node) = grind arith in cases)
 
 -- what has a candidate is a discrepancy that is not active yet, and its time is its first arrival
@@ -109,11 +106,11 @@ of_candidate graph log delays limit trace node candidate time own is =
   where
     not_failure : (is_failure_mode : Bool) → is_kind_at is_failure graph node ≡ is_failure_mode → is_kind_at is_failure graph node ≡ false
     not_failure false at = at
-    not_failure true at = absurd (some_none candidate time is (own.failure_mode at))
+    not_failure true at = absurd (none-some time (sym (own.failure_mode at) ∙ is))
 
     absent : (o : Option ℕ) → time_of trace node ≡ o → time_of trace node ≡ None
     absent None at = at
-    absent (Some start) at = absurd (some_none candidate time is (own.active start at))
+    absent (Some start) at = absurd (none-some time (sym (own.active start at) ∙ is))
 
 module _ (graph : Tfpg) (log : Logbook) (delays : List ℕ) (limit : ℕ) (starts : ℕ → Option ℕ) (trace : List Activation) (candidates : List (Option ℕ))
     (under_way : IsUnderWay graph log delays limit starts trace candidates) (node time : ℕ) (earliest : IsEarliest candidates node time) where
@@ -174,7 +171,7 @@ module _ (graph : Tfpg) (log : Logbook) (delays : List ℕ) (limit : ℕ) (start
         where
           by : (o : Option ℕ) → time_of trace next ≡ o → time_of trace next ≡ None
           by None is = is
-          by (Some start) is = absurd (some_none (time_of (with_time node time trace) next) start (keeps graph log delays trace node time is_absent next start is) none)
+          by (Some start) is = absurd (none-some start (sym none ∙ keeps graph log delays trace node time is_absent next start is))
 
       no_earlier : (next due : ℕ) → candidate_at later next ≡ Some due → due < time → ⊥
       no_earlier next due candidate early =

@@ -1,13 +1,17 @@
 -- The simulated trace shows each event of the simulated log.
-use Rattle.std.proofs.Common.{◌≡◌, ℕ, ◌≤◌, ◌⊎◌, ⊎_elim, Bool, true, false, cond, eqb, List, [], ◌∷◌, ◌++◌, length, get_or, All, Contains, IsTrue, Option, Some, None, is_some, refl, sym, ◌∙◌, subst, arith}
-use Rattle.std.proofs.lemmas.Bool.{leb-false, eq-eqb, false≢true}
+use Rattle.std.proofs.Common.{◌≡◌, ℕ, ◌≤◌, ⊎_elim, List, [], ◌∷◌, ◌++◌, length, get_or, All, Contains, IsTrue, Option, None, is_some, sym, ◌∙◌, subst, arith}
+use Rattle.std.specs.Prelude.{find}
+use Rattle.std.proofs.lemmas.Bool.{leb-false, false≢true}
 use Rattle.std.proofs.lemmas.List.Elements.{All-contains, Contains-append_cases}
-use Rattle.tfpg_base.proofs.lists.Elements.{Contains-cons_cases, Contains-nil}
+use Rattle.tfpg_base.proofs.lists.Elements.{Contains-cons_cases}
+use Rattle.tfpg_base.proofs.lists.Valued.{is_some-option_map}
 use Rattle.tfpg_base.specs.declared.activation.Activation.{Activation}
 use Rattle.tfpg_graph.specs.Graph.{Tfpg}
 use Rattle.tfpg_log.specs.declared.event.Event.{Event}
 use Rattle.tfpg_log.specs.declared.event.Event.TheVariants as event
-use Rattle.tfpg_log.specs.Log.{alarm_among}
+use Rattle.tfpg_log.specs.Log.{is_alarm_of, alarm_among, time_of_event}
+use Rattle.tfpg_log.proofs.AlarmPlaces.{same_node}
+use Rattle.tfpg_base.proofs.lists.FirstFound.{find-Contains}
 use Rattle.tfpg_log.specs.Explains.{Shows}
 use Rattle.tfpg_graph.proofs.NodeAt.{monitored_within}
 use Rattle.tfpg_sim.specs.declared.entry.Entry.{Entry}
@@ -22,23 +26,8 @@ use Rattle.tfpg_sim.proofs.ScriptOrder.{in_order}
 
 -- an alarm of a node that stands among events is found there
 alarm_found : (events : List Event) (time node : ℕ) → Contains events (event.Alarm time node) → IsTrue (is_some (alarm_among events node))
-alarm_found [] time node member = absurd (Contains-nil (event.Alarm time node) member)
-alarm_found (first ∷ events) time node member =
-    by first (Contains-cons_cases first events (event.Alarm time node) member) (λ there. alarm_found events time node there)
-  where
-    found_or : (b : Bool) (when : ℕ) → (b ≡ false → IsTrue (is_some (alarm_among events node))) → IsTrue (is_some (cond b (Some when) (alarm_among events node)))
-    found_or true when rest = refl
-    found_or false when rest = rest refl
-
-    by : (e : Event) → (e ≡ event.Alarm time node) ⊎ Contains events (event.Alarm time node)
-        → (Contains events (event.Alarm time node) → IsTrue (is_some (alarm_among events node))) → IsTrue (is_some (alarm_among (e ∷ events) node))
-    by (event.Alarm when alarmed) cases rest =
-        found_or (eqb alarmed node) when (λ unlike. ⊎_elim
-        (λ here. absurd (let same : alarmed ≡ node = cc in false≢true (sym unlike ∙ eq-eqb alarmed node same))) rest cases)
-    by (event.Silent when silent) cases rest = ⊎_elim (λ here. absurd (cc)) rest cases
-    by (event.Sweep when) cases rest = ⊎_elim (λ here. absurd (cc)) rest cases
-    by (event.Tick when) cases rest = ⊎_elim (λ here. absurd (cc)) rest cases
-    by (event.Mode when mode) cases rest = ⊎_elim (λ here. absurd (cc)) rest cases
+alarm_found events time node member =
+    is_some-option_map time_of_event (find (is_alarm_of node) events) ∙ find-Contains (is_alarm_of node) events (event.Alarm time node) member (same_node node)
 
 -- each event after another one in the list may stand after it
 after_each : (front back : List Event) (e : Event) → AreInOrder (front ++ e ∷ back) → All (Precedes e) back

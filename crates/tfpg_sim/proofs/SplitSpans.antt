@@ -1,25 +1,22 @@
 -- The spans of the modes of a script, line by line.
-use Rattle.std.proofs.Common.{◌≡◌, ℕ, ◌+◌, ◌<◌, ◌≤◌, cond, nat_lt, nat_le, List, [], ◌∷◌, ◌++◌, length, take, filter_map, All, AllPairs, get_or, ◌^◌, refl, sym, ap, subst, ◌∙◌, arith}
+use Rattle.std.proofs.Common.{◌≡◌, ℕ, ◌+◌, ◌<◌, ◌≤◌, cond, nat_lt, nat_le, List, [], ◌∷◌, ◌++◌, length, take, filter_map, All, AllPairs, get_or, refl, sym, ap, subst, ◌∙◌, arith}
 use Rattle.std.proofs.lemmas.List.{append-nil, get_or-take, get_or_default, length-take}
-use Rattle.tfpg_base.specs.Times.{max_time}
+use Rattle.tfpg_base.specs.declared.limits.TheConstants.{MAX_TIME}
 use Rattle.std.proofs.lemmas.Bool.{cond-true, cond-false, lt-ltb, le-ltb, cond_both}
 use Rattle.std.proofs.lemmas.Bool.Decides.{nat_tests}
-use Rattle.std.proofs.lemmas.List.Elements.{filter_map-append, All-nil, All-cons, All-append, All-contains, Contains-append_right}
-use Rattle.tfpg_base.proofs.lists.Elements.{Contains-head, All-front}
+use Rattle.std.proofs.lemmas.List.Elements.{filter_map-append, All-nil, All-cons, All-append}
+use Rattle.tfpg_base.proofs.lists.Elements.{All-front, All-middle}
 use Rattle.tfpg_log.specs.declared.span.Span.{Span}
 use Rattle.tfpg_log.specs.declared.event.Event.{Event}
 use Rattle.tfpg_log.specs.declared.event.Event.TheVariants as event
 use Rattle.tfpg_log.specs.Log.{Logbook, mode_at, mode_after}
+use Rattle.tfpg_sim.specs.inside.Arrivals.{AreNearSpans, far}
 use Rattle.tfpg_sim.specs.declared.entry.Entry.{Entry}
 use Rattle.tfpg_sim.specs.declared.entry.Entry.TheVariants.{Start, Mode, Sweep, Tick, Stop}
 use Rattle.tfpg_sim.specs.Script.{time_of_entry}
 use Rattle.tfpg_sim.specs.Simulation.{event_of_entry, script_log}
 use Rattle.tfpg_sim.specs.inside.ModeSpans.{AreSpans, closed_by, current_after}
 use Rattle.tfpg_sim.proofs.Landing.{spans_rise}
-
--- what holds of all holds of the last of them
-All-last : {X : Type 0} (P : X → Type 0) (xs : List X) (x : X) → All P (xs ++ x ∷ []) → P x
-All-last P xs x all = All-contains P (xs ++ x ∷ []) x all (Contains-append_right xs (x ∷ []) x (Contains-head x []))
 
 -- the mode after more events
 mode_after-append : (held : ℕ) (events more : List Event) (x : ℕ) → mode_after held (events ++ more) x ≡ mode_after (mode_after held events x) more x
@@ -92,7 +89,7 @@ split_more stop entries spans current (Mode time mode) order split = record {
       let same : current.lo ≡ time + 1 = let upto = split.late time order in omega arith in
       subst (λ b. AreSpans more b 0 (spans ++ [])) same (subst (AreSpans more current.lo 0) (sym (append-nil spans)) before));
   after = λ x from. mode_at-push entries (Mode time mode) x ∙ cond-true (nat_lt time x) _ _ (lt-ltb time x (omega arith));
-  late = λ later all. let upto : time ≤ later = All-last (λ e. time_of_entry e ≤ later) entries (Mode time mode) all in omega arith;
+  late = λ later all. let upto : time ≤ later = All-middle (λ e. time_of_entry e ≤ later) entries (Mode time mode) [] all in omega arith;
   end = split.end;
 }
   where
@@ -127,19 +124,19 @@ earlier_all entries i d order within = λ k e below.
     (subst (λ x. time_of_entry (get_or entries k e) ≤ time_of_entry x) (get_or_default entries i e d within) (order k i e less within))
 
 -- the spans begin at small times
-pub small_more : (spans : List Span) (current : Span) (entry : Entry) → All (λ span. span.lo ≤ 2 ^ 42) spans → current.lo ≤ 2 ^ 42
-    → All (λ span. span.lo ≤ 2 ^ 42) (spans ++ closed_by current entry)
-small_more spans current entry all now = All-append (λ span. span.lo ≤ 2 ^ 42) spans (closed_by current entry) all (closed entry)
+pub small_more : (spans : List Span) (current : Span) (entry : Entry) → AreNearSpans spans → current.lo ≤ far
+    → AreNearSpans (spans ++ closed_by current entry)
+small_more spans current entry all now = All-append (λ span. span.lo ≤ far) spans (closed_by current entry) all (closed entry)
   where
-    closed : (e : Entry) → All (λ span. span.lo ≤ 2 ^ 42) (closed_by current e)
-    closed (Start time node) = All-nil (λ span. span.lo ≤ 2 ^ 42)
-    closed (Sweep time) = All-nil (λ span. span.lo ≤ 2 ^ 42)
-    closed (Tick time) = All-nil (λ span. span.lo ≤ 2 ^ 42)
-    closed (Stop time) = All-nil (λ span. span.lo ≤ 2 ^ 42)
-    closed (Mode time mode) = cond_both (nat_le current.lo time) _ _ (λ spans. All (λ span. span.lo ≤ 2 ^ 42) spans)
-        (λ _. All-cons (λ span. span.lo ≤ 2 ^ 42) _ [] now (All-nil (λ span. span.lo ≤ 2 ^ 42))) (λ _. All-nil (λ span. span.lo ≤ 2 ^ 42))
+    closed : (e : Entry) → AreNearSpans (closed_by current e)
+    closed (Start time node) = All-nil (λ span. span.lo ≤ far)
+    closed (Sweep time) = All-nil (λ span. span.lo ≤ far)
+    closed (Tick time) = All-nil (λ span. span.lo ≤ far)
+    closed (Stop time) = All-nil (λ span. span.lo ≤ far)
+    closed (Mode time mode) = cond_both (nat_le current.lo time) _ _ (λ spans. AreNearSpans spans)
+        (λ _. All-cons (λ span. span.lo ≤ far) _ [] now (All-nil (λ span. span.lo ≤ far))) (λ _. All-nil (λ span. span.lo ≤ far))
 
-pub small_after : (current : Span) (entry : Entry) → current.lo ≤ 2 ^ 42 → time_of_entry entry ≤ max_time → (current_after current entry).lo ≤ 2 ^ 42
+pub small_after : (current : Span) (entry : Entry) → current.lo ≤ far → time_of_entry entry ≤ MAX_TIME → (current_after current entry).lo ≤ far
 small_after current (Start time node) now upto = now
 small_after current (Sweep time) now upto = now
 small_after current (Tick time) now upto = now

@@ -62,8 +62,7 @@ module _ (graph : Tfpg) (entries : List Entry) (delays : List ℕ) (stop : ℕ) 
   pub ends : (trace : List Activation) (candidates : List (Option ℕ)) → IsUnderWay graph (script_log entries) delays stop (start_of entries) trace candidates
       → ((node : ℕ) → candidate_at candidates node ≡ None) → IsRisingByNode trace → stop ≡ time_so_far entries → IsSimulated graph entries delays trace
   ends trace candidates way none rising is = record {
-    rising = rising;
-    within = way.within;
+    trace_of = (rising, way.within);
     failure_modes = way.failure_modes;
     discrepancies = λ node within unlike.
         subst (λ limit. IsFirst (Arrives graph (script_log entries) delays trace node) limit (time_of trace node)) is

@@ -5,7 +5,7 @@ use Rattle.rand_pcg.specs.Lcg.{Lcg, started, increment_of}
 use Rattle.rand_pcg.specs.Pcg.{multiplier_64, pcg32}
 use Rattle.tfpg_graph.specs.declared.edge.Edge.{Edge}
 use Rattle.tfpg_graph.specs.Graph.{Tfpg, Node, lag_of}
-use Rattle.tfpg_sim.specs.declared.limits.TheConstants.{OPEN_DELAYS}
+use Rattle.tfpg_sim.specs.declared.limits.TheConstants.{DELAY_STREAM, OPEN_DELAYS}
 
 -- the generator of a number and a stream: that of `Lcg64Xsh32`
 abbrev pub generator : ℕ → ℕ → Lcg
@@ -34,7 +34,8 @@ after_edges state edges = fold (λ before edge. after_draw before) state edges
 
 -- the delays of these edges, from this generator on
 abbrev pub delays_from : Lcg → List Edge → List ℕ
-delays_from state edges = scan (λ before edge. after_draw before) (λ before edge. delay_of edge (drawn before)) state edges
+delays_from state edges =
+    scan (λ before edge. after_draw before) (λ before edge. delay_of edge (drawn before)) state edges
 
 -- a monitored node takes a draw
 abbrev pub after_lag : Lcg → Option ℕ → Lcg
@@ -51,8 +52,8 @@ latenesses_from state nodes = scan (λ before node. after_lag before (lag_of nod
 
 -- the delay of each edge
 abbrev pub delays : Tfpg → ℕ → List ℕ
-delays graph number = delays_from (generator number 2) graph.edges
+delays graph number = delays_from (generator number DELAY_STREAM) graph.edges
 
 -- the lateness of each node that is monitored, drawn after the delays
 abbrev pub latenesses : Tfpg → ℕ → List (Option ℕ)
-latenesses graph number = latenesses_from (after_edges (generator number 2) graph.edges) graph.nodes
+latenesses graph number = latenesses_from (after_edges (generator number DELAY_STREAM) graph.edges) graph.nodes

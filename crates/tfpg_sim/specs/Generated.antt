@@ -8,7 +8,7 @@ use Rattle.tfpg_graph.specs.declared.kind.Kind.{Kind}
 use Rattle.tfpg_graph.specs.declared.kind.Kind.TheVariants.{Failure, Or, And}
 use Rattle.tfpg_graph.specs.Graph.{Tfpg, Node}
 use Rattle.tfpg_sim.specs.Draws.{generator}
-use Rattle.tfpg_sim.specs.declared.limits.TheConstants.{FAILURE_COUNT, MAX_SIZE}
+use Rattle.tfpg_sim.specs.declared.limits.TheConstants.{FAILURE_COUNT, GRAPH_STREAM}
 
 -- the next word of a generator
 unfoldable pub next_word : Lcg → ℕ
@@ -27,21 +27,14 @@ after_words (suc count) state = after_words count (after_word state)
 abbrev pub draw : ℕ → ℕ → Lcg → ℕ
 draw bound count state = next_word (after_words count state) % bound
 
--- the greatest size
-abbrev pub max_size : ℕ
-max_size = MAX_SIZE
-
--- how many failure modes there are
-abbrev pub failure_count : ℕ
-failure_count = FAILURE_COUNT
-
 -- how many discrepancies there are
 abbrev pub discrepancy_count : ℕ → ℕ
 discrepancy_count size = 4 * size
 
 -- The name of a node: `F` and its number for a failure mode, and `D` and a number from 0 for a discrepancy.
-abbrev pub node_name : ℕ → List ℕ
-node_name node = if nat_lt node failure_count then codes "F" ++ decimal node else codes "D" ++ decimal (node - failure_count)
+abbrev pub drawn_name : ℕ → List ℕ
+drawn_name node =
+    if nat_lt node FAILURE_COUNT then codes "F" ++ decimal node else codes "D" ++ decimal (node - FAILURE_COUNT)
 
 -- the kinds of the first so many failure modes
 abbrev pub failure_kinds : ℕ → List Kind
@@ -108,24 +101,24 @@ with_discrepancy node draft = record {
 -- the draft of the first so many discrepancies, from this generator on
 abbrev pub draft_after : Lcg → ℕ → Draft
 draft_after state zero = record { kinds = []; edges = []; state = state }
-draft_after state (suc place) = with_discrepancy (failure_count + place) (draft_after state place)
+draft_after state (suc place) = with_discrepancy (FAILURE_COUNT + place) (draft_after state place)
 
 -- the nodes of these kinds, numbered from this number on
 abbrev pub named_nodes : ℕ → List Kind → List Node
 named_nodes number [] = []
-named_nodes number (kind ∷ kinds) = record { name = node_name number; kind = kind } ∷ named_nodes (number + 1) kinds
+named_nodes number (kind ∷ kinds) = record { name = drawn_name number; kind = kind } ∷ named_nodes (number + 1) kinds
 
 -- the graph of these discrepancies and edges: the failure modes come first, and there are two modes
 abbrev pub drawn_graph : List Kind → List Edge → Tfpg
 drawn_graph kinds edges = record {
-  nodes = named_nodes 0 (failure_kinds failure_count ++ kinds);
+  nodes = named_nodes 0 (failure_kinds FAILURE_COUNT ++ kinds);
   edges = edges;
   modes = codes "M0" ∷ codes "M1" ∷ [];
 }
 
 -- the draft of a number and a size
 abbrev pub draft_of : ℕ → ℕ → Draft
-draft_of number size = draft_after (generator number 1) (discrepancy_count size)
+draft_of number size = draft_after (generator number GRAPH_STREAM) (discrepancy_count size)
 
 -- The generated graph.
 abbrev pub generated_graph : ℕ → ℕ → Tfpg
@@ -133,19 +126,22 @@ generated_graph number size = drawn_graph (draft_of number size).kinds (draft_of
 
 -- the line by which a failure mode starts
 abbrev pub start_text : ℕ → ℕ → List ℕ
-start_text time failure = text_line (decimal time ∷ codes "start" ∷ node_name failure ∷ [])
+start_text time failure = text_line (decimal time ∷ codes "start" ∷ drawn_name failure ∷ [])
 
 -- the lines after the starts: two changes of mode, two sweeps and the stop
 abbrev pub last_lines : List ℕ
 last_lines =
     text_line (codes "100" ∷ codes "mode" ∷ codes "M1" ∷ []) ++ text_line (codes "140" ∷ codes "mode" ∷ codes "M0" ∷ [])
-    ++ text_line (codes "200" ∷ codes "sweep" ∷ []) ++ text_line (codes "300" ∷ codes "sweep" ∷ []) ++ text_line (codes "400" ∷ codes "stop" ∷ [])
+    ++ text_line (codes "200" ∷ codes "sweep" ∷ []) ++ text_line (codes "300" ∷ codes "sweep" ∷ [])
+    ++ text_line (codes "400" ∷ codes "stop" ∷ [])
 
 -- the script by the draws of this generator: one failure mode or two, the one after the other
 abbrev pub script_drawn : Lcg → List ℕ
 script_drawn state =
-    start_text 0 (draw failure_count 0 state)
-    ++ (if draw failure_count 0 state == draw failure_count 1 state then [] else start_text 50 (draw failure_count 1 state)) ++ last_lines
+    start_text 0 (draw FAILURE_COUNT 0 state)
+    ++ (if draw FAILURE_COUNT 0 state == draw FAILURE_COUNT 1 state then []
+    else start_text 50 (draw FAILURE_COUNT 1 state))
+    ++ last_lines
 
 -- The generated script, drawn after the graph.
 abbrev pub generated_script : ℕ → ℕ → List ℕ

@@ -5,32 +5,28 @@ use Rattle.std.specs.Bool.{then_some}
 use Rattle.std.specs.Option.{option_map_or}
 use Rattle.tfpg_base.specs.Words.{words_of, number_of}
 use Rattle.tfpg_base.specs.Lines.{lines_of}
-use Rattle.tfpg_base.specs.Times.{max_time}
+use Rattle.tfpg_base.specs.declared.limits.TheConstants.{MAX_TIME}
 use Rattle.tfpg_graph.specs.Graph.{Tfpg, is_kind_at, is_failure, node_named, mode_named}
-use Rattle.tfpg_sim.specs.declared.limits.TheConstants.{MAX_ENTRIES, MAX_MODE_LINES}
+use Rattle.tfpg_log.specs.declared.limits.TheConstants.{MAX_MODE_CHANGES}
+use Rattle.tfpg_sim.specs.declared.limits.TheConstants.{MAX_ENTRIES}
 use Rattle.tfpg_sim.specs.declared.entry.Entry.{Entry}
 use Rattle.tfpg_sim.specs.declared.entry.Entry.TheVariants.{Start, Mode, Sweep, Tick, Stop}
 
--- how many lines a script has at most, and how many of them change the mode
-abbrev pub max_entries : ℕ
-max_entries = MAX_ENTRIES
-
-abbrev pub max_mode_lines : ℕ
-max_mode_lines = MAX_MODE_LINES
-
 -- the time that a word spells, where it is a number and not too large
 abbrev pub time_in : List ℕ → Option ℕ
-time_in word = option_and_then (λ time. then_some (nat_le time max_time) time) (number_of word)
+time_in word = option_and_then (λ time. then_some (nat_le time MAX_TIME) time) (number_of word)
 
 -- the failure mode of this name
 abbrev pub failure_named : Tfpg → List ℕ → Option ℕ
-failure_named graph name = option_and_then (λ node. then_some (is_kind_at is_failure graph node) node) (node_named graph name)
+failure_named graph name =
+    option_and_then (λ node. then_some (is_kind_at is_failure graph node) node) (node_named graph name)
 
 -- what a line says by the one word after its time
 abbrev pub entry_alone : List ℕ → ℕ → Option Entry
 entry_alone word time =
     if bytes_eq word (codes "sweep") then Some (Sweep time)
-    else (if bytes_eq word (codes "tick") then Some (Tick time) else (if bytes_eq word (codes "stop") then Some (Stop time) else None))
+    else (if bytes_eq word (codes "tick") then Some (Tick time)
+    else (if bytes_eq word (codes "stop") then Some (Stop time) else None))
 
 -- what it says by a word and a name
 abbrev pub entry_with_name : Tfpg → List ℕ → List ℕ → ℕ → Option Entry
@@ -97,7 +93,7 @@ has_stopped entries = option_map_or is_stop (last_of entries) false
 -- A start is the first of its failure mode, and a change of mode is not one too many.
 abbrev pub is_new : List Entry → Entry → Bool
 is_new before (Start time node) = not (list_any (starts node) before)
-is_new before (Mode time mode) = nat_lt (count_by changes_mode before) max_mode_lines
+is_new before (Mode time mode) = nat_lt (count_by changes_mode before) MAX_MODE_CHANGES
 is_new before (Sweep time) = true
 is_new before (Tick time) = true
 is_new before (Stop time) = true
@@ -105,11 +101,13 @@ is_new before (Stop time) = true
 -- The line may come after these: they are not too many and have no stop, and its time is not before theirs.
 abbrev pub may_follow : List Entry → Entry → Bool
 may_follow before entry =
-    nat_lt (length before) max_entries && (not (has_stopped before) && (nat_le (time_so_far before) (time_of_entry entry) && is_new before entry))
+    nat_lt (length before) MAX_ENTRIES
+    && (not (has_stopped before) && (nat_le (time_so_far before) (time_of_entry entry) && is_new before entry))
 
 -- what a line after these says, where it is right
 abbrev pub next_entry : Tfpg → List Entry → List ℕ → Option Entry
-next_entry graph before line = option_and_then (λ entry. then_some (may_follow before entry) entry) (entry_of graph line)
+next_entry graph before line =
+    option_and_then (λ entry. then_some (may_follow before entry) entry) (entry_of graph line)
 
 -- The line is at fault where nothing right is said.
 abbrev pub with_next : List Entry → Option Entry → Result (List Entry) ℕ

@@ -14,4 +14,5 @@ pub record IsSimulationOf (graph : Tfpg) (script : List ℕ) (number : ℕ) (sim
   pub right : script_of graph script ≡ Ok entries
   pub set : simulated.set ≡ set_of graph entries
   pub trace : IsSimulated graph entries (delays graph number) simulated.trace
-  pub log : simulated.log ≡ log_text graph (log_events entries simulated.trace (latenesses graph number) (time_so_far entries))
+  pub log : simulated.log
+      ≡ log_text graph (log_events entries simulated.trace (latenesses graph number) (time_so_far entries))

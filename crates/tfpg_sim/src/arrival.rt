@@ -1,9 +1,9 @@
 //! When the failure first arrives at a discrepancy, by what is active so far.
 
-ghost use Rattle.std.specs.Prelude.{◌≡◌, ◌≤◌, ◌<◌, ◌+◌, ◌^◌, ℕ, length, not, false, All, IfOk, IsTrue, filter_map};
+ghost use Rattle.std.specs.Prelude.{◌≡◌, ◌≤◌, ◌<◌, ◌+◌, ◌^◌, ℕ, length, not, false, IfOk, IsTrue, filter_map};
 ghost use Rattle.tfpg_graph.specs.Graph.{is_kind_at, is_failure, incoming};
 ghost use Rattle.tfpg_log.specs.Log.{Logbook};
-ghost use Rattle.tfpg_sim.specs.inside.Arrivals.{IsDelayed, flight_over};
+ghost use Rattle.tfpg_sim.specs.inside.Arrivals.{IsDelayed, flight_over, AreNearTimes};
 ghost use Rattle.tfpg_sim.specs.inside.ModeSpans.{AreSpans};
 ghost use Rattle.tfpg_sim.specs.Simulation.{IsFirst, Arrives};
 
@@ -24,7 +24,7 @@ pub(crate) fn first_arrival(
     requires node { node < length delayed.now.graph.now.nodes }
     requires discrepancy { is_kind_at is_failure delayed.now.graph.now node ≡ false }
     requires delayed { IsDelayed delayed.now }
-    requires times { All (λ activation. activation.time ≤ 2 ^ 42) trace.now }
+    requires times { AreNearTimes trace.now }
     ensures { IfOk result (λ first. (log : Logbook) (limit : ℕ) →
         AreSpans log (limit + 1) 0 delayed.now.spans.now →
         IsFirst (Arrives delayed.now.graph.now log delayed.now.delays.now trace.now node) limit first) }

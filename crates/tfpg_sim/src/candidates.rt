@@ -1,10 +1,11 @@
 //! When each discrepancy is activated next, by what is active so far.
 
-ghost use Rattle.std.specs.Prelude.{◌≡◌, ◌≤◌, ◌<◌, ◌+◌, ◌^◌, ℕ, List, length, All, IfOk, Option, None, MatchOption};
+ghost use Rattle.std.specs.Prelude.{◌≡◌, ◌≤◌, ◌<◌, ◌+◌, ◌^◌, ℕ, List, length, IfOk, Option, None, MatchOption};
 ghost use Rattle.tfpg_base.specs.declared.activation.Activation.{Activation};
 ghost use Rattle.tfpg_base.specs.Trace.{time_of, with_time};
+ghost use Rattle.tfpg_graph.specs.declared.limits.TheConstants.{MAX_NODES};
 ghost use Rattle.tfpg_log.specs.Log.{Logbook};
-ghost use Rattle.tfpg_sim.specs.inside.Arrivals.{IsDelayed};
+ghost use Rattle.tfpg_sim.specs.inside.Arrivals.{IsDelayed, AreNearTimes};
 ghost use Rattle.tfpg_sim.specs.inside.ModeSpans.{AreSpans};
 ghost use Rattle.tfpg_sim.specs.inside.Settling.{IsCandidate, AreCandidates, IsEarliest, IsEarliestBelow, candidate_at};
 
@@ -20,7 +21,7 @@ pub(crate) fn first_candidates(
     trace: &Trace,
 ) -> Result<Vec<Option<u64>>, NoMemory>
     requires delayed { IsDelayed delayed.now }
-    requires times { All (λ activation. activation.time ≤ 2 ^ 42) trace.now }
+    requires times { AreNearTimes trace.now }
     ensures { IfOk result (λ candidates. (log : Logbook) (limit : ℕ) →
         AreSpans log (limit + 1) 0 delayed.now.spans.now →
         AreCandidates delayed.now.graph.now log delayed.now.delays.now limit trace.now candidates.items) }
@@ -43,7 +44,7 @@ pub(crate) fn candidates_after(
     requires settled { settled < length delayed.now.graph.now.nodes }
     requires count { length candidates.now ≡ length delayed.now.graph.now.nodes }
     requires delayed { IsDelayed delayed.now }
-    requires times { All (λ activation. activation.time ≤ 2 ^ 42) trace.now }
+    requires times { AreNearTimes trace.now }
     ensures { IfOk result (λ next. (log : Logbook) (limit : ℕ) (before : List Activation) (time : ℕ) →
         AreSpans log (limit + 1) 0 delayed.now.spans.now →
         trace.now ≡ with_time settled time before → time_of before settled ≡ None →
@@ -70,7 +71,7 @@ fn candidate_after(
     requires settled { settled < length delayed.now.graph.now.nodes }
     requires node { node < length delayed.now.graph.now.nodes }
     requires delayed { IsDelayed delayed.now }
-    requires times { All (λ activation. activation.time ≤ 2 ^ 42) trace.now }
+    requires times { AreNearTimes trace.now }
     ensures { IfOk result (λ next. (log : Logbook) (limit : ℕ) (before : List Activation) (time : ℕ) →
         AreSpans log (limit + 1) 0 delayed.now.spans.now →
         trace.now ≡ with_time settled time before → time_of before settled ≡ None →
@@ -92,7 +93,7 @@ fn candidate(
 ) -> Result<Option<u64>, NoMemory>
     requires node { node < length delayed.now.graph.now.nodes }
     requires delayed { IsDelayed delayed.now }
-    requires times { All (λ activation. activation.time ≤ 2 ^ 42) trace.now }
+    requires times { AreNearTimes trace.now }
     ensures { IfOk result (λ candidate. (log : Logbook) (limit : ℕ) →
         AreSpans log (limit + 1) 0 delayed.now.spans.now →
         IsCandidate delayed.now.graph.now log delayed.now.delays.now limit trace.now node candidate) }
@@ -108,19 +109,19 @@ fn candidate(
 
 /// The node with the least candidate, and its time.
 pub(crate) fn earliest(candidates: &[Option<u64>]) -> Option<(u32, u64)>
-    requires { length candidates.now ≤ 512 }
+    requires { length candidates.now ≤ MAX_NODES }
     ensures { MatchOption result ((node : ℕ) → candidate_at candidates.now node ≡ None)
         (λ found. IsEarliest candidates.now found.0 found.1) }
 {
     let mut best = None;
     for (node, candidate) in candidates.iter().enumerate() {
-        best = earlier(best, node as u32, *candidate);
+        best = earlier_of(best, node as u32, *candidate);
     }
     best
 }
 
 /// The earlier of what was found and the node's candidate.
-fn earlier(best: Option<(u32, u64)>, node: u32, candidate: Option<u64>) -> Option<(u32, u64)>
+fn earlier_of(best: Option<(u32, u64)>, node: u32, candidate: Option<u64>) -> Option<(u32, u64)>
     ensures { (candidates : List (Option ℕ)) → candidate_at candidates node ≡ candidate →
         IsEarliestBelow candidates node best → IsEarliestBelow candidates (node + 1) result }
 {

@@ -1,20 +1,18 @@
 //! What a simulation draws.
 
 ghost use Rattle.std.specs.Prelude.{◌≡◌, ◌≤◌, ◌<◌, ◌+◌, ◌^◌, ◌%◌, IfOk, OnOk, IfSome, length, All, option_map};
-ghost use Rattle.tfpg_base.specs.Times.{max_time};
+ghost use Rattle.tfpg_base.specs.declared.limits.TheConstants.{MAX_TIME};
 ghost use Rattle.tfpg_graph.specs.Graph.{lag_of};
+ghost use Rattle.tfpg_sim.specs.inside.Arrivals.{AreNearDelays, far};
 ghost use Rattle.tfpg_sim.specs.Draws.{generator, drawn, after_draw, delay_count, delay_of, after_edges, delays_from, after_lag, latenesses_from, delays, latenesses};
 ghost use Rattle.tfpg_sim.specs.inside.Entries.{IsLatenessInRange};
 
-use crate::limits::OPEN_DELAYS;
+use crate::limits::{DELAY_STREAM, OPEN_DELAYS};
 use rand_core::utils::NextWord;
 use rand_pcg::Lcg64Xsh32;
 use std::alloc::Global;
 use tfpg_base::NoMemory;
 use tfpg_graph::{Edge, Graph, Kind};
-
-/// The stream of the generator from which a simulation draws.
-const STREAM: u64 = 2;
 
 /// The delay of each edge, and how late the alarm of each monitored node comes, in milliseconds.
 #[derive(Drop)]
@@ -24,15 +22,15 @@ pub(crate) struct Draws {
 }
 
 /// Draws the delays and the latenesses by the number. Takes time and memory linear in the graph.
-pub(crate) fn draw(alloc: Global, graph: &Graph, number: u64) -> Result<Draws, NoMemory>
+pub(crate) fn draw_all(alloc: Global, graph: &Graph, number: u64) -> Result<Draws, NoMemory>
     ensures delays { IfOk result (λ draws. draws.delays.items ≡ delays graph.now number) }
     ensures latenesses { IfOk result (λ draws. draws.latenesses.items ≡ latenesses graph.now number) }
-    ensures small_delays { IfOk result (λ draws. All (λ delay. delay ≤ 2 ^ 42) draws.delays.items) }
+    ensures small_delays { IfOk result (λ draws. AreNearDelays draws.delays.items) }
     ensures each_delay { IfOk result (λ draws. length draws.delays.items ≡ length graph.now.edges) }
     ensures small_latenesses { IfOk result (λ draws. All IsLatenessInRange draws.latenesses.items) }
     ensures each_lateness { IfOk result (λ draws. length draws.latenesses.items ≡ length graph.now.nodes) }
 {
-    let mut state = Lcg64Xsh32::new(number, STREAM);
+    let mut state = Lcg64Xsh32::new(number, DELAY_STREAM);
     let delays = draw_delays(alloc, graph, &mut state)?;
     let latenesses = draw_latenesses(alloc, graph, &mut state)?;
     Ok(Draws { delays, latenesses })
@@ -41,7 +39,7 @@ pub(crate) fn draw(alloc: Global, graph: &Graph, number: u64) -> Result<Draws, N
 /// Draws the delay of each edge.
 fn draw_delays(alloc: Global, graph: &Graph, state: &mut Lcg64Xsh32) -> Result<Vec<u64>, NoMemory>
     ensures delays { IfOk result (λ delays. delays.items ≡ delays_from state.old graph.now.edges) }
-    ensures small { IfOk result (λ delays. All (λ delay. delay ≤ 2 ^ 42) delays.items) }
+    ensures small { IfOk result (λ delays. AreNearDelays delays.items) }
     ensures count { IfOk result (λ delays. length delays.items ≡ length graph.now.edges) }
     ensures after { OnOk result (state.new ≡ after_edges state.old graph.now.edges) }
 {
@@ -55,10 +53,10 @@ fn draw_delays(alloc: Global, graph: &Graph, state: &mut Lcg64Xsh32) -> Result<V
 
 /// Draws the delay of the edge.
 fn draw_delay(edge: Edge, state: &mut Lcg64Xsh32) -> u64
-    requires least { edge.tmin ≤ max_time }
-    requires greatest { IfSome edge.tmax (λ tmax. (edge.tmin ≤ tmax) × (tmax ≤ max_time)) }
+    requires least { edge.tmin ≤ MAX_TIME }
+    requires greatest { IfSome edge.tmax (λ tmax. (edge.tmin ≤ tmax) × (tmax ≤ MAX_TIME)) }
     ensures delay { result ≡ delay_of edge (drawn state.old) }
-    ensures small { result ≤ 2 ^ 42 }
+    ensures small { result ≤ far }
     ensures after { state.new ≡ after_draw state.old }
 {
     let count = match edge.tmax {
@@ -88,7 +86,7 @@ fn draw_latenesses(
 
 /// Draws the lateness of a node of this kind, where it is monitored.
 fn draw_lateness(kind: Kind, state: &mut Lcg64Xsh32) -> Option<u64>
-    requires { IfSome (lag_of kind) (λ lag. lag ≤ max_time) }
+    requires { IfSome (lag_of kind) (λ lag. lag ≤ MAX_TIME) }
     ensures small { IsLatenessInRange result }
     ensures lateness { result ≡ option_map (λ lag. drawn state.old % (lag + 1)) (lag_of kind) }
     ensures after { state.new ≡ after_lag state.old (lag_of kind) }

@@ -1,6 +1,7 @@
 //! What a line of a script says.
 
 ghost use Rattle.std.specs.Prelude.{◌≡◌};
+ghost use Rattle.tfpg_sim.specs.Script.{time_so_far};
 
 /// A line of a script. Times are in milliseconds, from 0 to 10^12.
 #[derive(Clone, Copy, Debug, PartialEq, Eq)]
@@ -68,5 +69,15 @@ impl Entry {
             Entry::Start { .. } | Entry::Mode { .. } | Entry::Tick { .. } | Entry::Stop { .. } =>
                 None,
         }
+    }
+}
+
+/// The time of the last line, and 0 where there is none.
+pub(crate) fn time_so_far(entries: &[Entry]) -> u64
+    ensures { result ≡ time_so_far entries.now }
+{
+    match entries.last() {
+        Some(entry) => entry.time(),
+        None => 0,
     }
 }

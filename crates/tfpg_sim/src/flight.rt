@@ -1,7 +1,8 @@
 //! Propagations under way over the edges into one node, and when they land.
 
-ghost use Rattle.std.specs.Prelude.{◌≡◌, ◌≤◌, ◌+◌, ◌^◌, ◌==◌, ◌↔◌, ℕ, true, false, length, vec_len, All, IfOk, Some, None, slice_get, slice_index_or};
+ghost use Rattle.std.specs.Prelude.{◌≡◌, ◌≤◌, ◌+◌, ◌^◌, ◌==◌, ◌↔◌, ℕ, true, false, length, vec_len, IfOk, Some, None, slice_get, slice_index_or};
 ghost use Rattle.tfpg_log.specs.Log.{Logbook};
+ghost use Rattle.tfpg_sim.specs.inside.Arrivals.{AreNearSpans, AreNearFlights, far};
 ghost use Rattle.tfpg_sim.specs.inside.Flights.{IsReached, ReachedBy, ReachedByEither, LandsBy, IsFirstIn, pending_in};
 ghost use Rattle.tfpg_sim.specs.inside.ModeSpans.{AreSpans};
 ghost use Rattle.tfpg_sim.specs.Simulation.{IsFirst};
@@ -28,8 +29,8 @@ pub(crate) fn first_landing(
     flights: &[Flight],
     needs_all: bool,
 ) -> Result<Option<u64>, NoMemory>
-    requires spans { All (λ span. span.lo ≤ 2 ^ 42) spans.now }
-    requires flights { All (λ flight. (flight.start ≤ 2 ^ 42) × (flight.delay ≤ 2 ^ 42)) flights.now }
+    requires spans { AreNearSpans spans.now }
+    requires flights { AreNearFlights flights.now }
     ensures { IfOk result (λ first. (log : Logbook) (limit : ℕ) → AreSpans log (limit + 1) 0 spans.now →
         IsFirst (LandsBy needs_all log flights.now) limit first) }
 {
@@ -58,8 +59,8 @@ fn landing_in(
 ) -> Option<u64>
     requires room { length pendings.old ≡ length flights.now }
     requires none { (place : ℕ) → slice_index_or pendings.old place None ≡ None }
-    requires spans { All (λ span. span.lo ≤ 2 ^ 42) spans.now }
-    requires flights { All (λ flight. (flight.start ≤ 2 ^ 42) × (flight.delay ≤ 2 ^ 42)) flights.now }
+    requires spans { AreNearSpans spans.now }
+    requires flights { AreNearFlights flights.now }
     ensures { (log : Logbook) (limit : ℕ) → AreSpans log (limit + 1) 0 spans.now →
         IsFirst (LandsBy needs_all log flights.now) limit result }
 {
@@ -76,8 +77,8 @@ fn landing_in(
 /// What is pending of each flight once the span has begun.
 fn enter(span: Span, flights: &[Flight], pendings: &mut [Option<u64>])
     requires room { length pendings.old ≡ length flights.now }
-    requires span { span.lo ≤ 2 ^ 42 }
-    requires flights { All (λ flight. (flight.start ≤ 2 ^ 42) × (flight.delay ≤ 2 ^ 42)) flights.now }
+    requires span { span.lo ≤ far }
+    requires flights { AreNearFlights flights.now }
     ensures { (place : ℕ) (flight : Flight) → slice_get flights.now place ≡ Some flight →
         slice_index_or pendings.new place None ≡
         pending_in span flight (slice_index_or pendings.old place None) }
@@ -90,9 +91,9 @@ fn enter(span: Span, flights: &[Flight], pendings: &mut [Option<u64>])
 /// When the flight lands if its edge stays active, by what was pending before the span: a flight that goes on keeps its
 /// time, and one that was cut starts anew.
 fn pending_in(span: Span, flight: Flight, pending: Option<u64>) -> Option<u64>
-    requires span { span.lo ≤ 2 ^ 42 }
-    requires start { flight.start ≤ 2 ^ 42 }
-    requires delay { flight.delay ≤ 2 ^ 42 }
+    requires span { span.lo ≤ far }
+    requires start { flight.start ≤ far }
+    requires delay { flight.delay ≤ far }
     ensures { result ≡ pending_in span flight pending }
 {
     if !flight.edge.is_allowed(span.mode) {

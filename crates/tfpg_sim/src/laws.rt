@@ -1,6 +1,7 @@
 //! What the definitions of this crate come to, as functions that do nothing: each says its law in its clause.
 
 ghost use Rattle.std.specs.Prelude.{◌≡◌, ℕ, ◌≤◌, ◌<◌, List, Err, length};
+ghost use Rattle.tfpg_base.specs.declared.limits.TheConstants.{MAX_CASE_SIZE};
 ghost use Rattle.tfpg_base.specs.declared.activation.Activation.{Activation};
 ghost use Rattle.tfpg_base.specs.Set.{IsSet};
 ghost use Rattle.tfpg_graph.specs.Graph.{Tfpg, failures};
@@ -16,7 +17,8 @@ ghost use Rattle.tfpg_sim.specs.Simulated.{IsSimulationOf};
 ghost use Rattle.tfpg_sim.specs.Script.{script_of, time_so_far};
 ghost use Rattle.tfpg_sim.specs.Draws.{delays, latenesses};
 ghost use Rattle.tfpg_sim.specs.SimulatedLog.{log_events};
-ghost use Rattle.tfpg_sim.specs.Generated.{failure_count, generated_graph, generated_script, max_size};
+ghost use Rattle.tfpg_sim.specs.Generated.{generated_graph, generated_script};
+ghost use Rattle.tfpg_sim.specs.declared.limits.TheConstants.{FAILURE_COUNT};
 ghost use Rattle.tfpg_sim.specs.Simulation.{IsSimulated, script_log};
 
 /// The simulated trace keeps the propagation rules at each instant up to the stop, in the modes of the script: since each
@@ -46,19 +48,19 @@ pub fn a_simulated_log_is_accepted_and_explained()
 
 /// A generated graph is valid: each edge leads to a later node, which is a discrepancy.
 pub fn a_generated_graph_is_valid()
-    ensures { (number size : ℕ) → 1 ≤ size → size ≤ max_size → IsValid (generated_graph number size) }
+    ensures { (number size : ℕ) → 1 ≤ size → size ≤ MAX_CASE_SIZE → IsValid (generated_graph number size) }
 {}
 
 /// A generated script is never at fault on its graph, which has 16 failure modes. It starts one of them or two, whatever the number
 /// that its delays are drawn by, and its log has a line.
 pub fn a_generated_script_is_right()
-    ensures failures { (number size : ℕ) → length (failures (generated_graph number size)) ≡ failure_count }
-    ensures right { (number size line : ℕ) → 1 ≤ size → size ≤ max_size →
+    ensures failures { (number size : ℕ) → length (failures (generated_graph number size)) ≡ FAILURE_COUNT }
+    ensures right { (number size line : ℕ) → 1 ≤ size → size ≤ MAX_CASE_SIZE →
         script_of (generated_graph number size) (generated_script number size) ≡ Err line → ⊥ }
-    ensures set { (number size draw : ℕ) (simulated : Simulated) → 1 ≤ size → size ≤ max_size →
+    ensures set { (number size draw : ℕ) (simulated : Simulated) → 1 ≤ size → size ≤ MAX_CASE_SIZE →
         IsSimulationOf (generated_graph number size) (generated_script number size) draw simulated →
         IsSet simulated.set × (length simulated.set ≤ 2) }
-    ensures log { (number size draw : ℕ) (simulated : Simulated) → 1 ≤ size → size ≤ max_size →
+    ensures log { (number size draw : ℕ) (simulated : Simulated) → 1 ≤ size → size ≤ MAX_CASE_SIZE →
         IsSimulationOf (generated_graph number size) (generated_script number size) draw simulated →
         0 < length (lines_of simulated.log) }
 {}

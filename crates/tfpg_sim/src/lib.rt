@@ -34,6 +34,6 @@ mod trace;
 
 pub use fault::SimFault;
 pub use generating::{Generated, generate};
-pub use limits::{FAILURE_COUNT, MAX_ENTRIES, MAX_MODE_LINES, MAX_SIZE, OPEN_DELAYS};
+pub use limits::{DELAY_STREAM, FAILURE_COUNT, GRAPH_STREAM, MAX_ENTRIES, OPEN_DELAYS};
 pub use simulated::Simulated;
 pub use simulation::simulate;

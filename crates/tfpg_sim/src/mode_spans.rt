@@ -1,7 +1,8 @@
 //! The spans of one mode of a script.
 
 ghost use Rattle.std.specs.Prelude.{◌≡◌, ◌≤◌, ◌+◌, ◌^◌, ◌++◌, All, AllPairs, IfOk, OnOk};
-ghost use Rattle.tfpg_base.specs.Times.{max_time};
+ghost use Rattle.tfpg_base.specs.declared.limits.TheConstants.{MAX_TIME};
+ghost use Rattle.tfpg_sim.specs.inside.Arrivals.{AreNearSpans};
 ghost use Rattle.tfpg_sim.specs.Script.{time_of_entry};
 ghost use Rattle.tfpg_sim.specs.Simulation.{script_log};
 ghost use Rattle.tfpg_sim.specs.inside.ModeSpans.{AreSpans, closed_by, current_after};
@@ -15,9 +16,9 @@ use tfpg_log::Span;
 pub(crate) fn spans_of(alloc: Global, entries: &[Entry], stop: u64) -> Result<Vec<Span>, NoMemory>
     requires order { AllPairs (λ a b. time_of_entry a ≤ time_of_entry b) entries.now }
     requires stop { All (λ entry. time_of_entry entry ≤ stop) entries.now }
-    requires small { stop ≤ max_time }
+    requires small { stop ≤ MAX_TIME }
     ensures spans { IfOk result (λ spans. AreSpans (script_log entries.now) (stop + 1) 0 spans.items) }
-    ensures small { IfOk result (λ spans. All (λ span. span.lo ≤ 2 ^ 42) spans.items) }
+    ensures small { IfOk result (λ spans. AreNearSpans spans.items) }
 {
     let mut spans = Vec::new(alloc);
     let mut current = Span {
@@ -36,7 +37,7 @@ pub(crate) fn spans_of(alloc: Global, entries: &[Entry], stop: u64) -> Result<Ve
 
 /// The span from the line on. A change of mode ends the span before it, unless that has no instant.
 fn take_entry(spans: &mut Vec<Span>, current: Span, entry: Entry) -> Result<Span, NoMemory>
-    requires { time_of_entry entry ≤ max_time }
+    requires { time_of_entry entry ≤ MAX_TIME }
     ensures closed { OnOk result (spans.new.items ≡ spans.old.items ++ closed_by current entry) }
     ensures current { IfOk result (λ next. next ≡ current_after current entry) }
 {

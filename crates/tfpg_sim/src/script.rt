@@ -2,17 +2,18 @@
 
 ghost use Rattle.std.specs.Prelude.{◌≡◌, ◌<◌, ◌≤◌, length, IfOk, IfErr};
 ghost use Rattle.std.specs.List.{list_any};
-ghost use Rattle.tfpg_sim.specs.Script.{has_stopped, time_so_far, starts, is_new, may_follow, next_entry, script_of};
+ghost use Rattle.tfpg_sim.specs.Script.{has_stopped, starts, is_new, may_follow, next_entry, script_of};
 ghost use Rattle.tfpg_sim.specs.inside.Entries.{IsScript};
 ghost use Rattle.tfpg_sim.specs.ScriptAnswers.{IsFaultAt};
 
 use crate::SimFault;
-use crate::entry::Entry;
-use crate::limits::{MAX_ENTRIES, MAX_MODE_LINES};
+use crate::entry::{Entry, time_so_far};
+use crate::limits::MAX_ENTRIES;
 use crate::script_line::read_entry;
 use std::alloc::Global;
 use tfpg_base::without_last_line_end;
 use tfpg_graph::Graph;
+use tfpg_log::MAX_MODE_CHANGES;
 
 /// The lines of the script, of which the last is the stop, or the number of the first line at fault. Takes time linear in
 /// the text, but for look-ups by name, and for each start and each change of mode a walk over the lines before it, of
@@ -74,16 +75,6 @@ fn has_stopped(entries: &[Entry]) -> bool
     }
 }
 
-/// The time of the last line, and 0 where there is none.
-fn time_so_far(entries: &[Entry]) -> u64
-    ensures { result ≡ time_so_far entries.now }
-{
-    match entries.last() {
-        Some(entry) => entry.time(),
-        None => 0,
-    }
-}
-
 /// Whether a start is the first of its failure mode, and a change of mode is not one too many.
 fn is_new(before: &[Entry], entry: Entry) -> bool
     ensures { result ≡ is_new before.now entry }
@@ -95,7 +86,7 @@ fn is_new(before: &[Entry], entry: Entry) -> bool
                 .iter()
                 .filter(|earlier| earlier.changes_mode())
                 .count()
-                < MAX_MODE_LINES
+                < MAX_MODE_CHANGES as usize
         }
         Entry::Sweep { .. } | Entry::Tick { .. } | Entry::Stop { .. } => true,
     }

@@ -10,13 +10,14 @@ ghost use Rattle.tfpg_sim.specs.ScriptAnswers.{IsFaultAt};
 ghost use Rattle.tfpg_sim.specs.Simulated.{IsSimulationOf};
 
 use crate::alarms::log_events;
-use crate::draws::draw;
+use crate::draws::draw_all;
+use crate::entry::time_so_far;
 use crate::fault::SimFault;
 use crate::log_lines::log_text;
 use crate::script::read_script;
 use crate::simulated::Simulated;
 use crate::started_set::started_set;
-use crate::trace::{last_time, trace_of};
+use crate::trace::trace_of;
 use std::alloc::Global;
 use tfpg_graph::Graph;
 
@@ -39,9 +40,9 @@ pub fn simulate(
 {
     let _few = graph.node_count();
     let entries = read_script(alloc, graph, script)?;
-    let draws = draw(alloc, graph, number)?;
+    let draws = draw_all(alloc, graph, number)?;
     let trace = trace_of(alloc, graph, &entries, &draws.delays)?;
-    let stop = last_time(&entries);
+    let stop = time_so_far(&entries);
     let events = log_events(alloc, &entries, &trace, &draws.latenesses, stop)?;
     let log = log_text(alloc, graph, &events)?;
     let set = started_set(graph, &entries);

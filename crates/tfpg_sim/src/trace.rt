@@ -5,17 +5,18 @@
 //! before it.
 
 ghost use Rattle.std.specs.Prelude.{◌≡◌, ◌≤◌, ◌+◌, ◌^◌, ℕ, length, All, IfOk, OnOk};
-ghost use Rattle.tfpg_base.specs.Times.{max_time};
+ghost use Rattle.tfpg_base.specs.declared.limits.TheConstants.{MAX_TIME};
 ghost use Rattle.tfpg_base.specs.Trace.{time_of};
 ghost use Rattle.tfpg_graph.specs.Graph.{Tfpg};
-ghost use Rattle.tfpg_sim.specs.Script.{time_so_far, time_of_entry};
+ghost use Rattle.tfpg_sim.specs.inside.Arrivals.{AreNearDelays};
+ghost use Rattle.tfpg_sim.specs.Script.{time_of_entry};
 ghost use Rattle.tfpg_sim.specs.inside.Entries.{IsScript};
 ghost use Rattle.tfpg_sim.specs.Simulation.{IsSimulated, start_of};
 ghost use Rattle.tfpg_sim.specs.inside.Settling.{IsFailureStart, with_start};
 
 use crate::candidates::{candidates_after, earliest, first_candidates};
 use crate::delayed::Delayed;
-use crate::entry::Entry;
+use crate::entry::{Entry, time_so_far};
 use crate::mode_spans::spans_of;
 use std::alloc::Global;
 use tfpg_base::{NoMemory, Trace};
@@ -31,11 +32,11 @@ pub(crate) fn trace_of(
 ) -> Result<Trace, NoMemory>
     requires script { IsScript graph.now entries.now }
     requires each { length delays.now ≡ length graph.now.edges }
-    requires delays { All (λ delay. delay ≤ 2 ^ 42) delays.now }
+    requires delays { AreNearDelays delays.now }
     ensures simulated { IfOk result (IsSimulated graph.now entries.now delays.now) }
-    ensures times { IfOk result (λ trace. All (λ activation. activation.time ≤ max_time) trace) }
+    ensures times { IfOk result (λ trace. All (λ activation. activation.time ≤ MAX_TIME) trace) }
 {
-    let stop = last_time(entries);
+    let stop = time_so_far(entries);
     let spans = spans_of(alloc, entries, stop)?;
     let delayed = Delayed {
         graph,
@@ -51,16 +52,6 @@ pub(crate) fn trace_of(
     }
     let _rising = trace.as_slice();
     Ok(trace)
-}
-
-/// The time of the last line, and 0 where there is none.
-pub(crate) fn last_time(entries: &[Entry]) -> u64
-    ensures { result ≡ time_so_far entries.now }
-{
-    match entries.last() {
-        Some(entry) => entry.time(),
-        None => 0,
-    }
 }
 
 /// The trace of the failure modes that the script starts.

@@ -13,7 +13,8 @@ use Rattle.tfpg_clause.specs.Trees.{Judged}
 use Rattle.tfpg_search.specs.declared.found.Found.{Found}
 use Rattle.tfpg_search.specs.declared.found.Found.TheVariants.{Shown, Closed, Spent}
 use Rattle.tfpg_search.specs.Searching.{Searching, SearchRepresents, RepresentsSome}
-use Rattle.tfpg_search.specs.Searched.{with_steps, IsSearched}
+use Rattle.tfpg_clause.specs.Paths.{with_steps}
+use Rattle.tfpg_search.specs.Searched.{IsSearched}
 
 -- what was seen of a log are as many events as it has
 within : (seen : ℕ) (events : List Event) → seen ≡ length (take seen events) → seen ≤ length events

@@ -4,7 +4,7 @@ use crate::given::{log_of, reach_of_first};
 use std::alloc::Global;
 use std::test::Fail;
 use tfpg_base::Constraint;
-use tfpg_clause::{Frame, advance, picked, stated};
+use tfpg_clause::{Frame, advance, framed, stated_by};
 use tfpg_evidence::{ClauseName, Reason};
 use tfpg_graph::read;
 
@@ -119,12 +119,12 @@ fn reasons_state_facts_and_picks(rt: HostRuntime) -> Result<(), Fail> {
     let path = path_of(rt.alloc(), &[(3, 3), (1, 3)])?;
     for (row, reason, expected) in &STATED {
         assert_eq!(rt;
-            stated(&graph, &log, &reach, &path, *reason),
+            stated_by(&graph, &log, &reach, &path, *reason),
             *expected,
             "{row}"
         );
     }
-    let second = picked(&graph, &log, &path, 1, 2);
+    let second = framed(&graph, &log, &path, 1, 2);
     let from_ten = Constraint {
         left: 0,
         right: 2,

@@ -2,7 +2,7 @@
 
 ghost use Rattle.std.specs.Prelude.{◌≡◌, ◌<◌};
 
-use crate::search::{ONE, TWO};
+use crate::given::{ONE, TWO};
 use std::alloc::Global;
 use std::marker::Brand;
 use std::sync::ledger::{Blank, Ledger};
@@ -131,7 +131,7 @@ fn last_round<L: Ledger>(
     Ok(last.ok_or("no line")?)
 }
 
-/// The first row that an engine does not answer as expected.
+/// The first row for which an engine does not return what is expected.
 fn first_wrong<L: Ledger>(
     alloc: Global,
     blank: Blank,

@@ -2,7 +2,7 @@
 
 ghost use Rattle.tfpg_log.specs.Log.{IsOf};
 
-use crate::given::{log_of, reach_of_first};
+use crate::given::{ONE, log_of, reach_of_first};
 use std::alloc::Global;
 use std::process::Abort;
 use std::test::Fail;
@@ -10,10 +10,6 @@ use tfpg_evidence::{ClauseName, Reason, Reasons, Step};
 use tfpg_graph::{Graph, read};
 use tfpg_kernel::{BadStep, Checker, Taken};
 use tfpg_log::Log;
-
-/// A failure mode F with an edge to A, which is due after 3 at most, and an edge to E, which takes 9. Their numbers are 0 to 2.
-const GRAPH: &[u8] =
-    b"tfpg 1\nmode N\nfailure F 1\nor A watch 0\nor E watch 0\nedge F A 1 3 *\nedge F E 9 9 *\nend\n";
 
 /// E has an alarm and A has none: with F at 1 at the latest A would have been active by 4.
 const LINES: [&[u8]; 2] = [b"10 silent A", b"10 alarm E"];
@@ -242,7 +238,7 @@ fn step_of(alloc: Global, split: Option<ClauseName>, reasons: &[Reason]) -> Resu
     }
 }
 
-/// The answer to a step, with room for it.
+/// What the checker returns for a step, with room for it.
 fn answer_to(checker: &mut Checker, graph: &Graph, log: &Log, step: &Step) -> Result<Taken, Fail>
     requires { IsOf graph.now log.now }
 {
@@ -250,7 +246,7 @@ fn answer_to(checker: &mut Checker, graph: &Graph, log: &Log, step: &Step) -> Re
     Ok(checker.take(graph, log, step))
 }
 
-/// Takes the steps of the rows and compares the answers.
+/// Takes the steps of the rows and compares what the checker returns.
 fn go_through(
     rt: &impl Abort,
     alloc: Global,
@@ -271,7 +267,7 @@ fn go_through(
 
 #[test]
 fn a_refutation_closes_at_its_last_step(rt: HostRuntime) -> Result<(), Fail> {
-    let graph = read(rt.alloc(), GRAPH)?;
+    let graph = read(rt.alloc(), ONE)?;
     let log = log_of(rt.alloc(), &graph, &LINES)?;
     let reach = reach_of_first(&graph)?;
     let mut checker = Checker::new(rt.alloc(), reach);
@@ -280,7 +276,7 @@ fn a_refutation_closes_at_its_last_step(rt: HostRuntime) -> Result<(), Fail> {
 
 #[test]
 fn the_first_cause_of_a_bad_step_is_named(rt: HostRuntime) -> Result<(), Fail> {
-    let graph = read(rt.alloc(), GRAPH)?;
+    let graph = read(rt.alloc(), ONE)?;
     let log = log_of(rt.alloc(), &graph, &LINES)?;
     let reach = reach_of_first(&graph)?;
     let mut checker = Checker::new(rt.alloc(), reach);
@@ -293,7 +289,7 @@ fn the_first_cause_of_a_bad_step_is_named(rt: HostRuntime) -> Result<(), Fail> {
 
 #[test]
 fn a_log_may_grow_between_steps(rt: HostRuntime) -> Result<(), Fail> {
-    let graph = read(rt.alloc(), GRAPH)?;
+    let graph = read(rt.alloc(), ONE)?;
     let first = log_of(rt.alloc(), &graph, &[LINES[0]])?;
     let whole = log_of(rt.alloc(), &graph, &LINES)?;
     let reach = reach_of_first(&graph)?;
@@ -321,14 +317,15 @@ fn a_log_may_grow_between_steps(rt: HostRuntime) -> Result<(), Fail> {
 
 #[test]
 fn a_cycle_may_be_long_and_a_path_deep(rt: HostRuntime) -> Result<(), Fail> {
-    let graph = read(rt.alloc(), GRAPH)?;
+    let graph = read(rt.alloc(), ONE)?;
     let log = log_of(rt.alloc(), &graph, &LINES)?;
     let reach = reach_of_first(&graph)?;
     let mut checker = Checker::new(rt.alloc(), reach);
-    for _ in 0..60 {
+    for split in 0..60_u32 {
         assert_eq!(rt;
             answer_to(&mut checker, &graph, &log, &Step::Split(MAY))?,
-            Taken::Open
+            Taken::Open,
+            "split {split}"
         );
     }
     let mut reasons = Vec::new(rt.alloc());
@@ -337,8 +334,12 @@ fn a_cycle_may_be_long_and_a_path_deep(rt: HostRuntime) -> Result<(), Fail> {
     }
     let cycle = Step::Cycle(Reasons::from_vec(reasons));
     // Three alternatives of the deepest split, and two more of each of the 58 between it and the first.
-    for _ in 0..119 {
-        assert_eq!(rt; answer_to(&mut checker, &graph, &log, &cycle)?, Taken::Open);
+    for leaf in 0..119_u32 {
+        assert_eq!(rt;
+            answer_to(&mut checker, &graph, &log, &cycle)?,
+            Taken::Open,
+            "leaf {leaf}"
+        );
     }
     // The first split is in its second alternative, whose constraint does not chain with the other.
     assert_eq!(rt;

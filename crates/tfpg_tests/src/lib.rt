@@ -1,4 +1,5 @@
-//! Tests of the public calls of the crates of evidence, of what makes it, and of the words, with a file for each crate.
+//! Tests of the public calls of the crates of evidence, of the simulator and of the words. There is a file for each
+//! crate.
 //!
 //! A crate with tests is proved again together with them. So tests stand apart, and the crates that they call are proved
 //! once. Those of the crates of the model stand in `tfpg_model_tests`: the two are proved side by side.

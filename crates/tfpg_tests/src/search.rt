@@ -1,13 +1,13 @@
 //! The public calls of `tfpg_search`: what a search finds for worked logs, whether it is asked at every event or once at the
 //! end, and how it goes on after its budget was spent.
 
-ghost use Rattle.std.specs.Prelude.{◌≡◌, ◌⊎◌, ◌<◌, ◌≤◌, [], length, All, IsTrue, IfOk, IfSome, OnOk};
+ghost use Rattle.std.specs.Prelude.{◌≡◌, ◌⊎◌, ◌<◌, ◌≤◌, [], length, All, IsTrue, IfOk, IfSome};
 ghost use Rattle.tfpg_graph.specs.Graph.{failures};
-ghost use Rattle.tfpg_log.specs.declared.event.Event.{Event};
-ghost use Rattle.tfpg_log.specs.Log.{IsOf, with_event};
+ghost use Rattle.tfpg_log.specs.Log.{IsOf};
 ghost use Rattle.tfpg_log.specs.LogOfLines.{new_log};
 ghost use Rattle.tfpg_search.specs.Searching.{SearchRepresents, RepresentsSome};
 
+use crate::given::{ONE, TWO, accept};
 use std::alloc::Global;
 use std::marker::Brand;
 use std::sync::ledger::{Blank, Ledger};
@@ -15,19 +15,10 @@ use std::test::Fail;
 use tfpg_base::{Activation, Set, Steps};
 use tfpg_evidence::{Step, StepList};
 use tfpg_graph::{Graph, read};
-use tfpg_log::{Log, Offered};
+use tfpg_log::Log;
 use tfpg_search::{Found, Search};
 
-/// Two failure modes with an edge each to A, of which the second is active in mode N alone. The first also has an edge to B,
-/// and C needs A and B. The nodes are F1, F2, A, B, C with the numbers 0 to 4.
-pub(crate) const TWO: &[u8] =
-    b"tfpg 1\nmode N\nmode D\nfailure F1 3\nfailure F2 5\nor A watch 0\nor B hidden\nand C watch 0\nedge F1 A 10 20 N,D\nedge F2 A 5 5 N\nedge F1 B 0 inf *\nedge A C 0 10 *\nedge B C 0 10 *\nend\n";
-
-/// A failure mode F with an edge to A, which is due after 3 at most, and an edge to E, which takes 9. Their numbers are 0 to 2.
-pub(crate) const ONE: &[u8] =
-    b"tfpg 1\nmode N\nfailure F 1\nor A watch 0\nor E watch 0\nedge F A 1 3 *\nedge F E 9 9 *\nend\n";
-
-/// The same, where A is never due.
+/// The graph `ONE`, where A is never due.
 const NEVER_DUE: &[u8] =
     b"tfpg 1\nmode N\nfailure F 1\nor A watch 0\nor E watch 0\nedge F A 1 inf *\nedge F E 9 9 *\nend\n";
 
@@ -213,18 +204,6 @@ fn set_of(graph: &Graph, member: Option<u32>) -> Option<Set>
     }
 }
 
-/// Offers a line to the log, which has to accept it.
-fn accept(log: &mut Log, graph: &Graph, line: &[u8]) -> Result<(), Fail>
-    requires { IsOf graph.now log.old }
-    ensures of { IsOf graph.now log.new }
-    ensures longer { OnOk result ((event : Event) × (log.new ≡ with_event log.old event)) }
-{
-    match log.offer(graph, line)? {
-        Offered::Accepted(_) => Ok(()),
-        Offered::Refused(_) => Err(Fail::from("a line is refused")),
-    }
-}
-
 /// What the search finds for the log with one more line. It adds its steps to the list.
 fn ask_after<L: Ledger>(
     log: &mut Log,
@@ -320,7 +299,7 @@ fn split_count(steps: &StepList) -> usize {
         .count()
 }
 
-/// The first row that a search asked at these events does not answer as expected.
+/// The first row for which a search asked at these events does not return what is expected.
 fn first_wrong<L: Ledger>(
     alloc: Global,
     blank: Blank,

@@ -1,14 +1,11 @@
 //! The public calls of `tfpg_sim`.
 
+use crate::given::TWO;
 use std::alloc::AllocError;
 use std::process::Abort;
 use std::test::Fail;
 use tfpg_graph::{Graph, read, write};
 use tfpg_sim::{SimFault, generate, simulate};
-
-/// Two failure modes, an OR node that either reaches, a hidden OR node, and an AND node over both.
-const TWO_CAUSES: &[u8] =
-    b"tfpg 1\nmode N\nmode D\nfailure F1 3\nfailure F2 5\nor A watch 0\nor B hidden\nand C watch 0\nedge F1 A 10 20 N,D\nedge F2 A 5 5 N\nedge F1 B 0 inf *\nedge A C 0 10 *\nedge B C 0 10 *\nend\n";
 
 /// An AND node whose edges are active in modes that overlap at no instant but where both hold.
 const OVERLAP: &[u8] =
@@ -121,42 +118,42 @@ const RUNS: [Run; 10] = [
     // The delays are 14, 535, 8 and 2: worked out apart from this repository, by the generator's published arithmetic.
     Run {
         name: "drawn delays",
-        graph: TWO_CAUSES,
+        graph: TWO,
         script: b"0 start F1\n600 stop\n",
         log: b"14 alarm A\n537 alarm C\n600 tick\n",
         activations: &[(0, 0), (2, 14), (3, 535), (4, 537)],
     },
     Run {
         name: "an age of five",
-        graph: TWO_CAUSES,
+        graph: TWO,
         script: b"25 start F2\n40 stop\n",
         log: b"30 alarm A\n40 tick\n",
         activations: &[(1, 25), (2, 30)],
     },
     Run {
         name: "a cut propagation starts anew",
-        graph: TWO_CAUSES,
+        graph: TWO,
         script: b"2 start F2\n3 mode D\n9 mode N\n20 sweep\n40 stop\n",
         log: b"3 mode D\n9 mode N\n15 alarm A\n20 sweep\n40 tick\n",
         activations: &[(1, 2), (2, 15)],
     },
     Run {
         name: "a cut in the last millisecond",
-        graph: TWO_CAUSES,
+        graph: TWO,
         script: b"2 start F2\n6 mode D\n40 stop\n",
         log: b"6 mode D\n40 tick\n",
         activations: &[(1, 2)],
     },
     Run {
         name: "a cut one millisecond later",
-        graph: TWO_CAUSES,
+        graph: TWO,
         script: b"2 start F2\n7 mode D\n40 stop\n",
         log: b"7 alarm A\n7 mode D\n40 tick\n",
         activations: &[(1, 2), (2, 7)],
     },
     Run {
         name: "two changes of mode at one time",
-        graph: TWO_CAUSES,
+        graph: TWO,
         script: b"2 start F2\n3 mode D\n3 mode N\n40 stop\n",
         log: b"3 mode D\n3 mode N\n7 alarm A\n40 tick\n",
         activations: &[(1, 2), (2, 7)],
@@ -201,7 +198,7 @@ fn graph_of(rt: &(impl Abort + AllocGlobal), text: &[u8]) -> Graph {
 
 #[test]
 fn refuses_each_fault_of_a_script(rt: HostRuntime) {
-    let graph = graph_of(&rt, TWO_CAUSES);
+    let graph = graph_of(&rt, TWO);
     for row in &FAULTY_SCRIPTS {
         let line = match simulate(rt.alloc(), &graph, row.script, 1) {
             Err(SimFault::BadScript { line }) => line,
@@ -245,7 +242,7 @@ fn repeated(rt: &impl AllocGlobal, line: &[u8], count: usize) -> Result<Vec<u8>,
 
 #[test]
 fn refuses_what_is_too_much_for_a_script(rt: HostRuntime) -> Result<(), Fail> {
-    let graph = graph_of(&rt, TWO_CAUSES);
+    let graph = graph_of(&rt, TWO);
     let rows: [(&str, &[u8], usize, u64); 4] = [
         ("as many changes of mode as fit", b"3 mode D\n", 1_024, 0),
         ("a change of mode too many", b"3 mode D\n", 1_025, 1_025),
@@ -289,13 +286,13 @@ const LARGER_SCRIPT: &[u8] =
 
 #[test]
 fn generates_the_same_twice(rt: HostRuntime) -> Result<(), Fail> {
-    for _ in 0..2 {
+    for turn in 0..2_u32 {
         let generated = generate(rt.alloc(), 1, 10)?;
-        assert_eq!(rt; generated.graph.node_count(), 56);
-        assert_eq!(rt; generated.graph.edge_count(), 79);
-        assert_eq!(rt; generated.script.as_slice(), LARGER_SCRIPT);
+        assert_eq!(rt; generated.graph.node_count(), 56, "turn {turn}");
+        assert_eq!(rt; generated.graph.edge_count(), 79, "turn {turn}");
+        assert_eq!(rt; generated.script.as_slice(), LARGER_SCRIPT, "turn {turn}");
         let simulated = simulate(rt.alloc(), &generated.graph, LARGER_SCRIPT, 1);
-        assert!(rt; simulated.is_ok());
+        assert!(rt; simulated.is_ok(), "turn {turn}");
     }
     Ok(())
 }

@@ -1,4 +1,4 @@
-//! The public call of `tfpg_words`: each option, flag and default, each cause, and which cause counts where several hold.
+//! The public call of `tfpg_words`: each option, flag and default, each cause, and which cause wins where several hold.
 
 use std::alloc::{AllocError, Global};
 use std::test::Fail;
@@ -309,7 +309,7 @@ fn gives_the_first_cause(rt: HostRuntime) -> Result<(), Fail> {
     Ok(())
 }
 
-/// The name of the first row whose words come to another answer.
+/// The name of the first row whose words have another result.
 fn first_wrong(alloc: Global, rows: &[Row]) -> Result<Option<&'static str>, Fail> {
     for row in rows {
         if answer_to(alloc, row.words)?.as_str() != row.answer {

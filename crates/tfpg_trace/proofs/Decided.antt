@@ -1,5 +1,5 @@
 -- Facts that hold where they cannot fail.
-use Rattle.std.proofs.Common.{◌≡◌, ℕ, ◌<◌, ◌≤◌, Bool, true, false, nat_eq, List, [], ◌∷◌, Option, Some, None, inl, inr, refl, arith}
+use Rattle.std.proofs.Common.{◌≡◌, ℕ, Bool, true, false, nat_eq, List, [], ◌∷◌, Option, Some, None, inl, inr, refl, arith}
 use Rattle.std.specs.Prelude.{IsTrue, Contains}
 use Rattle.std.proofs.lemmas.Bool.{eqb-true, eqb-false}
 use Rattle.tfpg_base.proofs.lists.Elements.{Contains-tail, Contains-cons_cases}
@@ -31,7 +31,3 @@ member_or_not graph set node failure never = by (position_of_failure graph node)
     by (Some place) at =
         let same = member_by_place graph set place node at in
         same.1 (there_or_not set place (λ missing. never (λ member. missing (same.0 member))))
-
--- a time that cannot be later is no later
-pub not_later : (time now : ℕ) → (now < time → ⊥) → time ≤ now
-not_later time now never = grind arith

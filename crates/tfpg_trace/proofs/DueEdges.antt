@@ -7,9 +7,9 @@ use Rattle.tfpg_base.specs.Trace.{time_of}
 use Rattle.tfpg_graph.specs.declared.edge.Edge.{Edge}
 use Rattle.tfpg_graph.specs.Graph.{Tfpg, is_allowed}
 use Rattle.tfpg_log.specs.declared.span.Span.{Span}
-use Rattle.tfpg_log.specs.Log.{Logbook, now_of}
+use Rattle.tfpg_log.specs.Log.{Logbook, now_of, is_allowed_at}
 use Rattle.tfpg_log.specs.Rules.{IsDue}
-use Rattle.tfpg_log.specs.Spans.{span_number, span_at, is_allowed_at}
+use Rattle.tfpg_log.specs.Spans.{span_number, span_at}
 use Rattle.tfpg_log.proofs.Ages.{age_since_start}
 use Rattle.tfpg_log.proofs.SpanRuns.{number_rises}
 use Rattle.tfpg_trace.specs.inside.Due.{Begins, IsDueBy}

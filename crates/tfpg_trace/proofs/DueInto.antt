@@ -81,16 +81,24 @@ module _ (graph : Tfpg) (log : Logbook) (trace : List Activation) (node : ℕ) w
       all_edges graph node (λ number. IsDueBy graph log trace number instant) (λ edge. IsDue log trace edge instant) (λ i edge at due. own i instant edge at due)
       (All-from_get_or (λ number. IsDueBy graph log trace number instant) (incoming graph node) 0 each)
 
-  -- Where all edges into a node begin to be due, by their places.
+  -- Where some or all edges into a node begin to be due, by their places.
+  by_places : (Those : (ℕ → ℕ → Type 0) → ℕ → ℕ → Type 0) (Holds : ℕ → Type 0)
+      → ((instant : ℕ) → Those (DueAt graph log trace (incoming graph node)) (length (incoming graph node)) instant → Holds instant)
+      → ((instant : ℕ) → Holds instant → Those (DueAt graph log trace (incoming graph node)) (length (incoming graph node)) instant)
+      → (lo hi count : ℕ) (numbers : List ℕ) (found : Option ℕ) → numbers ≡ incoming graph node → count ≡ length numbers
+      → Begins (Those (DueAt graph log trace numbers) count) lo hi found → Begins Holds lo hi found
+  by_places Those Holds to from lo hi count numbers found are counted begins =
+      let all : count ≡ length (incoming graph node) = counted ∙ ap length are in
+      let of_all : Begins (Those (DueAt graph log trace (incoming graph node)) (length (incoming graph node))) lo hi found =
+      subst (λ n. Begins (Those (DueAt graph log trace (incoming graph node)) n) lo hi found) all
+      (subst (λ (ns : List ℕ). Begins (Those (DueAt graph log trace ns) count) lo hi found) are begins) in
+      carried (Those (DueAt graph log trace (incoming graph node)) (length (incoming graph node))) Holds lo hi found
+      (λ instant after upto holds. to instant holds) (λ instant after upto holds. from instant holds) of_all
+
   pub all_by_places : (lo hi count : ℕ) (numbers : List ℕ) (found : Option ℕ) → numbers ≡ incoming graph node → count ≡ length numbers
       → Begins (EachOf (DueAt graph log trace numbers) count) lo hi found → Begins (AllDue graph log trace node) lo hi found
   all_by_places lo hi count numbers found are counted begins =
-      let all : count ≡ length (incoming graph node) = counted ∙ ap length are in
-      let of_all : Begins (EachOf (DueAt graph log trace (incoming graph node)) (length (incoming graph node))) lo hi found =
-      subst (λ n. Begins (EachOf (DueAt graph log trace (incoming graph node)) n) lo hi found) all
-      (subst (λ (ns : List ℕ). Begins (EachOf (DueAt graph log trace ns) count) lo hi found) are begins) in
-      carried (EachOf (DueAt graph log trace (incoming graph node)) (length (incoming graph node))) (AllDue graph log trace node) lo hi found
-      (λ instant from upto each. each_to instant each) (λ instant from upto all. each_from instant all) of_all
+      by_places EachOf (AllDue graph log trace node) each_to each_from lo hi count numbers found are counted begins
 
   has_place : (edge : Edge) → Contains (edges_into graph node) edge → HasPlace graph (incoming graph node) edge
   has_place edge member =
@@ -119,13 +127,7 @@ module _ (graph : Tfpg) (log : Logbook) (trace : List Activation) (node : ℕ) w
   some_to : (instant : ℕ) → OneOf (DueAt graph log trace (incoming graph node)) (length (incoming graph node)) instant → SomeDue graph log trace node instant
   some_to instant one = (one.2.0, is_into one.0 one.1 one.2.0 one.2.1, one.2.2)
 
-  -- Where some edge into a node begins to be due, by their places.
   pub some_by_places : (lo hi count : ℕ) (numbers : List ℕ) (found : Option ℕ) → numbers ≡ incoming graph node → count ≡ length numbers
       → Begins (OneOf (DueAt graph log trace numbers) count) lo hi found → Begins (SomeDue graph log trace node) lo hi found
   some_by_places lo hi count numbers found are counted begins =
-      let all : count ≡ length (incoming graph node) = counted ∙ ap length are in
-      let of_all : Begins (OneOf (DueAt graph log trace (incoming graph node)) (length (incoming graph node))) lo hi found =
-      subst (λ n. Begins (OneOf (DueAt graph log trace (incoming graph node)) n) lo hi found) all
-      (subst (λ (ns : List ℕ). Begins (OneOf (DueAt graph log trace ns) count) lo hi found) are begins) in
-      carried (OneOf (DueAt graph log trace (incoming graph node)) (length (incoming graph node))) (SomeDue graph log trace node) lo hi found
-      (λ instant from upto one. some_to instant one) (λ instant from upto some. some_from instant some) of_all
+      by_places OneOf (SomeDue graph log trace node) some_to some_from lo hi count numbers found are counted begins

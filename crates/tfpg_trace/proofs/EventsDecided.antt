@@ -14,7 +14,7 @@ use Rattle.tfpg_trace.specs.declared.verdict.Verdict.{Verdict}
 use Rattle.tfpg_trace.specs.declared.verdict.Verdict.TheVariants as verdict
 use Rattle.tfpg_trace.specs.inside.Shown.{IsNotShown}
 use Rattle.tfpg_trace.proofs.Sweeps.{both_pass}
-use Rattle.tfpg_trace.proofs.Choices.{IsDecided, first_below, both_decided, same_decided, le_decided, some_decided}
+use Rattle.tfpg_base.proofs.lists.Decided.{IsDecided, first_below, both_decided, same_decided, le_decided, some_decided}
 use Rattle.tfpg_trace.proofs.RulesDecided.{active_decided}
 
 module _ (graph : Tfpg) (trace : List Activation) where
@@ -63,11 +63,16 @@ module _ (graph : Tfpg) (trace : List Activation) where
     silences_decided limit = elim (first_below IsLoud IsQuiet loud_or_quiet limit) [
       | inl found ↦ inl (
         verdict.Silence found.0 found.1.holds.0,
-        record {
-          silent = found.1.holds.1;
-          not_shown = λ quiet. quiet found.1.holds.2;
-          first = λ earlier below. found.1.before earlier below found.1.holds.0;
-        },
+        inr (
+          found.0,
+          found.1.holds.0,
+          refl,
+          record {
+            silent = found.1.holds.1;
+            not_shown = λ quiet. quiet found.1.holds.2;
+            first = λ earlier below. found.1.before earlier below found.1.holds.0;
+          },
+        ),
       )
       | inr quiet ↦ inr quiet
     ]
@@ -76,7 +81,7 @@ module _ (graph : Tfpg) (trace : List Activation) where
   pub event_decided : (before : List Event) (event : Event) → IsFaulty before event ⊎ Shows graph trace before event
   event_decided before (Alarm time node) = elim (alarm_decided node time) [
     | inl shows ↦ inr shows
-    | inr hidden ↦ inl (verdict.Alarm node time, record { alarm = refl; not_shown = hidden })
+    | inr hidden ↦ inl (verdict.Alarm node time, inl (node, time, refl, record { alarm = refl; not_shown = hidden }))
   ]
   event_decided before (Silent time node) = elim (silences_decided before (Silent time node) (suc node)) [
     | inl fault ↦ inl fault

@@ -7,6 +7,7 @@ use Rattle.std.proofs.lemmas.Option.{cond_some}
 use Rattle.tfpg_base.specs.declared.activation.Activation.{Activation}
 use Rattle.tfpg_base.specs.Trace.{IsRisingByNode}
 use Rattle.tfpg_base.proofs.lists.Elements.{All-from_members}
+use Rattle.tfpg_base.proofs.lists.Sequences.{not_above}
 use Rattle.tfpg_base.proofs.TraceTimes.{activation_there, time_there}
 use Rattle.tfpg_graph.specs.Graph.{Tfpg, is_kind_at, is_failure, is_monitored}
 use Rattle.tfpg_log.specs.declared.event.Event.{Event}
@@ -17,7 +18,7 @@ use Rattle.tfpg_trace.specs.declared.verdict.Verdict.{Verdict}
 use Rattle.tfpg_trace.specs.declared.verdict.Verdict.TheVariants as verdict
 use Rattle.tfpg_trace.specs.Broken.{KeepRulesBefore}
 use Rattle.tfpg_trace.specs.FirstFault.{IsOnTimeFromSet, IsVerdict}
-use Rattle.tfpg_trace.proofs.Decided.{member_or_not, not_later}
+use Rattle.tfpg_trace.proofs.Decided.{member_or_not}
 
 -- where both pass, the node is monitored and has no alarm
 both_passed : (monitored : Bool) (alarm : Option ℕ) → (monitored && is_none alarm) ≡ true → IsTrue monitored × IsNone alarm
@@ -47,7 +48,7 @@ module _ (graph : Tfpg) (log : Logbook) (set : List ℕ) (trace : List Activatio
     trace_of = (rising, nodes);
     by_now = All-from_members (λ activation. activation.time ≤ now_of log) trace
         (λ activation member.
-        not_later activation.time (now_of log)
+        not_above activation.time (now_of log)
         (λ late.
         own.on_time activation.node activation.time (All-contains (λ a. a.node < length graph.nodes) trace activation nodes member)
         (record { at = time_there trace rising activation member; late = late })));

@@ -2,42 +2,30 @@
 use Rattle.std.proofs.Common.{◌≡◌, ℕ, ◌<◌, ◌≤◌, Bool, true, false, not, nat_eq, List, length, get_or, Option, Some, None, slice_get, refl, ap, sym, subst, inl, inr, ◌⊎◌, ◌∙◌, arith}
 use Rattle.std.specs.Prelude.{IsTrue, Contains, ◌↔◌}
 use Rattle.std.specs.Option.{option_map, option_map_or}
-use Rattle.std.proofs.lemmas.Bool.{false≢true}
-use Rattle.std.proofs.lemmas.Bool.Decides.{nat_tests}
+use Rattle.std.proofs.lemmas.Bool.{false≢true, eqb-true, eqb-false}
 use Rattle.std.proofs.lemmas.List.Quantifiers.{position-Some}
 use Rattle.std.proofs.lemmas.List.Elements.{All-get_or}
 use Rattle.std.proofs.lemmas.Option.{slice_get-get_or, slice_get_within, get_or_from_slice_get, slice_get_cases}
 use Rattle.tfpg_graph.specs.Graph.{Tfpg, Node, is_kind_at, is_failure, failures, failure_at, position_of_failure}
+use Rattle.tfpg_graph.proofs.NodeAt.{is_kind_at-item}
 use Rattle.tfpg_base.proofs.lists.Positions.{All-none}
 use Rattle.tfpg_log.specs.Explains.{IsMember}
 use Rattle.tfpg_trace.specs.inside.Strays.{IsOutside}
 use Rattle.tfpg_base.proofs.lists.Numbered.{item_of, one_place, number_of}
 
--- equal by the test is equal
-same_number : (one other : ℕ) → nat_eq one other ≡ true → one ≡ other
-same_number one other is = grind (arith, nat_tests)
-
--- and not equal by it is another
-other_number : (one other : ℕ) → nat_eq one other ≡ false → one ≡ other → ⊥
-other_number one other isnt = grind (arith, nat_tests)
-
 module _ (graph : Tfpg) where
-  -- whether a node of the graph is a failure mode
-  kind_of : (node : ℕ) (item : Node) → slice_get graph.nodes node ≡ Some item → is_kind_at is_failure graph node ≡ is_failure item.kind
-  kind_of node item at = ap (λ (there : Option Node). option_map_or is_failure (option_map (λ n. n.kind) there) false) at
-
   -- the node at a position is a failure mode
   pub is_failure_there : (place node : ℕ) → failure_at graph place ≡ Some node → IsTrue (is_kind_at is_failure graph node)
   is_failure_there place node at =
       let of = item_of (λ n. is_failure n.kind) 0 graph.nodes place node at in
       let same : of.place ≡ node = omega (arith, of.counted) in
-      kind_of node of.item (ap (slice_get graph.nodes) (sym same) ∙ of.at) ∙ of.passes
+      is_kind_at-item graph node is_failure of.item (ap (slice_get graph.nodes) (sym same) ∙ of.at) ∙ of.passes
 
   -- the position of a node is where it stands
   pub stands_there : (place node : ℕ) → position_of_failure graph node ≡ Some place → failure_at graph place ≡ Some node
   stands_there place node at =
       let found = position-Some (λ failure. nat_eq failure node) (failures graph) place 0 at in
-      slice_get-get_or (failures graph) place 0 found.0 ∙ ap Some (same_number (get_or (failures graph) place 0) node found.1)
+      slice_get-get_or (failures graph) place 0 found.0 ∙ ap Some (eqb-true (get_or (failures graph) place 0) node found.1)
 
   -- a node without a position is no failure mode
   pub no_failure : (node : ℕ) → position_of_failure graph node ≡ None → IsTrue (is_kind_at is_failure graph node) → ⊥
@@ -47,11 +35,11 @@ module _ (graph : Tfpg) where
           × (((item : Node) × (node < length graph.nodes) × (slice_get graph.nodes node ≡ Some item) × (get_or graph.nodes node item ≡ item)) ⊎ ((length graph.nodes ≤ node) × (slice_get graph.nodes node ≡ None)))
           → ⊥
       by (same, inl there) =
-          let at = number_of (λ n. is_failure n.kind) 0 graph.nodes node there.0 there.2 (sym (kind_of node there.0 there.2) ∙ failure) in
+          let at = number_of (λ n. is_failure n.kind) 0 graph.nodes node there.0 there.2 (sym (is_kind_at-item graph node is_failure there.0 there.2) ∙ failure) in
           let found : slice_get (failures graph) at.0 ≡ Some node = at.1 ∙ ap Some (omega arith) in
           let fails = All-get_or (λ other. nat_eq other node ≡ false) (failures graph) at.0 0 (slice_get_within (failures graph) at.0 node found)
           (All-none (λ other. nat_eq other node) (failures graph) none) in
-          other_number (get_or (failures graph) at.0 0) node fails (get_or_from_slice_get (failures graph) at.0 node 0 found)
+          eqb-false (get_or (failures graph) at.0 0) node fails (get_or_from_slice_get (failures graph) at.0 node 0 found)
       by (same, inr past) =
           false≢true (sym (ap (λ (there : Option Node). option_map_or is_failure (option_map (λ n. n.kind) there) false) past.1) ∙ failure)
 

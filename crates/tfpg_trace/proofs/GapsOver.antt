@@ -7,8 +7,8 @@ use Rattle.std.proofs.lemmas.List.{get_or_default, get_or-replicate}
 use Rattle.tfpg_graph.specs.declared.edge.Edge.{Edge}
 use Rattle.tfpg_graph.specs.Graph.{Tfpg, incoming, is_allowed}
 use Rattle.tfpg_log.specs.declared.span.Span.{Span}
-use Rattle.tfpg_log.specs.Log.{Logbook, now_of}
-use Rattle.tfpg_log.specs.Spans.{span_number, span_at, is_allowed_at}
+use Rattle.tfpg_log.specs.Log.{Logbook, now_of, is_allowed_at}
+use Rattle.tfpg_log.specs.Spans.{span_number, span_at}
 use Rattle.tfpg_log.proofs.SpanRuns.{number_rises}
 use Rattle.tfpg_trace.specs.inside.Gaps.{IsGap, IsGapOf, AreGaps, gap_after}
 use Rattle.tfpg_trace.proofs.SpanOrder.{none_inside, inside, numbered, in_mode, in_order}

@@ -1,5 +1,4 @@
 pub mod FailureModes
-pub mod IncomingEdges
 pub mod AgesByWindow
 pub mod MayRule
 pub mod FirstNodes
@@ -14,7 +13,6 @@ pub mod MustFaults
 pub mod FirstMustFaults
 pub mod GapsOver
 pub mod OneVerdict
-pub mod Choices
 pub mod RulesDecided
 pub mod EventsDecided
 pub mod SomeVerdict

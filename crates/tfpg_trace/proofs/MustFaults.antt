@@ -1,11 +1,10 @@
 -- Where a node first breaks the must rule: where it first must be active and is not.
-use Rattle.std.proofs.Common.{◌≡◌, ℕ, ◌≤◌, false, List, Option, Some, None, inl, inr, ap, sym, ◌∙◌, arith}
-use Rattle.std.specs.Prelude.{IsTrue}
-use Rattle.std.specs.Option.{option_map_or}
-use Rattle.std.proofs.lemmas.Bool.{both_ways, cases_lt}
+use Rattle.std.proofs.Common.{◌≡◌, ℕ, ◌≤◌, List, Option, Some, None, refl, inl, inr, ap, sym, ◌∙◌, arith}
+use Rattle.std.proofs.lemmas.Bool.{cases_lt}
 use Rattle.tfpg_base.specs.declared.activation.Activation.{Activation}
 use Rattle.tfpg_graph.specs.declared.kind.Kind.TheVariants.{Or, And}
-use Rattle.tfpg_graph.specs.Graph.{Tfpg, kind_at, is_kind_at, is_or, is_and}
+use Rattle.tfpg_graph.specs.Graph.{Tfpg, kind_at, is_or, is_and}
+use Rattle.tfpg_graph.proofs.NodeAt.{kind_test, not_so}
 use Rattle.tfpg_log.specs.declared.span.Span.{Span}
 use Rattle.tfpg_log.specs.Log.{Logbook, now_of}
 use Rattle.tfpg_log.specs.Rules.{IsActive, KeepsMust}
@@ -25,12 +24,11 @@ module _ (graph : Tfpg) (log : Logbook) (trace : List Activation) (node : ℕ) w
   pub must_by_some : (lo hi : ℕ) (lag : Option ℕ) (found : Option ℕ) → kind_at graph node ≡ Some (Or lag) → Begins (SomeDue graph log trace node) lo hi found
       → Begins (MustBeActive graph log trace node) lo hi found
   must_by_some lo hi lag found kind begins =
-      let is : IsTrue (is_kind_at is_or graph node) = ap (λ k. option_map_or is_or k false) kind in
-      let is_no : is_kind_at is_and graph node ≡ false = ap (λ k. option_map_or is_and k false) kind in
-      carried (SomeDue graph log trace node) (MustBeActive graph log trace node) lo hi found (λ instant from upto some. inl (is, some))
+      carried (SomeDue graph log trace node) (MustBeActive graph log trace node) lo hi found
+      (λ instant from upto some. inl (kind_test graph node is_or (Or lag) kind, some))
       (λ instant from upto must. elim must [
         | inl some ↦ some.1
-        | inr all ↦ absurd (both_ways (is_kind_at is_and graph node) is_no all.0)
+        | inr all ↦ absurd (not_so graph node is_and (Or lag) kind refl all.0)
       ])
       begins
 
@@ -38,11 +36,10 @@ module _ (graph : Tfpg) (log : Logbook) (trace : List Activation) (node : ℕ) w
   pub must_by_all : (lo hi : ℕ) (lag : Option ℕ) (found : Option ℕ) → kind_at graph node ≡ Some (And lag) → Begins (AllDue graph log trace node) lo hi found
       → Begins (MustBeActive graph log trace node) lo hi found
   must_by_all lo hi lag found kind begins =
-      let is : IsTrue (is_kind_at is_and graph node) = ap (λ k. option_map_or is_and k false) kind in
-      let is_no : is_kind_at is_or graph node ≡ false = ap (λ k. option_map_or is_or k false) kind in
-      carried (AllDue graph log trace node) (MustBeActive graph log trace node) lo hi found (λ instant from upto all. inr (is, all))
+      carried (AllDue graph log trace node) (MustBeActive graph log trace node) lo hi found
+      (λ instant from upto all. inr (kind_test graph node is_and (And lag) kind, all))
       (λ instant from upto must. elim must [
-        | inl some ↦ absurd (both_ways (is_kind_at is_or graph node) is_no some.0)
+        | inl some ↦ absurd (not_so graph node is_or (And lag) kind refl some.0)
         | inr all ↦ all.1
       ])
       begins

@@ -1,6 +1,7 @@
 -- A trace has at most one verdict.
-use Rattle.std.proofs.Common.{◌≡◌, ℕ, ◌<◌, List, take, Some, inl, inr, sym, ap, subst, ◌∙◌, arith}
-use Rattle.std.proofs.lemmas.Bool.{cases_lt}
+use Rattle.std.proofs.Common.{◌≡◌, ℕ, List, take, Some, sym, ap, subst, ◌∙◌}
+use Rattle.std.proofs.lemmas.Option.{same_Some}
+use Rattle.tfpg_base.proofs.lists.Sequences.{same_from_neither}
 use Rattle.tfpg_base.specs.declared.activation.Activation.{Activation}
 use Rattle.tfpg_base.specs.Trace.{time_of}
 use Rattle.tfpg_graph.specs.Graph.{Tfpg}
@@ -14,26 +15,12 @@ use Rattle.tfpg_trace.specs.Broken.{BreaksMay, FirstBreaksMust}
 use Rattle.tfpg_trace.specs.FirstFault.{IsLateFault, IsStrangerFault, IsMayFault, IsMustFault, IsAlarmFault, IsSilenceFault, IsVerdict}
 use Rattle.tfpg_trace.proofs.Explained.{only_yes, shows_quiet}
 
--- the trace gives a node one time
-one_time : (trace : List Activation) (node time other : ℕ) → time_of trace node ≡ Some time → time_of trace node ≡ Some other → time ≡ other
-one_time trace node time other is also = cc
-
--- neither of two numbers is below the other
-neither_below : (one other : ℕ) → (one < other → ⊥) → (other < one → ⊥) → one ≡ other
-neither_below one other above below = elim (cases_lt one other) [
-  | inl lt ↦ absurd (above lt)
-  | inr from ↦ elim (cases_lt other one) [
-    | inl lt ↦ absurd (below lt)
-    | inr upto ↦ omega (arith, from, upto)
-  ]
-]
-
 module _ (graph : Tfpg) (log : Logbook) (set : List ℕ) (trace : List Activation) where
   first_late : (node time : ℕ) → IsLateFault graph log trace node time → (said : Verdict) → IsVerdict graph log set trace said → said ≡ verdict.Late node time
   first_late node time fault verdict.Yes explains = let yes = only_yes graph log set trace (verdict.Late node time) fault explains in absurd cc
   first_late node time fault (verdict.Late other later) also =
-      let same : node ≡ other = neither_below node other (λ lt. also.first node time lt fault.late) (λ lt. fault.first other later lt also.late) in
-      let at : time ≡ later = one_time trace node time later fault.late.at (subst (λ n. time_of trace n ≡ Some later) (sym same) also.late.at) in
+      let same : node ≡ other = same_from_neither node other (λ lt. also.first node time lt fault.late) (λ lt. fault.first other later lt also.late) in
+      let at : time ≡ later = same_Some time later (sym fault.late.at ∙ subst (λ n. time_of trace n ≡ Some later) (sym same) also.late.at) in
       ap (λ n. verdict.Late n later) (sym same) ∙ ap (verdict.Late node) (sym at)
   first_late node time fault (verdict.Stranger other later) also = absurd (also.on_time node time fault.in_graph fault.late)
   first_late node time fault (verdict.May other later) also = absurd (also.own.on_time node time fault.in_graph fault.late)
@@ -46,8 +33,8 @@ module _ (graph : Tfpg) (log : Logbook) (set : List ℕ) (trace : List Activatio
   first_stranger node time fault verdict.Yes explains = let yes = only_yes graph log set trace (verdict.Stranger node time) fault explains in absurd cc
   first_stranger node time fault (verdict.Late other later) also = sym (first_late other later also (verdict.Stranger node time) fault)
   first_stranger node time fault (verdict.Stranger other later) also =
-      let same : node ≡ other = neither_below node other (λ lt. also.first node time lt fault.stranger) (λ lt. fault.first other later lt also.stranger) in
-      let at : time ≡ later = one_time trace node time later fault.stranger.at (subst (λ n. time_of trace n ≡ Some later) (sym same) also.stranger.at) in
+      let same : node ≡ other = same_from_neither node other (λ lt. also.first node time lt fault.stranger) (λ lt. fault.first other later lt also.stranger) in
+      let at : time ≡ later = same_Some time later (sym fault.stranger.at ∙ subst (λ n. time_of trace n ≡ Some later) (sym same) also.stranger.at) in
       ap (λ n. verdict.Stranger n later) (sym same) ∙ ap (verdict.Stranger node) (sym at)
   first_stranger node time fault (verdict.May other later) also = absurd (also.own.from_set node time fault.in_graph fault.stranger)
   first_stranger node time fault (verdict.Must other later) also = absurd (also.own.from_set node time fault.in_graph fault.stranger)
@@ -60,13 +47,13 @@ module _ (graph : Tfpg) (log : Logbook) (set : List ℕ) (trace : List Activatio
   first_may node time fault (verdict.Stranger other later) also = sym (first_stranger other later also (verdict.May node time) fault)
   first_may node time fault (verdict.May other later) also =
       let same : node ≡ other =
-      neither_below node other (λ lt. fault.breaks.broken ((also.before node lt).may time fault.breaks.by_now))
+      same_from_neither node other (λ lt. fault.breaks.broken ((also.before node lt).may time fault.breaks.by_now))
       (λ lt. also.breaks.broken ((fault.before other lt).may later also.breaks.by_now)) in
-      let at : time ≡ later = one_time trace node time later fault.breaks.at (subst (λ n. time_of trace n ≡ Some later) (sym same) also.breaks.at) in
+      let at : time ≡ later = same_Some time later (sym fault.breaks.at ∙ subst (λ n. time_of trace n ≡ Some later) (sym same) also.breaks.at) in
       ap (λ n. verdict.May n later) (sym same) ∙ ap (verdict.May node) (sym at)
   first_may node time fault (verdict.Must other later) also =
       let same : node ≡ other =
-      neither_below node other (λ lt. fault.breaks.broken ((also.before node lt).may time fault.breaks.by_now))
+      same_from_neither node other (λ lt. fault.breaks.broken ((also.before node lt).may time fault.breaks.by_now))
       (λ lt. also.breaks.broken ((fault.before other lt).must later also.breaks.by_now)) in
       absurd (also.may time (subst (λ n. BreaksMay graph log trace n time) same fault.breaks))
   first_may node time fault (verdict.Alarm other later) also = absurd (fault.breaks.broken ((also.rules.rules node fault.in_graph).may time fault.breaks.by_now))
@@ -79,10 +66,10 @@ module _ (graph : Tfpg) (log : Logbook) (set : List ℕ) (trace : List Activatio
   first_must node time fault (verdict.May other later) also = sym (first_may other later also (verdict.Must node time) fault)
   first_must node time fault (verdict.Must other later) also =
       let same : node ≡ other =
-      neither_below node other (λ lt. fault.breaks.broken ((also.before node lt).must time fault.breaks.by_now))
+      same_from_neither node other (λ lt. fault.breaks.broken ((also.before node lt).must time fault.breaks.by_now))
       (λ lt. also.breaks.broken ((fault.before other lt).must later also.breaks.by_now)) in
       let breaks : FirstBreaksMust graph log trace node later = subst (λ n. FirstBreaksMust graph log trace n later) (sym same) also.breaks in
-      let at : time ≡ later = neither_below time later (λ lt. fault.breaks.broken (breaks.first time lt)) (λ lt. breaks.broken (fault.breaks.first later lt)) in
+      let at : time ≡ later = same_from_neither time later (λ lt. fault.breaks.broken (breaks.first time lt)) (λ lt. breaks.broken (fault.breaks.first later lt)) in
       ap (λ n. verdict.Must n later) (sym same) ∙ ap (verdict.Must node) (sym at)
   first_must node time fault (verdict.Alarm other later) also = absurd (fault.breaks.broken ((also.rules.rules node fault.in_graph).must time fault.breaks.by_now))
   first_must node time fault (verdict.Silence other later) also = absurd (fault.breaks.broken ((also.rules.rules node fault.in_graph).must time fault.breaks.by_now))
@@ -99,13 +86,13 @@ module _ (graph : Tfpg) (log : Logbook) (set : List ℕ) (trace : List Activatio
   first_alarm node time fault (verdict.Must other later) also = sym (first_must other later also (verdict.Alarm node time) fault)
   first_alarm node time fault (verdict.Alarm other later) also =
       let same : fault.place ≡ also.place =
-      neither_below fault.place also.place (λ lt. fault.not_shown (also.before fault.place (Alarm time node) lt fault.event))
+      same_from_neither fault.place also.place (λ lt. fault.not_shown (also.before fault.place (Alarm time node) lt fault.event))
       (λ lt. also.not_shown (fault.before also.place (Alarm later other) lt also.event)) in
       let event : Alarm later other ≡ Alarm time node = cc (same, fault.event, also.event) in
       cc
   first_alarm node time fault (verdict.Silence other later) also =
       let same : fault.place ≡ also.place =
-      neither_below fault.place also.place (λ lt. fault.not_shown (also.before fault.place (Alarm time node) lt fault.event))
+      same_from_neither fault.place also.place (λ lt. fault.not_shown (also.before fault.place (Alarm time node) lt fault.event))
       (λ lt. not_shown other later also (fault.before also.place also.event lt also.at)) in
       let event : also.event ≡ Alarm time node = cc (same, fault.event, also.at) in
       let silent : quiet_time graph (take also.place log.events) (Alarm time node) other ≡ Some later =
@@ -122,7 +109,7 @@ module _ (graph : Tfpg) (log : Logbook) (set : List ℕ) (trace : List Activatio
   first_silence node time fault (verdict.Alarm other later) also = sym (first_alarm other later also (verdict.Silence node time) fault)
   first_silence node time fault (verdict.Silence other later) also =
       let same : fault.place ≡ also.place =
-      neither_below fault.place also.place (λ lt. not_shown node time fault (also.before fault.place fault.event lt fault.at))
+      same_from_neither fault.place also.place (λ lt. not_shown node time fault (also.before fault.place fault.event lt fault.at))
       (λ lt. not_shown other later also (fault.before also.place also.event lt also.at)) in
       let event : fault.event ≡ also.event = cc (same, fault.at, also.at) in
       let silent : quiet_time graph (take fault.place log.events) fault.event other ≡ Some later =
@@ -133,7 +120,7 @@ module _ (graph : Tfpg) (log : Logbook) (set : List ℕ) (trace : List Activatio
       silence_time graph (take fault.place log.events) fault.event node time fault.silent
       ∙ sym (silence_time graph (take fault.place log.events) fault.event other later silent) in
       let node_is : node ≡ other =
-      neither_below node other
+      same_from_neither node other
       (λ lt. fault.not_shown (subst (ShowsSilence trace node) (sym at) (also.first node lt (said ∙ ap Some at))))
       (λ lt. also.not_shown (subst (ShowsSilence trace other) at (fault.first other lt (silent ∙ ap Some (sym at))))) in
       ap (λ n. verdict.Silence n later) (sym node_is) ∙ ap (verdict.Silence node) (sym at)

@@ -4,14 +4,14 @@ use Rattle.std.specs.Prelude.{IsTrue, All, Contains}
 use Rattle.tfpg_base.specs.declared.activation.Activation.{Activation}
 use Rattle.tfpg_base.specs.Trace.{time_of}
 use Rattle.tfpg_graph.specs.declared.edge.Edge.{Edge}
-use Rattle.tfpg_graph.specs.Graph.{Tfpg, is_kind_at, is_or, is_and, is_allowed, edges_into}
-use Rattle.tfpg_log.specs.Log.{Logbook, now_of, mode_at}
+use Rattle.tfpg_graph.specs.Graph.{Tfpg, is_kind_at, is_or, is_and, edges_into}
+use Rattle.tfpg_log.specs.Log.{Logbook, now_of, is_allowed_at}
 use Rattle.tfpg_log.specs.Rules.{IsActive, HasAge, SomeArrives, AllArrive, KeepsMay, IsDue, KeepsMust, KeepsRulesOf}
 use Rattle.tfpg_trace.specs.declared.verdict.Verdict.{Verdict}
 use Rattle.tfpg_trace.specs.declared.verdict.Verdict.TheVariants as verdict
 use Rattle.tfpg_trace.specs.Broken.{BreaksMay}
 use Rattle.tfpg_trace.specs.inside.RuleFaults.{IsBroken}
-use Rattle.tfpg_trace.proofs.Choices.{IsDecided, first_below, all_below, both_decided, implied_decided, same_decided, test_decided, le_decided, some_decided, is_some_decided, some_member_decided, all_members_decided, from_each_decided}
+use Rattle.tfpg_base.proofs.lists.Decided.{IsDecided, first_below, all_below, both_decided, implied_decided, same_decided, test_decided, le_decided, some_decided, is_some_decided, some_member_decided, all_members_decided, from_each_decided}
 
 -- whether a node is active at an instant
 pub active_decided : (trace : List Activation) (node instant : ℕ) → IsDecided (IsActive trace node instant)
@@ -20,12 +20,12 @@ active_decided trace node instant = some_decided (λ time. time ≤ instant) (ti
 module _ (log : Logbook) (trace : List Activation) (edge : Edge) (instant : ℕ) where
   -- the edge is active at each instant since then
   abbrev IsActiveSince : ℕ → Type 0
-  IsActiveSince age = (x : ℕ) → x < suc instant → instant ≤ x + age → IsTrue (is_allowed edge (mode_at log x))
+  IsActiveSince age = (x : ℕ) → x < suc instant → instant ≤ x + age → IsTrue (is_allowed_at log edge x)
 
   active_since_decided : (age : ℕ) → IsDecided (IsActiveSince age)
   active_since_decided age =
-      all_below (λ x. instant ≤ x + age → IsTrue (is_allowed edge (mode_at log x)))
-      (λ x. implied_decided (instant ≤ x + age) (IsTrue (is_allowed edge (mode_at log x))) (le_decided instant (x + age)) (test_decided (is_allowed edge (mode_at log x))))
+      all_below (λ x. instant ≤ x + age → IsTrue (is_allowed_at log edge x))
+      (λ x. implied_decided (instant ≤ x + age) (IsTrue (is_allowed_at log edge x)) (le_decided instant (x + age)) (test_decided (is_allowed_at log edge x)))
       (suc instant)
 
   -- Whether the edge has an age is decided.
@@ -125,15 +125,16 @@ module _ (graph : Tfpg) (log : Logbook) (trace : List Activation) (node : ℕ) w
   -- Something is said of a node that does not keep the rules.
   pub rules_decided : ((said : Verdict) × IsBroken graph log trace node said) ⊎ KeepsRulesOf graph log trace node
   rules_decided = elim (first_upto_now (λ instant. KeepsMay graph log trace node instant → ⊥) (KeepsMay graph log trace node) (λ instant. fault_or (KeepsMay graph log trace node instant) (may_decided instant))) [
-    | inl may ↦ inl (verdict.May node may.0, record { of = refl; breaks = breaks_may may.0 may.1 may.2 })
+    | inl may ↦ inl (verdict.May node may.0, inl (record { time = may.0; is = refl; breaks = breaks_may may.0 may.1 may.2 }))
     | inr may ↦ elim (first_upto_now (λ instant. KeepsMust graph log trace node instant → ⊥) (KeepsMust graph log trace node) (λ instant. fault_or (KeepsMust graph log trace node instant) (must_decided instant))) [
       | inl must ↦ inl (
         verdict.Must node must.0,
-        record {
-          of = refl;
+        inr (record {
+          time = must.0;
+          is = refl;
           may = λ instant breaks. breaks.broken (may instant breaks.by_now);
           breaks = record { by_now = must.1; broken = must.2; first = must.3 };
-        },
+        }),
       )
       | inr must ↦ inr (record { may = may; must = must })
     ]

@@ -1,5 +1,5 @@
 -- A trace has a verdict: each part of it is decided, and its faults have a first one.
-use Rattle.std.proofs.Common.{◌≡◌, ℕ, suc, ◌<◌, List, length, take, Option, Some, None, ◌⊎◌, inl, inr, slice_get, refl, sym, ap, subst, ◌∙◌, arith}
+use Rattle.std.proofs.Common.{◌≡◌, ℕ, suc, ◌<◌, List, length, take, Option, Some, None, ◌⊎◌, inl, inr, slice_get, refl, sym, ap, subst, ◌∙◌}
 use Rattle.std.specs.Prelude.{IsTrue, Contains}
 use Rattle.std.proofs.lemmas.Bool.Decides.{eqb_tells}
 use Rattle.std.proofs.lemmas.Option.{slice_get_within}
@@ -12,11 +12,11 @@ use Rattle.tfpg_log.specs.Rules.{KeepsRulesOf, IsTraceOf}
 use Rattle.tfpg_log.specs.Explains.{IsMember, Shows}
 use Rattle.tfpg_trace.specs.declared.verdict.Verdict.{Verdict}
 use Rattle.tfpg_trace.specs.declared.verdict.Verdict.TheVariants as verdict
-use Rattle.tfpg_trace.specs.FirstFault.{IsLate, IsStranger, IsOnTimeFromSet, KeepsAllRules, ShowsBefore, IsVerdict}
+use Rattle.tfpg_trace.specs.FirstFault.{IsLate, IsStranger, IsOnTimeFromSet, KeepsAllRules, ShowsBefore, IsMayFault, IsMustFault, IsAlarmFault, IsSilenceFault, IsVerdict}
 use Rattle.tfpg_trace.specs.inside.RuleFaults.{IsBroken}
 use Rattle.tfpg_trace.specs.inside.Shown.{IsNotShown}
 use Rattle.tfpg_trace.specs.Broken.{KeepRulesBefore}
-use Rattle.tfpg_trace.proofs.Choices.{IsDecided, first_below, same_decided, test_decided, le_decided, some_decided, some_member_decided}
+use Rattle.tfpg_base.proofs.lists.Decided.{IsDecided, first_below, same_decided, test_decided, le_decided, some_decided, some_member_decided}
 use Rattle.tfpg_trace.proofs.Explained.{explained}
 use Rattle.tfpg_trace.proofs.FailureModes.{member_by_place, no_failure}
 use Rattle.tfpg_trace.proofs.RulesDecided.{rules_decided}
@@ -97,31 +97,30 @@ module _ (graph : Tfpg) (log : Logbook) (set : List ℕ) (trace : List Activatio
   abbrev pub HasVerdict : Type 0
   HasVerdict = (said : Verdict) × IsVerdict graph log set trace said
 
-  -- what is said of the first event that is not shown is the verdict
-  by_event : KeepsAllRules graph log set trace → (place : ℕ) (event : Event) → slice_get log.events place ≡ Some event → ShowsBefore graph trace log.events place
+  -- What is said of the first event that is not shown is the verdict.
+  pub by_event : KeepsAllRules graph log set trace → (place : ℕ) (event : Event) → slice_get log.events place ≡ Some event → ShowsBefore graph trace log.events place
       → (said : Verdict) → IsNotShown graph trace (take place log.events) event said → IsVerdict graph log set trace said
-  by_event rules place event at before verdict.Yes fault = absurd fault
-  by_event rules place event at before (verdict.Late node time) fault = absurd fault
-  by_event rules place event at before (verdict.Stranger node time) fault = absurd fault
-  by_event rules place event at before (verdict.May node time) fault = absurd fault
-  by_event rules place event at before (verdict.Must node time) fault = absurd fault
-  by_event rules place event at before (verdict.Alarm node time) fault =
-      record { rules = rules; place = place; event = at ∙ ap Some fault.alarm; before = before; not_shown = fault.not_shown }
-  by_event rules place event at before (verdict.Silence node time) fault =
-      record { rules = rules; place = place; event = event; at = at; before = before; silent = fault.silent; not_shown = fault.not_shown; first = fault.first }
+  by_event rules place event at before said (inl alarm) =
+      let fault = alarm.3 in
+      let is : IsAlarmFault graph log set trace alarm.0 alarm.1 =
+      record { rules = rules; place = place; event = at ∙ ap Some fault.alarm; before = before; not_shown = fault.not_shown } in
+      subst (IsVerdict graph log set trace) (sym alarm.2) is
+  by_event rules place event at before said (inr silence) =
+      let fault = silence.3 in
+      let is : IsSilenceFault graph log set trace silence.0 silence.1 =
+      record { rules = rules; place = place; event = event; at = at; before = before; silent = fault.silent; not_shown = fault.not_shown; first = fault.first } in
+      subst (IsVerdict graph log set trace) (sym silence.2) is
 
   -- what is said of the first node that breaks a rule is the verdict
   by_rules : IsOnTimeFromSet graph log set trace → (node : ℕ) → node < length graph.nodes → KeepRulesBefore graph log trace node → (said : Verdict)
       → IsBroken graph log trace node said → IsVerdict graph log set trace said
-  by_rules own node within before verdict.Yes fault = absurd fault
-  by_rules own node within before (verdict.Late said time) fault = absurd fault
-  by_rules own node within before (verdict.Stranger said time) fault = absurd fault
-  by_rules own node within before (verdict.May said time) fault =
-      record { own = own; in_graph = omega (arith, fault.of, within); before = subst (KeepRulesBefore graph log trace) (sym fault.of) before; breaks = fault.breaks }
-  by_rules own node within before (verdict.Must said time) fault =
-      record { own = own; in_graph = omega (arith, fault.of, within); before = subst (KeepRulesBefore graph log trace) (sym fault.of) before; may = fault.may; breaks = fault.breaks }
-  by_rules own node within before (verdict.Alarm said time) fault = absurd fault
-  by_rules own node within before (verdict.Silence said time) fault = absurd fault
+  by_rules own node within before said (inl fault) =
+      let is : IsMayFault graph log set trace node fault.time = record { own = own; in_graph = within; before = before; breaks = fault.breaks } in
+      subst (IsVerdict graph log set trace) (sym fault.is) is
+  by_rules own node within before said (inr fault) =
+      let is : IsMustFault graph log set trace node fault.time =
+      record { own = own; in_graph = within; before = before; may = fault.may; breaks = fault.breaks } in
+      subst (IsVerdict graph log set trace) (sym fault.is) is
 
   module _ (of : IsTraceOf graph trace) where
     of_events : KeepsAllRules graph log set trace → HasVerdict

@@ -41,10 +41,11 @@ pub record KeepsAllRules (graph : Tfpg) (log : Logbook) (set : List ℕ) (trace 
   pub own : IsOnTimeFromSet graph log set trace
   pub rules : KeepRulesBefore graph log trace (length graph.nodes)
 
--- the trace shows each event before this place; places count from 0
+-- the trace shows each event before this index
 abbrev pub ShowsBefore : Tfpg → List Activation → List Event → ℕ → Type 0
 ShowsBefore graph trace events end =
-    (place : ℕ) (event : Event) → place < end → slice_get events place ≡ Some event → Shows graph trace (take place events) event
+    (place : ℕ) (event : Event) → place < end → slice_get events place ≡ Some event
+    → Shows graph trace (take place events) event
 
 -- the first node with a time after now
 pub record IsLateFault (graph : Tfpg) (log : Logbook) (trace : List Activation) (node time : ℕ) : Type 0 where
@@ -53,21 +54,24 @@ pub record IsLateFault (graph : Tfpg) (log : Logbook) (trace : List Activation) 
   pub first : NoneBefore (IsLate log trace) node
 
 -- the first stranger
-pub record IsStrangerFault (graph : Tfpg) (log : Logbook) (set : List ℕ) (trace : List Activation) (node time : ℕ) : Type 0 where
+pub record IsStrangerFault (graph : Tfpg) (log : Logbook) (set : List ℕ) (trace : List Activation)
+    (node time : ℕ) : Type 0 where
   pub on_time : NoneLate graph log trace
   pub in_graph : node < length graph.nodes
   pub stranger : IsStranger graph set trace node time
   pub first : NoneBefore (IsStranger graph set trace) node
 
 -- the first node that breaks a rule, which is the may rule
-pub record IsMayFault (graph : Tfpg) (log : Logbook) (set : List ℕ) (trace : List Activation) (node time : ℕ) : Type 0 where
+pub record IsMayFault (graph : Tfpg) (log : Logbook) (set : List ℕ) (trace : List Activation)
+    (node time : ℕ) : Type 0 where
   pub own : IsOnTimeFromSet graph log set trace
   pub in_graph : node < length graph.nodes
   pub before : KeepRulesBefore graph log trace node
   pub breaks : BreaksMay graph log trace node time
 
 -- the first node that breaks a rule, which is the must rule alone, at the first such instant
-pub record IsMustFault (graph : Tfpg) (log : Logbook) (set : List ℕ) (trace : List Activation) (node time : ℕ) : Type 0 where
+pub record IsMustFault (graph : Tfpg) (log : Logbook) (set : List ℕ) (trace : List Activation)
+    (node time : ℕ) : Type 0 where
   pub own : IsOnTimeFromSet graph log set trace
   pub in_graph : node < length graph.nodes
   pub before : KeepRulesBefore graph log trace node
@@ -75,7 +79,8 @@ pub record IsMustFault (graph : Tfpg) (log : Logbook) (set : List ℕ) (trace : 
   pub breaks : FirstBreaksMust graph log trace node time
 
 -- the first event that is not shown, which is an alarm
-pub record IsAlarmFault (graph : Tfpg) (log : Logbook) (set : List ℕ) (trace : List Activation) (node time : ℕ) : Type 0 where
+pub record IsAlarmFault (graph : Tfpg) (log : Logbook) (set : List ℕ) (trace : List Activation)
+    (node time : ℕ) : Type 0 where
   pub rules : KeepsAllRules graph log set trace
   pub place : ℕ
   pub event : slice_get log.events place ≡ Some (Alarm time node)
@@ -83,7 +88,8 @@ pub record IsAlarmFault (graph : Tfpg) (log : Logbook) (set : List ℕ) (trace :
   pub not_shown : ShowsAlarm graph trace node time → ⊥
 
 -- The first event that is not shown, which says that the node is silent; of a sweep this is the first such node.
-pub record IsSilenceFault (graph : Tfpg) (log : Logbook) (set : List ℕ) (trace : List Activation) (node time : ℕ) : Type 0 where
+pub record IsSilenceFault (graph : Tfpg) (log : Logbook) (set : List ℕ) (trace : List Activation)
+    (node time : ℕ) : Type 0 where
   pub rules : KeepsAllRules graph log set trace
   pub place : ℕ
   pub event : Event
@@ -91,7 +97,8 @@ pub record IsSilenceFault (graph : Tfpg) (log : Logbook) (set : List ℕ) (trace
   pub before : ShowsBefore graph trace log.events place
   pub silent : quiet_time graph (take place log.events) event node ≡ Some time
   pub not_shown : ShowsSilence trace node time → ⊥
-  pub first : (earlier : ℕ) → earlier < node → quiet_time graph (take place log.events) event earlier ≡ Some time → ShowsSilence trace earlier time
+  pub first : (earlier : ℕ) → earlier < node → quiet_time graph (take place log.events) event earlier ≡ Some time
+      → ShowsSilence trace earlier time
 
 -- What is said of a trace: that it explains the log from the set, or its first fault.
 abbrev pub IsVerdict : Tfpg → Logbook → List ℕ → List Activation → Verdict → Type 0

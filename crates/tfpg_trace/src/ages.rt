@@ -35,14 +35,14 @@ pub(crate) fn has_age(
     }
 }
 
-/// Whether the instant is so long after both, or longer.
+/// Whether the instant is at least `age` after both `begin` and `start`.
 fn are_since(begin: u64, start: u64, age: u64, instant: u64) -> bool
     ensures { IsTrue result ↔ ((begin + age ≤ instant) × (start + age ≤ instant)) }
 {
     is_since(begin, age, instant) && is_since(start, age, instant)
 }
 
-/// Whether the instant is so long after the start, or longer.
+/// Whether the instant is at least `age` after the start.
 fn is_since(start: u64, age: u64, instant: u64) -> bool
     ensures { IsTrue result ↔ (start + age ≤ instant) }
 {

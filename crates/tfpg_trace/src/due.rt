@@ -89,7 +89,8 @@ fn due_by_edge(graph: &Graph, trace: &Trace, edge: u32, span: Span, gap: Option<
     first_after_gap(gap, start, delay, span)
 }
 
-/// The first instant of the span that is so long after the later of two, the instant after the gap and the start.
+/// The first instant of the span that is at least `delay` after the later of two instants: the one after the gap, and
+/// the start.
 fn first_after_gap(gap: Option<u64>, start: u64, delay: u64, span: Span) -> Option<u64>
     ensures { Begins (λ instant. after_gap gap start + delay ≤ instant) span.lo span.hi result }
 {
@@ -99,7 +100,7 @@ fn first_after_gap(gap: Option<u64>, start: u64, delay: u64, span: Span) -> Opti
     }
 }
 
-/// The first instant of the span that is so long after another.
+/// The first instant of the span that is at least `delay` after `begin`.
 fn first_after(begin: u64, delay: u64, span: Span) -> Option<u64>
     ensures { Begins (λ instant. begin + delay ≤ instant) span.lo span.hi result }
 {

@@ -1,5 +1,5 @@
-//! The gaps of the edges into a node: of each edge, by its place among them, the last instant so far at which it was not
-//! active, where there is one.
+//! The gaps of the edges into a node: of each edge, by its index among them, the last instant so far at which it was
+//! not active, where there is one.
 
 ghost use Rattle.std.specs.Prelude.{◌≡◌, ◌<◌, ◌≤◌, ℕ, length, slice_index_or, None};
 ghost use Rattle.tfpg_graph.specs.Graph.{incoming};

@@ -1,11 +1,13 @@
 -- The numbers of a meaning are within their limits.
 use Rattle.std.proofs.Common.{◌≡◌, ℕ, ◌≤◌, Bool, true, false, List, [], ◌∷◌, Option, Some, None, Result, Ok, Err, refl, subst, arith}
 use Rattle.std.specs.Prelude.{◌&&◌, bytes_eq, codes, if◌then◌else◌, is_some, nat_le}
-use Rattle.std.proofs.lemmas.Bool.{leb-true}
+use Rattle.std.proofs.lemmas.Bool.{and_parts, leb-true}
 use Rattle.tfpg_base.specs.Words.{number_of}
+use Rattle.tfpg_base.specs.declared.limits.TheConstants.{MAX_CASE_SIZE}
+use Rattle.tfpg_words.specs.declared.limits.TheConstants.{MAX_K, MAX_BUDGET, DEFAULT_K, DEFAULT_BUDGET, DEFAULT_SIZE}
 use Rattle.tfpg_words.specs.declared.usage_cause.UsageCause.{UsageCause}
 use Rattle.tfpg_words.specs.declared.usage_cause.UsageCause.TheVariants.{OutOfRange, UnknownCommand}
-use Rattle.tfpg_words.specs.Meaning.{Diagnose, Generate, NumberOption, max_k, max_budget, max_size, within, number_in, number_by, both, use_of, k_option, budget_option, draw_option, size_option, diagnose_form, diagnose_with, diagnose_on, diagnose_of, explain_form, explain_on, explain_of, simulate_form, simulate_with, simulate_on, simulate_of, generate_form, generate_with, generate_on, generate_of, meaning}
+use Rattle.tfpg_words.specs.Meaning.{Diagnose, Generate, NumberOption, within, number_in, number_by, both, use_of, k_option, budget_option, draw_option, size_option, diagnose_form, diagnose_with, diagnose_on, diagnose_of, explain_form, explain_on, explain_of, simulate_form, simulate_with, simulate_on, simulate_of, generate_form, generate_with, generate_on, generate_of, meaning}
 use Rattle.tfpg_words.specs.Words.{Parts, Use, Word, parts_of_words}
 
 -- a number within the limits of an option
@@ -13,15 +15,11 @@ pub record IsWithin (option : NumberOption) (number : ℕ) : Type 0 where
   pub low : option.least ≤ number
   pub high : number ≤ option.limit
 
-both_true : (a b : Bool) → a && b ≡ true → (a ≡ true) × (b ≡ true)
-both_true true b e = (refl, e)
-both_true false b e = absurd cc
-
 module _ (option : NumberOption) (n : ℕ) where
   value_within : (number : ℕ) (test : Bool) → (nat_le option.least number && nat_le number option.limit) ≡ test
       → (if test then Ok number else Err OutOfRange) ≡ Ok n → IsWithin option n
   value_within number true t e =
-      let tests = both_true (nat_le option.least number) (nat_le number option.limit) t in
+      let tests = and_parts (nat_le option.least number) (nat_le number option.limit) t in
       let same : number ≡ n = cc in
       subst (IsWithin option) same (record { low = leb-true _ _ tests.0; high = leb-true _ _ tests.1 })
   value_within number false t e = absurd cc
@@ -42,10 +40,10 @@ pub record AreWithin (k budget : ℕ) : Type 0 where
   pub k_is : IsWithin k_option k
   pub budget_is : IsWithin budget_option budget
 
-k_default : IsWithin k_option 2
+k_default : IsWithin k_option DEFAULT_K
 k_default = record { low = omega arith; high = omega arith }
 
-budget_default : IsWithin budget_option 1000
+budget_default : IsWithin budget_option DEFAULT_BUDGET
 budget_default = record { low = omega arith; high = omega arith }
 
 module _ (k budget : ℕ) (name : Word) where
@@ -121,7 +119,7 @@ module _ (k budget : ℕ) (name : Word) where
   from_command words false false false true e = absurd (not_generate (parts_of_words generate_form words) e)
   from_command words false false false false e = absurd cc
 
-  pub meaning_within : (words : List Word) → meaning words ≡ Ok (Diagnose k budget name) → (k ≤ max_k) × (1 ≤ budget) × (budget ≤ max_budget)
+  pub meaning_within : (words : List Word) → meaning words ≡ Ok (Diagnose k budget name) → (k ≤ MAX_K) × (1 ≤ budget) × (budget ≤ MAX_BUDGET)
   meaning_within [] e = absurd cc
   meaning_within (command ∷ words) e =
       let are = from_command words (bytes_eq command (codes "diagnose")) (bytes_eq command (codes "explain")) (bytes_eq command (codes "simulate")) (bytes_eq command (codes "generate")) e in
@@ -129,7 +127,7 @@ module _ (k budget : ℕ) (name : Word) where
 
 -- ---- a generated case
 
-size_default : IsWithin size_option 10
+size_default : IsWithin size_option DEFAULT_SIZE
 size_default = record { low = omega arith; high = omega arith }
 
 module _ (draw size : ℕ) where
@@ -198,7 +196,7 @@ module _ (draw size : ℕ) where
   size_from_command words false false false true e = size_from_parts (parts_of_words generate_form words) e
   size_from_command words false false false false e = absurd cc
 
-  pub size_within : (words : List Word) → meaning words ≡ Ok (Generate draw size) → (1 ≤ size) × (size ≤ max_size)
+  pub size_within : (words : List Word) → meaning words ≡ Ok (Generate draw size) → (1 ≤ size) × (size ≤ MAX_CASE_SIZE)
   size_within [] e = absurd cc
   size_within (command ∷ words) e =
       let is = size_from_command words (bytes_eq command (codes "diagnose")) (bytes_eq command (codes "explain")) (bytes_eq command (codes "simulate")) (bytes_eq command (codes "generate")) e in

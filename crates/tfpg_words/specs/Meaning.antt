@@ -2,7 +2,8 @@
 use Rattle.std.specs.Prelude.{ℕ, ◌&&◌, Bool, List, [], ◌∷◌, Option, Some, None, Result, Ok, Err}
 use Rattle.std.specs.Prelude.{bytes_eq, codes, if◌then◌else◌, is_some, nat_le, find}
 use Rattle.tfpg_base.specs.Words.{number_of}
-use Rattle.tfpg_words.specs.declared.limits.TheConstants.{MAX_K, MAX_BUDGET, MAX_DRAW, MAX_SIZE}
+use Rattle.tfpg_base.specs.declared.limits.TheConstants.{MAX_CASE_SIZE}
+use Rattle.tfpg_words.specs.declared.limits.TheConstants.{MAX_K, MAX_BUDGET, MAX_DRAW, DEFAULT_K, DEFAULT_BUDGET, DEFAULT_DRAW, DEFAULT_SIZE}
 use Rattle.tfpg_words.specs.declared.usage_cause.UsageCause.{UsageCause}
 use Rattle.tfpg_words.specs.declared.usage_cause.UsageCause.TheVariants.{NoCommand, UnknownCommand, BadWords, BadNumber, OutOfRange, BadPanel}
 use Rattle.tfpg_words.specs.Words.{Form, Parts, Use, Word, parts_of_words}
@@ -37,7 +38,8 @@ number_in option (Some used) = within option.least option.limit (number_of used.
 abbrev pub number_by : NumberOption → List Use → Result ℕ UsageCause
 number_by option uses = number_in option (use_of option.name uses)
 
--- Of two causes that refuse a number the one that wins: a word that is no number comes before a number out of its limits.
+-- Of two causes that refuse a number the one that wins: a word that is no number comes before a number out of its
+-- limits.
 abbrev pub winning_cause : UsageCause → UsageCause → UsageCause
 winning_cause BadNumber other = BadNumber
 winning_cause cause other = other
@@ -49,33 +51,22 @@ both (Ok first) (Err cause) = Err cause
 both (Err cause) (Ok second) = Err cause
 both (Err cause) (Err other) = Err (winning_cause cause other)
 
--- the greatest `k`
-abbrev pub max_k : ℕ
-max_k = MAX_K
-
--- the greatest budget
-abbrev pub max_budget : ℕ
-max_budget = MAX_BUDGET
-
--- the greatest number of a draw
-abbrev pub max_draw : ℕ
-max_draw = MAX_DRAW
-
--- the greatest size of a generated case
-abbrev pub max_size : ℕ
-max_size = MAX_SIZE
-
 abbrev pub k_option : NumberOption
-k_option = record { name = codes "--k"; least = 0; limit = max_k; default = 2 }
+k_option = record { name = codes "--k"; least = 0; limit = MAX_K; default = DEFAULT_K }
 
 abbrev pub budget_option : NumberOption
-budget_option = record { name = codes "--budget"; least = 1; limit = max_budget; default = 1000 }
+budget_option = record { name = codes "--budget"; least = 1; limit = MAX_BUDGET; default = DEFAULT_BUDGET }
 
 abbrev pub draw_option : NumberOption
-draw_option = record { name = codes "--draw"; least = 0; limit = max_draw; default = 1 }
+draw_option = record { name = codes "--draw"; least = 0; limit = MAX_DRAW; default = DEFAULT_DRAW }
 
 abbrev pub size_option : NumberOption
-size_option = record { name = codes "--size"; least = 1; limit = max_size; default = 10 }
+size_option = record { name = codes "--size"; least = 1; limit = MAX_CASE_SIZE; default = DEFAULT_SIZE }
+
+-- What words mean whose parts mean this: words that have no parts are bad.
+abbrev pub by_parts : (Parts → Result Meaning UsageCause) → Option Parts → Result Meaning UsageCause
+by_parts means None = Err BadWords
+by_parts means (Some parts) = means parts
 
 -- `diagnose [--k N] [--budget N] GRAPH [PANEL]..`. For now no word is a panel.
 abbrev pub diagnose_form : Form
@@ -88,11 +79,11 @@ diagnose_with graph (panel ∷ panels) (Ok numbers) = Err BadPanel
 
 abbrev pub diagnose_on : List Use → List Word → Result Meaning UsageCause
 diagnose_on uses [] = Err BadWords
-diagnose_on uses (graph ∷ panels) = diagnose_with graph panels (both (number_by k_option uses) (number_by budget_option uses))
+diagnose_on uses (graph ∷ panels) =
+    diagnose_with graph panels (both (number_by k_option uses) (number_by budget_option uses))
 
 abbrev pub diagnose_of : Option Parts → Result Meaning UsageCause
-diagnose_of None = Err BadWords
-diagnose_of (Some parts) = diagnose_on parts.uses parts.positional
+diagnose_of = by_parts (λ parts. diagnose_on parts.uses parts.positional)
 
 -- `explain GRAPH LOG`
 abbrev pub explain_form : Form
@@ -103,8 +94,7 @@ explain_on (graph ∷ log ∷ []) = Ok (Explain graph log)
 explain_on _ = Err BadWords
 
 abbrev pub explain_of : Option Parts → Result Meaning UsageCause
-explain_of None = Err BadWords
-explain_of (Some parts) = explain_on parts.positional
+explain_of = by_parts (λ parts. explain_on parts.positional)
 
 -- `simulate [--draw N] [--trace] GRAPH SCRIPT`
 abbrev pub simulate_form : Form
@@ -120,8 +110,7 @@ simulate_on uses (graph ∷ script ∷ []) =
 simulate_on uses _ = Err BadWords
 
 abbrev pub simulate_of : Option Parts → Result Meaning UsageCause
-simulate_of None = Err BadWords
-simulate_of (Some parts) = simulate_on parts.uses parts.positional
+simulate_of = by_parts (λ parts. simulate_on parts.uses parts.positional)
 
 -- `generate [--draw N] [--size N]`
 abbrev pub generate_form : Form
@@ -136,8 +125,7 @@ generate_on uses [] = generate_with (both (number_by draw_option uses) (number_b
 generate_on uses _ = Err BadWords
 
 abbrev pub generate_of : Option Parts → Result Meaning UsageCause
-generate_of None = Err BadWords
-generate_of (Some parts) = generate_on parts.uses parts.positional
+generate_of = by_parts (λ parts. generate_on parts.uses parts.positional)
 
 -- What the words after a command mean.
 abbrev pub command_meaning : Word → List Word → Result Meaning UsageCause

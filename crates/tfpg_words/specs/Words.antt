@@ -91,7 +91,8 @@ parts_from form (word ∷ words) next = after_turn next (use_of_word form next w
 
 -- no option and no flag is used twice
 abbrev pub are_once : Form → List Use → Bool
-are_once form uses = list_all (λ name. nat_le (count_by (λ used. bytes_eq used.name name) uses) 1) (form.options ++ form.flags)
+are_once form uses =
+    list_all (λ name. nat_le (count_by (λ used. bytes_eq used.name name) uses) 1) (form.options ++ form.flags)
 
 abbrev pub if_once : Form → Parts → Option Parts
 if_once form parts = if are_once form parts.uses then Some parts else None

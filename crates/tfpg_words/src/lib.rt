@@ -23,7 +23,9 @@ mod planning;
 mod usage_cause;
 
 pub use command::{Command, Planned};
-pub use limits::{MAX_BUDGET, MAX_DRAW, MAX_K, MAX_SIZE};
+pub use limits::{
+    DEFAULT_BUDGET, DEFAULT_DRAW, DEFAULT_K, DEFAULT_SIZE, MAX_BUDGET, MAX_DRAW, MAX_K,
+};
 pub use plan_fault::PlanFault;
 pub use planning::plan;
 pub use usage_cause::UsageCause;

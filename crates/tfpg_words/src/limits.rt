@@ -1,4 +1,4 @@
-//! The limits of the numbers that the words give.
+//! The limits of the numbers that the words give, and what the numbers are where the words give none.
 
 /// The greatest `k`.
 pub const MAX_K: u64 = 64;
@@ -9,5 +9,14 @@ pub const MAX_BUDGET: u64 = 1_000_000_000_000;
 /// The greatest number of a draw.
 pub const MAX_DRAW: u64 = 1_000_000_000_000;
 
-/// The greatest size of a generated case.
-pub const MAX_SIZE: u64 = 100;
+/// The `k` where the words give none.
+pub const DEFAULT_K: u64 = 2;
+
+/// The budget where the words give none.
+pub const DEFAULT_BUDGET: u64 = 1000;
+
+/// The number of a draw where the words give none.
+pub const DEFAULT_DRAW: u64 = 1;
+
+/// The size of a drawn case where the words give none.
+pub const DEFAULT_SIZE: u64 = 10;

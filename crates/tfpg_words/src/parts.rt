@@ -33,8 +33,8 @@ impl<'a> Parts<'a> {
         words: &'a [String],
     ) -> Result<Parts<'a>, PlanFault>
         requires { IsFormed (options_in form.now) (flags_in form.now) }
-        ensures { TakesApart (form_in form.now) (parts_of_words (form_in form.now) (map string_bytes words.now))
-            result }
+        ensures { TakesApart (form_in form.now)
+            (parts_of_words (form_in form.now) (map string_bytes words.now)) result }
     {
         let parts = Parts::taken(alloc, form, words)?;
         if !parts.are_once(form) {

@@ -11,40 +11,42 @@ ghost use Rattle.tfpg_words.specs.inside.Parts.{rows_in};
 
 use crate::command::{Command, Planned};
 use crate::form::Form;
-use crate::limits::{MAX_BUDGET, MAX_DRAW, MAX_K, MAX_SIZE};
+use crate::limits::{
+    DEFAULT_BUDGET, DEFAULT_DRAW, DEFAULT_K, DEFAULT_SIZE, MAX_BUDGET, MAX_DRAW, MAX_K,
+};
 use crate::number::{NumberOption, both};
 use crate::parts::Parts;
 use crate::plan_fault::PlanFault;
 use crate::usage_cause::UsageCause;
 use std::alloc::Global;
-use tfpg_base::Text;
+use tfpg_base::{MAX_CASE_SIZE, Text};
 
 const K: NumberOption = NumberOption {
     name: "k",
     least: 0,
     limit: MAX_K,
-    default: 2,
+    default: DEFAULT_K,
 };
 
 const BUDGET: NumberOption = NumberOption {
     name: "budget",
     least: 1,
     limit: MAX_BUDGET,
-    default: 1000,
+    default: DEFAULT_BUDGET,
 };
 
 const DRAW: NumberOption = NumberOption {
     name: "draw",
     least: 0,
     limit: MAX_DRAW,
-    default: 1,
+    default: DEFAULT_DRAW,
 };
 
 const SIZE: NumberOption = NumberOption {
     name: "size",
     least: 1,
-    limit: MAX_SIZE,
-    default: 10,
+    limit: MAX_CASE_SIZE,
+    default: DEFAULT_SIZE,
 };
 
 /// Reads the words after the program's name.

@@ -9,8 +9,8 @@ use Rattle.tfpg_check.specs.Report.{Progress, IsBlock, progress_after as after}
 use Rattle.tfpg.specs.ForNow.{LosesNone}
 use Rattle.tfpg.specs.Saying.{BlockSays}
 
--- The engine is of this graph, of sets of at most k failure modes and of this budget. It has the log of this progress, and has
--- returned its rounds.
+-- The engine is of this graph, of sets of at most k failure modes and of this budget. It has the log of this progress,
+-- and has returned its rounds.
 pub record EngineReports (graph : Tfpg) (k budget : ℕ) (engine : Engining) (progress : Progress) : Type 0 where
   pub graph_is : engine.graph ≡ graph
   pub k_is : engine.k ≡ k
@@ -25,7 +25,8 @@ pub record IsEngineReady (engine : Engining) : Type 0 where
   pub represents : EngineRepresents engine rounds
 
 -- The bytes are the block of a line, and the engine represents the progress after it.
-pub record HasBlock (graph : Tfpg) (k budget : ℕ) (before : Progress) (number : ℕ) (line bytes : List ℕ) (engine : Engining) : Type 0 where
+pub record HasBlock (graph : Tfpg) (k budget : ℕ) (before : Progress) (number : ℕ) (line bytes : List ℕ)
+    (engine : Engining) : Type 0 where
   pub block : Block
   pub is_block : IsBlock graph k budget before number line block
   pub no_losses : LosesNone block

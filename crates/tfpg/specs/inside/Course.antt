@@ -2,7 +2,8 @@
 use Rattle.std.specs.Prelude.{◌+◌, ◌≡◌, ◌⊎◌, ℕ, ◌≤◌, List, length, take, Some, None, Ok}
 use Rattle.std.specs.List.{AllByRecursion}
 use Rattle.tfpg_base.specs.declared.line.Line.TheVariants as line
-use Rattle.tfpg_base.specs.Lines.{Reading, Buffered, LinesRepresent, lines_of, max_bytes}
+use Rattle.tfpg_base.specs.Lines.{Reading, Buffered, LinesRepresent, lines_of}
+use Rattle.tfpg_base.specs.declared.limits.TheConstants.{MAX_BYTES}
 use Rattle.tfpg_base.specs.Outside.{Takes, Puts, IsAtEnd}
 use Rattle.tfpg_graph.specs.Graph.{Tfpg}
 use Rattle.tfpg_engine.specs.Engining.{Engining}
@@ -16,12 +17,13 @@ use Rattle.tfpg.specs.inside.Answering.{EngineReports}
 use Rattle.tfpg.specs.Run.{Diagnoses}
 use Rattle.tfpg.specs.Streams.{Streams, HasNoFault}
 
--- A diagnosis that began with the streams before has come to this: each line that the reader has returned has its block,
--- which is written, and nothing else was written but the head. Nothing has failed.
-pub record IsDiagnosing (graph : Tfpg) (k budget : ℕ) (before now : Streams) (lines : Buffered) (engine : Engining) : Type 0 where
+-- A diagnosis that began with the streams before has come to this: each line that the reader has returned has its
+-- block, which is written, and nothing else was written but the head. Nothing has failed.
+pub record IsDiagnosing (graph : Tfpg) (k budget : ℕ) (before now : Streams) (lines : Buffered)
+    (engine : Engining) : Type 0 where
   pub reading : Reading
   pub takes : Takes before.input now.input reading.taken
-  pub few : length reading.taken ≤ max_bytes
+  pub few : length reading.taken ≤ MAX_BYTES
   pub represents : LinesRepresent lines reading
   pub goes_on : (reading.ended ≡ None) ⊎ ((reading.ended ≡ Some (Ok line.End)) × IsAtEnd now.input)
   pub front : take (length reading.given) (lines_of reading.taken) ≡ reading.given
@@ -35,5 +37,6 @@ pub record IsDiagnosing (graph : Tfpg) (k budget : ℕ) (before now : Streams) (
 
 -- What a turn after the line of this number leads to: the diagnosis is under way still, one line on; or it is done.
 abbrev pub ComesTo : Tfpg → ℕ → ℕ → Streams → Streams → ℕ → Buffered → Engining → Turn → Type 0
-ComesTo graph k budget before now number lines engine Written = IsDiagnosing graph k budget before now lines engine × (lines.number ≡ number + 1)
+ComesTo graph k budget before now number lines engine Written =
+    IsDiagnosing graph k budget before now lines engine × (lines.number ≡ number + 1)
 ComesTo graph k budget before now number lines engine Ended = Diagnoses graph k budget before now (Ok tt)

@@ -5,6 +5,7 @@ use Rattle.tfpg_log.specs.LogOfLines.{log_of_lines}
 use Rattle.tfpg_evidence.specs.declared.round.Round.{Round}
 use Rattle.tfpg_engine.specs.Engining.{EngineRepresents}
 use Rattle.tfpg.specs.declared.diagnosis.Diagnosis.{Diagnosis}
+use Rattle.tfpg.specs.declared.limits.TheConstants.{GENERATED_K, GENERATED_BUDGET}
 use Rattle.tfpg.specs.Diagnosed.{AreRoundsOf}
 
 -- the last of these rounds
@@ -14,11 +15,11 @@ last_round rounds = slice_get rounds (length rounds - 1)
 -- The diagnosis of the graph has taken these lines, and gave a round for each.
 pub record HasDiagnosed (graph : Tfpg) (lines : List (List ℕ)) (diagnosis : Diagnosis) : Type 0 where
   pub graph_is : diagnosis.engine.graph ≡ graph
-  pub k_is : diagnosis.engine.k ≡ 2
-  pub budget_is : diagnosis.engine.budget ≡ 50
+  pub k_is : diagnosis.engine.k ≡ GENERATED_K
+  pub budget_is : diagnosis.engine.budget ≡ GENERATED_BUDGET
   pub log_is : diagnosis.engine.log ≡ log_of_lines graph lines
   pub counted : length diagnosis.engine.log.events ≡ length lines
   pub rounds : List Round
   pub represents : EngineRepresents diagnosis.engine rounds
-  pub rounds_are : AreRoundsOf graph 2 50 lines rounds
+  pub rounds_are : AreRoundsOf graph GENERATED_K GENERATED_BUDGET lines rounds
   pub last_is : diagnosis.last ≡ last_round rounds

@@ -1,10 +1,12 @@
 -- What the reader of maps reads of a line, and what it has read so far.
-use Rattle.std.specs.Prelude.{◌≡◌, ℕ, ◌<◌, ◌≤◌, List, [], ◌∷◌, length, All, AllPairs, if◌then◌else◌, Option, Some, None, option_and_then, unwrap_or, codes, bytes_eq}
+use Rattle.std.specs.Prelude.{◌≡◌, ℕ, ◌<◌, ◌≤◌, List, [], ◌∷◌, All, if◌then◌else◌, Option, Some, None, option_and_then, codes, bytes_eq}
 use Rattle.tfpg_base.specs.declared.activation.Activation.{Activation}
+use Rattle.tfpg_base.specs.Set.{Rises}
 use Rattle.tfpg_base.specs.Trace.{time_of, with_time}
-use Rattle.tfpg_graph.specs.Graph.{Tfpg, name_at, node_named, failures, failure_at, position_of_failure}
+use Rattle.tfpg_graph.specs.Graph.{Tfpg, node_named, AreFailures, position_of_failure}
 use Rattle.tfpg.specs.declared.map.MapReader.{MapReader}
-use Rattle.tfpg.specs.Map.{SpellsMap, IsActivationOf, at_line}
+use Rattle.tfpg_report.specs.Blocks.{activation_line}
+use Rattle.tfpg.specs.Map.{SpellsMap, IsActivationOf}
 
 -- the word after `set`
 abbrev pub word_after_set : List (List ℕ) → Option (List ℕ)
@@ -25,28 +27,26 @@ words_after_at (keyword ∷ name ∷ time ∷ more ∷ others) = None
 abbrev pub position_named : Tfpg → List ℕ → Option ℕ
 position_named graph name = option_and_then (position_of_failure graph) (node_named graph name)
 
--- the name of the failure mode at a position
-abbrev pub failure_name : Tfpg → ℕ → List ℕ
-failure_name graph place = unwrap_or (option_and_then (name_at graph) (failure_at graph place)) []
-
 -- rising positions of failure modes, none before this one
-pub record AreFrom (graph : Tfpg) (least : ℕ) (places : List ℕ) : Type 0 where
-  pub rising : AllPairs (λ earlier later. earlier < later) places
-  pub not_before : All (λ place. least ≤ place) places
-  pub members : All (λ place. place < length (failures graph)) places
+pub record AreFrom (graph : Tfpg) (least : ℕ) (positions : List ℕ) : Type 0 where
+  pub rising : Rises positions
+  pub not_before : All (λ position. least ≤ position) positions
+  pub members : AreFailures graph positions
 
 -- The line spells an activation of a node that had none, and the trace has it now.
-pub record TakesActivation (graph : Tfpg) (before : List Activation) (line : List ℕ) (now : List Activation) : Type 0 where
+pub record TakesActivation (graph : Tfpg) (before : List Activation) (line : List ℕ)
+    (now : List Activation) : Type 0 where
   pub activation : Activation
   pub of_graph : IsActivationOf graph activation
-  pub spelled : line ≡ at_line graph activation
+  pub spelled : line ≡ activation_line graph activation
   pub new_node : time_of before activation.node ≡ None
   pub now_is : now ≡ with_time activation.node activation.time before
 
 -- The line spells no activation of a node that has none.
 abbrev pub IsNoActivation : Tfpg → List Activation → List ℕ → Type 0
 IsNoActivation graph trace line =
-    (activation : Activation) → IsActivationOf graph activation → line ≡ at_line graph activation → time_of trace activation.node ≡ None → ⊥
+    (activation : Activation) → IsActivationOf graph activation → line ≡ activation_line graph activation
+    → time_of trace activation.node ≡ None → ⊥
 
 -- the reader with this set and trace has read these lines
 abbrev pub HasRead : Tfpg → Option (List ℕ) → List Activation → List (List ℕ) → Type 0

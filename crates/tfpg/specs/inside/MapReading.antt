@@ -1,7 +1,8 @@
 -- Reading the map of the input, under way and ended.
 use Rattle.std.specs.Prelude.{◌≡◌, ◌⊎◌, ℕ, ◌+◌, ◌<◌, ◌≤◌, List, length, take, Some, None, Result, Ok, Err}
 use Rattle.tfpg_base.specs.declared.line.Line.TheVariants as line
-use Rattle.tfpg_base.specs.Lines.{Reading, Buffered, LinesRepresent, lines_of, whole_lines, max_bytes}
+use Rattle.tfpg_base.specs.Lines.{Reading, Buffered, LinesRepresent, lines_of, whole_lines}
+use Rattle.tfpg_base.specs.declared.limits.TheConstants.{MAX_BYTES}
 use Rattle.tfpg_base.specs.Outside.{SourceState, Rose, Takes, IsAtEnd}
 use Rattle.tfpg_graph.specs.Graph.{Tfpg}
 use Rattle.tfpg_trace.specs.declared.verdict.Verdict.{Verdict}
@@ -20,7 +21,7 @@ use Rattle.tfpg.specs.inside.MapLines.{MapRepresents}
 pub record IsReadingMap (graph : Tfpg) (before now : SourceState) (lines : Buffered) (map : MapReader) : Type 0 where
   pub reading : Reading
   pub takes : Takes before now reading.taken
-  pub few : length reading.taken ≤ max_bytes
+  pub few : length reading.taken ≤ MAX_BYTES
   pub represents : LinesRepresent lines reading
   pub goes_on : (reading.ended ≡ None) ⊎ ((reading.ended ≡ Some (Ok line.End)) × IsAtEnd now)
   pub front : take (length reading.given) (lines_of reading.taken) ≡ reading.given
@@ -31,7 +32,7 @@ pub record IsReadingMap (graph : Tfpg) (before now : SourceState) (lines : Buffe
 pub record HasReadAll (graph : Tfpg) (before now : SourceState) (map : MapReader) : Type 0 where
   pub taken : List ℕ
   pub takes : Takes before now taken
-  pub few : length taken ≤ max_bytes
+  pub few : length taken ≤ MAX_BYTES
   pub at_end : IsAtEnd now
   pub read : MapRepresents graph map (lines_of taken)
   pub no_fault : now.faults ≡ before.faults
@@ -57,7 +58,8 @@ ReturnsMap reader (Err fault) = (reader.set ≡ None) × (fault ≡ Refused 1)
 abbrev pub ShowsNoMap : Tfpg → SourceState → SourceState → List ℕ → NoMap → Type 0
 ShowsNoMap graph before now taken (Refused number) = RefusesMap graph before now taken number
 ShowsNoMap graph before now taken ReadFault = Rose before.faults now.faults × BeginsMap graph (whole_lines taken)
-ShowsNoMap graph before now taken TooMuchInput = (length taken ≡ max_bytes + 1) × BeginsMap graph (whole_lines (take max_bytes taken))
+ShowsNoMap graph before now taken TooMuchInput =
+    (length taken ≡ MAX_BYTES + 1) × BeginsMap graph (whole_lines (take MAX_BYTES taken))
 ShowsNoMap graph before now taken NoMemory = Unit {0}
 
 -- The input gives no map, with this cause.

@@ -1,6 +1,6 @@
 -- The limits of the numbers of a command that was planned.
 use Rattle.std.specs.Prelude.{◌≤◌}
-use Rattle.tfpg_sim.specs.declared.limits.TheConstants.{MAX_SIZE}
+use Rattle.tfpg_base.specs.declared.limits.TheConstants.{MAX_CASE_SIZE}
 use Rattle.tfpg_words.specs.Meaning.{Meaning, Diagnose, Explain, Simulate, Generate}
 
 -- The numbers of the command are within their limits.
@@ -8,4 +8,4 @@ abbrev pub AreWithinLimits : Meaning → Type 0
 AreWithinLimits (Diagnose k budget graph) = 1 ≤ budget
 AreWithinLimits (Explain graph log) = Unit {0}
 AreWithinLimits (Simulate draw trace graph script) = Unit {0}
-AreWithinLimits (Generate draw size) = (1 ≤ size) × (size ≤ MAX_SIZE)
+AreWithinLimits (Generate draw size) = (1 ≤ size) × (size ≤ MAX_CASE_SIZE)

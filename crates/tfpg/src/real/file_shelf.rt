@@ -1,6 +1,7 @@
 //! The files of the system as a shelf.
 
-ghost use Rattle.std.specs.Prelude.{◌≡◌, ◌<◌, ◌≤◌, ◌^◌, ◌++◌, [], ℕ, List, length, vec_capacity, IfSome, OnOk, IsErrOf};
+ghost use Rattle.std.specs.Prelude.{◌≡◌, ◌<◌, ◌≤◌, ◌++◌, [], ℕ, List, length, vec_capacity, IfSome, OnOk, IsErrOf};
+ghost use Rattle.tfpg_base.specs.declared.limits.TheConstants.{LONGEST_FILE};
 
 use super::fault_count::FaultCount;
 use super::tries::read_uncut;
@@ -63,9 +64,9 @@ impl<'a, R: Files> Shelf for FileShelf<'a, R> {
 /// Reads the file of that name into the empty room.
 fn read_file<R: Files>(files: &R, name: &str, into: &mut Vec<u8>) -> Result<(), ShelfFault>
     requires { into.old.items ≡ [] }
-    ensures small { OnOk result (length into.new.items ≤ 2 ^ 24) }
-    ensures too_long { IsErrOf result ShelfFault.TooLong → length into.new.items ≡ 2 ^ 24 }
-    ensures no_memory { IsErrOf result ShelfFault.NoMemory → vec_capacity into.old < 2 ^ 24 }
+    ensures small { OnOk result (length into.new.items ≤ LONGEST_FILE) }
+    ensures too_long { IsErrOf result ShelfFault.TooLong → length into.new.items ≡ LONGEST_FILE }
+    ensures no_memory { IsErrOf result ShelfFault.NoMemory → vec_capacity into.old < LONGEST_FILE }
 {
     match fs::open(files, name) {
         Ok(mut file) => read_whole(&mut file, into),
@@ -76,9 +77,9 @@ fn read_file<R: Files>(files: &R, name: &str, into: &mut Vec<u8>) -> Result<(), 
 /// Reads to the end of the reader, or past what a file may have.
 fn read_whole<R: Read>(reader: &mut R, into: &mut Vec<u8>) -> Result<(), ShelfFault>
     requires { into.old.items ≡ [] }
-    ensures small { OnOk result (length into.new.items ≤ 2 ^ 24) }
-    ensures too_long { IsErrOf result ShelfFault.TooLong → length into.new.items ≡ 2 ^ 24 }
-    ensures no_memory { IsErrOf result ShelfFault.NoMemory → vec_capacity into.old < 2 ^ 24 }
+    ensures small { OnOk result (length into.new.items ≤ LONGEST_FILE) }
+    ensures too_long { IsErrOf result ShelfFault.TooLong → length into.new.items ≡ LONGEST_FILE }
+    ensures no_memory { IsErrOf result ShelfFault.NoMemory → vec_capacity into.old < LONGEST_FILE }
     ensures whole { OnOk result (IfSome (R.remaining reader.old) (λ known. into.new.items ≡ known)) }
     ensures front { IsErrOf result ShelfFault.TooLong →
         IfSome (R.remaining reader.old) (λ known. (more : List ℕ) × (0 < length more) ×

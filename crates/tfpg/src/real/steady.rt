@@ -1,7 +1,7 @@
 //! Readers and writers whose contents contracts know always or never.
 //!
-//! The toolchain lets the contents of one become known in a call that fails. Those of a source and a sink may not: they are
-//! to stay as they were.
+//! By the toolchain's contracts, the contents of a reader or writer may become known in a call that fails. Those of a
+//! source and a sink may not: a call that fails leaves them unchanged.
 
 ghost use Rattle.std.specs.Prelude.{◌≡◌};
 ghost use Rattle.std.specs.Io.KnownBytes.{Keeps};

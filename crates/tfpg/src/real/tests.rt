@@ -93,9 +93,13 @@ impl SteadyRead for &[u8] {
 fn input_is_taken_in_pieces(rt: HostRuntime) {
     let mut input = StandardInput::new(b"abcde".as_slice());
     let mut room = [0; 3];
-    for (count, front) in [(3, b"abc"), (2, b"dec"), (0, b"dec")] {
-        assert_eq!(rt; input.take(&mut room), Ok(count), "a read of {count}");
-        assert_eq!(rt; room.as_slice(), front.as_slice(), "a read of {count}");
+    for (row, count, front) in [
+        ("as much as fits", 3, b"abc"),
+        ("the rest", 2, b"dec"),
+        ("the end", 0, b"dec"),
+    ] {
+        assert_eq!(rt; input.take(&mut room), Ok(count), "{row}");
+        assert_eq!(rt; room.as_slice(), front.as_slice(), "{row}");
     }
     let mut faulty = StandardInput::new(Faulty { calls: 0 });
     for (call, taken) in [

@@ -3,7 +3,7 @@
 //! Which trace shows that a ranked set fits, and which steps reject another, is free. So what is compared are the lines that say
 //! what became of each line of the log and of each set.
 
-use super::{GRAPH, InMemory, TWO_MODES, run_in_memory, words_of};
+use super::{GRAPH, TWO_MODES, diagnosed};
 use crate::end::End;
 use std::alloc::{AllocError, Global};
 use std::test::Fail;
@@ -138,19 +138,6 @@ const SAYING: [&[u8]; 6] = [
     b"rejected ",
     b"counts ",
 ];
-
-/// How a diagnosis of the graph ends, and what it writes.
-fn diagnosed(
-    alloc: Global,
-    options: &[&str],
-    graph: &[u8],
-    log: &[u8],
-) -> Result<(End, Vec<u8>), AllocError> {
-    let words = words_of(alloc, &["diagnose", "g"], options)?;
-    let files = [("g", graph)];
-    let (end, report, _) = run_in_memory(alloc, &words, &InMemory::of(&files, log))?;
-    Ok((end, report))
-}
 
 /// The lines of a report that say what became of a line of the log, or of a set.
 fn said_in(alloc: Global, report: &[u8]) -> Result<Vec<u8>, AllocError> {

@@ -1,7 +1,7 @@
 //! The satellite of the examples: the graph, and the log and the report of each of its two mornings, as they stand in the files
 //! of `examples/`. So a test holds the stored reports byte for byte.
 
-use super::{InMemory, run_in_memory, words_of};
+use super::diagnosed;
 use crate::end::End;
 use std::alloc::{AllocError, Global};
 use std::test::Fail;
@@ -23,9 +23,7 @@ const RELAY_REPORT: &[u8] =
 
 /// Whether the diagnosis of this log, with the options that are the default, comes to its end with this report.
 fn is_reported(alloc: Global, log: &[u8], report: &[u8]) -> Result<bool, AllocError> {
-    let words = words_of(alloc, &["diagnose", "g"], &[])?;
-    let files = [("g", SATELLITE)];
-    let (end, written, _) = run_in_memory(alloc, &words, &InMemory::of(&files, log))?;
+    let (end, written) = diagnosed(alloc, &[], SATELLITE, log)?;
     Ok(end == End::Done && written.as_slice() == report)
 }
 

@@ -1,11 +1,12 @@
 -- Laws of choices among optional values.
-use Rattle.std.proofs.Common.{◌≡◌, ℕ, zero, suc, List, [], ◌∷◌, ◌++◌, length, slice_get, Option, Some, None, Ok, Err, map, Bool, true, false, inl, inr, refl, sym, ap, subst, ◌∙◌}
+use Rattle.std.proofs.Common.{◌≡◌, ℕ, zero, suc, List, [], ◌∷◌, ◌++◌, length, slice_get, Option, Some, None, Ok, Err, map, cond, Bool, true, false, inl, inr, refl, sym, ap, subst, ◌∙◌}
 use Rattle.std.specs.Option.{option_map, option_and_then}
-use Rattle.std.specs.List.{Contains}
+use Rattle.std.specs.List.{All, Contains}
 use Rattle.tfpg_base.proofs.lists.Elements.{Contains-head, Contains-tail, Contains-nil, Contains-cons_cases}
 use Rattle.tfpg_base.specs.Choice.{first_of, each_of, unless_refused}
+use Rattle.std.proofs.lemmas.List.Elements.{All-nil, All-cons, All-head, All-tail}
 use Rattle.std.proofs.lemmas.Option.{same_Some, none-some}
-use Rattle.std.specs.Option.{is_some}
+use Rattle.std.specs.Option.{is_some, IsSomeAnd}
 use Rattle.std.specs.Bool.{then_some}
 
 module _ {X : Type 0} where
@@ -170,3 +171,61 @@ module _ {X : Type 0} where
   pub then_some-true : (b : Bool) (x y : X) → then_some b x ≡ Some y → (b ≡ true) × (x ≡ y)
   then_some-true true x y at = (refl, same_Some x y at)
   then_some-true false x y at = absurd (none-some y at)
+
+  -- a test that gives nothing fails
+  pub then_some-none : (b : Bool) (x : X) → then_some b x ≡ None → b ≡ false
+  then_some-none true x none = absurd cc
+  then_some-none false x none = refl
+
+  -- an option that can be no value is none
+  pub none-from_never : (o : Option X) → ((x : X) → o ≡ Some x → ⊥) → o ≡ None
+  none-from_never None never = refl
+  none-from_never (Some x) never = absurd (never x refl)
+
+  -- a value where a failed test gives nothing comes from the option, and the test holds
+  pub cond-some_first : (test : Bool) (here : Option X) (x : X) → cond test here None ≡ Some x → (test ≡ true) × (here ≡ Some x)
+  cond-some_first true here x at = (refl, at)
+  cond-some_first false here x at = absurd cc
+
+  -- a value where a test that holds gives nothing comes from the option, and the test fails
+  pub cond-some_second : (b : Bool) (o : Option X) (x : X) → cond b None o ≡ Some x → (b ≡ false) × (o ≡ Some x)
+  cond-some_second true o x at = absurd cc
+  cond-some_second false o x at = (refl, at)
+
+  -- where there is none of all, each is none
+  pub first_of-none : (options : List (Option X)) → first_of options ≡ None → All (λ o. o ≡ None) options
+  first_of-none [] none = All-nil (λ (o : Option X). o ≡ None)
+  first_of-none (Some x ∷ options) none = absurd cc
+  first_of-none (None ∷ options) none = All-cons (λ (o : Option X). o ≡ None) None options refl (first_of-none options none)
+
+  -- and where each is none, there is none of all
+  pub first_of-all_none : (options : List (Option X)) → All (λ o. o ≡ None) options → first_of options ≡ None
+  first_of-all_none [] none = refl
+  first_of-all_none (None ∷ options) none = first_of-all_none options (All-tail (λ (o : Option X). o ≡ None) None options none)
+  first_of-all_none (Some x ∷ options) none = absurd (let no : Some x ≡ None = All-head (λ (o : Option X). o ≡ None) (Some x) options none in cc)
+
+  -- a value of which a fact holds is one that there is
+  pub IsSomeAnd-from : (P : X → Type 0) (o : Option X) (x : X) → o ≡ Some x → P x → IsSomeAnd o P
+  IsSomeAnd-from P None x at holds = absurd (none-some x at)
+  IsSomeAnd-from P (Some y) x at holds = subst P (sym (same_Some y x at)) holds
+
+  -- and where there is one, the fact holds of it
+  pub IsSomeAnd-there : (P : X → Type 0) (o : Option X) → IsSomeAnd o P → (x : X) × (o ≡ Some x) × P x
+  IsSomeAnd-there P None none = absurd none
+  IsSomeAnd-there P (Some x) holds = (x, refl, holds)
+
+module _ {X Y : Type 0} where
+  -- where there is no image, there is no value
+  pub option_map-none : (f : X → Y) (o : Option X) → option_map f o ≡ None → o ≡ None
+  option_map-none f None none = refl
+  option_map-none f (Some x) none = absurd cc
+
+  -- where one function gives the values that another gives, it gives each where that one does
+  pub each_of-weaker : (f g : X → Option Y) → ((x : X) (y : Y) → f x ≡ Some y → g x ≡ Some y)
+      → (xs : List X) (ys : List Y) → each_of (map f xs) ≡ Some ys → each_of (map g xs) ≡ Some ys
+  each_of-weaker f g stays [] ys each = each
+  each_of-weaker f g stays (x ∷ xs) ys each =
+      let parts = opened_image f x xs ys each in
+      ap (λ (o : Option Y). each_of (o ∷ map g xs)) (stays x parts.0 parts.2)
+      ∙ ap (option_map (λ (zs : List Y). parts.0 ∷ zs)) (each_of-weaker f g stays xs parts.1 parts.3)
+      ∙ ap Some parts.4

@@ -1,8 +1,9 @@
 -- Lists that are cut in two ways.
 use Rattle.std.proofs.Common.{◌≡◌, ◌⊎◌, List, [], ◌∷◌, ◌++◌, refl, sym, inl, inr}
-use Rattle.std.proofs.Common.{ap, ◌∙◌, ℕ, zero, suc, ◌+◌, ◌<◌, ◌≤◌, length, take, drop, Some, arith}
+use Rattle.std.proofs.Common.{ap, ◌∙◌, ℕ, zero, suc, ◌+◌, ◌<◌, ◌≤◌, length, take, drop, Some, arith, add-one}
 use Rattle.std.specs.Prelude.{slice_get}
-use Rattle.std.proofs.lemmas.Option.{none-some}
+use Rattle.std.proofs.lemmas.List.{append-nil, length-append, length-take, take-take, take_at}
+use Rattle.std.proofs.lemmas.Option.{none-some, same_Some}
 
 -- the first cut is not after the other
 pub record Past {X : Type 0} (xs ys front back : List X) : Type 0 where
@@ -61,8 +62,54 @@ module _ {X : Type 0} where
   slice_get-taken (suc n) (y ∷ xs) zero x at = (omega arith, at)
   slice_get-taken (suc n) (y ∷ xs) (suc i) x at = let rest = slice_get-taken n xs i x at in (omega (arith, rest.0), rest.1)
 
-  -- the first so many of two lists are of the one, where it has so many
-  pub take-append_left : (xs ys : List X) (n : ℕ) → n ≤ length xs → take n (xs ++ ys) ≡ take n xs
-  take-append_left xs ys zero within = refl
-  take-append_left [] ys (suc n) within = absurd (omega arith)
-  take-append_left (x ∷ xs) ys (suc n) within = ap (λ items. x ∷ items) (take-append_left xs ys n (omega arith))
+  -- one item more among the first
+  pub take-item : (xs : List X) (n : ℕ) (x : X) → slice_get xs n ≡ Some x → take (suc n) xs ≡ take n xs ++ x ∷ []
+  take-item [] n x at = absurd (none-some x at)
+  take-item (y ∷ xs) zero x at = ap (λ z. z ∷ []) (same_Some y x at)
+  take-item (y ∷ xs) (suc n) x at = ap (λ zs. y ∷ zs) (take-item xs n x at)
+
+  -- the same, as code counts
+  pub take-next : (xs : List X) (n : ℕ) (x : X) → slice_get xs n ≡ Some x → take (n + 1) xs ≡ take n xs ++ x ∷ []
+  take-next xs n x at = ap (λ m. take m xs) (add-one n) ∙ take-item xs n x at
+
+  -- a list is what stands before an item, the item and what stands after it
+  pub cut_at : (xs : List X) (n : ℕ) (x : X) → slice_get xs n ≡ Some x → xs ≡ take n xs ++ x ∷ drop (suc n) xs
+  cut_at [] n x at = absurd (none-some x at)
+  cut_at (y ∷ xs) zero x at = ap (λ z. z ∷ xs) (same_Some y x at)
+  cut_at (y ∷ xs) (suc n) x at = ap (λ zs. y ∷ zs) (cut_at xs n x at)
+
+-- The front ends before the last item: what comes after the front but for that item.
+pub record Before {X : Type 0} (xs front : List X) : Type 0 where
+  pub rest : List X
+  pub is : xs ≡ front ++ rest
+
+module _ {X : Type 0} where
+  whole_is : (x y : X) (mid back : List X) → x ∷ [] ≡ y ∷ (mid ++ back) → y ∷ mid ≡ x ∷ []
+  whole_is x y [] back same = let head : x ≡ y = cc in ap (λ z. z ∷ []) (sym head)
+  whole_is x y (z ∷ mid) back same = cc
+
+  -- A front of a list with one more item is all of it, or ends before that item.
+  pub cut_last : (xs : List X) (x : X) (front back : List X) → xs ++ x ∷ [] ≡ front ++ back → (front ≡ xs ++ x ∷ []) ⊎ Before xs front
+  cut_last xs x front back same = elim (cut_twice xs (x ∷ []) front back same) [
+    | inl past ↦ by past.mid past.front_is past.rest_is
+    | inr within ↦ inr (record { rest = within.here ∷ within.mid; is = within.xs_is })
+  ]
+    where
+      by : (mid : List X) → front ≡ xs ++ mid → x ∷ [] ≡ mid ++ back → (front ≡ xs ++ x ∷ []) ⊎ Before xs front
+      by [] front_is rest_is = inr (record { rest = []; is = sym (append-nil front ∙ front_is ∙ append-nil xs) })
+      by (y ∷ mid) front_is rest_is = inl (front_is ∙ ap (λ zs. xs ++ zs) (whole_is x y mid back rest_is))
+
+  -- where the first so many of a list are a given list, it has so many
+  pub front_is_within : (xs given : List X) → take (length given) xs ≡ given → length given ≤ length xs
+  front_is_within xs given same = omega (arith, ap length same, length-take (length given) xs)
+
+  -- where they are a given list and one more item, those but one are the given list
+  pub front_before : (xs given : List X) (x : X) → take (length given + 1) xs ≡ given ++ x ∷ [] → take (length given) xs ≡ given
+  front_before xs given x same =
+      sym (take-take (length given) (length given + 1) xs (omega arith)) ∙ ap (take (length given)) same ∙ take_at given (x ∷ []) (length given) refl
+
+  -- the same front, by the length of the list with the one more
+  pub front_with : (xs given : List X) (x : X) → take (length given + 1) xs ≡ given ++ x ∷ [] → take (length (given ++ x ∷ [])) xs ≡ given ++ x ∷ []
+  front_with xs given x same =
+      let more : length (given ++ x ∷ []) ≡ length given + 1 = omega (arith, length-append given (x ∷ [])) in
+      ap (λ (n : ℕ). take n xs) more ∙ same

@@ -1,9 +1,11 @@
 -- Laws of the elements of a list: which stand in it, and what holds of each two.
-use Rattle.std.proofs.Common.{◌≡◌, ℕ, suc, zero, List, [], ◌∷◌, ◌++◌, ◌<◌, ◌∙◌, ◌||◌, Bool, true, false, ap, get_or, take, drop, Some, slice_get, ◌⊎◌, inl, inr, refl, subst, length-append, arith}
-use Rattle.std.specs.List.{All, AllPairs, Contains, list_any}
+use Rattle.std.proofs.Common.{◌≡◌, ℕ, suc, zero, List, [], ◌∷◌, ◌++◌, ◌<◌, ◌≤◌, length, ◌∙◌, ◌||◌, ◌&&◌, Bool, true, false, ap, get_or, take, drop, Some, None, slice_get, ◌⊎◌, inl, inr, refl, subst, length-append, arith}
+use Rattle.std.specs.List.{All, AllPairs, Contains, list_any, list_all}
 use Rattle.std.proofs.lemmas.List.{get_or_append_left, take-append-drop}
-use Rattle.std.proofs.lemmas.List.Elements.{All-tail, Contains-get_or, Contains-append_left, Contains-append_right}
+use Rattle.std.proofs.lemmas.List.Elements.{All-tail, All-contains, Contains-get_or, Contains-append_left, Contains-append_right}
 use Rattle.std.proofs.lemmas.Option.{get_or_from_slice_get, slice_get_within, slice_get-get_or}
+use Rattle.std.proofs.lemmas.List.Folds.{list_any_at}
+use Rattle.std.proofs.lemmas.List.Sums.{AllPass-from_list_all}
 pub use Rattle.std.proofs.lemmas.List.Kept.{AllPairs-cons}
 
 module _ {X : Type 0} where
@@ -94,3 +96,55 @@ module _ {X : Type 0} where
           → (list_any p xs ≡ true → (y : X) × Contains xs y × (p y ≡ true)) → (y : X) × Contains (x ∷ xs) y × (p y ≡ true)
       by true here any rest = (x, Contains-head x xs, here)
       by false here any rest = let found = rest any in (found.0, Contains-tail x xs found.0 found.1, found.2)
+
+  -- where an item passes, the test passes some
+  pub list_any-passes : (p : X → Bool) (xs : List X) (x : X) → Contains xs x → p x ≡ true → list_any p xs ≡ true
+  list_any-passes p xs x member passes = list_any_at p xs member.0 x member.1 (ap p member.2 ∙ passes)
+
+  -- where not all pass, some item fails
+  pub list_all-fails : (p : X → Bool) (xs : List X) → list_all p xs ≡ false → (x : X) × Contains xs x × (p x ≡ false)
+  list_all-fails p [] fails = absurd cc
+  list_all-fails p (x ∷ xs) fails = by (p x) refl fails (list_all-fails p xs)
+    where
+      by : (passes : Bool) → p x ≡ passes → (passes && list_all p xs) ≡ false
+          → (list_all p xs ≡ false → (y : X) × Contains xs y × (p y ≡ false)) → (y : X) × Contains (x ∷ xs) y × (p y ≡ false)
+      by true here some rest = let found = rest some in (found.0, Contains-tail x xs found.0 found.1, found.2)
+      by false here some rest = (x, Contains-head x xs, here)
+
+  -- where all pass, each item does
+  pub list_all-each : (p : X → Bool) (xs : List X) (x : X) → list_all p xs ≡ true → Contains xs x → p x ≡ true
+  list_all-each p xs x all member = All-contains (λ y. p y ≡ true) xs x (AllPass-from_list_all p xs all) member
+
+module _ {X : Type 0} where
+  -- an item in the middle of a list stands in it
+  pub Contains-middle : (xs : List X) (x : X) (ys : List X) → Contains (xs ++ x ∷ ys) x
+  Contains-middle xs x ys = Contains-append_right xs (x ∷ ys) x (Contains-head x ys)
+
+  -- what holds of each element holds of the one in the middle
+  pub All-middle : (P : X → Type 0) (xs : List X) (y : X) (ys : List X) → All P (xs ++ y ∷ ys) → P y
+  All-middle P xs y ys all = All-contains P (xs ++ y ∷ ys) y all (Contains-middle xs y ys)
+
+  -- what relates each two relates each two of the rest after a front
+  pub AllPairs-back : (R : X → X → Type 0) (xs ys : List X) → AllPairs R (xs ++ ys) → AllPairs R ys
+  AllPairs-back R [] ys pairs = pairs
+  AllPairs-back R (z ∷ zs) ys pairs = AllPairs-back R zs ys (AllPairs-tail R z (zs ++ ys) pairs)
+
+  -- what relates each two relates each of a front to each of the rest
+  pub AllPairs-across : (R : X → X → Type 0) (xs ys : List X) (x y : X) → AllPairs R (xs ++ ys) → Contains xs x → Contains ys y → R x y
+  AllPairs-across R [] ys x y pairs in_xs in_ys = absurd (Contains-nil x in_xs)
+  AllPairs-across R (z ∷ zs) ys x y pairs in_xs in_ys = elim (Contains-cons_cases z zs x in_xs) [
+    | inl is ↦ subst (λ w. R w y) is (All-contains (R z) (zs ++ ys) y (AllPairs-head R z (zs ++ ys) pairs) (Contains-append_right zs ys y in_ys))
+    | inr rest ↦ AllPairs-across R zs ys x y (AllPairs-tail R z (zs ++ ys) pairs) rest in_ys
+  ]
+
+  -- where there is no item at a place, the list ends before it
+  pub slice_get-none : (xs : List X) (i : ℕ) → slice_get xs i ≡ None → length xs ≤ i
+  slice_get-none [] i none = omega arith
+  slice_get-none (x ∷ xs) zero none = absurd cc
+  slice_get-none (x ∷ xs) (suc i) none = omega (arith, slice_get-none xs i none)
+
+  -- within a list there is an item at each place
+  pub slice_get-there : (xs : List X) (n : ℕ) → n < length xs → (x : X) × (slice_get xs n ≡ Some x)
+  slice_get-there [] n within = absurd (omega arith)
+  slice_get-there (x ∷ xs) zero within = (x, refl)
+  slice_get-there (x ∷ xs) (suc n) within = slice_get-there xs n (omega arith)

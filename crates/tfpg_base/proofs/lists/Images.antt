@@ -1,11 +1,13 @@
 -- What holds of the images of a list's elements under a function.
-use Rattle.std.proofs.Common.{◌≡◌, ◌<◌, Bool, ◌||◌, List, [], ◌∷◌, length, map, get_or, ⊎_elim, refl, ap, sym, subst, arith}
-use Rattle.std.specs.List.{AllPairs, Contains, list_any}
+use Rattle.std.proofs.Common.{◌≡◌, ℕ, ◌<◌, Bool, ◌||◌, List, [], ◌∷◌, ◌++◌, length, map, get_or, Some, slice_get, inl, inr, ⊎_elim, refl, ap, sym, subst, arith}
+use Rattle.std.specs.List.{AllPairs, Contains, list_any, flat_map}
 use Rattle.std.proofs.lemmas.List.{get_or-map, length-map}
 use Rattle.tfpg_base.proofs.lists.Elements.{Contains-head, Contains-tail, Contains-cons_cases, Contains-nil}
 use Rattle.std.proofs.Common.{◌∙◌}
 use Rattle.std.specs.List.{All}
-use Rattle.std.proofs.lemmas.List.Elements.{All-head, All-tail}
+use Rattle.std.proofs.lemmas.List.Elements.{All-head, All-tail, All-nil, All-cons, Contains-append_left, Contains-append_right}
+use Rattle.std.proofs.lemmas.Option.{slice_get-map}
+use Rattle.tfpg_base.proofs.lists.Choices.{option_map-some}
 
 module _ {X Y : Type 0} (p : Y → Bool) (f : X → Y) where
   -- whether one of the images passes
@@ -40,7 +42,7 @@ module _ {X Y : Type 0} (f : X → Y) where
       (λ after. let old = Contains-map_only others y after in (old.0, Contains-tail first others old.0 old.1, old.2))
       (Contains-cons_cases (f first) (map f others) y member)
 
--- images that are the same are of the same items, where a function tells items apart
+-- equal images are those of equal items, where the function is injective
 pub map-injective : {X Y : Type 0} (P : X → Type 0) (f : X → Y) → ((a b : X) → P a → P b → f a ≡ f b → a ≡ b)
     → (xs ys : List X) → All P xs → All P ys → map f xs ≡ map f ys → xs ≡ ys
 map-injective P f apart [] [] of too e = refl
@@ -57,3 +59,27 @@ map-injective P f apart (x ∷ xs) (y ∷ ys) of too e =
 pub map-map : {X Y Z : Type 0} (g : Y → Z) (f : X → Y) (xs : List X) → map g (map f xs) ≡ map (λ (x : X). g (f x)) xs
 map-map g f [] = refl
 map-map g f (x ∷ xs) = ap (λ zs. g (f x) ∷ zs) (map-map g f xs)
+
+-- what an image at a place comes from
+pub slice_get-map_only : {X Y : Type 0} (f : X → Y) (xs : List X) (n : ℕ) (y : Y) → slice_get (map f xs) n ≡ Some y → (x : X) × (slice_get xs n ≡ Some x) × (f x ≡ y)
+slice_get-map_only f xs n y at = option_map-some f (slice_get xs n) y (sym (slice_get-map f xs n) ∙ at)
+
+-- what holds of each image holds of each item that it comes from
+pub All-unmap : {X Y : Type 0} (P : X → Type 0) (f : Y → X) (ys : List Y) → All P (map f ys) → All (λ y. P (f y)) ys
+All-unmap P f [] all = All-nil (λ y. P (f y))
+All-unmap P f (y ∷ ys) all = All-cons (λ z. P (f z)) y ys (All-head P (f y) (map f ys) all) (All-unmap P f ys (All-tail P (f y) (map f ys) all))
+
+-- ---- lists that each item gives
+
+-- what stands in the list of one item stands in that of all
+pub Contains-flat_map : {X Y : Type 0} (f : X → List Y) (xs : List X) (x : X) (y : Y) → Contains xs x → Contains (f x) y → Contains (flat_map f xs) y
+Contains-flat_map f [] x y member there = absurd (Contains-nil x member)
+Contains-flat_map f (z ∷ xs) x y member there = elim (Contains-cons_cases z xs x member) [
+  | inl is ↦ Contains-append_left (f z) (flat_map f xs) y (subst (λ w. Contains (f w) y) (sym is) there)
+  | inr later ↦ Contains-append_right (f z) (flat_map f xs) y (Contains-flat_map f xs x y later there)
+]
+
+-- lists that are the same item by item
+pub flat_map-same : {X Y : Type 0} (f g : X → List Y) (xs : List X) → All (λ x. f x ≡ g x) xs → flat_map f xs ≡ flat_map g xs
+flat_map-same f g [] same = refl
+flat_map-same f g (x ∷ xs) same = λ i. All-head (λ y. f y ≡ g y) x xs same i ++ flat_map-same f g xs (All-tail (λ y. f y ≡ g y) x xs same) i

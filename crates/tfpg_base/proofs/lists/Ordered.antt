@@ -1,11 +1,14 @@
 -- Lists in which each element is related to all later ones.
-use Rattle.std.proofs.Common.{◌≡◌, ℕ, ◌<◌, ◌≤◌, List, [], ◌∷◌, ◌++◌, ⊎_elim, refl, arith, sym, ◌∙◌, subst}
+use Rattle.std.proofs.Common.{◌≡◌, ◌≢◌, ℕ, ◌+◌, map, ◌<◌, ◌≤◌, List, [], ◌∷◌, ◌++◌, ⊎_elim, refl, arith, sym, ◌∙◌, subst}
 use Rattle.std.specs.List.{AllPairs, Contains}
 use Rattle.std.proofs.lemmas.List.Elements.{All-contains, Contains-append_cases}
+pub use Rattle.tfpg_base.specs.Set.{Rises}
 use Rattle.tfpg_base.proofs.lists.Elements.{AllPairs-head, AllPairs-tail, AllPairs-cons, All-from_members, Contains-head, Contains-tail, Contains-cons_cases, Contains-nil}
+use Rattle.tfpg_base.proofs.lists.Images.{Contains-map_only}
 use Rattle.std.proofs.Common.{◌≤◌, get_or, ap, ⊎_elim, arith}
 use Rattle.std.specs.List.Sorted.{IsNonDecreasingBy}
 use Rattle.std.specs.Ordering.{nat_cmp, ordering_index}
+use Rattle.std.proofs.Math.Nat.{le_antisymm}
 use Rattle.std.proofs.lemmas.Bool.{cases_lt}
 use Rattle.std.proofs.lemmas.Bool.Decides.{nat_tests}
 
@@ -44,10 +47,6 @@ module _ {X : Type 0} (R : X → X → Type 0) where
         let rests = same_in_order xs ys (AllPairs-tail R x xs first) (AllPairs-tail R y ys second) (in_rest x y xs ys heads first to) (in_rest y x ys xs (sym heads) second from) in
         cc
 
--- the numbers rise strictly
-abbrev pub Rises : List ℕ → Type 0
-Rises members = AllPairs (λ earlier later. earlier < later) members
-
 -- a member of a rising list is no less than its head
 pub least_first : (first : ℕ) (others : List ℕ) (place : ℕ) → Rises (first ∷ others) → Contains (first ∷ others) place → first ≤ place
 least_first first others place rising member =
@@ -57,11 +56,21 @@ least_first first others place rising member =
 pub same_from_members : (xs ys : List ℕ) → Rises xs → Rises ys → ((place : ℕ) → Contains xs place → Contains ys place) → ((place : ℕ) → Contains ys place → Contains xs place) → xs ≡ ys
 same_from_members xs ys rises_x rises_y to from = same_in_order (λ earlier later. earlier < later) (λ x y above below. omega arith) xs ys rises_x rises_y to from
 
--- ---- binary searches
+-- No two numbers of a rising list are the same.
+pub Rises-differ : (members : List ℕ) → Rises members → AllPairs ◌≢◌ members
+Rises-differ members rising i j d before within same = omega (arith, rising i j d before within, same)
 
--- two places of which neither is greater are one
-same_place : (i j : ℕ) → i ≤ j → j ≤ i → i ≡ j
-same_place i j le ge = omega arith
+-- a rising list further up rises
+pub Rises-shifted : (by : ℕ) (xs : List ℕ) → Rises xs → Rises (map (λ x. by + x) xs)
+Rises-shifted by [] rising = rising
+Rises-shifted by (first ∷ others) rising =
+    AllPairs-cons ◌<◌ (by + first) (map (λ x. by + x) others)
+    (All-from_members (λ later. by + first < later) (map (λ x. by + x) others)
+    (λ later member. let old = Contains-map_only (λ x. by + x) others later member in
+    omega (arith, old.2, All-contains (λ y. first < y) others old.0 (AllPairs-head ◌<◌ first others rising) old.1)))
+    (Rises-shifted by others (AllPairs-tail ◌<◌ first others rising))
+
+-- ---- binary searches
 
 -- a greater number compares no less
 index_rises : (low high with : ℕ) → low ≤ high → ordering_index (nat_cmp low with) ≤ ordering_index (nat_cmp high with)
@@ -71,5 +80,5 @@ index_rises low high with le = grind (arith, nat_tests)
 pub comparisons_rise : {X : Type 0} (key : X → ℕ) (xs : List X) (with : ℕ) → AllPairs (λ a b. key a < key b) xs → IsNonDecreasingBy (λ x. ordering_index (nat_cmp (key x) with)) xs
 comparisons_rise key xs with rising i j d le within =
     index_rises (key (get_or xs i d)) (key (get_or xs j d)) with
-    (⊎_elim (λ less. omega (arith, rising i j d less within)) (λ no_less. omega (arith, ap (λ k. key (get_or xs k d)) (same_place i j le no_less)))
+    (⊎_elim (λ less. omega (arith, rising i j d less within)) (λ no_less. omega (arith, ap (λ k. key (get_or xs k d)) (le_antisymm le no_less)))
     (cases_lt i j))

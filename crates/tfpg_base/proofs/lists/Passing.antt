@@ -1,6 +1,7 @@
 -- What stands in the list of those that pass a test, or of the values that there are.
 use Rattle.std.proofs.Common.{◌≡◌, ℕ, zero, suc, ◌<◌, ◌≤◌, Bool, true, false, cond, List, [], ◌∷◌, length, filter, filter_map, Option, Some, None, slice_get, inl, inr, ⊎_elim, refl, sym, ap, ◌∙◌, arith}
-use Rattle.std.specs.List.{Contains, cons_option}
+use Rattle.std.specs.List.{All, Contains, cons_option}
+use Rattle.std.proofs.lemmas.List.Elements.{All-nil, All-cons}
 use Rattle.std.proofs.lemmas.Option.{slice_get_within}
 use Rattle.tfpg_base.proofs.lists.Elements.{Contains-head, Contains-tail, Contains-nil, Contains-cons_cases}
 
@@ -113,3 +114,12 @@ module _ {X Y : Type 0} (f : X → Option Y) where
       let own = each first (Contains-head first xs) in
       not_each_from_length-filter_map xs (let same : length (filter_map f (first ∷ xs)) ≡ suc (length (filter_map f xs)) = ap (λ o. length (cons_option o (filter_map f xs))) own.1 in omega arith)
       (λ x member. each x (Contains-tail first xs x member))
+
+  -- what holds of each value that is had holds of all of them
+  pub All-filter_map : (P : Y → Type 0) → ((x : X) (y : Y) → f x ≡ Some y → P y) → (xs : List X) → All P (filter_map f xs)
+  All-filter_map P each [] = All-nil P
+  All-filter_map P each (x ∷ xs) = by (f x) refl (All-filter_map P each xs)
+    where
+      by : (o : Option Y) → f x ≡ o → All P (filter_map f xs) → All P (cons_option o (filter_map f xs))
+      by None at rest = rest
+      by (Some y) at rest = All-cons P y (filter_map f xs) (each x y at) rest

@@ -1,8 +1,8 @@
 -- A list without repetition is at most as long as a list that has all its items.
-use Rattle.std.proofs.Common.{◌≡◌, ◌≢◌, ◌⊎◌, ℕ, zero, suc, ◌<◌, ◌≤◌, List, [], ◌∷◌, ◌++◌, length, refl, ap, subst, inl, inr, arith, length-append}
+use Rattle.std.proofs.Common.{◌≡◌, ◌≢◌, ℕ, zero, suc, ◌<◌, ◌≤◌, List, [], ◌∷◌, ◌++◌, length, ap, subst, inl, inr, arith, length-append}
 use Rattle.std.specs.Prelude.{All, AllPairs, Contains, slice_index_or}
-use Rattle.std.proofs.lemmas.List.Elements.{All-nil, All-cons, All-head, All-tail, All-from_get_or, Contains-append_left, Contains-append_right, Contains-append_cases}
-use Rattle.tfpg_base.proofs.lists.Elements.{Contains-cons_cases}
+use Rattle.std.proofs.lemmas.List.Elements.{All-nil, All-cons, All-head, All-tail, Contains-append_left, Contains-append_right, Contains-append_cases}
+use Rattle.tfpg_base.proofs.lists.Elements.{AllPairs-head, AllPairs-tail, Contains-cons_cases}
 
 module _ {X : Type 0} where
   -- where an item stands
@@ -29,13 +29,6 @@ module _ {X : Type 0} where
         ]
       ]
 
-  -- the pairs of a list, from its first item on
-  first_differs : (x : X) (xs : List X) → AllPairs ◌≢◌ (x ∷ xs) → All (λ (y : X). x ≢ y) xs
-  first_differs x xs pairs = All-from_get_or (λ (y : X). x ≢ y) xs x (λ i within. pairs 0 (suc i) x (omega arith) (omega (arith, within)))
-
-  others_differ : (x : X) (xs : List X) → AllPairs ◌≢◌ (x ∷ xs) → AllPairs ◌≢◌ xs
-  others_differ x xs pairs i j d less within = pairs (suc i) (suc j) d (omega (arith, less)) (omega (arith, within))
-
   within_others : (xs : List X) (x : X) (front back : List X) → All (Contains (front ++ x ∷ back)) xs → All (λ (y : X). x ≢ y) xs → All (Contains (front ++ back)) xs
   within_others [] x front back has differ = All-nil (Contains (front ++ back))
   within_others (y ∷ xs) x front back has differ =
@@ -49,6 +42,6 @@ module _ {X : Type 0} where
       let own = All-head (Contains ys) x xs has in
       let place = around_at ys x own.0 own.1 own.2 in
       let rest : length xs ≤ length (place.front ++ place.back) =
-      length-le_contained xs (place.front ++ place.back) (others_differ x xs pairs)
-      (within_others xs x place.front place.back (subst (λ (zs : List X). All (Contains zs) xs) place.is (All-tail (Contains ys) x xs has)) (first_differs x xs pairs)) in
+      length-le_contained xs (place.front ++ place.back) (AllPairs-tail ◌≢◌ x xs pairs)
+      (within_others xs x place.front place.back (subst (λ (zs : List X). All (Contains zs) xs) place.is (All-tail (Contains ys) x xs has)) (AllPairs-head ◌≢◌ x xs pairs)) in
       omega (arith, rest, ap length place.is, length-append place.front (x ∷ place.back), length-append place.front place.back)

@@ -1,5 +1,5 @@
 -- Laws of lists of which some items have a value: how many they are, and what one item more does.
-use Rattle.std.proofs.Common.{◌≡◌, ℕ, ◌+◌, Bool, true, false, cond, not, ◌||◌, nat_lt, ◌==◌, List, [], ◌∷◌, ◌++◌, length, All, Option, Some, None, is_some, option_map, filter_map, count_by, refl, ap, sym, ◌∙◌, arith}
+use Rattle.std.proofs.Common.{◌≡◌, ℕ, ◌+◌, Bool, true, false, cond, not, ◌||◌, nat_lt, ◌==◌, List, [], ◌∷◌, ◌++◌, length, All, Option, Some, None, is_none, is_some, option_map, filter_map, count_by, refl, ap, sym, ◌∙◌, arith}
 use Rattle.std.specs.List.{list_any, cons_option}
 use Rattle.std.proofs.lemmas.Bool.{or_parts, lt-ltb, false≢true}
 use Rattle.std.proofs.lemmas.Bool.Decides.{nat_tests}
@@ -79,3 +79,8 @@ module _ {X Y : Type 0} (value : X → Option Y) where
 pub is_some-option_map : {X Y : Type 0} (f : X → Y) (o : Option X) → is_some (option_map f o) ≡ is_some o
 is_some-option_map f None = refl
 is_some-option_map f (Some x) = refl
+
+-- a map leaves whether there is nothing
+pub is_none-option_map : {X Y : Type 0} (f : X → Y) (o : Option X) → is_none (option_map f o) ≡ is_none o
+is_none-option_map f None = refl
+is_none-option_map f (Some x) = refl

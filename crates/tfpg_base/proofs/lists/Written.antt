@@ -85,3 +85,9 @@ module _ {X : Type 0} where
   set_back [] i x y at = absurd (none-some x at)
   set_back (z ∷ xs) zero x y at = ap (λ (first : X). first ∷ xs) (sym (same_Some z x at))
   set_back (z ∷ xs) (suc i) x y at = ap (λ (others : List X). z ∷ others) (set_back xs i x y at)
+
+  -- an item of two lists stands in the one or in the other
+  pub slice_get-append_cases : (xs ys : List X) (i : ℕ) (x : X) → slice_get (xs ++ ys) i ≡ Some x → (slice_get xs i ≡ Some x) ⊎ ((j : ℕ) × (slice_get ys j ≡ Some x))
+  slice_get-append_cases [] ys i x at = inr (i, at)
+  slice_get-append_cases (z ∷ xs) ys zero x at = inl at
+  slice_get-append_cases (z ∷ xs) ys (suc i) x at = slice_get-append_cases xs ys i x at

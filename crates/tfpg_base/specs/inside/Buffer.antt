@@ -1,7 +1,8 @@
 -- What a reader of lines keeps.
 use Rattle.std.specs.Prelude.{◌≡◌, ◌+◌, ◌≤◌, slice_range, vec_len, None}
 use Rattle.tfpg_base.specs.declared.lines.Lines.TheInside.{Inside}
-use Rattle.tfpg_base.specs.Lines.{Buffered, max_bytes, buffer_size}
+use Rattle.tfpg_base.specs.Lines.{Buffered}
+use Rattle.tfpg_base.specs.declared.limits.TheConstants.{MAX_BYTES, BUFFER_SIZE}
 
 -- what contracts see of it
 abbrev pub buffered_of : Inside → Buffered
@@ -16,10 +17,10 @@ buffered_of a = record {
 -- The buffer has its size, what waits and what is lent lies in it, and there are no more lines than bytes that do not wait.
 -- Before the end not too many bytes were taken.
 pub record IsInPlace (a : Inside) : Type 0 where
-  pub room : vec_len a.buffer ≡ buffer_size
+  pub room : vec_len a.buffer ≡ BUFFER_SIZE
   pub waiting : a.waiting.start ≤ a.waiting.end
-  pub waiting_within : a.waiting.end ≤ buffer_size
+  pub waiting_within : a.waiting.end ≤ BUFFER_SIZE
   pub text : a.text.start ≤ a.text.end
-  pub text_within : a.text.end ≤ buffer_size
+  pub text_within : a.text.end ≤ BUFFER_SIZE
   pub lines : a.number + a.waiting.end ≤ a.taken + a.waiting.start
-  pub few : a.ended ≡ None → a.taken ≤ max_bytes
+  pub few : a.ended ≡ None → a.taken ≤ MAX_BYTES

@@ -5,7 +5,8 @@ use Rattle.tfpg_base.specs.declared.line.Line.TheVariants as line
 use Rattle.tfpg_base.specs.declared.line.LineFault.{LineFault}
 use Rattle.tfpg_base.specs.declared.line.LineFault.TheVariants as fault
 use Rattle.tfpg_base.specs.Outside.{SourceState, Takes, IsAtEnd}
-use Rattle.tfpg_base.specs.Lines.{Buffered, HasNoLineEnd, longest_line, max_bytes, buffer_size}
+use Rattle.tfpg_base.specs.Lines.{Buffered, HasNoLineEnd}
+use Rattle.tfpg_base.specs.declared.limits.TheConstants.{LONGEST_LINE, MAX_BYTES, BUFFER_SIZE}
 
 -- The line ends at the first byte that ends one.
 pub record IsAtLineEnd (bytes : List ℕ) (count : ℕ) : Type 0 where
@@ -15,11 +16,11 @@ pub record IsAtLineEnd (bytes : List ℕ) (count : ℕ) : Type 0 where
 
 -- what the result for a line is
 abbrev pub kind_of : List ℕ → Line
-kind_of bytes = if nat_le (length bytes) longest_line then line.Text else line.TooLong
+kind_of bytes = if nat_le (length bytes) LONGEST_LINE then line.Text else line.TooLong
 
 -- what is lent of a line
 abbrev pub lent_of : List ℕ → List ℕ
-lent_of bytes = if nat_le (length bytes) longest_line then bytes else []
+lent_of bytes = if nat_le (length bytes) LONGEST_LINE then bytes else []
 
 -- The bytes are a line, its line end, and what waits.
 pub record BeginsWith (bytes first : List ℕ) (now : Buffered) : Type 0 where
@@ -38,7 +39,7 @@ pub record IsGiven (bytes first : List ℕ) (lines : ℕ) (source_ended : Type 0
   pub line : HasNoLineEnd first
   pub ends : BeginsWith bytes first now ⊎ IsLastLine bytes first source_ended now
   pub number : now.number ≡ lines + 1
-  pub few : now.taken ≤ max_bytes
+  pub few : now.taken ≤ MAX_BYTES
 
 -- All that waited was given as the last line, or there was nothing.
 abbrev pub GivesLast : Buffered → Line → Buffered → Type 0
@@ -55,15 +56,15 @@ pub record IsEnded (lines : ℕ) (answer : Result Line LineFault) (now : Buffere
 -- what a call found in these bytes
 abbrev pub FoundLine : List ℕ → ℕ → Type 0 → Result Line LineFault → Buffered → Type 0
 FoundLine bytes lines source_ended (Ok line.Text) now =
-    (first : List ℕ) × IsGiven bytes first lines source_ended now × (length first ≤ longest_line) × (now.text ≡ first)
+    (first : List ℕ) × IsGiven bytes first lines source_ended now × (length first ≤ LONGEST_LINE) × (now.text ≡ first)
 FoundLine bytes lines source_ended (Ok line.TooLong) now =
-    (first : List ℕ) × IsGiven bytes first lines source_ended now × (longest_line < length first) × (now.text ≡ [])
+    (first : List ℕ) × IsGiven bytes first lines source_ended now × (LONGEST_LINE < length first) × (now.text ≡ [])
 FoundLine bytes lines source_ended (Ok line.End) now =
-    (bytes ≡ []) × source_ended × (now.taken ≤ max_bytes) × IsEnded lines (Ok line.End) now
+    (bytes ≡ []) × source_ended × (now.taken ≤ MAX_BYTES) × IsEnded lines (Ok line.End) now
 FoundLine bytes lines source_ended (Err fault.ReadFault) now =
-    HasNoLineEnd bytes × (now.taken ≤ max_bytes) × IsEnded lines (Err fault.ReadFault) now
+    HasNoLineEnd bytes × (now.taken ≤ MAX_BYTES) × IsEnded lines (Err fault.ReadFault) now
 FoundLine bytes lines source_ended (Err fault.TooMuchInput) now =
-    (first : List ℕ) × (last : ℕ) × HasNoLineEnd first × (bytes ≡ first ++ last ∷ []) × (now.taken ≡ max_bytes + 1) × IsEnded lines (Err fault.TooMuchInput) now
+    (first : List ℕ) × (last : ℕ) × HasNoLineEnd first × (bytes ≡ first ++ last ∷ []) × (now.taken ≡ MAX_BYTES + 1) × IsEnded lines (Err fault.TooMuchInput) now
 
 -- these bytes were taken
 pub record Took (old now : Buffered) (before after : SourceState) (more : List ℕ) : Type 0 where
@@ -76,17 +77,17 @@ pub record Pieces (old : Buffered) (more : List ℕ) : Type 0 where
   pub piece : List ℕ
   pub whole : more ≡ front ++ piece
   pub part : HasNoLineEnd (old.waiting ++ front)
-  pub few : old.taken + length front ≤ max_bytes
-  pub small : length piece ≤ buffer_size
+  pub few : old.taken + length front ≤ MAX_BYTES
+  pub small : length piece ≤ BUFFER_SIZE
 
 -- Bytes were taken, and wait.
 pub record IsRefilled (old now : Buffered) (before after : SourceState) (count : ℕ) : Type 0 where
   pub more : List ℕ
   pub took : Took old now before after more
   pub length : length more ≡ count
-  pub small : count ≤ buffer_size
+  pub small : count ≤ BUFFER_SIZE
   pub end : count ≡ 0 → IsAtEnd after
-  pub few : now.taken ≤ max_bytes
+  pub few : now.taken ≤ MAX_BYTES
   pub waiting : now.waiting ≡ old.waiting ++ more
   pub number : now.number ≡ old.number
   pub ended : now.ended ≡ old.ended
@@ -95,9 +96,9 @@ pub record IsRefilled (old now : Buffered) (before after : SourceState) (count :
 abbrev pub Refilled : Buffered → SourceState → SourceState → Result ℕ LineFault → Buffered → Type 0
 Refilled old before after (Ok count) now = IsRefilled old now before after count
 Refilled old before after (Err fault.ReadFault) now =
-    Took old now before after [] × (now.taken ≤ max_bytes) × IsEnded old.number (Err fault.ReadFault) now
+    Took old now before after [] × (now.taken ≤ MAX_BYTES) × IsEnded old.number (Err fault.ReadFault) now
 Refilled old before after (Err fault.TooMuchInput) now =
-    (last : ℕ) × Took old now before after (last ∷ []) × (now.taken ≡ max_bytes + 1) × IsEnded old.number (Err fault.TooMuchInput) now
+    (last : ℕ) × Took old now before after (last ∷ []) × (now.taken ≡ MAX_BYTES + 1) × IsEnded old.number (Err fault.TooMuchInput) now
 
 -- bytes were taken until a line, the end or a fault was found
 abbrev pub Searched : Buffered → SourceState → SourceState → Result Line LineFault → Buffered → Type 0

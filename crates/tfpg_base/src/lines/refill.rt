@@ -2,7 +2,8 @@
 
 ghost use Rattle.std.specs.Prelude.{◌≡◌, ◌<◌, ◌≤◌, ◌+◌, ◌-◌, take, length, slice_range, vec_len, IfOk, OnErr, Ok};
 ghost use Rattle.tfpg_base.specs.Outside.{Rose, Takes, IsAtEnd};
-ghost use Rattle.tfpg_base.specs.Lines.{longest_line, max_bytes, CountsReadFault};
+ghost use Rattle.tfpg_base.specs.Lines.{CountsReadFault};
+ghost use Rattle.tfpg_base.specs.declared.limits.TheConstants.{LONGEST_LINE, MAX_BYTES};
 ghost use Rattle.tfpg_base.specs.inside.LineSearch.{Refilled};
 
 use super::{Lines, Places};
@@ -11,8 +12,8 @@ use crate::{BUFFER_SIZE, Failed, LineFault, MAX_BYTES, Source};
 impl Lines {
     /// Takes further bytes, and returns how many: none where the source has ended. A fault ends the reader.
     pub(super) fn refill<S: Source>(&mut self, source: &mut S) -> Result<usize, LineFault>
-        requires short { length self.old.waiting ≤ longest_line }
-        requires few { self.old.taken ≤ max_bytes }
+        requires short { length self.old.waiting ≤ LONGEST_LINE }
+        requires few { self.old.taken ≤ MAX_BYTES }
         ensures refilled { Refilled self.old (S.state source.old) (S.state source.new) result self.new }
         ensures counted { CountsReadFault result (S.state source.old) (S.state source.new) }
     {
@@ -63,13 +64,13 @@ fn with_room(buffer: &mut Vec<u8>, waiting: Places) -> Places
 
 /// How many bytes to take at most: one where no more may be taken, to see whether there are more.
 fn wanted(taken: u64, free: usize) -> usize
-    requires few { taken ≤ max_bytes }
+    requires few { taken ≤ MAX_BYTES }
     requires some { 0 < free }
     ensures some { 0 < result }
     ensures within { result ≤ free }
-    ensures few { taken < max_bytes → taken + result ≤ max_bytes }
-    ensures one { taken ≡ max_bytes → result ≡ 1 }
-    ensures all { taken + free ≤ max_bytes → result ≡ free }
+    ensures few { taken < MAX_BYTES → taken + result ≤ MAX_BYTES }
+    ensures one { taken ≡ MAX_BYTES → result ≡ 1 }
+    ensures all { taken + free ≤ MAX_BYTES → result ≡ free }
 {
     let left = MAX_BYTES - taken;
     if left < free as u64 {

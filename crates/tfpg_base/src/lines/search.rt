@@ -1,7 +1,8 @@
 //! The search for the end of a line that has not come whole.
 
 ghost use Rattle.std.specs.Prelude.{◌≡◌, ◌<◌, ◌≤◌, ◌+◌, [], drop, length, None, Some, Ok};
-ghost use Rattle.tfpg_base.specs.Lines.{HasNoLineEnd, longest_line, max_bytes, CountsReadFault};
+ghost use Rattle.tfpg_base.specs.Lines.{HasNoLineEnd, CountsReadFault};
+ghost use Rattle.tfpg_base.specs.declared.limits.TheConstants.{LONGEST_LINE, MAX_BYTES};
 ghost use Rattle.tfpg_base.specs.inside.LineSearch.{GivesLast, Searched};
 
 use super::{Lines, Places, line_end};
@@ -12,7 +13,7 @@ impl Lines {
     pub(super) fn read_line<S: Source>(&mut self, source: &mut S) -> Result<Line, LineFault>
         requires goes_on { self.old.ended ≡ None }
         requires part { HasNoLineEnd self.old.waiting }
-        requires few { self.old.taken ≤ max_bytes }
+        requires few { self.old.taken ≤ MAX_BYTES }
         ensures searched { Searched self.old (S.state source.old) (S.state source.new) result self.new }
         ensures counted { CountsReadFault result (S.state source.old) (S.state source.new) }
     {
@@ -34,8 +35,8 @@ impl Lines {
     fn skip_line<S: Source>(&mut self, source: &mut S) -> Result<Line, LineFault>
         requires goes_on { self.old.ended ≡ None }
         requires part { HasNoLineEnd self.old.waiting }
-        requires long { longest_line < length self.old.waiting }
-        requires few { self.old.taken ≤ max_bytes }
+        requires long { LONGEST_LINE < length self.old.waiting }
+        requires few { self.old.taken ≤ MAX_BYTES }
         ensures searched { Searched self.old (S.state source.old) (S.state source.new) result self.new }
         ensures counted { CountsReadFault result (S.state source.old) (S.state source.new) }
     {
@@ -54,7 +55,7 @@ impl Lines {
 
     /// Returns the bytes that wait as the last line, if there are some. From then on the end is returned.
     fn give_last(&mut self) -> Line
-        requires { length self.old.waiting ≤ longest_line }
+        requires { length self.old.waiting ≤ LONGEST_LINE }
         ensures given { GivesLast self.old result self.new }
         ensures taken { self.new.taken ≡ self.old.taken }
         ensures ended { self.new.ended ≡ Some (Ok Line.End) }

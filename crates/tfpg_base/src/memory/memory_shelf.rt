@@ -11,7 +11,7 @@ use crate::{NoMemory, Shelf, ShelfFault, append_to_file};
 use std::alloc::Global;
 use std::marker::Model;
 
-/// Files by name, of which fetching fails at chosen calls and where there is no such file.
+/// Files by name. Fetching fails at chosen calls, and where there is no such file.
 #[derive(Debug, Drop)]
 pub struct MemoryShelf<'a> {
     files: &'a [(&'a str, &'a [u8])],

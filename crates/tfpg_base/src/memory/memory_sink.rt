@@ -40,7 +40,13 @@ impl<'a> MemorySink<'a> {
     /// numbers. Takes no memory.
     pub fn new(alloc: Global, limit: usize, failing: &'a [u64]) -> MemorySink<'a>
         requires { 0 < limit }
-        ensures { result ≡ record { holds = []; limit = limit; failing = failing.now; calls = 0; faults = 0 } }
+        ensures { result ≡ record {
+          holds = [];
+          limit = limit;
+          failing = failing.now;
+          calls = 0;
+          faults = 0;
+        } }
     {
         MemorySink {
             bytes: Vec::new(alloc),

@@ -21,7 +21,8 @@ constraints_in (Arrival constraints) = constraints
 
 -- the alternative of an edge, by its number
 abbrev pub arrival_over : Tfpg → Logbook → ℕ → ℕ → Span → ℕ → Option (List Constraint)
-arrival_over graph log number horizon span edge = option_and_then (arrival log number horizon span) (slice_get graph.edges edge)
+arrival_over graph log number horizon span edge =
+    option_and_then (arrival log number horizon span) (slice_get graph.edges edge)
 
 -- the alternatives of these edges
 abbrev pub arrivals_over : Tfpg → Logbook → ℕ → ℕ → Span → List ℕ → List (List Constraint)
@@ -37,7 +38,8 @@ dues_over graph log number horizon edges = each_of (map (due_by_number graph log
 
 -- the latest time at which something is due, where a window that ends here has room for all
 abbrev pub latest_within : ℕ → Option (List Due) → Option ℕ
-latest_within hi dues = option_and_then (λ ds. then_some (list_all (λ (due : Due). nat_le due.by hi) ds) (latest_of ds)) dues
+latest_within hi dues =
+    option_and_then (λ ds. then_some (list_all (λ (due : Due). nat_le due.by hi) ds) (latest_of ds)) dues
 
 -- the target of an edge, where there is the edge and the target is of this kind
 abbrev pub target_of_kind : (Kind → Bool) → Tfpg → Option Edge → Option ℕ

@@ -59,7 +59,8 @@ MeetsEach times clauses = (span : ℕ) → MeetsIfAny times (clauses span)
 abbrev pub FindsFirst : List ℕ → (ℕ → Option (List (List Constraint))) → Option ℕ → Type 0
 FindsFirst times clauses result = MatchOption result (MeetsEach times clauses) (IsFirstSpan times clauses)
 
--- The result is none where they violate the clause in a span, and else a span up to which they meet the clauses from that one on.
+-- The result is none where they violate the clause in a span, and else a span up to which they meet the clauses from
+-- that one on.
 abbrev pub MeetsUpTo : List ℕ → (ℕ → Option (List (List Constraint))) → ℕ → Option ℕ → Type 0
 MeetsUpTo times clauses span result =
     MatchOption result (IsViolated times (clauses span))
@@ -70,7 +71,8 @@ abbrev pub clauses_of : Tfpg → Logbook → ClauseKind → ℕ → ℕ → Opti
 clauses_of graph log kind subject span = alternatives graph log (named kind subject span (now_of log))
 
 -- The name is the first clause of the kind with the horizon now that they violate.
-pub record IsFirstOfKind (graph : Tfpg) (log : Logbook) (times : List ℕ) (kind : ClauseKind) (name : ClauseName) : Type 0 where
+pub record IsFirstOfKind (graph : Tfpg) (log : Logbook) (times : List ℕ) (kind : ClauseKind)
+    (name : ClauseName) : Type 0 where
   pub subject : ℕ
   pub span : ℕ
   pub is : name ≡ named kind subject span (now_of log)
@@ -84,7 +86,8 @@ MeetsKind graph log times kind = (subject : ℕ) → MeetsEach times (clauses_of
 -- the may clause of a node by the numbers of edges
 abbrev pub may_over : Tfpg → Logbook → ℕ → List ℕ → ℕ → ℕ → Option (List (List Constraint))
 may_over graph log node edges horizon number =
-    option_map (λ (span : Span). outside_span node span ++ arrivals_over graph log number horizon span edges) (span_at log number horizon)
+    option_map (λ (span : Span). outside_span node span ++ arrivals_over graph log number horizon span edges)
+    (span_at log number horizon)
 
 -- the must clause of a node in a window, by the numbers of edges
 abbrev pub must_over : Tfpg → Logbook → ℕ → List ℕ → Window → ℕ → ℕ → Option (List (List Constraint))

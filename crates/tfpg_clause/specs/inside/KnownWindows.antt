@@ -7,7 +7,8 @@ use Rattle.tfpg_log.specs.Spans.{window_of}
 
 -- The window of an edge round a span, by the number of the edge.
 abbrev pub window_over : Tfpg → Logbook → ℕ → ℕ → ℕ → Option Window
-window_over graph log number horizon edge = option_and_then (λ e. window_of log e number horizon) (slice_get graph.edges edge)
+window_over graph log number horizon edge =
+    option_and_then (λ e. window_of log e number horizon) (slice_get graph.edges edge)
 
 -- It is the window of the edge round some span.
 abbrev pub IsWindowOver : Tfpg → Logbook → ℕ → ℕ → Window → Type 0

@@ -8,7 +8,7 @@ use Rattle.tfpg_diff.specs.declared.demand.Demand.{Demand}
 use Rattle.tfpg_diff.specs.Demands.{Demands, Demanded, Bounded, demand_of_pick, ceiling_of}
 pub use Rattle.tfpg_diff.specs.Demands.{demands_of}
 use Rattle.tfpg_diff.specs.Solution.{IsBetween, IsSolution}
-use Rattle.tfpg_base.specs.Times.{never}
+use Rattle.tfpg_base.specs.declared.limits.TheConstants.{NEVER}
 
 -- the greatest value that the constraint allows its left side
 abbrev pub allowed_by : List ℕ → Demand → ℤ
@@ -57,7 +57,7 @@ pub record IsLink (demands : Demands) (values : List ℕ) (number : ℕ) (demand
 -- What is demanded can be computed with.
 pub record IsSound (demands : Demands) : Type 0 where
   pub few : length demands.bounds < 2 ^ 32
-  pub ceilings : (variable : ℕ) (bounds : Bounds) → Bounded demands variable bounds → bounds.ceiling ≤ never
+  pub ceilings : (variable : ℕ) (bounds : Bounds) → Bounded demands variable bounds → bounds.ceiling ≤ NEVER
   pub lefts : All (λ (pick : Pick). pick.constraint.left ≤ length demands.bounds) demands.picks
   pub rights : All (λ (pick : Pick). pick.constraint.right ≤ length demands.bounds) demands.picks
 

@@ -1,6 +1,6 @@
 -- What a round can be asked with, and of which hypotheses.
-use Rattle.std.specs.Prelude.{◌<◌, ◌≤◌, length, All}
-use Rattle.tfpg_graph.specs.Graph.{Tfpg, failures}
+use Rattle.std.specs.Prelude.{◌≤◌, length}
+use Rattle.tfpg_graph.specs.Graph.{Tfpg, AreFailures}
 use Rattle.tfpg_graph.specs.Reach.{IsReach}
 use Rattle.tfpg_log.specs.Log.{IsOf}
 use Rattle.tfpg_engine.specs.declared.asked.Asked.{Asked}
@@ -14,5 +14,5 @@ pub record CanBeAsked (asked : Asked) : Type 0 where
 
 -- The set is of failure modes of the graph, and the reach is what it reaches.
 pub record IsHypothesisOf (graph : Tfpg) (hypothesis : Hypothesis) : Type 0 where
-  pub members : All (λ position. position < length (failures graph)) hypothesis.set
+  pub members : AreFailures graph hypothesis.set
   pub reach : IsReach graph hypothesis.set hypothesis.reach.now

@@ -1,19 +1,20 @@
 -- What a round finds of one hypothesis after the other, whatever the earlier rounds were.
-use Rattle.std.specs.Prelude.{◌≡◌, ℕ, ◌<◌, ◌≤◌, List, length, take, All, Bool, true, false, Some, slice_get}
-use Rattle.tfpg_graph.specs.Graph.{Tfpg, failures}
+use Rattle.std.specs.Prelude.{◌≡◌, ℕ, ◌≤◌, List, length, take, All, Bool, true, false, Some, slice_get}
+use Rattle.tfpg_graph.specs.Graph.{Tfpg, AreFailures}
 use Rattle.tfpg_log.specs.Log.{Logbook, now_of}
 use Rattle.tfpg_evidence.specs.declared.finding.Finding.{Finding}
 use Rattle.tfpg_evidence.specs.declared.finding.Status.{Status}
 use Rattle.tfpg_evidence.specs.declared.round.Round.{Round}
 use Rattle.tfpg_evidence.specs.declared.finding.Status.TheVariants as status
+use Rattle.tfpg_evidence.specs.RoundOf.{is_open}
 use Rattle.tfpg_clause.specs.Trees.{Judged}
 use Rattle.tfpg_hyp.specs.Hypotheses.{Hypotheses, AreReaches}
 use Rattle.tfpg_hyp.specs.declared.place.Fraction.{Fraction}
 use Rattle.tfpg_hyp.specs.declared.place.Place.{Place}
-use Rattle.tfpg_hyp.specs.Rounds.{HasEvidence, IsRankedSubset, IsOrder, counts_of, is_open, place_of_status}
+use Rattle.tfpg_hyp.specs.Rounds.{HasEvidence, IsOrder, counts_of, place_of_status}
 use Rattle.tfpg_search.specs.Enough.{IsEnough}
 use Rattle.tfpg_search.specs.Searching.{Searching}
-use Rattle.tfpg_search.specs.Searched.{with_steps}
+use Rattle.tfpg_clause.specs.Paths.{with_steps}
 use Rattle.tfpg_search.specs.declared.found.Found.{Found}
 use Rattle.tfpg_search.specs.declared.found.Found.TheVariants as found
 use Rattle.tfpg_engine.specs.declared.slot.Slot.{Slot}
@@ -27,11 +28,6 @@ abbrev pub is_rejected_slot : Slot → Bool
 is_rejected_slot Untouched = false
 is_rejected_slot (Searched search) = false
 is_rejected_slot Rejected = true
-
--- the least number of a ranked proper subset of the set
-pub record IsLeastSubset (findings : List Finding) (set : List ℕ) (by : ℕ) : Type 0 where
-  pub part : IsRankedSubset findings set by
-  pub least : (other : ℕ) → IsRankedSubset findings set other → by ≤ other
 
 -- what is kept of a search that found this
 abbrev pub kept : Searching → Found → Slot
@@ -51,28 +47,33 @@ RanksByFraction number status = (place : Place) → place_of_status number statu
 
 -- The finding goes on from these steps: what is kept represents the steps with those of the finding, which are its evidence
 -- and are earned.
-pub record GoesOnFrom (graph : Tfpg) (log : Logbook) (budget : ℕ) (set reach : List ℕ) (findings : List Finding) (earlier : List Judged) (slot : Slot) (finding : Finding) : Type 0 where
+pub record GoesOnFrom (graph : Tfpg) (log : Logbook) (budget : ℕ) (set reach : List ℕ)
+    (findings : List Finding) (earlier : List Judged) (slot : Slot) (finding : Finding) : Type 0 where
   pub represents : SlotRepresents graph log set reach slot (with_steps earlier log finding.steps)
   pub evidence : HasEvidence graph log budget findings reach (with_steps earlier log finding.steps) finding finding.status
   pub earned : IsEarned graph log budget reach earlier finding
 
 -- The finding on the hypothesis of this number, after these findings, and what was kept of it before and is kept now.
-pub record IsTurn (graph : Tfpg) (log : Logbook) (budget : ℕ) (set reach : List ℕ) (number : ℕ) (findings : List Finding) (old new : Slot) (finding : Finding) : Type 0 where
+pub record IsTurn (graph : Tfpg) (log : Logbook) (budget : ℕ) (set reach : List ℕ) (number : ℕ)
+    (findings : List Finding) (old new : Slot) (finding : Finding) : Type 0 where
   pub number_is : finding.number ≡ number
   pub set_is : finding.set ≡ set
   pub whole : RanksByFraction number finding.status
   pub settled : IsEnough graph log budget → is_open finding.status ≡ false
-  pub goes_on : (earlier : List Judged) → SlotRepresents graph log set reach old earlier → GoesOnFrom graph log budget set reach findings earlier new finding
+  pub goes_on : (earlier : List Judged) → SlotRepresents graph log set reach old earlier
+      → GoesOnFrom graph log budget set reach findings earlier new finding
 
 -- These are the findings on the first hypotheses of the table, each after those before it.
 abbrev pub AreTurns : Tfpg → Logbook → ℕ → Hypotheses → List Slot → List Slot → List Finding → Type 0
 AreTurns graph log budget table old new findings =
-    (number : ℕ) (set reach : List ℕ) (before now : Slot) (finding : Finding) → slice_get table.sets number ≡ Some set → slice_get table.reaches number ≡ Some reach →
+    (number : ℕ) (set reach : List ℕ) (before now : Slot) (finding : Finding) →
+    slice_get table.sets number ≡ Some set → slice_get table.reaches number ≡ Some reach →
     slice_get old number ≡ Some before → slice_get new number ≡ Some now → slice_get findings number ≡ Some finding →
     IsTurn graph log budget set reach number (take number findings) before now finding
 
 -- The same, where the slots of the hypotheses after those are as they were.
-pub record AreFirstTurns (graph : Tfpg) (log : Logbook) (budget : ℕ) (table : Hypotheses) (old new : List Slot) (findings : List Finding) (count : ℕ) : Type 0 where
+pub record AreFirstTurns (graph : Tfpg) (log : Logbook) (budget : ℕ) (table : Hypotheses)
+    (old new : List Slot) (findings : List Finding) (count : ℕ) : Type 0 where
   pub counted : length findings ≡ count
   pub one_each : length new ≡ length old
   pub turns : AreTurns graph log budget table old new findings
@@ -80,11 +81,12 @@ pub record AreFirstTurns (graph : Tfpg) (log : Logbook) (budget : ℕ) (table : 
 
 -- a table of sets of failure modes of the graph, with what each reaches
 pub record IsOfGraph (graph : Tfpg) (table : Hypotheses) : Type 0 where
-  pub members : All (λ set. All (λ position. position < length (failures graph)) set) table.sets
+  pub members : All (AreFailures graph) table.sets
   pub reached : AreReaches graph table.sets table.reaches
 
 -- A finding on each hypothesis was made, they were put in order and counted.
-pub record MakesRound (graph : Tfpg) (log : Logbook) (budget : ℕ) (table : Hypotheses) (old new : List Slot) (line : ℕ) (round : Round) : Type 0 where
+pub record MakesRound (graph : Tfpg) (log : Logbook) (budget : ℕ) (table : Hypotheses)
+    (old new : List Slot) (line : ℕ) (round : Round) : Type 0 where
   pub number : round.number ≡ length log.events
   pub line_is : round.line ≡ line
   pub now_is : round.now ≡ now_of log

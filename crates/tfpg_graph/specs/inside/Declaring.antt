@@ -1,11 +1,11 @@
 -- What lets one thing more be declared beside what is declared.
-use Rattle.std.specs.Prelude.{◌≡◌, ◌≢◌, ℕ, ◌<◌, ◌≤◌, List, [], length, None, Option, IfSome, IsTrue, not}
+use Rattle.std.specs.Prelude.{◌≡◌, ◌≢◌, ℕ, ◌<◌, ◌≤◌, List, [], length, None, Option, IfSome, IsTrue}
 use Rattle.tfpg_base.specs.Words.{is_name}
 use Rattle.tfpg_graph.specs.declared.kind.Kind.{Kind}
 use Rattle.tfpg_graph.specs.declared.edge.Edge.{Edge}
 use Rattle.tfpg_graph.specs.declared.limits.TheConstants.{MAX_NODES, MAX_FAILURES, MAX_EDGES, MAX_INCOMING, MAX_MODES}
-use Rattle.tfpg_graph.specs.Graph.{Tfpg, is_failure, is_kind_at, failures, incoming, node_named, mode_named, edge_from_to}
-use Rattle.tfpg_base.specs.Times.{max_time}
+use Rattle.tfpg_graph.specs.Graph.{Tfpg, is_failure, is_discrepancy, failures, incoming, node_named, mode_named, edge_from_to}
+use Rattle.tfpg_base.specs.declared.limits.TheConstants.{MAX_TIME}
 use Rattle.tfpg_graph.specs.Valid.{HasValidNumber, IsValidEdge}
 
 -- There is no edge yet and room for a mode, and its name is one that no mode has.
@@ -26,14 +26,14 @@ pub record CanDeclareNode (graph : Tfpg) (name : List ℕ) (kind : Kind) : Type 
 
 -- these delays are in order and within the limit
 pub record AreDelays (tmin : ℕ) (tmax : Option ℕ) : Type 0 where
-  pub least : tmin ≤ max_time
-  pub most : IfSome tmax (λ time. (tmin ≤ time) × (time ≤ max_time))
+  pub least : tmin ≤ MAX_TIME
+  pub most : IfSome tmax (λ time. (tmin ≤ time) × (time ≤ MAX_TIME))
 
 -- An edge from the one node to the other is forbidden by none of the rules on its ends.
 pub record CanJoin (graph : Tfpg) (source target : ℕ) : Type 0 where
   pub source_in : source < length graph.nodes
   pub target_in : target < length graph.nodes
-  pub into_discrepancy : IsTrue (not (is_kind_at is_failure graph target))
+  pub into_discrepancy : IsTrue (is_discrepancy graph target)
   pub no_self_edge : source ≢ target
   pub new : edge_from_to graph source target ≡ None
 

@@ -56,7 +56,7 @@ pub(crate) fn read_edge(
     })
 }
 
-/// The cause of its place among the lines or of its names, where there is one.
+/// The cause that the line is out of order, or that one of its names is wrong, where there is one.
 fn name_cause(declared: &Declared, words: EdgeWords<'_>, modes: &[&[u8]]) -> Option<GraphCause>
     requires listed { map (λ name. name.now) modes.now ≡ modes_listed words.modes.now }
     ensures first { result ≡ first_of

@@ -44,7 +44,7 @@ pub(crate) fn read_node(
     Ok(kind)
 }
 
-/// The cause of its place among the lines or of its name, where there is one.
+/// The cause that the line is out of order, or that its name is wrong, where there is one.
 fn name_cause(declared: &Declared, name: &[u8]) -> Option<GraphCause>
     ensures first { result ≡ first_of (node_name_causes declared.now name.now) }
     ensures before_edges { IfNone result (declared.now.edges ≡ []) }

@@ -1,7 +1,7 @@
 //! The word for the modes of an edge: `*` for all, `-` for none, or names with commas between.
 
 ghost use Rattle.std.specs.Prelude.{◌≡◌, ◌≤◌, ◌<◌, ◌^◌, ◌-◌, ◌==◌, map, length, drop, true, false, bytes_eq, codes, All, Contains, IfOk, is_none, filter_map, sum_by};
-ghost use Rattle.std.specs.List.{list_any, slice_split};
+ghost use Rattle.std.specs.List.{list_any};
 ghost use Rattle.tfpg_graph.specs.Graph.{mode_named};
 ghost use Rattle.tfpg_graph.specs.Declares.{modes_listed, modes_of_word};
 ghost use Rattle.tfpg_graph.specs.Causes.{has_twice};
@@ -11,7 +11,7 @@ use crate::declared::Declared;
 use crate::edge::all_modes;
 use crate::limits::MAX_MODES;
 use std::alloc::Global;
-use tfpg_base::{NoMemory, Set};
+use tfpg_base::{NoMemory, Set, parts_at_commas};
 
 /// The names that the word lists, in order. Takes memory for them.
 pub(crate) fn listed_modes<'a>(alloc: Global, word: &'a [u8]) -> Result<Vec<&'a [u8]>, NoMemory>
@@ -21,17 +21,6 @@ pub(crate) fn listed_modes<'a>(alloc: Global, word: &'a [u8]) -> Result<Vec<&'a 
         return Ok(Vec::new(alloc));
     }
     parts_at_commas(alloc, word)
-}
-
-fn parts_at_commas<'a>(alloc: Global, word: &'a [u8]) -> Result<Vec<&'a [u8]>, NoMemory>
-    ensures { IfOk result
-        (λ names. map (λ name. name.now) names.items ≡ slice_split (λ byte. byte == 44) word.now) }
-{
-    let mut names = Vec::new(alloc);
-    for name in word.split(|byte| *byte == b',') {
-        names.push(name)?;
-    }
-    Ok(names)
 }
 
 /// Whether a name stands twice. Takes time in the square of their number, which is at most 64 in a text without a fault.
@@ -54,11 +43,11 @@ fn first_stands_again(names: &[&[u8]]) -> bool
 {
     match names.split_first() {
         None => false,
-        Some((first, others)) => is_among(first, others),
+        Some((first, others)) => is_named_among(first, others),
     }
 }
 
-fn is_among(name: &[u8], names: &[&[u8]]) -> bool
+fn is_named_among(name: &[u8], names: &[&[u8]]) -> bool
     ensures { result ≡ list_any (λ other. bytes_eq name.now other.now) names.now }
 {
     names.iter().any(|other| name == *other)

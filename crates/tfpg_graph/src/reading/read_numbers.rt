@@ -2,7 +2,7 @@
 
 ghost use Rattle.std.specs.Prelude.{◌≡◌, ◌≤◌, ◌∷◌, [], IfOk, IfSome, Some, Ok, Err, nat_lt, if◌then◌else◌};
 ghost use Rattle.tfpg_base.specs.Words.{number_of};
-ghost use Rattle.tfpg_base.specs.Times.{max_time};
+ghost use Rattle.tfpg_base.specs.declared.limits.TheConstants.{MAX_TIME};
 ghost use Rattle.tfpg_graph.specs.Valid.{HasValidNumber};
 ghost use Rattle.tfpg_graph.specs.Declares.{kind_of_words, lag_of_word, delays_of_words};
 ghost use Rattle.tfpg_base.specs.Choice.{first_of};
@@ -45,7 +45,7 @@ pub(crate) fn read_kind(words: NodeWords<'_>) -> Result<Kind, GraphCause>
 fn read_lag(word: Option<&[u8]>) -> Result<Option<u64>, GraphCause>
     ensures lag { ReadAs (first_of (number_causes (lag_number (word_seen word.entry))))
         (lag_of_word (word_seen word.entry)) result }
-    ensures small { IfOk result (λ lag. IfSome lag (λ time. time ≤ max_time)) }
+    ensures small { IfOk result (λ lag. IfSome lag (λ time. time ≤ MAX_TIME)) }
 {
     match word {
         None => Ok(None),
@@ -89,7 +89,7 @@ pub(crate) fn read_delays(tmin: &[u8], tmax: &[u8]) -> Result<(u64, Option<u64>)
 
 /// The delays, where they are in order.
 fn in_order(least: u64, most: u64) -> Result<(u64, Option<u64>), GraphCause>
-    requires { most ≤ max_time }
+    requires { most ≤ MAX_TIME }
     ensures delays { result ≡ (if nat_lt most least then Err MinOverMax else Ok (least, Some most)) }
     ensures valid { IfOk result (λ delays. AreDelays delays.0 delays.1) }
 {

@@ -63,7 +63,7 @@ impl From<GraphCause> for LineRefusal {
 }
 
 impl LineRefusal {
-    /// The refusal of the text, where this is that of its line of this number.
+    /// The refusal of the text, where this is the refusal of the line of this number.
     pub(crate) fn at(self, line: u64) -> GraphRefusal
         ensures { result ≡ refusal_at self line }
     {
@@ -101,7 +101,7 @@ impl Reader {
     }
 
     /// Reads one more line. Takes time in the length of the line, but for look-ups by name, and for an edge in the square of
-    /// the number of modes that it lists, which is at most 64 but in a line that has a fault.
+    /// the number of modes that it lists, which is at most 64, except in a line with a fault.
     pub(crate) fn take(self, alloc: Global, line: &[u8]) -> Result<Reader, LineRefusal>
         ensures { IsTurnAnswer (turn self line.now) result }
     {

@@ -1,9 +1,9 @@
 //! The line of an edge, as it is written.
 
-ghost use Rattle.std.specs.Prelude.{◌≡◌, ◌∷◌, ◌<◌, [], length, codes, decimal, unwrap_or};
+ghost use Rattle.std.specs.Prelude.{◌≡◌, ◌∷◌, ◌<◌, [], length, codes, decimal};
 ghost use Rattle.tfpg_base.specs.Append.{Appends};
 ghost use Rattle.tfpg_base.specs.Words.{line_of};
-ghost use Rattle.tfpg_graph.specs.Graph.{name_at};
+ghost use Rattle.tfpg_graph.specs.Graph.{name_word};
 ghost use Rattle.tfpg_graph.specs.Text.{tmax_word};
 ghost use Rattle.tfpg_graph.specs.Valid.{IsValid, IsValidEdge};
 ghost use Rattle.tfpg_graph.specs.inside.writing.Written.{edge_text};
@@ -32,12 +32,11 @@ fn append_ends_and_delays(graph: &Graph, edge: Edge, into: &mut Vec<u8>) -> Resu
     requires source_in { edge.source < length graph.now.nodes }
     requires target_in { edge.target < length graph.now.nodes }
     ensures { Appends result into.old.items into.new.items
-        (line_of (codes "edge" ∷ unwrap_or (name_at graph.now edge.source) []
-        ∷ unwrap_or (name_at graph.now edge.target) []
+        (line_of (codes "edge" ∷ name_word graph.now edge.source ∷ name_word graph.now edge.target
         ∷ decimal edge.tmin ∷ tmax_word edge.tmax ∷ [])) }
 {
-    let source = node_name(graph, edge.source);
-    let target = node_name(graph, edge.target);
+    let source = graph.name(edge.source);
+    let target = graph.name(edge.target);
     let mut tmin_digits = Buffer::new();
     let tmin = tmin_digits.format(edge.tmin).as_bytes();
     match edge.tmax {
@@ -48,12 +47,4 @@ fn append_ends_and_delays(graph: &Graph, edge: Edge, into: &mut Vec<u8>) -> Resu
         }
         None => append_words(into, &[b"edge", source, target, tmin, b"inf"]),
     }
-}
-
-/// The name of a node.
-fn node_name(graph: &Graph, node: u32) -> &[u8]
-    requires { node < length graph.now.nodes }
-    ensures { result.now ≡ unwrap_or (name_at graph.now node) [] }
-{
-    graph.name(node)
 }

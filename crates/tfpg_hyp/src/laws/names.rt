@@ -1,7 +1,7 @@
 //! That a round names only what its graph has.
 
-ghost use Rattle.std.specs.Prelude.{ℕ, List, length};
-ghost use Rattle.tfpg_graph.specs.Graph.{Tfpg, failures};
+ghost use Rattle.std.specs.Prelude.{ℕ, List};
+ghost use Rattle.tfpg_graph.specs.Graph.{Tfpg, sizes_of};
 ghost use Rattle.tfpg_log.specs.Log.{Logbook, IsOf};
 ghost use Rattle.tfpg_evidence.specs.declared.round.Round.{Round};
 ghost use Rattle.tfpg_evidence.specs.RoundOf.{IsRoundOf};
@@ -12,9 +12,5 @@ ghost use Rattle.tfpg_hyp.specs.Rounds.{IsRound};
 pub fn a_round_is_of_its_graph()
     ensures { (graph : Tfpg) (k budget line : ℕ) (rounds : List Round) (log : Logbook) (round : Round) →
         IsOf graph log → IsRound graph k budget rounds log line round →
-        IsRoundOf (record {
-          nodes = length graph.nodes;
-          edges = length graph.edges;
-          failures = length (failures graph);
-        }) round }
+        IsRoundOf (sizes_of graph) round }
 {}

@@ -13,7 +13,8 @@ use Rattle.tfpg_kernel.specs.Breaks.{IsFirstBroken}
 use Rattle.tfpg_kernel.specs.Represents.{CheckerRepresents, steps_after}
 
 -- The result is right for a step after these steps, and the checker then represents the steps taken.
-pub record IsAnswer (graph : Tfpg) (log : Logbook) (reach : List ℕ) (steps : List Judged) (step : Step) (result : Taken) (after : Checking) : Type 0 where
+pub record IsAnswer (graph : Tfpg) (log : Logbook) (reach : List ℕ) (steps : List Judged)
+    (step : Step) (result : Taken) (after : Checking) : Type 0 where
   pub closed : (result ≡ Closed) ↔ IsRefutation graph log reach (with_step steps log step)
   pub partial : (result ≡ Open) ↔ IsPartial graph log reach (with_step steps log step)
   pub bad : (bad : BadStep) → (result ≡ Bad bad) ↔ IsFirstBroken graph log reach steps (judged_by log step) bad

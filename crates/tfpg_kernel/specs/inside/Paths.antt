@@ -17,7 +17,8 @@ use Rattle.tfpg_kernel.specs.Breaks.{CycleBreaks}
 
 -- the step is right, and the path after it is this one, where there is one
 abbrev pub GoesTo : Tfpg → Logbook → List ℕ → List Frame → Step → Option (List Frame) → Type 0
-GoesTo graph log reach frames (Split name) after = (count : ℕ) × (count_of graph log name ≡ Some count) × (after ≡ Some (frames ++ new_frame name count ∷ []))
+GoesTo graph log reach frames (Split name) after =
+    (count : ℕ) × (count_of graph log name ≡ Some count) × (after ≡ Some (frames ++ new_frame name count ∷ []))
 GoesTo graph log reach frames (Cycle reasons) after = IsClosedBy (stated_by graph log reach frames) reasons × (after ≡ path_after frames)
 
 -- the step breaks this condition with this path

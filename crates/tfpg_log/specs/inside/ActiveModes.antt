@@ -13,7 +13,8 @@ has_mode (OfEdge edge) mode = is_allowed edge mode
 
 -- each span from the one number to the other has one of the modes
 abbrev pub AreActive : ActiveModes → List ModeChange → ℕ → ℕ → Type 0
-AreActive modes changes first last = (number : ℕ) → first ≤ number → number ≤ last → IsTrue (has_mode modes (mode_of_span changes number))
+AreActive modes changes first last =
+    (number : ℕ) → first ≤ number → number ≤ last → IsTrue (has_mode modes (mode_of_span changes number))
 
 -- so has the span before that of the number
 abbrev pub is_active_before : ActiveModes → List ModeChange → ℕ → Bool
@@ -23,7 +24,8 @@ is_active_before modes changes (suc number) = has_mode modes (mode_of_span chang
 -- so has the span after that of the number, which begins by the horizon
 abbrev pub is_active_after : ActiveModes → List ModeChange → ℕ → ℕ → Bool
 is_active_after modes changes number horizon =
-    nat_lt number (length changes) && (nat_lt (change_at changes number).time horizon && has_mode modes (change_at changes number).mode)
+    nat_lt number (length changes)
+    && (nat_lt (change_at changes number).time horizon && has_mode modes (change_at changes number).mode)
 
 -- the first span of the run up to a span
 pub record IsRunStart (modes : ActiveModes) (changes : List ModeChange) (number first : ℕ) : Type 0 where

@@ -6,7 +6,7 @@ use Rattle.tfpg_log.specs.declared.event.Event.{Event}
 use Rattle.tfpg_log.specs.declared.event.Event.TheVariants.{Alarm, Silent, Sweep, Tick, Mode}
 use Rattle.tfpg_log.specs.declared.mode_change.ModeChange.{ModeChange}
 use Rattle.tfpg_log.specs.Log.{Logbook, IsOrdered, now_of, event_at, alarm_of, alarm_event, is_mode_change, mode_after}
-use Rattle.tfpg_base.specs.Times.{max_time}
+use Rattle.tfpg_base.specs.declared.limits.TheConstants.{MAX_TIME}
 use Rattle.tfpg_log.specs.declared.limits.TheConstants.{MAX_EVENTS}
 use Rattle.tfpg_log.specs.declared.node_events.NodeEvents.{NodeEvents}
 use Rattle.tfpg_log.specs.inside.NodeEvents.{IsLast, IsSweep, IsNodeEvents, events_of}
@@ -14,11 +14,13 @@ use Rattle.tfpg_log.specs.inside.SpanIndex.{begin_of_span, BeginSpans}
 
 -- No node has a second alarm: each alarm is the first of its node.
 abbrev pub AreFirstAlarms : Logbook → Type 0
-AreFirstAlarms log = (number time node : ℕ) → event_at log number ≡ Some (Alarm time node) → alarm_event log node ≡ Some number
+AreFirstAlarms log =
+    (number time node : ℕ) → event_at log number ≡ Some (Alarm time node) → alarm_event log node ≡ Some number
 
 -- The index of the events: for each node those that bound when it became active, the last sweep, the changes of mode that
 -- begin the spans, and how many events are changes of mode.
-pub record IsLogIndex (events : List Event) (nodes : List NodeEvents) (sweep : Option ℕ) (changes : List ModeChange) (count : ℕ) : Type 0 where
+pub record IsLogIndex (events : List Event) (nodes : List NodeEvents) (sweep : Option ℕ) (changes : List ModeChange)
+    (count : ℕ) : Type 0 where
   pub few : length events ≤ MAX_EVENTS
   pub own : (node : ℕ) → IsNodeEvents (record { events = events }) node (events_of nodes node)
   pub swept : IsLast (IsSweep (record { events = events })) sweep
@@ -34,7 +36,7 @@ pub record IsLogIndex (events : List Event) (nodes : List NodeEvents) (sweep : O
 pub record MayComeAt (log : Logbook) (time : ℕ) : Type 0 where
   pub room : length log.events < MAX_EVENTS
   pub not_back : now_of log ≤ time
-  pub in_range : time ≤ max_time
+  pub in_range : time ≤ MAX_TIME
 
 -- the event is no second alarm of its node
 abbrev pub IsNoSecondAlarm : Logbook → Event → Type 0

@@ -42,7 +42,8 @@ AreSameOfNodes one other = (node : ℕ) → events_of one node ≡ events_of oth
 
 -- the event of the number is a sweep that silences the node
 abbrev pub IsSwept : Tfpg → Logbook → ℕ → ℕ → Type 0
-IsSwept graph log node number = IsSweep log number × IsTrue (is_monitored graph node && is_none (alarm_among (take (number - 1) log.events) node))
+IsSwept graph log node number =
+    IsSweep log number × IsTrue (is_monitored graph node && is_none (alarm_among (take (number - 1) log.events) node))
 
 -- the later of two numbers, where there are any
 abbrev pub later_of : Option ℕ → Option ℕ → Option ℕ

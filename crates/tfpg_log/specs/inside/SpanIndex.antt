@@ -21,13 +21,18 @@ mode_of_span changes (suc place) = (change_at changes place).mode
 -- the last instant, up to a horizon, of a span that begins by it: the next span begins after its change
 abbrev pub end_of_span : List ModeChange → ℕ → ℕ → ℕ
 end_of_span changes number horizon =
-    if nat_lt number (length changes) && nat_lt (change_at changes number).time horizon then (change_at changes number).time else horizon
+    if nat_lt number (length changes) && nat_lt (change_at changes number).time horizon
+    then (change_at changes number).time else horizon
 
 -- the span of a number up to a horizon, where there is one that begins by it
 abbrev pub span_in : List ModeChange → ℕ → ℕ → Option Span
 span_in changes number horizon =
     if nat_le number (length changes) && nat_le (begin_of_span changes number) horizon
-    then Some (record { lo = begin_of_span changes number; hi = end_of_span changes number horizon; mode = mode_of_span changes number })
+    then Some (record {
+      lo = begin_of_span changes number;
+      hi = end_of_span changes number horizon;
+      mode = mode_of_span changes number;
+    })
     else None
 
 -- The instant lies in the span of the number: that begins by then, and the next one does not.
@@ -45,7 +50,8 @@ pub record BeginSpans (modes : ℕ → ℕ) (changes : List ModeChange) : Type 0
 
 -- the changes that begin a span by an instant, where one more change comes at it: of two with one time the later decides
 abbrev pub kept_at : List ModeChange → ℕ → List ModeChange
-kept_at changes time = if begin_of_span changes (length changes) == time + 1 then take (length changes - 1) changes else changes
+kept_at changes time =
+    if begin_of_span changes (length changes) == time + 1 then take (length changes - 1) changes else changes
 
 -- the changes with one more after them, where its mode is another than that of the last span
 abbrev pub with_other_mode : List ModeChange → ℕ → ℕ → List ModeChange

@@ -7,9 +7,9 @@ ghost use Rattle.tfpg_base.specs.Trace.{time_of};
 ghost use Rattle.tfpg_graph.specs.declared.edge.Edge.{Edge};
 ghost use Rattle.tfpg_graph.specs.Graph.{Tfpg, edges_into};
 ghost use Rattle.tfpg_log.specs.declared.span.Window.{Window};
-ghost use Rattle.tfpg_log.specs.Log.{Logbook, now_of};
+ghost use Rattle.tfpg_log.specs.Log.{Logbook, now_of, is_allowed_at};
 ghost use Rattle.tfpg_log.specs.Rules.{IsActive, HasAge, IsAge};
-ghost use Rattle.tfpg_log.specs.Spans.{span_number, is_allowed_at, are_allowed_at, window_of, joint_of};
+ghost use Rattle.tfpg_log.specs.Spans.{span_number, are_allowed_at, window_of, joint_of};
 ghost use Rattle.tfpg_log.specs.AgeInWindow.{HasAgeInWindow};
 
 /// An edge has one window round each instant at which it is active, and none round another.

@@ -1,5 +1,5 @@
 -- The graph that reports are tested with.
-use Rattle.tfpg_evidence.specs.RoundOf.{Sizes}
+use Rattle.tfpg_graph.specs.Graph.{Sizes}
 
 -- two failure modes, each with an edge to one alarm
 abbrev pub small : Sizes

@@ -8,7 +8,7 @@ use Rattle.tfpg_log.specs.Log.{Logbook}
 use Rattle.tfpg_clause.specs.Facts.{fact}
 use Rattle.tfpg_clause.specs.Paths.{stated_by}
 use Rattle.tfpg_clause.specs.declared.path.Frame.{Frame}
-use Rattle.tfpg_clause.specs.Clauses.{item_at}
+use Rattle.tfpg_base.specs.Choice.{item_at}
 use Rattle.tfpg_search.specs.Leaf.{Leaf, IsStated, pick_reasons}
 use Rattle.tfpg_search.specs.Picks.{place_count}
 
@@ -32,7 +32,7 @@ pub record Pushing (graph : Tfpg) (log : Logbook) (reach : List ℕ) (path : Lis
   pub stated : IsStated (fact graph log reach) (stated_by graph log reach path) new
   pub more : (added : List Reason) × (pick_reasons new ≡ pick_reasons old ++ added)
 
--- Where there is a constraint, it was pushed with its reason; and returned whether there is one.
+-- Where there is a constraint, it was pushed with its reason. The call returns whether there is one.
 abbrev pub PushesOne : Option Constraint → Reason → Leaf → Leaf → Bool → Type 0
 PushesOne constraint reason old new true = (pick_reasons new ≡ pick_reasons old ++ reason ∷ []) × IsTrue (is_some constraint)
 PushesOne constraint reason old new false = (pick_reasons new ≡ pick_reasons old) × (constraint ≡ None)

@@ -11,7 +11,7 @@ use Rattle.tfpg_evidence.specs.declared.step.Step.TheVariants.{Split, Cycle}
 use Rattle.tfpg_clause.specs.Facts.{fact}
 use Rattle.tfpg_clause.specs.Clauses.{count_of}
 use Rattle.tfpg_clause.specs.Order.{IsFirstViolated}
-use Rattle.tfpg_clause.specs.Trees.{Judged, IsRefutation}
+use Rattle.tfpg_clause.specs.Trees.{Judged, IsRefutation, split_count}
 use Rattle.tfpg_clause.specs.Paths.{framed, stated_by, path_after, new_frame, IsAtLeaf}
 use Rattle.tfpg_clause.specs.declared.path.Frame.{Frame}
 use Rattle.tfpg_base.specs.declared.no_memory.NoMemory.{NoMemory}
@@ -21,8 +21,7 @@ use Rattle.tfpg_search.specs.inside.Closing.{IsSimpleCycle}
 use Rattle.tfpg_search.specs.Solutions.{SolvesBy, IsLatestBy}
 use Rattle.tfpg_search.specs.Live.{HasNoNameTwice}
 use Rattle.tfpg_search.specs.Picks.{AreInRange}
-use Rattle.tfpg_search.specs.Searched.{split_count}
-use Rattle.tfpg_search.specs.Searching.{Searching, IsAtItsLeaf}
+use Rattle.tfpg_search.specs.Searching.{Searching, IsAtItsLeaf, HasEnteredAll}
 use Rattle.tfpg_search.specs.declared.found.Found.{Found}
 use Rattle.tfpg_search.specs.declared.found.Found.TheVariants.{Shown as FoundShown, Closed as FoundClosed, Spent}
 use Rattle.tfpg_search.specs.declared.search.Look.{Look}
@@ -46,7 +45,8 @@ pub record IsLiveFramed (graph : Tfpg) (log : Logbook) (reach : List ℕ) (frame
 -- and a cycle closes the leaf.
 abbrev pub Goes : Tfpg → Logbook → List ℕ → List Frame → Step → Option (List Frame) → Type 0
 Goes graph log reach frames (Split name) next =
-    (count : ℕ) × (count_of graph log name ≡ Some count) × IsLiveFramed graph log reach frames name × (next ≡ Some (frames ++ new_frame name count ∷ []))
+    (count : ℕ) × (count_of graph log name ≡ Some count) × IsLiveFramed graph log reach frames name
+    × (next ≡ Some (frames ++ new_frame name count ∷ []))
 Goes graph log reach frames (Cycle reasons) next =
     IsSimpleCycle (stated_by graph log reach frames) reasons × (next ≡ path_after frames)
 
@@ -65,7 +65,8 @@ LeadsTo graph log reach steps (Some frames) =
     IsAtLeaf graph log reach frames steps × HasNoNameTwice graph log reach steps × AreInRange frames
 
 -- The steps that were appended lead from the leaf of these frames to that leaf, and so many of them split.
-pub record Grows (graph : Tfpg) (log : Logbook) (reach : List ℕ) (start : List Frame) (before after : List Step) (splits : ℕ) (end : Option (List Frame)) : Type 0 where
+pub record Grows (graph : Tfpg) (log : Logbook) (reach : List ℕ) (start : List Frame)
+    (before after : List Step) (splits : ℕ) (end : Option (List Frame)) : Type 0 where
   pub added : List Step
   pub appended : after ≡ before ++ added
   pub count : split_count added ≡ splits
@@ -76,10 +77,6 @@ pub record KeepsSet (old new : Searching) : Type 0 where
   pub set : new.set ≡ old.set
   pub reach : new.reach ≡ old.reach
   pub seen : new.seen ≡ old.seen
-
--- Each alternative on the path was entered.
-abbrev pub HasEnteredAll : Searching → Type 0
-HasEnteredAll search = length search.entered ≡ length search.path
 
 -- The system has all constraints of the leaf: each alternative on the path was entered, and its solutions meet each fact.
 pub record IsSettled (graph : Tfpg) (log : Logbook) (search : Searching) : Type 0 where
@@ -95,16 +92,19 @@ untaken (frame ∷ deeper) = (frame.alternatives - frame.alternative) + untaken 
 -- What closing the present leaf comes to: a next leaf with fewer alternatives not taken, or none.
 abbrev pub Closing : Tfpg → Logbook → Searching → Searching → List Step → List Step → Result Bool NoMemory → Type 0
 Closing graph log old new before after (Ok true) =
-    IsAtItsLeaf graph log new × Grows graph log old.reach old.path before after 0 (Some new.path) × (untaken new.path < untaken old.path)
+    IsAtItsLeaf graph log new × Grows graph log old.reach old.path before after 0 (Some new.path)
+    × (untaken new.path < untaken old.path)
 Closing graph log old new before after (Ok false) = Grows graph log old.reach old.path before after 0 None
-Closing graph log old new before after (Err no_memory) = (end : Option (List Frame)) × Grows graph log old.reach old.path before after 0 end
+Closing graph log old new before after (Err no_memory) =
+    (end : Option (List Frame)) × Grows graph log old.reach old.path before after 0 end
 
 -- What settling the present leaf comes to: a settled leaf, or none.
 abbrev pub Settling : Tfpg → Logbook → Searching → Searching → List Step → List Step → Result Bool NoMemory → Type 0
 Settling graph log old new before after (Ok true) =
     IsAtItsLeaf graph log new × IsSettled graph log new × Grows graph log old.reach old.path before after 0 (Some new.path)
 Settling graph log old new before after (Ok false) = Grows graph log old.reach old.path before after 0 None
-Settling graph log old new before after (Err no_memory) = (end : Option (List Frame)) × Grows graph log old.reach old.path before after 0 end
+Settling graph log old new before after (Err no_memory) =
+    (end : Option (List Frame)) × Grows graph log old.reach old.path before after 0 end
 
 -- What is seen at a settled leaf: a trace that explains the log, or the clause on which a split would be live.
 abbrev pub Sees : Tfpg → Logbook → Searching → Look → Type 0
@@ -115,27 +115,35 @@ Sees graph log search Closed = ⊥
 -- What a look comes to: what is seen at a settled leaf; or no leaf.
 abbrev pub Looking : Tfpg → Logbook → Searching → Searching → List Step → List Step → Result Look NoMemory → Type 0
 Looking graph log old new before after (Ok (Violated name)) =
-    IsAtItsLeaf graph log new × HasEnteredAll new × IsLiveFramed graph log new.reach new.path name × Grows graph log old.reach old.path before after 0 (Some new.path)
+    IsAtItsLeaf graph log new × HasEnteredAll new × IsLiveFramed graph log new.reach new.path name
+    × Grows graph log old.reach old.path before after 0 (Some new.path)
 Looking graph log old new before after (Ok (Shown trace)) =
-    IsAtItsLeaf graph log new × HasEnteredAll new × Explains graph log new.set trace × Grows graph log old.reach old.path before after 0 (Some new.path)
+    IsAtItsLeaf graph log new × HasEnteredAll new × Explains graph log new.set trace
+    × Grows graph log old.reach old.path before after 0 (Some new.path)
 Looking graph log old new before after (Ok Closed) = Grows graph log old.reach old.path before after 0 None
-Looking graph log old new before after (Err no_memory) = (end : Option (List Frame)) × Grows graph log old.reach old.path before after 0 end
+Looking graph log old new before after (Err no_memory) =
+    (end : Option (List Frame)) × Grows graph log old.reach old.path before after 0 end
 
 -- What a split comes to: one split more.
 abbrev pub Splitting : Tfpg → Logbook → Searching → Searching → List Step → List Step → Result (Unit {0}) NoMemory → Type 0
-Splitting graph log old new before after (Ok done) = IsAtItsLeaf graph log new × Grows graph log old.reach old.path before after 1 (Some new.path)
-Splitting graph log old new before after (Err no_memory) = (end : Option (List Frame)) × Grows graph log old.reach old.path before after 0 end
+Splitting graph log old new before after (Ok done) =
+    IsAtItsLeaf graph log new × Grows graph log old.reach old.path before after 1 (Some new.path)
+Splitting graph log old new before after (Err no_memory) =
+    (end : Option (List Frame)) × Grows graph log old.reach old.path before after 0 end
 
 -- What was found, after so many splits, where the steps lead to that leaf.
 abbrev pub FoundAtLeaf : Tfpg → Logbook → ℕ → Searching → ℕ → Option (List Frame) → Result Found NoMemory → Type 0
-FoundAtLeaf graph log budget new splits end (Ok (FoundShown trace)) = Explains graph log new.set trace × IsAtItsLeaf graph log new × HasEnteredAll new × (end ≡ Some new.path)
+FoundAtLeaf graph log budget new splits end (Ok (FoundShown trace)) =
+    Explains graph log new.set trace × IsAtItsLeaf graph log new × HasEnteredAll new × (end ≡ Some new.path)
 FoundAtLeaf graph log budget new splits end (Ok FoundClosed) = end ≡ None
 FoundAtLeaf graph log budget new splits end (Ok Spent) =
-    (splits ≡ budget) × ((name : ClauseName) × IsLiveFramed graph log new.reach new.path name) × IsAtItsLeaf graph log new × HasEnteredAll new × (end ≡ Some new.path)
+    (splits ≡ budget) × ((name : ClauseName) × IsLiveFramed graph log new.reach new.path name)
+    × IsAtItsLeaf graph log new × HasEnteredAll new × (end ≡ Some new.path)
 FoundAtLeaf graph log budget new splits end (Err no_memory) = Unit {0}
 
 -- What searching on comes to.
-pub record SearchesOn (graph : Tfpg) (log : Logbook) (budget : ℕ) (old new : Searching) (before after : List Step) (result : Result Found NoMemory) : Type 0 where
+pub record SearchesOn (graph : Tfpg) (log : Logbook) (budget : ℕ) (old new : Searching)
+    (before after : List Step) (result : Result Found NoMemory) : Type 0 where
   pub splits : ℕ
   pub end : Option (List Frame)
   pub grows : Grows graph log old.reach old.path before after splits end

@@ -7,17 +7,17 @@ ghost use Rattle.tfpg_clause.specs.Facts.{fact};
 ghost use Rattle.tfpg_clause.specs.Paths.{framed, stated_by};
 ghost use Rattle.tfpg_search.specs.Leaf.{pick_reasons, IsStated};
 ghost use Rattle.tfpg_search.specs.Picks.{picks_from};
-ghost use Rattle.tfpg_search.specs.Searching.{IsAtItsLeaf};
+ghost use Rattle.tfpg_search.specs.Searching.{IsAtItsLeaf, HasEnteredAll};
 ghost use Rattle.tfpg_search.specs.inside.Closing.{Closes};
 ghost use Rattle.tfpg_search.specs.inside.Leaving.{places_at, Leaves, Pushing, PushesOne};
-ghost use Rattle.tfpg_search.specs.inside.Moves.{KeepsSet, HasEnteredAll};
+ghost use Rattle.tfpg_search.specs.inside.Moves.{KeepsSet};
 
 use crate::add_fault::AddFault;
 use crate::clause_laws::clause_laws;
 use crate::search::Search;
 use std::sync::ledger::Ledger;
 use tfpg_base::{NoMemory, Steps};
-use tfpg_clause::{MAX_CONSTRAINTS, picked};
+use tfpg_clause::{MAX_CONSTRAINTS, framed};
 use tfpg_evidence::Reason;
 use tfpg_graph::Graph;
 use tfpg_log::Log;
@@ -116,7 +116,7 @@ impl Search {
     {
         clause_laws();
         let _valid = graph.node_count();
-        let Some(constraint) = picked(graph, log, &self.path, split, place) else {
+        let Some(constraint) = framed(graph, log, &self.path, split, place) else {
             return Ok(false);
         };
         match self

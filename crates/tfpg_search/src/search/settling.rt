@@ -10,9 +10,9 @@ ghost use Rattle.tfpg_evidence.specs.declared.reason.Reason.{Reason};
 ghost use Rattle.tfpg_clause.specs.Facts.{fact};
 ghost use Rattle.tfpg_clause.specs.Paths.{stated_by, path_after};
 ghost use Rattle.tfpg_search.specs.Leaf.{pick_reasons, IsStated};
-ghost use Rattle.tfpg_search.specs.Searching.{IsAtItsLeaf};
+ghost use Rattle.tfpg_search.specs.Searching.{IsAtItsLeaf, HasEnteredAll};
 ghost use Rattle.tfpg_search.specs.inside.Closing.{IsSimpleCycle, Closes};
-ghost use Rattle.tfpg_search.specs.inside.Moves.{KeepsSet, HasEnteredAll, IsSettled, IsLiveFramed, Closing, Settling, Sees, Looking, Splitting};
+ghost use Rattle.tfpg_search.specs.inside.Moves.{KeepsSet, IsSettled, IsLiveFramed, Closing, Settling, Sees, Looking, Splitting};
 
 use crate::add_fault::AddFault;
 use crate::clause_laws::clause_laws;

@@ -9,13 +9,15 @@ use Rattle.tfpg_log.specs.Log.{Logbook, mode_at}
 abbrev pub AreSpans : Logbook → ℕ → ℕ → List Span → Type 0
 AreSpans log end begin [] = begin ≡ end
 AreSpans log end begin (span ∷ spans) =
-    (span.lo ≡ begin) × (span.lo ≤ span.hi) × ((instant : ℕ) → span.lo ≤ instant → instant ≤ span.hi → mode_at log instant ≡ span.mode)
+    (span.lo ≡ begin) × (span.lo ≤ span.hi)
+    × ((instant : ℕ) → span.lo ≤ instant → instant ≤ span.hi → mode_at log instant ≡ span.mode)
     × AreSpans log end (span.hi + 1) spans
 
 -- the span that a line ends, where it has an instant
 abbrev pub closed_by : Span → Entry → List Span
 closed_by current (Start time node) = []
-closed_by current (Mode time mode) = if nat_le current.lo time then record { lo = current.lo; hi = time; mode = current.mode } ∷ [] else []
+closed_by current (Mode time mode) =
+    if nat_le current.lo time then record { lo = current.lo; hi = time; mode = current.mode } ∷ [] else []
 closed_by current (Sweep time) = []
 closed_by current (Tick time) = []
 closed_by current (Stop time) = []

@@ -1,5 +1,5 @@
--- A simulation under way: which nodes are active, and when each other discrepancy is activated by them. No public contract
--- cites this.
+-- A simulation under way: which nodes are active, and when each other discrepancy is activated by them. No public
+-- contract cites this.
 use Rattle.std.specs.Prelude.{◌≡◌, zero, suc, ◌+◌, is_none, if◌then◌else◌, ℕ, ◌<◌, ◌≤◌, List, length, All, IsTrue, false, Option, Some, None, slice_index_or}
 use Rattle.tfpg_base.specs.declared.activation.Activation.{Activation}
 use Rattle.tfpg_base.specs.Trace.{time_of, with_time}
@@ -13,17 +13,21 @@ use Rattle.tfpg_sim.specs.Simulation.{Arrives, IsFirst}
 abbrev pub candidate_at : List (Option ℕ) → ℕ → Option ℕ
 candidate_at candidates node = slice_index_or candidates node None
 
--- What is known of the next activation of a node: nothing of a failure mode or of a node that is active already, and else
--- the first arrival by the nodes that are active so far.
-pub record IsCandidate (graph : Tfpg) (log : Logbook) (delays : List ℕ) (limit : ℕ) (trace : List Activation) (node : ℕ) (candidate : Option ℕ) : Type 0 where
+-- What is known of the next activation of a node: nothing of a failure mode or of a node that is active already, and
+-- else the first arrival by the nodes that are active so far.
+pub record IsCandidate (graph : Tfpg) (log : Logbook) (delays : List ℕ) (limit : ℕ) (trace : List Activation)
+    (node : ℕ) (candidate : Option ℕ) : Type 0 where
   pub failure_mode : IsTrue (is_kind_at is_failure graph node) → candidate ≡ None
   pub active : (time : ℕ) → time_of trace node ≡ Some time → candidate ≡ None
-  pub waiting : is_kind_at is_failure graph node ≡ false → time_of trace node ≡ None → IsFirst (Arrives graph log delays trace node) limit candidate
+  pub waiting : is_kind_at is_failure graph node ≡ false → time_of trace node ≡ None
+      → IsFirst (Arrives graph log delays trace node) limit candidate
 
 -- so much of each node
-pub record AreCandidates (graph : Tfpg) (log : Logbook) (delays : List ℕ) (limit : ℕ) (trace : List Activation) (candidates : List (Option ℕ)) : Type 0 where
+pub record AreCandidates (graph : Tfpg) (log : Logbook) (delays : List ℕ) (limit : ℕ) (trace : List Activation)
+    (candidates : List (Option ℕ)) : Type 0 where
   pub count : length candidates ≡ length graph.nodes
-  pub each : (node : ℕ) → node < length graph.nodes → IsCandidate graph log delays limit trace node (candidate_at candidates node)
+  pub each : (node : ℕ) → node < length graph.nodes
+      → IsCandidate graph log delays limit trace node (candidate_at candidates node)
 
 -- the least of the candidates
 pub record IsEarliest (candidates : List (Option ℕ)) (node time : ℕ) : Type 0 where
@@ -33,7 +37,8 @@ pub record IsEarliest (candidates : List (Option ℕ)) (node time : ℕ) : Type 
 
 -- A simulation is under way: the discrepancies that are active are so from their first arrival on, and no candidate is
 -- earlier than one of them.
-pub record IsUnderWay (graph : Tfpg) (log : Logbook) (delays : List ℕ) (limit : ℕ) (starts : ℕ → Option ℕ) (trace : List Activation) (candidates : List (Option ℕ)) : Type 0 where
+pub record IsUnderWay (graph : Tfpg) (log : Logbook) (delays : List ℕ) (limit : ℕ) (starts : ℕ → Option ℕ)
+    (trace : List Activation) (candidates : List (Option ℕ)) : Type 0 where
   pub within : All (λ activation. activation.node < length graph.nodes) trace
   pub times : All (λ activation. activation.time ≤ limit) trace
   pub failure_modes : (node : ℕ) → IsTrue (is_kind_at is_failure graph node) → time_of trace node ≡ starts node

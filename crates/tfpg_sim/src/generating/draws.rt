@@ -1,7 +1,7 @@
 //! What the generator draws of single words.
 
 ghost use Rattle.std.specs.Prelude.{◌≡◌, ◌<◌, ◌%◌, if◌then◌else◌};
-ghost use Rattle.tfpg_sim.specs.Generated.{next_word, after_word, after_words, edge_drawn};
+ghost use Rattle.tfpg_sim.specs.Generated.{draw, after_word, after_words, edge_drawn};
 
 use rand_core::utils::NextWord;
 use rand_pcg::Lcg64Xsh32;
@@ -10,7 +10,7 @@ use tfpg_graph::Edge;
 /// Draws a number below the bound.
 pub(crate) fn draw(state: &mut Lcg64Xsh32, bound: u32) -> u32
     requires { 0 < bound }
-    ensures value { result ≡ next_word state.old % bound }
+    ensures value { result ≡ draw bound 0 state.old }
     ensures below { result < bound }
     ensures after { state.new ≡ after_word state.old }
 {
@@ -30,13 +30,13 @@ pub(crate) fn draw_edge(source: u32, target: u32, state: &mut Lcg64Xsh32) -> Edg
         source,
         target,
         tmin: least,
-        tmax: greatest(least + more, is_open),
+        tmax: tmax_unless(least + more, is_open),
         modes: modes(is_in_first_alone),
     }
 }
 
 /// The greatest delay, which an open edge has not.
-fn greatest(delay: u64, is_open: bool) -> Option<u64>
+fn tmax_unless(delay: u64, is_open: bool) -> Option<u64>
     ensures { result ≡ (if is_open then None else Some delay) }
 {
     if is_open { None } else { Some(delay) }

@@ -2,17 +2,18 @@
 
 ghost use Rattle.std.specs.Prelude.{◌≡◌, ◌≤◌, length, All, IfOk};
 ghost use Rattle.std.specs.List.{flat_map};
+ghost use Rattle.tfpg_base.specs.declared.limits.TheConstants.{MAX_CASE_SIZE};
 ghost use Rattle.tfpg_base.specs.Append.{Appends};
 ghost use Rattle.tfpg_graph.specs.Valid.{IsValid};
-ghost use Rattle.tfpg_graph.specs.inside.writing.Written.{node_text};
-ghost use Rattle.tfpg_sim.specs.Generated.{discrepancy_count, drawn_graph, failure_count, failure_kinds, max_size, named_nodes};
-ghost use Rattle.tfpg_sim.specs.inside.GraphText.{modes_text, edge_text_by_number, draft_text, HasDrawnModes};
+ghost use Rattle.tfpg_sim.specs.Generated.{discrepancy_count, drawn_graph, failure_kinds, named_nodes};
+ghost use Rattle.tfpg_sim.specs.declared.limits.TheConstants.{FAILURE_COUNT};
+ghost use Rattle.tfpg_sim.specs.inside.GraphText.{drawn_modes_word, drawn_node_text, edge_text_by_number, draft_text, HasDrawnModes};
 ghost use Rattle.tfpg_base.specs.TextLine.{text_line};
 ghost use Rattle.tfpg_graph.specs.Text.{node_words};
-ghost use Rattle.tfpg_sim.specs.Generated.{node_name};
+ghost use Rattle.tfpg_sim.specs.Generated.{drawn_name};
 
 use crate::generating::draft::Draft;
-use crate::generating::node_name::node_name;
+use crate::generating::drawn_name::drawn_name;
 use crate::limits::FAILURE_COUNT;
 use itoa::Buffer;
 use std::alloc::Global;
@@ -22,7 +23,7 @@ use tfpg_graph::{Edge, Graph, GraphRefusal, Kind, append_node, read};
 /// The graph of the draft, which is valid.
 pub(crate) fn drawn_graph(alloc: Global, draft: &Draft) -> Result<Graph, NoMemory>
     requires valid { IsValid (drawn_graph draft.now.kinds.items draft.now.edges.items) }
-    requires few { length draft.now.kinds.items ≤ discrepancy_count max_size }
+    requires few { length draft.now.kinds.items ≤ discrepancy_count MAX_CASE_SIZE }
     requires modes { All HasDrawnModes draft.now.edges.items }
     ensures { IfOk result (λ graph. graph ≡ drawn_graph draft.now.kinds.items draft.now.edges.items) }
 {
@@ -36,7 +37,7 @@ pub(crate) fn drawn_graph(alloc: Global, draft: &Draft) -> Result<Graph, NoMemor
 
 /// The text of the graph of these discrepancies and edges.
 fn draft_text(alloc: Global, kinds: &[Kind], edges: &[Edge]) -> Result<Vec<u8>, NoMemory>
-    requires { length kinds.now ≤ discrepancy_count max_size }
+    requires { length kinds.now ≤ discrepancy_count MAX_CASE_SIZE }
     ensures { IfOk result (λ text. text.items ≡ draft_text kinds.now edges.now) }
 {
     let mut text = Vec::new(alloc);
@@ -51,7 +52,7 @@ fn draft_text(alloc: Global, kinds: &[Kind], edges: &[Edge]) -> Result<Vec<u8>, 
 /// Appends the lines of the failure modes.
 fn append_failures(alloc: Global, into: &mut Vec<u8>) -> Result<(), NoMemory>
     ensures { Appends result into.old.items into.new.items
-        (flat_map node_text (named_nodes 0 (failure_kinds failure_count))) }
+        (flat_map drawn_node_text (named_nodes 0 (failure_kinds FAILURE_COUNT))) }
 {
     for place in 0..FAILURE_COUNT {
         let rarity = u64::from(place) + 1;
@@ -62,9 +63,9 @@ fn append_failures(alloc: Global, into: &mut Vec<u8>) -> Result<(), NoMemory>
 
 /// Appends the lines of the discrepancies.
 fn append_discrepancies(alloc: Global, kinds: &[Kind], into: &mut Vec<u8>) -> Result<(), NoMemory>
-    requires { length kinds.now ≤ discrepancy_count max_size }
+    requires { length kinds.now ≤ discrepancy_count MAX_CASE_SIZE }
     ensures { Appends result into.old.items into.new.items
-        (flat_map node_text (named_nodes failure_count kinds.now)) }
+        (flat_map drawn_node_text (named_nodes FAILURE_COUNT kinds.now)) }
 {
     for place in 0..kinds.len() {
         append_node_by_number(alloc, FAILURE_COUNT + place as u32, kinds[place], into)?;
@@ -79,9 +80,9 @@ fn append_node_by_number(
     kind: Kind,
     into: &mut Vec<u8>,
 ) -> Result<(), NoMemory>
-    ensures { Appends result into.old.items into.new.items (text_line (node_words (node_name node) kind)) }
+    ensures { Appends result into.old.items into.new.items (text_line (node_words (drawn_name node) kind)) }
 {
-    let name = node_name(alloc, node)?;
+    let name = drawn_name(alloc, node)?;
     append_node(&name, kind, into)
 }
 
@@ -99,11 +100,11 @@ fn append_edges(alloc: Global, edges: &[Edge], into: &mut Vec<u8>) -> Result<(),
 fn append_edge(alloc: Global, edge: Edge, into: &mut Vec<u8>) -> Result<(), NoMemory>
     ensures { Appends result into.old.items into.new.items (edge_text_by_number edge) }
 {
-    let source = node_name(alloc, edge.source)?;
-    let target = node_name(alloc, edge.target)?;
+    let source = drawn_name(alloc, edge.source)?;
+    let target = drawn_name(alloc, edge.target)?;
     let mut tmin_digits = Buffer::new();
     let tmin = tmin_digits.format(edge.tmin).as_bytes();
-    let modes = modes_word(edge.modes);
+    let modes = drawn_modes_word(edge.modes);
     match edge.tmax {
         Some(tmax) => {
             let mut tmax_digits = Buffer::new();
@@ -115,8 +116,8 @@ fn append_edge(alloc: Global, edge: Edge, into: &mut Vec<u8>) -> Result<(), NoMe
 }
 
 /// The word for the first mode alone, or for both.
-fn modes_word(modes: u64) -> &'static [u8]
-    ensures { result.now ≡ modes_text modes }
+fn drawn_modes_word(modes: u64) -> &'static [u8]
+    ensures { result.now ≡ drawn_modes_word modes }
 {
     if modes == 1 { b"M0" } else { b"*" }
 }

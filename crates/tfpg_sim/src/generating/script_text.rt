@@ -4,8 +4,8 @@ ghost use Rattle.std.specs.Prelude.{◌≡◌, ◌<◌, ◌^◌, IfOk, [], if◌
 ghost use Rattle.tfpg_base.specs.Append.{Appends};
 ghost use Rattle.tfpg_sim.specs.Generated.{start_text, last_lines, script_drawn};
 
+use crate::generating::drawn_name::drawn_name;
 use crate::generating::draws::draw;
-use crate::generating::node_name::node_name;
 use crate::limits::FAILURE_COUNT;
 use itoa::Buffer;
 use rand_pcg::Lcg64Xsh32;
@@ -42,7 +42,7 @@ fn append_start(alloc: Global, time: u64, failure: u32, into: &mut Vec<u8>) -> R
     ensures { Appends result into.old.items into.new.items (start_text time failure) }
 {
     let mut digits = Buffer::new();
-    let name = node_name(alloc, failure)?;
+    let name = drawn_name(alloc, failure)?;
     append_line(into, &[digits.format(time).as_bytes(), b"start", &name])
 }
 

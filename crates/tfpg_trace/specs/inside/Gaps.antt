@@ -4,14 +4,15 @@ use Rattle.std.specs.Option.{option_map_or}
 use Rattle.tfpg_graph.specs.declared.edge.Edge.{Edge}
 use Rattle.tfpg_graph.specs.Graph.{Tfpg, is_allowed, incoming}
 use Rattle.tfpg_log.specs.declared.span.Span.{Span}
-use Rattle.tfpg_log.specs.Log.{Logbook, now_of}
-use Rattle.tfpg_log.specs.Spans.{span_number, span_at, is_allowed_at}
+use Rattle.tfpg_log.specs.Log.{Logbook, now_of, is_allowed_at}
+use Rattle.tfpg_log.specs.Spans.{span_number, span_at}
 
 -- In the spans before that of a number the edge is last not active at this instant.
 pub record IsLastGap (log : Logbook) (edge : Edge) (number gap : ℕ) : Type 0 where
   pub before : span_number log gap < number
   pub shut : IsTrue (is_allowed_at log edge gap) → ⊥
-  pub active_since : (instant : ℕ) → gap < instant → instant ≤ now_of log → span_number log instant < number → IsTrue (is_allowed_at log edge instant)
+  pub active_since : (instant : ℕ) → gap < instant → instant ≤ now_of log → span_number log instant < number
+      → IsTrue (is_allowed_at log edge instant)
 
 -- where it is last not active in them; with none it is active at all of their instants
 abbrev pub IsGap : Logbook → Edge → ℕ → Option ℕ → Type 0
@@ -35,7 +36,8 @@ pub record HasGaps (graph : Tfpg) (node : ℕ) (gaps : List (Option ℕ)) : Type
   pub room : length (incoming graph node) ≤ length gaps
 
 -- The span is the one of a number, and these are the gaps of the edges into the node when it begins.
-pub record StartsSpan (graph : Tfpg) (log : Logbook) (node number : ℕ) (span : Span) (gaps : List (Option ℕ)) : Type 0 where
+pub record StartsSpan (graph : Tfpg) (log : Logbook) (node number : ℕ) (span : Span)
+    (gaps : List (Option ℕ)) : Type 0 where
   pub here : span_at log number (now_of log) ≡ Some span
   pub are : AreGaps graph log node number gaps
 
@@ -46,4 +48,5 @@ after_gap (Some gap) instant = max instant (gap + 1)
 
 -- the gap of the edge of this number in the graph, once the span is over
 abbrev pub gap_after : Tfpg → Span → ℕ → Option ℕ → Option ℕ
-gap_after graph span edge gap = option_map_or (λ e. if is_allowed e span.mode then gap else Some span.hi) (slice_get graph.edges edge) gap
+gap_after graph span edge gap =
+    option_map_or (λ e. if is_allowed e span.mode then gap else Some span.hi) (slice_get graph.edges edge) gap

@@ -1,5 +1,5 @@
 -- Where a trace does not show an event.
-use Rattle.std.specs.Prelude.{◌≡◌, ℕ, ◌<◌, List, take, Some, slice_get}
+use Rattle.std.specs.Prelude.{◌≡◌, ℕ, ◌<◌, List, take, Some, slice_get, ◌⊎◌}
 use Rattle.tfpg_base.specs.declared.activation.Activation.{Activation}
 use Rattle.tfpg_graph.specs.Graph.{Tfpg}
 use Rattle.tfpg_log.specs.declared.event.Event.{Event}
@@ -22,20 +22,18 @@ pub record IsAlarmNotShown (graph : Tfpg) (trace : List Activation) (event : Eve
   pub not_shown : ShowsAlarm graph trace node time → ⊥
 
 -- The event, after these, is a silence of the node at this time, and is not shown. No node before has such a silence.
-pub record IsSilenceNotShown (graph : Tfpg) (trace : List Activation) (before : List Event) (event : Event) (node time : ℕ) : Type 0 where
+pub record IsSilenceNotShown (graph : Tfpg) (trace : List Activation) (before : List Event) (event : Event)
+    (node time : ℕ) : Type 0 where
   pub silent : quiet_time graph before event node ≡ Some time
   pub not_shown : ShowsSilence trace node time → ⊥
-  pub first : (earlier : ℕ) → earlier < node → quiet_time graph before event earlier ≡ Some time → ShowsSilence trace earlier time
+  pub first : (earlier : ℕ) → earlier < node → quiet_time graph before event earlier ≡ Some time
+      → ShowsSilence trace earlier time
 
--- what is said of an event, after these, that is not shown
+-- This is said of an event, after these, that is not shown: an alarm, or a silence.
 abbrev pub IsNotShown : Tfpg → List Activation → List Event → Event → Verdict → Type 0
-IsNotShown graph trace before event verdict.Yes = ⊥
-IsNotShown graph trace before event (verdict.Late node time) = ⊥
-IsNotShown graph trace before event (verdict.Stranger node time) = ⊥
-IsNotShown graph trace before event (verdict.May node time) = ⊥
-IsNotShown graph trace before event (verdict.Must node time) = ⊥
-IsNotShown graph trace before event (verdict.Alarm node time) = IsAlarmNotShown graph trace event node time
-IsNotShown graph trace before event (verdict.Silence node time) = IsSilenceNotShown graph trace before event node time
+IsNotShown graph trace before event said =
+    ((node time : ℕ) × (said ≡ verdict.Alarm node time) × IsAlarmNotShown graph trace event node time)
+    ⊎ ((node time : ℕ) × (said ≡ verdict.Silence node time) × IsSilenceNotShown graph trace before event node time)
 
 -- This is said of the first event that is not shown.
 pub record IsFirstNotShown (graph : Tfpg) (trace : List Activation) (events : List Event) (said : Verdict) : Type 0 where

@@ -3,7 +3,8 @@ use Rattle.std.proofs.Common.{◌≡◌, ◌∙◌, ◌==◌, ◌&&◌, ◌||◌
 use Rattle.std.specs.Prelude.{if◌then◌else◌, count_by, find}
 use Rattle.std.specs.Option.{option_map_or}
 use Rattle.std.specs.List.{list_any}
-use Rattle.std.proofs.lemmas.Slice.Eq.{bytes_eq-Decides}
+use Rattle.std.proofs.lemmas.Bool.{false_from_ne_true}
+use Rattle.std.proofs.Math.Bool.{or-false}
 use Rattle.clap.specs.Walk.{Row, Rule, Text, arg_by_id, arg_by_long, count_of, finished, has_long, has_row, has_short, idle, nothing_held, settled, walk, with_default, with_values}
 use Rattle.clap.specs.Simple.{App, argument_words, built, names_of, matches_of}
 use Rattle.clap.specs.Kinds.{Kinds, or_else}
@@ -14,15 +15,13 @@ use Rattle.clap.specs.declared.error.kind.ErrorKind.TheVariants.{MissingRequired
 use Rattle.clap.proofs.FaultLemmas.{leaf_fault}
 use Rattle.clap.specs.declared.parser.matches.ValueSource.TheVariants.{DefaultValue}
 use Rattle.clap.specs.declared.builder.value_parser.Reading.TheVariants as reading
+use Rattle.tfpg_base.proofs.lists.SameBytes.{bytes_eq-same, bytes_eq-true}
 use Rattle.tfpg_words.specs.Words.{Any, Form, Parts, Word, is_word_among, no_parts, parts_from}
 use Rattle.tfpg_words.specs.inside.Rows.{AllAmong, Apart, Holds, form_for, hyphened, joined_to, rules_for, built_for}
 use Rattle.tfpg_words.specs.inside.Rules.{LongIs, between, flag_rule, option_rule, shape_with, words_id, words_rule}
 use Rattle.tfpg_words.proofs.walk.Walks.{Outcome}
-use Rattle.tfpg_words.proofs.walk.Rows.{differ, other_values, row_at, vals_in, count_in, skipped, found, itself}
+use Rattle.tfpg_words.proofs.walk.Rows.{differ, other_values, row_at, vals_in, count_in, skipped, found}
 use Rattle.tfpg_words.proofs.walk.Main.{AreUtf8, IsFor, whole_walk}
-
-same : (a b : Text) → bytes_eq a b ≡ true → a ≡ b
-same a b e = (bytes_eq-Decides a b).0 e
 
 abbrev by_name : Text → Rule → Bool
 by_name name a = not (is_some a.index) && has_long a name
@@ -42,15 +41,11 @@ module _ (rule : Text → Rule) (test : Text → Rule → Bool) (tests : (n name
           → Searched rule name (is_word_among (map hyphened (n ∷ names)) (hyphened name)) (find (test name) (map rule (n ∷ names) ++ rest)) (find (test name) rest)
       by true e more =
           subst (λ (t : Bool). Searched rule name (t || is_word_among (map hyphened names) (hyphened name)) (find (test name) (map rule (n ∷ names) ++ rest)) (find (test name) rest)) (sym e)
-          ((λ i. cond ((tests n name ∙ e) i) (Some (rule n)) (find (test name) (map rule names ++ rest))) ∙ ap (λ (t : Text). Some (rule t)) (same n name e))
+          ((λ i. cond ((tests n name ∙ e) i) (Some (rule n)) (find (test name) (map rule names ++ rest))) ∙ ap (λ (t : Text). Some (rule t)) (bytes_eq-true n name e))
       by false e more =
           subst (λ (t : Bool). Searched rule name (t || is_word_among (map hyphened names) (hyphened name)) (find (test name) (map rule (n ∷ names) ++ rest)) (find (test name) rest)) (sym e)
           (subst (λ (o : Option Rule). Searched rule name (is_word_among (map hyphened names) (hyphened name)) o (find (test name) rest))
           (λ i. cond (sym (tests n name ∙ e) i) (Some (rule n)) (find (test name) (map rule names ++ rest))) more)
-
-or_false : (b : Bool) → (b || false) ≡ b
-or_false true = refl
-or_false false = refl
 
 -- a search that no rule of a name passes
 passed : (rule : Text → Rule) (test : Rule → Bool) (rest : List Rule) → ((n : Text) → test (rule n) ≡ false) → (names : List Text)
@@ -64,15 +59,15 @@ hyphens (n ∷ names) word e = by (bytes_eq (hyphened n) word) refl (λ rest. hy
   where
     by : (b : Bool) → bytes_eq (hyphened n) word ≡ b → (is_word_among (map hyphened names) word ≡ true → (name : Text) × (word ≡ hyphened name))
         → (b || is_word_among (map hyphened names) word) ≡ true → (name : Text) × (word ≡ hyphened name)
-    by true on rest e = (n, sym (same (hyphened n) word on))
+    by true on rest e = (n, sym (bytes_eq-true (hyphened n) word on))
     by false on rest e = rest e
 
 module _ (options flags : List Text) (apart : Apart (form_for options flags)) where
   by_long_name : (name : Text) → LongIs (is_word_among (map hyphened options) (hyphened name)) (is_word_among (map hyphened flags) (hyphened name)) name (arg_by_long (rules_for options flags) name)
   by_long_name name = joined (arg_by_long (rules_for options flags) name) (find (by_name name) (map flag_rule flags ++ words_rule ∷ []))
       (is_word_among (map hyphened options) (hyphened name)) (is_word_among (map hyphened flags) (hyphened name))
-      (searched option_rule by_name (λ n t. or_false (bytes_eq n t)) (map flag_rule flags ++ words_rule ∷ []) name options)
-      (searched flag_rule by_name (λ n t. or_false (bytes_eq n t)) (words_rule ∷ []) name flags)
+      (searched option_rule by_name (λ n t. or-false (bytes_eq n t)) (map flag_rule flags ++ words_rule ∷ []) name options)
+      (searched flag_rule by_name (λ n t. or-false (bytes_eq n t)) (words_rule ∷ []) name flags)
     where
       joined : (rules rest : Option Rule) (b f : Bool) → Searched option_rule name b rules rest → Searched flag_rule name f rest None → LongIs b f name rules
       joined rules rest true f here more = here
@@ -84,17 +79,13 @@ module _ (options flags : List Text) (apart : Apart (form_for options flags)) wh
       subst (λ (b : Bool). Searched option_rule name b (arg_by_id (rules_for options flags) name) (find (λ a. bytes_eq a.id name) (map flag_rule flags ++ words_rule ∷ []))) is
       (searched option_rule (λ t a. bytes_eq a.id t) (λ n t. refl) (map flag_rule flags ++ words_rule ∷ []) name options)
 
-  off : (b : Bool) → (b ≡ true → ⊥) → b ≡ false
-  off true never = absurd (never refl)
-  off false never = refl
-
   words_are : arg_by_id (rules_for options flags) words_id ≡ Some words_rule
   words_are =
       subst (λ (b : Bool). Searched option_rule words_id b (arg_by_id (rules_for options flags) words_id) (find (λ a. bytes_eq a.id words_id) (map flag_rule flags ++ words_rule ∷ [])))
-      (off (is_word_among (map hyphened options) (hyphened words_id)) apart.no_option)
+      (false_from_ne_true (is_word_among (map hyphened options) (hyphened words_id)) apart.no_option)
       (searched option_rule (λ t a. bytes_eq a.id t) (λ n t. refl) (map flag_rule flags ++ words_rule ∷ []) words_id options)
       ∙ subst (λ (b : Bool). Searched flag_rule words_id b (find (λ a. bytes_eq a.id words_id) (map flag_rule flags ++ words_rule ∷ [])) (find (λ a. bytes_eq a.id words_id) (words_rule ∷ [])))
-      (off (is_word_among (map hyphened flags) (hyphened words_id)) apart.no_flag)
+      (false_from_ne_true (is_word_among (map hyphened flags) (hyphened words_id)) apart.no_flag)
       (searched flag_rule (λ t a. bytes_eq a.id t) (λ n t. refl) (words_rule ∷ []) words_id flags)
 
   pub is_for : IsFor (rules_for options flags) (form_for options flags)
@@ -167,7 +158,7 @@ absent n (r ∷ rows) e = by (bytes_eq r.id n) refl (λ less. absent n rows less
 
 added : (n : Text) (rows : List Row) → has_row n rows ≡ false
     → count_of n (with_values n reading.WithoutMinus DefaultValue (codes "0" ∷ []) rows) ≡ 0
-added n [] e = ap count_in (found n _ [] (itself n))
+added n [] e = ap count_in (found n _ [] (bytes_eq-same n))
 added n (r ∷ rows) e = by (bytes_eq r.id n) refl (λ less. added n rows less) e
   where
     by : (b : Bool) → bytes_eq r.id n ≡ b → (has_row n rows ≡ false → count_of n (with_values n reading.WithoutMinus DefaultValue (codes "0" ∷ []) rows) ≡ 0)
@@ -183,7 +174,7 @@ module _ (form : Form) (apart : Apart form) (parts : Parts) where
       same_flag : (m : Text) → is_word_among form.flags (hyphened m) ≡ true → (b : Bool) → bytes_eq n m ≡ b → has_row n rows ≡ false
           → count_of m (with_values n reading.WithoutMinus DefaultValue (codes "0" ∷ []) rows) ≡ min (count_by (λ used. bytes_eq used.name (hyphened m)) parts.uses) 255
       same_flag m e true on none =
-          subst (λ (t : Text). count_of t (with_values n reading.WithoutMinus DefaultValue (codes "0" ∷ []) rows) ≡ count_of t rows) (same n m on)
+          subst (λ (t : Text). count_of t (with_values n reading.WithoutMinus DefaultValue (codes "0" ∷ []) rows) ≡ count_of t rows) (bytes_eq-true n m on)
           (added n rows none ∙ sym (ap count_in (absent n rows none)))
           ∙ h.counts m e
       same_flag m e false off none = ap count_in (other_values m n reading.WithoutMinus DefaultValue rows off (codes "0" ∷ [])) ∙ h.counts m e

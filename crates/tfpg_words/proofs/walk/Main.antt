@@ -21,10 +21,10 @@ use Rattle.tfpg_words.specs.inside.Rows.{Apart, Holds, hyphened, joined_to}
 use Rattle.tfpg_words.specs.inside.Rules.{LongIs, between, flag_rule, option_rule, shape_with, words_id, words_rule}
 use Rattle.tfpg_words.proofs.walk.View.{View, plain, divider, long, short, view, cut_long, whole, named, parted}
 use Rattle.tfpg_words.proofs.walk.Turns.{held, quiet, turn_by, walked_by, words_fault, words_step, plain_met, plain_fault, divider_met, divider_fault, short_fault_is, value_met, lacks, settles, attached, attached_fault, waits, waits_fault, flag, flag_fault, unneeded_fault, unknown_fault}
-use Rattle.tfpg_words.proofs.walk.Walks.{Outcome, Settled, Stands, add_use, add_word, forward, rest_fault, rest_rows, stuck, use_first, word_first}
+use Rattle.tfpg_words.proofs.walk.Walks.{Outcome, Settled, Stands, add_use, add_word, forward, left_nil, rest_fault, rest_rows, stuck, use_first, word_first}
 use Rattle.tfpg_words.proofs.walk.Rows.{hold_option, hold_flag, hold_word}
 
--- The rules stand for the form: each name finds its rule, and no other finds any.
+-- The rules represent the form: each name finds its rule, and no other finds any.
 pub record IsFor (R : List Rule) (form : Form) : Type 0 where
   pub apart : Apart form
   pub long_name : (name : Text) → LongIs (is_word_among form.options (hyphened name)) (is_word_among form.flags (hyphened name)) name (arg_by_long R name)
@@ -41,10 +41,6 @@ AreUtf8 (word ∷ words) = IsUtf8 word × AreUtf8 words
 
 nonempty : {X : Type 0} (x : X) (xs : List X) → x ∷ xs ≡ [] → ⊥
 nonempty x xs e = cc
-
-left_nil : (a b : Kinds) → or_else a b ≡ [] → a ≡ []
-left_nil [] b e = refl
-left_nil (k ∷ ks) b e = e
 
 no_sub : (b : Bool) (word : Text) → subcommand_met [] (quiet b) word ≡ None
 no_sub true word = refl

@@ -2,7 +2,6 @@
 use Rattle.std.proofs.Common.{◌≡◌, ◌∙◌, ◌+◌, ap, refl, sym, subst, ℕ, Bool, true, false, cond, List, [], ◌∷◌, ◌++◌, map, min, Option, Some, None, option_map, bytes_eq, arith}
 use Rattle.std.specs.Prelude.{if◌then◌else◌, count_by, filter, unwrap_or, find}
 use Rattle.std.specs.Option.{option_map_or}
-use Rattle.std.proofs.lemmas.Slice.Eq.{bytes_eq-Decides}
 use Rattle.std.proofs.lemmas.List.{append-nil, map-append}
 use Rattle.std.proofs.lemmas.List.Elements.{filter-append}
 use Rattle.std.proofs.lemmas.List.Sums.{sum_by-append}
@@ -12,6 +11,7 @@ use Rattle.clap.specs.declared.builder.value_parser.Reading.{Reading}
 use Rattle.clap.specs.declared.builder.value_parser.Reading.TheVariants as reading
 use Rattle.clap.specs.declared.parser.matches.ValueSource.{ValueSource}
 use Rattle.clap.specs.declared.parser.matches.ValueSource.TheVariants.{CommandLine}
+use Rattle.tfpg_base.proofs.lists.SameBytes.{bytes_eq-same, bytes_eq-true}
 use Rattle.tfpg_words.specs.Words.{Form, Parts, Use, Word, is_word_among}
 use Rattle.tfpg_words.specs.inside.Rules.{flag_rule, option_rule, words_id, words_rule}
 use Rattle.tfpg_words.specs.inside.Rows.{Apart, Holds, hyphened, vals, values_of}
@@ -19,12 +19,6 @@ use Rattle.tfpg_words.proofs.walk.Walks.{add_use, add_word}
 
 abbrev pub row_at : Text → List Row → Option Row
 row_at id rows = find (λ r. bytes_eq r.id id) rows
-
-same_text : (a b : Text) → bytes_eq a b ≡ true → a ≡ b
-same_text a b e = (bytes_eq-Decides a b).0 e
-
-pub itself : (a : Text) → bytes_eq a a ≡ true
-itself a = (bytes_eq-Decides a a).1 refl
 
 -- a change of another row is not seen
 pub other_row : (id changed : Text) (change : Row → List Row) (missing rows : List Row) → bytes_eq changed id ≡ false
@@ -37,7 +31,7 @@ other_row id changed change missing (r ∷ rs) apart passes none =
     by : (b : Bool) → bytes_eq r.id changed ≡ b → row_at id (at_row changed change missing rs) ≡ row_at id rs
         → row_at id (if b then change r ++ rs else r ∷ at_row changed change missing rs) ≡ row_at id (r ∷ rs)
     by true e rest =
-        let off : bytes_eq r.id id ≡ false = subst (λ (t : Text). bytes_eq t id ≡ false) (sym (same_text r.id changed e)) apart in
+        let off : bytes_eq r.id id ≡ false = subst (λ (t : Text). bytes_eq t id ≡ false) (sym (bytes_eq-true r.id changed e)) apart in
         passes r rs off ∙ (λ i. cond (sym off i) (Some r) (row_at id rs))
     by false e rest = ap (λ o. cond (bytes_eq r.id id) (Some r) o) rest
 
@@ -79,7 +73,7 @@ count_in found_row = option_map_or (λ (r : Row). unwrap_or r.count (first_as_co
 
 pub same_values : (id : Text) (how : Reading) (s : ValueSource) (vs : List Text) (rows : List Row)
     → vals id (with_values id how s vs rows) ≡ vals id rows ++ vs
-same_values id how s vs [] = ap vals_in (found id (new_values id how s vs) [] (itself id))
+same_values id how s vs [] = ap vals_in (found id (new_values id how s vs) [] (bytes_eq-same id))
 same_values id how s vs (r ∷ rs) = by (bytes_eq r.id id) refl (same_values id how s vs rs)
   where
     by : (b : Bool) → bytes_eq r.id id ≡ b → vals id (with_values id how s vs rs) ≡ vals id rs ++ vs
@@ -89,7 +83,7 @@ same_values id how s vs (r ∷ rs) = by (bytes_eq r.id id) refl (same_values id 
         ap vals_in (skipped id r (with_values id how s vs rs) e) ∙ (rest ∙ sym (ap (λ o. vals_in o ++ vs) (skipped id r rs e)))
 
 pub same_count : (id : Text) (how : Reading) (s : ValueSource) (n : ℕ) (rows : List Row) → count_of id (with_count id how s n rows) ≡ n
-same_count id how s n [] = ap count_in (found id (new_number id how s n) [] (itself id))
+same_count id how s n [] = ap count_in (found id (new_number id how s n) [] (bytes_eq-same id))
 same_count id how s n (r ∷ rs) = by (bytes_eq r.id id) refl (same_count id how s n rs)
   where
     by : (b : Bool) → bytes_eq r.id id ≡ b → count_of id (with_count id how s n rs) ≡ n
@@ -115,7 +109,7 @@ vals_more : (n name : Text) (how : Reading) (s : ValueSource) (vs : List Text) (
 vals_more n name how s vs rows = by (bytes_eq name n) refl
   where
     by : (b : Bool) → bytes_eq name n ≡ b → vals n (with_values name how s vs rows) ≡ vals n rows ++ (if b then vs else [])
-    by true e = subst (λ (t : Text). vals n (with_values t how s vs rows) ≡ vals n rows ++ vs) (sym (same_text name n e)) (same_values n how s vs rows)
+    by true e = subst (λ (t : Text). vals n (with_values t how s vs rows) ≡ vals n rows ++ vs) (sym (bytes_eq-true name n e)) (same_values n how s vs rows)
     by false e = ap vals_in (other_values n name how s rows e vs) ∙ sym (append-nil (vals n rows))
 
 counted_more : (word name v : Word) (uses : List Use)
@@ -127,7 +121,7 @@ pub differ : (P Q : Text → Type 0) (a b : Text) → P a → Q b → ((t : Text
 differ P Q a b p q apart = by (bytes_eq a b) refl
   where
     by : (t : Bool) → bytes_eq a b ≡ t → bytes_eq a b ≡ false
-    by true e = absurd (apart b (subst P (same_text a b e) p) q)
+    by true e = absurd (apart b (subst P (bytes_eq-true a b e) p) q)
     by false e = e
 
 capped : (c : ℕ) → min (min c 255 + 1) 255 ≡ min (c + 1) 255
@@ -182,7 +176,7 @@ module _ (form : Form) (apart : Apart form) where
         flags n e true on =
             let c = count_by (λ (u : Use). bytes_eq u.name (hyphened n)) parts.uses in
             let now : count_of n (used (flag_rule name) [] rows) ≡ min (count_of n rows + 1) 255 =
-            subst (λ (t : Text). count_of n (used (flag_rule t) [] rows) ≡ min (count_of n rows + 1) 255) (sym (same_text name n on)) (same_count n reading.WithoutMinus CommandLine (min (count_of n rows + 1) 255) (without n rows)) in
+            subst (λ (t : Text). count_of n (used (flag_rule t) [] rows) ≡ min (count_of n rows + 1) 255) (sym (bytes_eq-true name n on)) (same_count n reading.WithoutMinus CommandLine (min (count_of n rows + 1) 255) (without n rows)) in
             let more : count_by (λ u. bytes_eq u.name (hyphened n)) (parts.uses ++ (record { name = hyphened name; value = [] }) ∷ []) ≡ c + 1 =
             counted_more (hyphened n) (hyphened name) [] parts.uses ∙ rw on (omega arith) in
             now ∙ (ap (λ m. min (m + 1) 255) (h.counts n e) ∙ (capped c ∙ ap (λ m. min m 255) (sym more)))

@@ -1,6 +1,6 @@
 -- What a word looks like, to clap and to the definition of the words.
 use Rattle.std.proofs.Common.{◌≡◌, ◌∙◌, ◌+◌, ◌==◌, ◌&&◌, ◌||◌, suc, ⊎_elim, ap, ap₂, refl, sym, subst, ℕ, Bool, true, false, not, cond, true≢false, List, [], ◌∷◌, length, Option, Some, None, option_map, bytes_eq, nat_lt, take, drop, arith}
-use Rattle.std.proofs.lemmas.Bool.{cases_lt, lt-ltb, le-ltb}
+use Rattle.std.proofs.lemmas.Bool.{cases_lt, eqb-true, lt-ltb, le-ltb}
 use Rattle.std.specs.List.{list_any, position, prefix_len, position_or_len, before_first, after_first}
 use Rattle.clap.specs.Lexer.{has_byte, long_of, short_of}
 use Rattle.tfpg_words.specs.Words.{Word, cut_at_equals, is_option_word}
@@ -11,20 +11,17 @@ pub data View : Word → Type 0 where
   long : (first : ℕ) (rest : List ℕ) → View (45 ∷ 45 ∷ first ∷ rest)
   short : (first : ℕ) (rest : List ℕ) → (first == 45) ≡ false → View (45 ∷ first ∷ rest)
 
-eqb_is : (a : ℕ) → (a == 45) ≡ true → a ≡ 45
-eqb_is a e = grind (arith, e)
-
 one : (a : ℕ) (b : Bool) → (a == 45) ≡ b → View (a ∷ [])
-one a true e = subst (λ (x : ℕ). View (x ∷ [])) (sym (eqb_is a e)) (plain (45 ∷ []) refl refl refl refl)
+one a true e = subst (λ (x : ℕ). View (x ∷ [])) (sym (eqb-true a 45 e)) (plain (45 ∷ []) refl refl refl refl)
 one a false e = plain (a ∷ []) refl (λ i. e i && false) (rw e refl) (rw e refl)
 
 two : (b : ℕ) (rest : List ℕ) (t : Bool) → (b == 45) ≡ t → View (45 ∷ b ∷ rest)
 two b rest false e = short b rest e
-two b [] true e = subst (λ (x : ℕ). View (45 ∷ x ∷ [])) (sym (eqb_is b e)) divider
-two b (c ∷ rest) true e = subst (λ (x : ℕ). View (45 ∷ x ∷ c ∷ rest)) (sym (eqb_is b e)) (long c rest)
+two b [] true e = subst (λ (x : ℕ). View (45 ∷ x ∷ [])) (sym (eqb-true b 45 e)) divider
+two b (c ∷ rest) true e = subst (λ (x : ℕ). View (45 ∷ x ∷ c ∷ rest)) (sym (eqb-true b 45 e)) (long c rest)
 
 more : (a b : ℕ) (rest : List ℕ) (t : Bool) → (a == 45) ≡ t → View (a ∷ b ∷ rest)
-more a b rest true e = subst (λ (x : ℕ). View (x ∷ b ∷ rest)) (sym (eqb_is a e)) (two b rest (b == 45) refl)
+more a b rest true e = subst (λ (x : ℕ). View (x ∷ b ∷ rest)) (sym (eqb-true a 45 e)) (two b rest (b == 45) refl)
 more a b rest false e = plain (a ∷ b ∷ rest) e (rw e refl) (rw e refl) (rw e refl)
 
 pub view : (word : Word) → View word

@@ -37,7 +37,7 @@ word_first form so_far word (Some more) fault rows h = (
       (append_assoc so_far.positional _ more.positional) h.1,
 )
 
-left_nil : (a b : Kinds) → or_else a b ≡ [] → a ≡ []
+pub left_nil : (a b : Kinds) → or_else a b ≡ [] → a ≡ []
 left_nil [] b e = refl
 left_nil (k ∷ ks) b e = e
 

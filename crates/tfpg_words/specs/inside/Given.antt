@@ -28,7 +28,10 @@ diagnose_by numbers (graph ∷ panels) = diagnose_with graph panels numbers
 
 abbrev pub diagnose_given : List Row → Result Meaning UsageCause
 diagnose_given rows =
-    diagnose_by (both (number_given k_option (first_value (codes "k") rows)) (number_given budget_option (first_value (codes "budget") rows))) (vals words_id rows)
+    diagnose_by
+    (both (number_given k_option (first_value (codes "k") rows))
+    (number_given budget_option (first_value (codes "budget") rows)))
+    (vals words_id rows)
 
 abbrev pub explain_given : List Row → Result Meaning UsageCause
 explain_given rows = explain_on (vals words_id rows)
@@ -38,7 +41,9 @@ simulate_by trace draw (graph ∷ script ∷ []) = simulate_with trace graph scr
 simulate_by trace draw _ = Err BadWords
 
 abbrev pub simulate_given : List Row → Result Meaning UsageCause
-simulate_given rows = simulate_by (is_used (codes "trace") rows) (number_given draw_option (first_value (codes "draw") rows)) (vals words_id rows)
+simulate_given rows =
+    simulate_by (is_used (codes "trace") rows)
+    (number_given draw_option (first_value (codes "draw") rows)) (vals words_id rows)
 
 abbrev pub generate_by : Result (ℕ × ℕ) UsageCause → List Word → Result Meaning UsageCause
 generate_by numbers [] = generate_with numbers
@@ -46,9 +51,13 @@ generate_by numbers _ = Err BadWords
 
 abbrev pub generate_given : List Row → Result Meaning UsageCause
 generate_given rows =
-    generate_by (both (number_given draw_option (first_value (codes "draw") rows)) (number_given size_option (first_value (codes "size") rows))) (vals words_id rows)
+    generate_by
+    (both (number_given draw_option (first_value (codes "draw") rows))
+    (number_given size_option (first_value (codes "size") rows)))
+    (vals words_id rows)
 
 -- no option has two values, and no flag two uses
 abbrev pub once_given : List Text → List Text → List Row → Bool
 once_given options flags rows =
-    list_all (λ name. nat_le (length (vals name rows)) 1) options && list_all (λ name. nat_le (count_of name rows) 1) flags
+    list_all (λ name. nat_le (length (vals name rows)) 1) options
+    && list_all (λ name. nat_le (count_of name rows) 1) flags

@@ -4,4 +4,5 @@ use Rattle.tfpg_words.specs.Meaning.{NumberOption}
 use Rattle.tfpg_words.specs.inside.Rows.{hyphened}
 
 abbrev pub option_in : CodeOption → NumberOption
-option_in option = record { name = hyphened option.name.now; least = option.least; limit = option.limit; default = option.default }
+option_in option =
+    record { name = hyphened option.name.now; least = option.least; limit = option.limit; default = option.default }

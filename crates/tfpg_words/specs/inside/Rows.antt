@@ -20,14 +20,16 @@ values_of name uses = map (λ used. used.value) (filter (λ used. bytes_eq used.
 
 -- the rows have the parts
 pub record Holds (form : Form) (rows : List Row) (parts : Parts) : Type 0 where
-  pub values : (name : Text) → is_word_among form.options (hyphened name) ≡ true → vals name rows ≡ values_of (hyphened name) parts.uses
+  pub values : (name : Text) → is_word_among form.options (hyphened name) ≡ true
+      → vals name rows ≡ values_of (hyphened name) parts.uses
   pub counts : (name : Text) → is_word_among form.flags (hyphened name) ≡ true
       → count_of name rows ≡ min (count_by (λ used. bytes_eq used.name (hyphened name)) parts.uses) 255
   pub words : vals words_id rows ≡ parts.positional
 
 -- names of options, names of flags, and the positional words are apart
 pub record Apart (form : Form) : Type 0 where
-  pub kinds : (name : Text) → is_word_among form.options (hyphened name) ≡ true → is_word_among form.flags (hyphened name) ≡ true → ⊥
+  pub kinds : (name : Text) → is_word_among form.options (hyphened name) ≡ true
+      → is_word_among form.flags (hyphened name) ≡ true → ⊥
   pub no_option : is_word_among form.options (hyphened words_id) ≡ true → ⊥
   pub no_flag : is_word_among form.flags (hyphened words_id) ≡ true → ⊥
 
@@ -60,7 +62,12 @@ words_arg = record (new_rule words_id) { action = Some Append }
 
 abbrev pub app_with : List Rule → App
 app_with rules = record {
-  top = record (new_shape (codes "tfpg")) { rules = rules; no_binary_name = true; disable_help_flag = true; disable_version_flag = true };
+  top = record (new_shape (codes "tfpg")) {
+    rules = rules;
+    no_binary_name = true;
+    disable_help_flag = true;
+    disable_version_flag = true;
+  };
   subs = [];
 }
 

@@ -1,4 +1,4 @@
--- The rules of clap that stand for a form.
+-- The rules of clap that represent a form.
 use Rattle.std.specs.Prelude.{◌≡◌, Bool, true, false, List, [], ◌∷◌, Option, Some, None, codes, pos}
 use Rattle.clap.specs.Walk.{Rule, Row, Text, Waiting, Walk}
 use Rattle.clap.specs.Simple.{Shape, new_rule, new_shape}
@@ -50,4 +50,11 @@ between rows pending waiting trailing = record {
 }
 
 abbrev pub shape_with : List Rule → Shape
-shape_with rules = record (new_shape (codes "tfpg")) { rules = rules; is_built = true; no_binary_name = true; disable_help_flag = true; disable_version_flag = true; disable_help_subcommand = true }
+shape_with rules = record (new_shape (codes "tfpg")) {
+  rules = rules;
+  is_built = true;
+  no_binary_name = true;
+  disable_help_flag = true;
+  disable_version_flag = true;
+  disable_help_subcommand = true;
+}

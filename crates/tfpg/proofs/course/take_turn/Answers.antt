@@ -4,12 +4,13 @@ use Rattle.tfpg.specs.declared.fault.StreamFault.TheVariants as faults
 use Rattle.tfpg.specs.inside.Faults.{stream_fault_of_lines}
 use Rattle.tfpg.specs.inside.Course.{ComesTo}
 use Rattle.tfpg.proofs.Putting.{Puts-same}
-use Rattle.tfpg.proofs.Turns.{err_is, stopped_by, ends_by_fault, met_end, met_text, met_long, answered_text, answered_long, gave_without_memory, gave_block, gave_one_more, gave_front}
+use Rattle.tfpg.proofs.Exits.{err_is}
+use Rattle.tfpg.proofs.Turns.{stopped_by, ends_by_fault, met_end, met_text, met_long, answered_text, answered_long, gave_without_memory, gave_block, gave_one_more, gave_front}
 use Rattle.tfpg.proofs.course.take_turn.Goals as goal
 
 pub returns-in_err-next-clause-stopped : goal.returns-in_err-next-clause-stopped
 returns-in_err-next-clause-stopped g c graph k b before under =
-    err_is c.from_residual.result _ (stream_fault_of_lines c.in_err-next.field-0.0) c.from_residual.ensures.1
+    err_is _ c.from_residual.result (stream_fault_of_lines c.in_err-next.field-0.0) c.from_residual.ensures.1
     (ends_by_fault graph k b before _ c.args.lines.now c.next.new.self c.args.engine.now _ c.in_err-next.field-0.0 under (c.in_err-next.ensures under.reading under.represents))
 
 pub returns-in-End-clause-turn : goal.returns-in-End-clause-turn
@@ -19,7 +20,7 @@ returns-in-End-clause-turn g c graph k b before under =
 pub returns-in_err-block-in-TooLong-clause-stopped : goal.returns-in_err-block-in-TooLong-clause-stopped
 returns-in_err-block-in-TooLong-clause-stopped g c graph k b before under =
     let met = met_long graph k b before _ c.args.lines.now c.args.engine.now _ c.next.new.self under c.in_ok-next.field-0 (c.in_ok-next.ensures under.reading under.represents) c.in-TooLong.is in
-    err_is c.from_residual-in_err-block-in-TooLong.result _ faults.NoMemory c.from_residual-in_err-block-in-TooLong.ensures.1
+    err_is _ c.from_residual-in_err-block-in-TooLong.result faults.NoMemory c.from_residual-in_err-block-in-TooLong.ensures.1
     (gave_without_memory graph k b before _ c.args.lines.now c.args.engine.now _ c.next.new.self under met.0)
 
 pub returns-in_ok-block-in-TooLong-clause-turn : goal.returns-in_ok-block-in-TooLong-clause-turn
@@ -44,7 +45,7 @@ returns-in_ok-block-in-TooLong-clause-stopped g c graph k b before under =
 pub returns-in_err-block-in-Text-clause-stopped : goal.returns-in_err-block-in-Text-clause-stopped
 returns-in_err-block-in-Text-clause-stopped g c graph k b before under =
     let met = met_text graph k b before _ c.args.lines.now c.args.engine.now _ c.next.new.self under c.in_ok-next.field-0 (c.in_ok-next.ensures under.reading under.represents) c.in-Text.is in
-    err_is c.from_residual-in_err-block-in-Text.result _ faults.NoMemory c.from_residual-in_err-block-in-Text.ensures.1
+    err_is _ c.from_residual-in_err-block-in-Text.result faults.NoMemory c.from_residual-in_err-block-in-Text.ensures.1
     (gave_without_memory graph k b before _ c.args.lines.now c.args.engine.now _ c.next.new.self under met.0)
 
 pub returns-in_ok-block-in-Text-clause-turn : goal.returns-in_ok-block-in-Text-clause-turn

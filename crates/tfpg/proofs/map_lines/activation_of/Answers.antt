@@ -1,7 +1,7 @@
 use Rattle.std.proofs.Common.{rules, ◌≡◌, None, sym, ap, ◌∙◌}
 use Rattle.tfpg_graph.specs.Graph.{node_named}
 use Rattle.tfpg_base.specs.Words.{number_of, number_up_to}
-use Rattle.tfpg_base.specs.Times.{max_time}
+use Rattle.tfpg_base.specs.declared.limits.TheConstants.{MAX_TIME}
 use Rattle.tfpg.proofs.MapWords.{node_of_word, word_of_named, time_read, time_spelled}
 use Rattle.tfpg.proofs.map_lines.activation_of.Goals as goal
 
@@ -22,5 +22,5 @@ pub returns-in_default : goal.returns-in_default
 returns-in_default c = record {
   found = tt;
   none = λ none activation of name time. c.in_default.not-Value activation.time
-      (c.read_number.ensures ∙ ap (λ word. number_up_to max_time (number_of word)) time ∙ time_read activation.time of.in_range);
+      (c.read_number.ensures ∙ ap (λ word. number_up_to MAX_TIME (number_of word)) time ∙ time_read activation.time of.in_range);
 }

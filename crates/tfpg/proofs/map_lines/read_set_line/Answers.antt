@@ -13,10 +13,10 @@ returns-in_default-clause-bad c bad =
 
 pub returns-clause-set : goal.returns-clause-set
 returns-clause-set c =
-    let read : word_after_set (words_of c.args.line.now) ≡ Some c.in-Some.word.now = sym c.behind_set.ensures ∙ ap (option_map (λ (word : Bor (List ℕ)). word.now)) c.in-Some.is in
+    let read : word_after_set (words_of c.args.line.now) ≡ Some c.in-Some.word.now = sym c.word_after_set.ensures ∙ ap (option_map (λ (word : Bor (List ℕ)). word.now)) c.in-Some.is in
     IfOk-weaker c.read_set.result _ _ (λ set h. (h.0, set_line_spelled c.args.graph.now c.args.line.now c.in-Some.word.now set read h.1)) c.read_set.ensures.set
 
 pub returns-clause-bad : goal.returns-clause-bad
 returns-clause-bad c bad =
-    let read : word_after_set (words_of c.args.line.now) ≡ Some c.in-Some.word.now = sym c.behind_set.ensures ∙ ap (option_map (λ (word : Bor (List ℕ)). word.now)) c.in-Some.is in
+    let read : word_after_set (words_of c.args.line.now) ≡ Some c.in-Some.word.now = sym c.word_after_set.ensures ∙ ap (option_map (λ (word : Bor (List ℕ)). word.now)) c.in-Some.is in
     no_set-read c.args.graph.now c.node_count-valid.ensures.valid c.args.line.now c.in-Some.word.now read (c.read_set.ensures.bad bad)

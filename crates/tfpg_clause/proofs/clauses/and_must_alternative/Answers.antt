@@ -1,7 +1,8 @@
 use Rattle.std.proofs.Common.{List, sym, ap, ◌∙◌}
 use Rattle.std.specs.Prelude.{option_map, option_and_then}
 use Rattle.tfpg_base.specs.declared.constraint.Constraint.{Constraint}
-use Rattle.tfpg_clause.specs.Clauses.{must_in, item_at}
+use Rattle.tfpg_clause.specs.Clauses.{must_in}
+use Rattle.tfpg_base.specs.Choice.{item_at}
 use Rattle.tfpg_clause.specs.inside.Alternatives.{dues_over}
 use Rattle.tfpg_clause.proofs.Found.{and_must_found}
 use Rattle.tfpg_clause.proofs.clauses.and_must_alternative.Goals as goal
@@ -16,7 +17,7 @@ returns c =
     (λ edges.
     option_map (λ (clause : List (List Constraint)). item_at clause c.args.alternative)
     (option_and_then (λ dues. must_in c.args.node c.args.number window dues) (dues_over graph log c.args.number c.args.horizon edges)))
-    c.edges_into-edges.ensures.value
+    c.incoming-edges.ensures.edges
     ∙ sym (ap (option_map (λ (clause : List (List Constraint)). item_at clause c.args.alternative))
     (and_must_found graph log c.args.node c.args.number c.args.horizon window (sym c.is_and.ensures.value ∙ c.if-not-is_and.false)
     (sym c.find_joint.ensures.value ∙ c.in_ok-window.ensures.ok_part)))

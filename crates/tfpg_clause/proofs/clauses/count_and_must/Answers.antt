@@ -14,6 +14,6 @@ returns c =
     ∙ ap
     (λ edges.
     option_map length (option_and_then (λ dues. must_in c.args.node c.args.number window dues) (dues_over graph log c.args.number c.args.horizon edges)))
-    c.edges_into.ensures.value
+    c.incoming.ensures.edges
     ∙ sym (ap (option_map length)
     (and_must_found graph log c.args.node c.args.number c.args.horizon window (sym c.is_and.ensures.value ∙ c.if-not-is_and.false) (sym c.in_ok-window.ensures.value)))

@@ -16,5 +16,5 @@ returns c =
     let graph = c.args.graph.now in
     let log = c.args.log.now in
     c.may_count.ensures c.args.node
-    ∙ ap (λ (edges : List ℕ). option_map length (may_over graph log c.args.node edges c.args.horizon c.args.number)) c.edges_into.ensures.value
+    ∙ ap (λ (edges : List ℕ). option_map length (may_over graph log c.args.node edges c.args.horizon c.args.number)) c.incoming.ensures.edges
     ∙ sym (ap (option_map length) (or_may_over graph log [] c.args.horizon c.args.node (sym c.is_or.ensures.value ∙ c.if-not-is_or.false) c.args.number))

@@ -2,7 +2,7 @@ use Rattle.std.proofs.Common.{List, ℕ, [], sym, ap, ◌∙◌}
 use Rattle.std.specs.Prelude.{option_map}
 use Rattle.tfpg_base.specs.declared.constraint.Constraint.{Constraint}
 use Rattle.tfpg_graph.specs.Graph.{is_kind_at, is_or, edges_into}
-use Rattle.tfpg_clause.specs.Clauses.{item_at}
+use Rattle.tfpg_base.specs.Choice.{item_at}
 use Rattle.tfpg_clause.specs.inside.FirstSpan.{may_over}
 use Rattle.tfpg_clause.proofs.Families.{or_may_over}
 use Rattle.tfpg_clause.proofs.Found.{no_may}
@@ -20,6 +20,6 @@ returns c =
     let log = c.args.log.now in
     c.may_alternative_in.ensures
     ∙ ap (λ (edges : List ℕ). option_map (λ (clause : List (List Constraint)). item_at clause c.args.alternative) (may_over graph log c.args.node edges c.args.horizon c.args.number))
-    c.edges_into-edges.ensures.value
+    c.incoming-edges.ensures.edges
     ∙ sym (ap (option_map (λ (clause : List (List Constraint)). item_at clause c.args.alternative))
     (or_may_over graph log [] c.args.horizon c.args.node (sym c.is_or.ensures.value ∙ c.if-not-is_or.false) c.args.number))

@@ -9,9 +9,9 @@ loop-place-preserved c =
     let place = c.loop-place.place in
     let within : place < length c.loop-place.known = omega (arith, c.loop-place-test.true, c.requires.room, c.loop-place.invariant.same) in
     record {
-      taken = more_windows graph log c.args.number c.args.horizon c.args.edges.now c.loop-place.known place c.window_round.result within c.window_round.ensures.value c.loop-place.invariant.taken;
-      known = more_known graph log c.args.horizon c.args.edges.now c.loop-place.known place c.window_round.result within
-          (is_over graph log (get_or c.args.edges.now place 0) c.args.number c.args.horizon c.window_round.result c.window_round.ensures.value)
+      taken = more_windows graph log c.args.number c.args.horizon c.args.edges.now c.loop-place.known place c.window_over.result within c.window_over.ensures.value c.loop-place.invariant.taken;
+      known = more_known graph log c.args.horizon c.args.edges.now c.loop-place.known place c.window_over.result within
+          (is_over graph log (get_or c.args.edges.now place 0) c.args.number c.args.horizon c.window_over.result c.window_over.ensures.value)
           c.loop-place.invariant.known;
-      same = length-set c.loop-place.known place c.window_round.result ∙ c.loop-place.invariant.same;
+      same = length-set c.loop-place.known place c.window_over.result ∙ c.loop-place.invariant.same;
     }

@@ -9,5 +9,5 @@ returns-then-not-is_or c =
 
 pub returns : goal.returns
 returns c =
-    or_may_found_first c.args.graph.now c.args.log.now c.args.times.now (now_of c.args.log.now) c.args.node c.edges_into.result.now c.may_violated.result
-    (sym c.is_or.ensures.value ∙ c.if-not-is_or.false) c.edges_into.ensures.value c.may_violated.ensures
+    or_may_found_first c.args.graph.now c.args.log.now c.args.times.now (now_of c.args.log.now) c.args.node c.incoming.result.now c.may_violated.result
+    (sym c.is_or.ensures.value ∙ c.if-not-is_or.false) c.incoming.ensures.edges c.may_violated.ensures

@@ -1,6 +1,6 @@
 use Rattle.std.proofs.Common.{◌≡◌, ◌-◌, ◌<◌, length, Some, sym, ap, ◌∙◌, arith, pos, [], ◌∷◌}
 use Rattle.tfpg_base.specs.declared.constraint.Constraint.{Constraint}
-use Rattle.tfpg_clause.specs.Bounds.{at_most}
+use Rattle.tfpg_base.specs.Bounds.{at_most}
 use Rattle.tfpg_clause.specs.inside.Alternatives.{due_by_number, latest_within}
 use Rattle.tfpg_clause.proofs.Dues.{due_at, none_missing, due_length, late_at, follows_at, last_at, none_past, latest_is}
 use Rattle.tfpg_clause.proofs.must.must_alternative.Goals as goal

@@ -12,27 +12,27 @@ returns-in-None-clause-met c =
 pub returns-then-is_must_met-clause-met : goal.returns-then-is_must_met-clause-met
 returns-then-is_must_met-clause-met c =
     and_met_within c.args.graph.now c.args.log.now c.args.times.now c.args.node c.args.number c.now-horizon.result c.now-horizon.ensures.now c.in-Some.window
-    c.in-Some.ensures.value c.requires.and_node c.edges_into-edges.result.now c.edges_into-edges.ensures.value c.span_of.result (c.is_must_met.ensures.0 c.if-is_must_met.true)
+    c.in-Some.ensures.value c.requires.and_node c.incoming-edges.result.now c.incoming-edges.ensures.edges c.span_of.result (c.is_must_met.ensures.0 c.if-is_must_met.true)
     c.span_of.ensures
 
 pub returns-else-is_must_met-clause-met : goal.returns-else-is_must_met-clause-met
 returns-else-is_must_met-clause-met c =
     and_not_met c.args.graph.now c.args.log.now c.args.times.now c.args.node c.args.number c.now-horizon.result c.now-horizon.ensures.now c.in-Some.window
-    c.in-Some.ensures.value c.requires.and_node c.edges_into-edges.result.now c.edges_into-edges.ensures.value
+    c.in-Some.ensures.value c.requires.and_node c.incoming-edges.result.now c.incoming-edges.ensures.edges
     (λ met. both_ways c.is_must_met.result c.if-is_must_met.false (c.is_must_met.ensures.1 met))
 
 pub returns-then-is_must_met-clause-known : goal.returns-then-is_must_met-clause-known
 returns-then-is_must_met-clause-known c =
-    known_same c.args.graph.now c.args.log.now c.now-horizon.result (now_of c.args.log.now) c.edges_into-edges.result.now (incoming c.args.graph.now c.args.node)
-    c.now-horizon.ensures.now c.edges_into-edges.ensures.value c.take_windows.new.known
-    (windows_known c.args.graph.now c.args.log.now c.args.number c.now-horizon.result c.edges_into-edges.result.now c.take_windows.new.known c.take_windows.ensures)
+    known_same c.args.graph.now c.args.log.now c.now-horizon.result (now_of c.args.log.now) c.incoming-edges.result.now (incoming c.args.graph.now c.args.node)
+    c.now-horizon.ensures.now c.incoming-edges.ensures.edges c.take_windows.new.known
+    (windows_known c.args.graph.now c.args.log.now c.args.number c.now-horizon.result c.incoming-edges.result.now c.take_windows.new.known c.take_windows.ensures)
 
 pub returns-else-is_must_met-clause-known : goal.returns-else-is_must_met-clause-known
 returns-else-is_must_met-clause-known c =
-    known_same c.args.graph.now c.args.log.now c.now-horizon.result (now_of c.args.log.now) c.edges_into-edges.result.now (incoming c.args.graph.now c.args.node)
-    c.now-horizon.ensures.now c.edges_into-edges.ensures.value c.take_windows.new.known
-    (windows_known c.args.graph.now c.args.log.now c.args.number c.now-horizon.result c.edges_into-edges.result.now c.take_windows.new.known c.take_windows.ensures)
+    known_same c.args.graph.now c.args.log.now c.now-horizon.result (now_of c.args.log.now) c.incoming-edges.result.now (incoming c.args.graph.now c.args.node)
+    c.now-horizon.ensures.now c.incoming-edges.ensures.edges c.take_windows.new.known
+    (windows_known c.args.graph.now c.args.log.now c.args.number c.now-horizon.result c.incoming-edges.result.now c.take_windows.new.known c.take_windows.ensures)
 
 pub is_must_met-requires-clause-known : goal.is_must_met-requires-clause-known
 is_must_met-requires-clause-known c =
-    windows_known c.args.graph.now c.args.log.now c.args.number c.now-horizon.result c.edges_into-edges.result.now c.take_windows.new.known c.take_windows.ensures
+    windows_known c.args.graph.now c.args.log.now c.args.number c.now-horizon.result c.incoming-edges.result.now c.take_windows.new.known c.take_windows.ensures

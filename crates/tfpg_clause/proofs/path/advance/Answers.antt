@@ -1,5 +1,6 @@
-use Rattle.std.proofs.Common.{◌≡◌, ℕ, zero, suc, ◌-◌, ◌<◌, ◌≤◌, length, take, get_or, List, [], ◌∷◌, Option, Some, ap, sym, subst, ◌∙◌, refl, arith}
+use Rattle.std.proofs.Common.{◌≡◌, ℕ, zero, suc, ◌-◌, ◌<◌, ◌≤◌, length, take, get_or, List, Option, Some, ap, sym, subst, ◌∙◌, refl, arith}
 use Rattle.std.specs.Prelude.{slice_get, slice_set, IsSomeAnd}
+use Rattle.std.proofs.lemmas.List.{get_or-take}
 use Rattle.std.proofs.lemmas.Option.{slice_get-get_or}
 use Rattle.tfpg_clause.specs.declared.path.Frame.{Frame}
 use Rattle.tfpg_clause.specs.Paths.{path_after, next_alternative}
@@ -7,18 +8,12 @@ use Rattle.tfpg_clause.specs.inside.Frames.{IsUnfinished, HasNext}
 use Rattle.tfpg_clause.proofs.FramePaths.{moved_on}
 use Rattle.tfpg_clause.proofs.path.advance.Goals as goal
 
-get_take : (n i : ℕ) (path : List Frame) (d : Frame) → i < n → get_or (take n path) i d ≡ get_or path i d
-get_take zero i path d less = absurd (omega arith)
-get_take (suc n) i [] d less = refl
-get_take (suc n) zero (frame ∷ path) d less = refl
-get_take (suc n) (suc i) (frame ∷ path) d less = get_take n i path d (omega arith)
-
 module _ (path items : List Frame) (frame : Frame) where
   last_frame : (before : ℕ) → suc before ≤ length path → items ≡ take (suc before) path → frame ≡ get_or items (suc before - 1) frame → slice_get path before ≡ Some frame
   last_frame before within are is =
       let number : suc before - 1 ≡ before = omega arith in
       let there : frame ≡ get_or path before frame =
-      is ∙ ap (λ (n : ℕ). get_or items n frame) number ∙ ap (λ (fs : List Frame). get_or fs before frame) are ∙ get_take (suc before) before path frame (omega arith) in
+      is ∙ ap (λ (n : ℕ). get_or items n frame) number ∙ ap (λ (fs : List Frame). get_or fs before frame) are ∙ get_or-take (suc before) path before frame (omega arith) in
       slice_get-get_or path before frame (omega arith) ∙ ap (λ (f : Frame). Some f) (sym there)
 
   pub left : (kept : ℕ) → (kept ≡ 0 → ⊥) → kept ≤ length path → items ≡ take kept path → HasNext path kept → frame ≡ get_or items (kept - 1) frame → frame.alternative < frame.alternatives

@@ -7,7 +7,7 @@ use Rattle.tfpg_diff.specs.declared.demand.Demand.{Demand}
 use Rattle.tfpg_diff.specs.declared.why.Why.{Why}
 use Rattle.tfpg_diff.specs.Demands.{demands_of}
 use Rattle.tfpg_diff.specs.inside.Kept.{IsRooted, IsLabelled, Walked}
-use Rattle.tfpg_base.specs.Times.{never}
+use Rattle.tfpg_base.specs.declared.limits.TheConstants.{NEVER}
 use Rattle.tfpg_diff.proofs.Lowering.{IsBroken, cycle_from_met, cycle_from_floor, IsKept-lowered, Labelled-kept}
 use Rattle.tfpg_diff.proofs.Relaxing.{small-kept, IsBroken-pick, Bounded-read, no_bounds, no_pick, length-cycle, floor-kept}
 use Rattle.tfpg_diff.proofs.relax.relax.Goals as goal
@@ -15,7 +15,7 @@ use Rattle.tfpg_diff.proofs.relax.relax.Goals.{Else-not-is_broken, Else-begin_cy
 
 pub is_broken-requires-clause-small : goal.is_broken-requires-clause-small
 is_broken-requires-clause-small c =
-    All-same (λ (value : ℕ). value ≤ never) c.deref.result.now c.args.labels.now.values.items c.deref.ensures.value
+    All-same (λ (value : ℕ). value ≤ NEVER) c.deref.result.now c.args.labels.now.values.items c.deref.ensures.value
     (small-kept (demands_of c.args.bounds.now c.args.picks.now) c.requires.sound c.args.labels.now.values.items c.args.labels.now.links.items c.requires.kept)
 
 pub begin_cycle-requires-clause-rooted : goal.begin_cycle-requires-clause-rooted
@@ -54,7 +54,7 @@ up c = ⊎_elim
 
 pub allowed-requires-clause-small : goal.allowed-requires-clause-small
 allowed-requires-clause-small c =
-    All-same (λ (value : ℕ). value ≤ never) c.deref-3.result.now c.args.labels.now.values.items c.deref-3.ensures.value
+    All-same (λ (value : ℕ). value ≤ NEVER) c.deref-3.result.now c.args.labels.now.values.items c.deref-3.ensures.value
     (small-kept (demands_of c.args.bounds.now c.args.picks.now) c.requires.sound c.args.labels.now.values.items c.args.labels.now.links.items c.requires.kept)
 
 pub allowed-requires-clause-low : goal.allowed-requires-clause-low

@@ -14,12 +14,12 @@ order-requires-clause-fractions g c =
     fractions_of c.args.asked.now.graph.now c.args.asked.now.log.now c.args.asked.now.budget c.args.table.now c.args.slots.now c.find_all.new.slots c.in_ok-findings.findings.items turns.1 turns.0
     c.requires.table.reached.complete c.requires.one_each c.find_all.ensures.one_each number place (sym (ap (λ fs. place_at fs number) c.deref.ensures.value) ∙ placed)
 
-pub count-counts-requires : goal.count-counts-requires
-count-counts-requires g c =
+pub counts_of-counts-requires : goal.counts_of-counts-requires
+counts_of-counts-requires g c =
     omega (arith, ap length c.deref-2.ensures.value, c.in_ok-findings.ensures.turns.0, c.len-few.ensures.count, c.len-few.ensures.few)
 
 pub returns-clause-round : goal.returns-clause-round
 returns-clause-round g c =
     makes c.args.asked.now.graph.now c.args.asked.now.log.now c.args.asked.now.budget c.args.table.now c.args.slots.now c.find_all.new.slots c.args.line c.len.result c.now.result c.in_ok-findings.findings.items c.deref.result.now
-    c.from_vec.result c.in_ok-order.order c.count-counts.result c.len.ensures.len c.now.ensures c.in_ok-findings.ensures.turns c.from_vec.ensures c.deref.ensures.value c.in_ok-order.ensures
-    (c.count-counts.ensures ∙ ap counts_of c.deref-2.ensures.value)
+    c.from_vec.result c.in_ok-order.order c.counts_of-counts.result c.len.ensures.len c.now.ensures c.in_ok-findings.ensures.turns c.from_vec.ensures c.deref.ensures.value c.in_ok-order.ensures
+    (c.counts_of-counts.ensures ∙ ap counts_of c.deref-2.ensures.value)

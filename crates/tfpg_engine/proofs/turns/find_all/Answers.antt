@@ -1,6 +1,5 @@
 use Rattle.std.proofs.Common.{◌<◌, length, ap, sym, subst, arith}
-use Rattle.std.specs.Prelude.{All}
-use Rattle.tfpg_graph.specs.Graph.{failures}
+use Rattle.tfpg_graph.specs.Graph.{AreFailures}
 use Rattle.tfpg_base.proofs.lists.Elements.{All-at}
 use Rattle.tfpg_engine.specs.inside.Turns.{AreFirstTurns}
 use Rattle.tfpg_engine.proofs.Turning.{none_turned, turned_by, slot_before}
@@ -13,7 +12,7 @@ loop-number-init g c =
 
 pub find-requires-clause-hypothesis : goal.find-requires-clause-hypothesis
 find-requires-clause-hypothesis g c = record {
-  members = All-at (λ set. All (λ position. position < length (failures c.args.asked.now.graph.now)) set) c.args.table.now.sets c.loop-number.number c.set.result c.requires.table.members c.set.ensures;
+  members = All-at (AreFailures c.args.asked.now.graph.now) c.args.table.now.sets c.loop-number.number c.set.result c.requires.table.members c.set.ensures;
   reach = c.requires.table.reached.exact c.loop-number.number c.set.result c.reach.result.now c.set.ensures c.reach.ensures;
 }
 

@@ -1,44 +1,20 @@
 -- Which nodes words keep.
-use Rattle.std.proofs.Common.{◌≡◌, ◌≢◌, ℕ, suc, zero, ◌+◌, ◌*◌, ◌/◌, ◌%◌, ◌<◌, ◌≤◌, ◌^◌, lit<, List, [], ◌∷◌, ◌++◌, length, map, get_or, set, bit_and, bit_or, nat_eq, eqb, ltb, ◌↔◌, ⊎_elim, IsTrue, refl, arith, sym, ◌∙◌, ap, subst}
+use Rattle.std.proofs.Common.{◌≡◌, ◌≢◌, ℕ, suc, zero, ◌+◌, ◌*◌, ◌/◌, ◌%◌, ◌<◌, ◌≤◌, ◌^◌, lit<, List, [], ◌∷◌, length, map, get_or, set, bit_and, bit_or, nat_eq, eqb, ltb, ◌↔◌, ⊎_elim, IsTrue, refl, arith, sym, ◌∙◌, ap, subst}
 use Rattle.std.specs.List.{Contains}
 use Rattle.std.proofs.lemmas.Bool.{cases_eq, cond_both, eqb-true}
 use Rattle.std.proofs.lemmas.List.{length-set, get_or-set_same, get_or-set_other}
 use Rattle.std.proofs.lemmas.List.Elements.{All-nil, All-set, All-get_or, All-contains, Contains-append_left, Contains-append_right, Contains-append_cases}
-use Rattle.std.proofs.lemmas.List.Kept.{AllPairs-from_increasing}
 use Rattle.std.proofs.lemmas.Nat.{or_lt, mod_below}
 use Rattle.tfpg_base.specs.Set.{with_member}
 use Rattle.tfpg_base.specs.SetBits.{members_of}
 use Rattle.tfpg_base.proofs.lists.Elements.{AllPairs-head, AllPairs-tail, AllPairs-cons, All-from_members, Contains-head, Contains-tail, Contains-nil}
+use Rattle.tfpg_base.proofs.lists.Ordered.{AllPairs-append, Rises-shifted}
 use Rattle.tfpg_base.proofs.Sets.{Rises, same_from_members, Contains-with_member, with_member-keeps, with_member-only, Rises-with_member, IsSet-members_of, members_of-is, members_of-zero, members_of-set, bit_says_member}
 use Rattle.tfpg_graph.specs.NodeSet.{IsNodeSet}
 use Rattle.tfpg_graph.specs.inside.reach.NodeWords.{nodes_from, nodes_of, AreWords}
 use Rattle.tfpg_base.proofs.lists.Images.{Contains-map, Contains-map_only}
 
 -- ---- lists
-
--- a rising list further up rises
-Rises-shifted : (by : ℕ) (xs : List ℕ) → Rises xs → Rises (map (λ x. by + x) xs)
-Rises-shifted by [] rising = rising
-Rises-shifted by (first ∷ others) rising =
-    AllPairs-cons ◌<◌ (by + first) (map (λ x. by + x) others)
-    (All-from_members (λ later. by + first < later) (map (λ x. by + x) others)
-    (λ later member. let old = Contains-map_only (λ x. by + x) others later member in
-    omega (arith, old.2, All-contains (λ y. first < y) others old.0 (AllPairs-head ◌<◌ first others rising) old.1)))
-    (Rises-shifted by others (AllPairs-tail ◌<◌ first others rising))
-
--- two rising lists, the one before the other, rise
-Rises-append : (xs ys : List ℕ) → Rises xs → Rises ys → ((x y : ℕ) → Contains xs x → Contains ys y → x < y)
-    → Rises (xs ++ ys)
-Rises-append [] ys rises_x rises_y before = rises_y
-Rises-append (first ∷ others) ys rises_x rises_y before =
-    AllPairs-cons ◌<◌ first (others ++ ys)
-    (All-from_members (λ later. first < later) (others ++ ys)
-    (λ later member. ⊎_elim
-    (λ own. All-contains (λ y. first < y) others later (AllPairs-head ◌<◌ first others rises_x) own)
-    (λ other. before first later (Contains-head first others) other)
-    (Contains-append_cases others ys later member)))
-    (Rises-append others ys (AllPairs-tail ◌<◌ first others rises_x) rises_y
-    (λ x y in_x in_y. before x y (Contains-tail first others x in_x) in_y))
 
 -- what rises between two bounds is no longer than there is room
 rises_within : (xs : List ℕ) (low high : ℕ) → Rises xs → low ≤ high → ((x : ℕ) → Contains xs x → (low ≤ x) × (x < high))
@@ -60,19 +36,18 @@ rises_within (first ∷ others) low high rising room within =
 -- A set of nodes has at most 512.
 pub IsNodeSet-few : (nodes : List ℕ) → IsNodeSet nodes → length nodes ≤ 512
 IsNodeSet-few nodes set =
-    let few = rises_within nodes 0 512 (AllPairs-from_increasing nodes set.rising) (omega arith)
+    let few = rises_within nodes 0 512 set.rising (omega arith)
     (λ x member. (omega arith, All-contains (λ node. node < 512) nodes x set.small member)) in
     omega (arith, few)
 
 -- the set without a node is a set of nodes
 pub IsNodeSet-nil : IsNodeSet []
-IsNodeSet-nil = record { rising = λ k within. absurd (omega arith); small = All-nil (λ node. node < 512) }
+IsNodeSet-nil = record { rising = λ i j d before within. absurd (omega arith); small = All-nil (λ node. node < 512) }
 
 -- a set of nodes with a node more is one
 pub IsNodeSet-with : (node : ℕ) (nodes : List ℕ) → node < 512 → IsNodeSet nodes → IsNodeSet (with_member node nodes)
 IsNodeSet-with node nodes small set = record {
-  rising = λ k within. Rises-with_member node nodes (AllPairs-from_increasing nodes set.rising) k (k + 1) 0
-      (omega arith) within;
+  rising = Rises-with_member node nodes set.rising;
   small = All-from_members (λ n. n < 512) (with_member node nodes)
       (λ other member. ⊎_elim (λ is. omega (arith, small, is))
       (λ old. All-contains (λ n. n < 512) nodes other set.small old) (with_member-only node nodes other member));
@@ -145,7 +120,7 @@ Rises-nodes_from : (first : ℕ) (words : List ℕ) → Rises (nodes_from first 
 unfolding nodes_from
 Rises-nodes_from first [] = λ i j d before within. absurd (omega arith)
 Rises-nodes_from first (word ∷ words) =
-    Rises-append (map (λ place. first + place) (members_of word)) (nodes_from (first + 64) words)
+    AllPairs-append ◌<◌ (map (λ place. first + place) (members_of word)) (nodes_from (first + 64) words)
     (Rises-shifted first (members_of word) (IsSet-members_of word).rising) (Rises-nodes_from (first + 64) words)
     (λ x y in_x in_y. let low = Contains-map_only (λ place. first + place) (members_of word) x in_x in
     let high = nodes_from-only (first + 64) words y in_y in
@@ -154,7 +129,7 @@ Rises-nodes_from first (word ∷ words) =
 -- what eight words keep is a set of nodes
 IsNodeSet-nodes_of : (words : List ℕ) → length words ≡ 8 → IsNodeSet (nodes_of words)
 IsNodeSet-nodes_of words count = record {
-  rising = λ k within. Rises-nodes_from 0 words k (k + 1) 0 (omega arith) within;
+  rising = Rises-nodes_from 0 words;
   small = All-from_members (λ node. node < 512) (nodes_of words)
       (λ node kept. let at = nodes_from-only 0 words node kept in omega (arith, at.is, at.small, at.within, count));
 }

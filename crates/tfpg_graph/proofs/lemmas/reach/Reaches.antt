@@ -6,7 +6,6 @@ use Rattle.std.specs.Cmp.{nat_eq_equiv}
 use Rattle.std.proofs.lemmas.Bool.{false≢true, eqb-true, cases_lt}
 use Rattle.std.proofs.lemmas.List.{length-map}
 use Rattle.std.proofs.lemmas.List.Elements.{All-nil, All-get_or, All-contains, All-weaker}
-use Rattle.std.proofs.lemmas.List.Kept.{AllPairs-from_increasing}
 use Rattle.std.proofs.lemmas.Map.Views.{list_any-from_Contains, Contains-from_any}
 use Rattle.std.proofs.lemmas.Option.{slice_get-map, slice_get_within, get_or_from_slice_get, same_Some}
 use Rattle.tfpg_base.specs.Set.{with_member}
@@ -20,18 +19,13 @@ use Rattle.tfpg_graph.specs.Reach.{IsClosed, Reaches, IsReach, is_among}
 use Rattle.tfpg_graph.specs.Valid.{IsValid}
 use Rattle.tfpg_graph.specs.inside.reach.Reaching.{IsFedAs, IsFed, IsFullBefore, AreReached, Widens}
 use Rattle.tfpg_base.proofs.lists.Numbered.{All-below-numbers_from}
+use Rattle.tfpg_graph.proofs.NodeAt.{kind_test}
 use Rattle.tfpg_graph.proofs.lemmas.reach.NodeSets.{IsNodeSet-nil, IsNodeSet-with, length-with_member}
 
 -- ---- the kind of a node
 
 module _ (graph : Tfpg) (node : ℕ) where
-  -- what the tests on a node's kind say, and what they say it by
-  is_or-kind : (lag : Option ℕ) → kind_at graph node ≡ Some (Or lag) → IsTrue (is_kind_at is_or graph node)
-  is_or-kind lag is = ap (λ kind. option_map_or is_or kind false) is
-
-  is_and-kind : (lag : Option ℕ) → kind_at graph node ≡ Some (And lag) → IsTrue (is_kind_at is_and graph node)
-  is_and-kind lag is = ap (λ kind. option_map_or is_and kind false) is
-
+  -- what the tests on a node's kind say it by
   kind_from_is_or : IsTrue (is_kind_at is_or graph node) → (lag : Option ℕ) × (kind_at graph node ≡ Some (Or lag))
   kind_from_is_or passes = by (kind_at graph node) refl passes
     where
@@ -79,10 +73,10 @@ module _ (graph : Tfpg) (set nodes : List ℕ) (reached : All (Reaches graph set
       → IsClosed graph set test → IsTrue (test node)
   fed_passes (Failure rarity) is fed test closed = absurd fed
   fed_passes (Or lag) is fed test closed =
-      closed.or_nodes node (is_or-kind graph node lag is) fed.0 fed.1
+      closed.or_nodes node (kind_test graph node is_or (Or lag) is) fed.0 fed.1
       (All-contains (Reaches graph set) nodes fed.0.source reached fed.2 test closed)
   fed_passes (And lag) is fed test closed =
-      closed.and_nodes node (is_and-kind graph node lag is)
+      closed.and_nodes node (kind_test graph node is_and (And lag) is)
       (All-weaker (λ edge. Contains nodes edge.source) (λ edge. IsTrue (test edge.source))
       (λ edge member. All-contains (Reaches graph set) nodes edge.source reached member test closed)
       (edges_into graph node) fed)
@@ -238,15 +232,17 @@ module _ (graph : Tfpg) (set : List ℕ) where
 
 -- ---- the whole reach
 
+-- nodes that have those of a set's failure modes pass them
+own_passes : (graph : Tfpg) (set nodes : List ℕ)
+    → ((position node : ℕ) → Contains set position → failure_at graph position ≡ Some node → Contains nodes node)
+    → (position : ℕ) → Contains set position → (own : Option ℕ) → failure_at graph position ≡ own
+    → IfSome own (λ node. IsTrue (is_among nodes node))
+own_passes graph set nodes has position member None at = tt
+own_passes graph set nodes has position member (Some node) at = among-from_Contains nodes node (has position node member at)
+
 module _ (graph : Tfpg) (set nodes : List ℕ) (are : AreReached graph set nodes)
     (full : IsFullBefore graph nodes (length graph.nodes)) where
-  -- the test of being one of the nodes passes the set's own
-  own_passes : (position : ℕ) → Contains set position → (own : Option ℕ) → failure_at graph position ≡ own
-      → IfSome own (λ node. IsTrue (is_among nodes node))
-  own_passes position member None at = tt
-  own_passes position member (Some node) at = among-from_Contains nodes node (are.own position node member at)
-
-  -- and what they feed
+  -- the test of being one of the nodes passes what they feed
   fed_passes_too : (node : ℕ) (kind : Kind) → kind_at graph node ≡ Some kind → IsFedAs graph nodes node kind
       → IsTrue (is_among nodes node)
   fed_passes_too node kind is fed =
@@ -257,7 +253,7 @@ module _ (graph : Tfpg) (set nodes : List ℕ) (are : AreReached graph set nodes
   is_among-closed : IsClosed graph set (is_among nodes)
   is_among-closed = record {
     members = All-from_members (λ position. IfSome (failure_at graph position) (λ node. IsTrue (is_among nodes node))) set
-        (λ position member. own_passes position member (failure_at graph position) refl);
+        (λ position member. own_passes graph set nodes are.own position member (failure_at graph position) refl);
     or_nodes = λ node is edge into passes. let kind = kind_from_is_or graph node is in
         fed_passes_too node (Or kind.0) kind.1 (edge, into, Contains-from_among nodes edge.source passes);
     and_nodes = λ node is all. let kind = kind_from_is_and graph node is in
@@ -280,18 +276,13 @@ module _ (graph : Tfpg) (set nodes : List ℕ) (are : AreReached graph set nodes
 -- ---- laws of the reach
 
 module _ (graph : Tfpg) (set nodes : List ℕ) (is : IsReach graph set nodes) where
-  -- the set's own nodes are in its reach
-  own_is_among : (position : ℕ) → Contains set position → (own : Option ℕ) → failure_at graph position ≡ own
-      → IfSome own (λ node. IsTrue (is_among nodes node))
-  own_is_among position member None at = tt
-  own_is_among position member (Some node) at = among-from_Contains nodes node
-      ((is.exact node).1 (own_is_reached graph set position node member at))
-
   -- The reach is closed.
   pub reach_is_closed : IsClosed graph set (is_among nodes)
   reach_is_closed = record {
     members = All-from_members (λ position. IfSome (failure_at graph position) (λ node. IsTrue (is_among nodes node))) set
-        (λ position member. own_is_among position member (failure_at graph position) refl);
+        (λ position member. own_passes graph set nodes
+        (λ position node member at. (is.exact node).1 (own_is_reached graph set position node member at))
+        position member (failure_at graph position) refl);
     or_nodes = λ node kind edge into passes. among-from_Contains nodes node
         ((is.exact node).1 (λ test closed. closed.or_nodes node kind edge into
         ((is.exact edge.source).0 (Contains-from_among nodes edge.source passes) test closed)));
@@ -310,7 +301,7 @@ module _ (graph : Tfpg) (set nodes : List ℕ) (is : IsReach graph set nodes) wh
   -- There is one.
   pub reach_is_one : (others : List ℕ) → IsReach graph set others → nodes ≡ others
   reach_is_one others are =
-      same_from_members nodes others (AllPairs-from_increasing nodes is.rising)
-      (AllPairs-from_increasing others are.rising)
+      same_from_members nodes others is.rising
+      are.rising
       (λ node member. (are.exact node).1 ((is.exact node).0 member))
       (λ node member. (is.exact node).1 ((are.exact node).0 member))

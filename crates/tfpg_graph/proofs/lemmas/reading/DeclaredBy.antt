@@ -1,17 +1,15 @@
 -- What statements declare that all have their values, and what one statement more declares.
-use Rattle.std.proofs.Common.{◌≡◌, ℕ, Bool, true, false, not, ◌||◌, nat_lt, ◌==◌, List, [], ◌∷◌, ◌++◌, length, All, Some, None, is_some, option_map, filter_map, count_by, IsTrue, refl, ap, sym, ◌∙◌}
+use Rattle.std.proofs.Common.{◌≡◌, ℕ, Bool, true, false, not, ◌||◌, nat_lt, ◌==◌, List, [], ◌∷◌, ◌++◌, length, All, is_some, count_by, IsTrue, refl, ap, sym, ◌∙◌}
 use Rattle.std.specs.List.{list_any}
 use Rattle.std.proofs.lemmas.Bool.{or_parts}
 use Rattle.std.proofs.lemmas.List.Elements.{All-weaker, All-push}
-use Rattle.tfpg_graph.specs.declared.kind.Kind.{Kind}
-use Rattle.tfpg_graph.specs.declared.edge.Edge.{Edge as GraphEdge}
 use Rattle.tfpg_graph.specs.Graph.{Tfpg}
-use Rattle.tfpg_graph.specs.inside.Indexes.{with_mode, with_node, with_edge}
 use Rattle.tfpg_graph.specs.Statements.{NodeWords, Statement, DeclaresMode, DeclaresNode, DeclaresEdge, Ends, declares_mode, declares_node, declares_edge, ends_text}
 use Rattle.tfpg_graph.specs.Declares.{kind_of_words, mode_declared, node_declared, edge_declared, named_by, graph_said}
 use Rattle.tfpg_graph.specs.Causes.{is_out_of_order}
 use Rattle.tfpg_graph.specs.inside.reading.Turns.{HasValue, is_misplaced}
-use Rattle.tfpg_base.proofs.lists.Valued.{zero-not_some, list_any-count, list_any-or, All-list_any_none, filter_map-push_some, filter_map-push_none, filter_map-none, count_by-valued, is_some-option_map}
+use Rattle.tfpg_graph.proofs.lemmas.reading.GraphsSaid.{graph_said-end}
+use Rattle.tfpg_base.proofs.lists.Valued.{zero-not_some, list_any-count, list_any-or, All-list_any_none, filter_map-push_none, count_by-valued, is_some-option_map}
 
 -- a statement that declares a mode has its name
 mode-valued : (said : Statement) → is_some (mode_declared said) ≡ declares_mode said
@@ -34,13 +32,6 @@ edge-valued graph (DeclaresMode name) value = refl
 edge-valued graph (DeclaresNode name words) value = refl
 edge-valued graph (DeclaresEdge source target tmin tmax modes) value = value
 edge-valued graph Ends value = refl
-
--- a statement that declares no edge has none
-edge_declared-none : (graph : Tfpg) (said : Statement) → declares_edge said ≡ false → edge_declared graph said ≡ None
-edge_declared-none graph (DeclaresMode name) no_edge = refl
-edge_declared-none graph (DeclaresNode name words) no_edge = refl
-edge_declared-none graph (DeclaresEdge source target tmin tmax modes) no_edge = absurd cc
-edge_declared-none graph Ends no_edge = refl
 
 -- the value of a statement depends on nodes and modes alone
 HasValue-same_names : (graph other : Tfpg) → graph.nodes ≡ other.nodes → graph.modes ≡ other.modes → (said : Statement)
@@ -131,79 +122,10 @@ node-no_edge : (before : List Statement) (name : List ℕ) (words : NodeWords)
 node-no_edge before name words in_order = (or_parts (not (list_any declares_mode before)) (list_any declares_edge before) in_order).1
 
 module _ (before : List Statement) where
-  -- where no edge is declared, there is none
-  no_edges : (graph : Tfpg) → list_any declares_edge before ≡ false → filter_map (edge_declared graph) before ≡ []
-  no_edges graph none = filter_map-none (edge_declared graph) before
-      (All-weaker (λ said. declares_edge said ≡ false) (λ said. edge_declared graph said ≡ None)
-      (edge_declared-none graph) before (All-list_any_none declares_edge before none))
-
-  -- and each statement has its value by every graph
+  -- where no edge is declared, each statement has its value by every graph
   values-no_edge : (graph other : Tfpg) → list_any declares_edge before ≡ false → All (HasValue graph) before
       → All (HasValue other) before
   values-no_edge graph other none values = λ k d within. HasValue-no_edge graph other _ (All-list_any_none declares_edge before none k d within) (values k d within)
-
-  -- the edges after a statement that declares none, where there was none
-  edges-no_edge : (said : Statement) → declares_edge said ≡ false → list_any declares_edge before ≡ false
-      → (graph_said (before ++ said ∷ [])).edges ≡ (graph_said before).edges
-  edges-no_edge said no_edge none =
-      filter_map-push_none (edge_declared (named_by (before ++ said ∷ []))) before said (edge_declared-none (named_by (before ++ said ∷ [])) said no_edge)
-      ∙ no_edges (named_by (before ++ said ∷ [])) none ∙ sym (no_edges (named_by before) none)
-
-  -- One statement more that declares a mode.
-  pub graph_said-mode : (name : List ℕ) → is_out_of_order before (DeclaresMode name) ≡ false
-      → with_mode (graph_said before) name ≡ graph_said (before ++ DeclaresMode name ∷ [])
-  graph_said-mode name in_order = sym (λ i. record {
-    nodes = filter_map-push_none node_declared before (DeclaresMode name) refl i;
-    edges = edges-no_edge (DeclaresMode name) refl (mode-no_edge before name in_order) i;
-    modes = filter_map-push_some mode_declared before (DeclaresMode name) name refl i;
-  })
-
-  -- One that declares a node.
-  pub graph_said-node : (name : List ℕ) (words : NodeWords) (kind : Kind)
-      → is_out_of_order before (DeclaresNode name words) ≡ false → kind_of_words words ≡ Some kind
-      → with_node (graph_said before) name kind ≡ graph_said (before ++ DeclaresNode name words ∷ [])
-  graph_said-node name words kind in_order is = sym (λ i. record {
-    nodes = filter_map-push_some node_declared before (DeclaresNode name words) (record { name = name; kind = kind }) (ap (option_map (λ k. record { name = name; kind = k })) is) i;
-    edges = edges-no_edge (DeclaresNode name words) refl (node-no_edge before name words in_order) i;
-    modes = filter_map-push_none mode_declared before (DeclaresNode name words) refl i;
-  })
-
-  -- no name is declared by an edge
-  named_by-edge : (source target tmin tmax modes : List ℕ)
-      → named_by (before ++ DeclaresEdge source target tmin tmax modes ∷ []) ≡ named_by before
-  named_by-edge source target tmin tmax modes = λ i. record {
-    nodes = filter_map-push_none node_declared before (DeclaresEdge source target tmin tmax modes) refl i;
-    edges = [];
-    modes = filter_map-push_none mode_declared before (DeclaresEdge source target tmin tmax modes) refl i;
-  }
-
-  -- One that declares an edge.
-  pub graph_said-edge : (source target tmin tmax modes : List ℕ) (edge : GraphEdge)
-      → edge_declared (graph_said before) (DeclaresEdge source target tmin tmax modes) ≡ Some edge
-      → with_edge (graph_said before) edge ≡ graph_said (before ++ DeclaresEdge source target tmin tmax modes ∷ [])
-  graph_said-edge source target tmin tmax modes edge is =
-      let said = DeclaresEdge source target tmin tmax modes in
-      sym (λ i. record {
-        nodes = filter_map-push_none node_declared before said refl i;
-        edges = (ap (λ graph. filter_map (edge_declared graph) (before ++ said ∷ [])) (named_by-edge source target tmin tmax modes)
-            ∙ filter_map-push_some (edge_declared (named_by before)) before said edge is) i;
-        modes = filter_map-push_none mode_declared before said refl i;
-      })
-
-  -- One that ends the text.
-  pub graph_said-end : graph_said before ≡ graph_said (before ++ Ends ∷ [])
-  graph_said-end = sym (λ i. record {
-    nodes = filter_map-push_none node_declared before Ends refl i;
-    edges = (ap (λ graph. filter_map (edge_declared graph) (before ++ Ends ∷ [])) named_by-end ∙ filter_map-push_none (edge_declared (named_by before)) before Ends refl) i;
-    modes = filter_map-push_none mode_declared before Ends refl i;
-  })
-    where
-      named_by-end : named_by (before ++ Ends ∷ []) ≡ named_by before
-      named_by-end = λ i. record {
-        nodes = filter_map-push_none node_declared before Ends refl i;
-        edges = [];
-        modes = filter_map-push_none mode_declared before Ends refl i;
-      }
 
 -- Each statement has its value by what all of them declare.
 abbrev pub AllHaveValues : List Statement → Type 0
@@ -250,4 +172,4 @@ module _ (before : List Statement) (values : AllHaveValues before) where
 
   -- After one that ends the text.
   pub values-end : AllHaveValues (before ++ Ends ∷ [])
-  values-end = values-same_names Ends (ap (λ graph. graph.nodes) (graph_said-end before)) (ap (λ graph. graph.modes) (graph_said-end before)) tt
+  values-end = values-same_names Ends (ap (λ graph. graph.nodes) (sym (graph_said-end before))) (ap (λ graph. graph.modes) (sym (graph_said-end before))) tt

@@ -1,16 +1,16 @@
 -- The end of lines that are read: a valid graph, or what is wrong with the whole.
 use Rattle.std.proofs.Common.{◌≡◌, ◌≢◌, ℕ, ◌+◌, ◌<◌, List, [], ◌∷◌, length, ◌==◌, Option, Some, None, IfNone, refl, sym, ap, ◌∙◌, subst, arith}
-use Rattle.std.proofs.lemmas.List.Splits.{length-slice_split}
 use Rattle.std.proofs.lemmas.Option.{slice_get_within}
 use Rattle.tfpg_base.specs.Lines.{parts_of}
+use Rattle.tfpg_base.proofs.LinesOf.{parts_of_some}
 use Rattle.tfpg_graph.specs.declared.cause.GraphCause.TheVariants.{NoIncoming, ZeroCycle, MissingEnd}
 use Rattle.tfpg_graph.specs.declared.cause.GraphRefusal.{GraphRefusal}
 use Rattle.tfpg_graph.specs.declared.reading.reader.LineRefusal.TheVariants.{Cause}
 use Rattle.tfpg_graph.specs.Graph.{Tfpg}
-use Rattle.tfpg_graph.specs.Valid.{IsValid, IsValidSoFar}
+use Rattle.tfpg_graph.specs.Valid.{IsValid, IsValidSoFar, HasIncomingBefore}
 use Rattle.tfpg_graph.specs.ZeroCycle.{LiesOnZeroCycle, HasZeroOrder}
 use Rattle.tfpg_graph.specs.Statements.{declares_node, declares_edge}
-use Rattle.tfpg_graph.specs.Faults.{IsLineSaying, LacksIncoming, HasIncomingBefore}
+use Rattle.tfpg_graph.specs.Faults.{IsLineSaying, LacksIncoming}
 use Rattle.tfpg_graph.specs.declared.reading.reader.Part.{Part}
 use Rattle.tfpg_graph.specs.declared.reading.reader.Part.TheVariants.{Header, Declarations, Ended}
 use Rattle.tfpg_graph.specs.declared.reading.reader.Reader.{Reader}
@@ -19,10 +19,6 @@ use Rattle.tfpg_graph.specs.inside.reading.Answered.{refusal_at, IsEndRefusal}
 use Rattle.tfpg_graph.proofs.lemmas.reading.PartAfter.{no_header}
 use Rattle.tfpg_graph.proofs.lemmas.zero_cycle.ZeroCycles.{HasZeroOrder-no_cycle, HasZeroOrder-none_lies}
 use Rattle.tfpg_graph.proofs.lemmas.reading.FirstFaults.{whole_fault-incoming, whole_fault-cycle, whole_fault-end}
-
--- There is always a part.
-pub some_part : (bytes : List ℕ) → 0 < length (parts_of bytes)
-some_part bytes = omega (arith, length-slice_split (λ byte. byte == 10) bytes)
 
 -- What broke no rule so far is valid where each discrepancy has an edge into it, nodes have ranks, and there is a mode.
 pub IsValid-whole : (graph : Tfpg) → IsValidSoFar graph → HasIncomingBefore graph (length graph.nodes)
@@ -46,7 +42,7 @@ edge_within graph number lies = slice_get_within graph.edges number lies.edge li
 module _ (progress : Reader) (bytes : List ℕ) (stands : ReaderRepresents progress (parts_of bytes)) where
   -- after a part the header is read
   read : progress.part ≢ Header
-  read at = by (parts_of bytes) (some_part bytes) (sym at ∙ stands.part)
+  read at = by (parts_of bytes) (parts_of_some bytes) (sym at ∙ stands.part)
     where
       by : (lines : List (List ℕ)) → 0 < length lines → Header ≡ part_after lines → ⊥
       by [] some header = absurd (omega arith)

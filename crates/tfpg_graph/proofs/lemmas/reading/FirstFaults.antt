@@ -5,7 +5,8 @@ use Rattle.tfpg_graph.specs.declared.cause.GraphCause.{GraphCause}
 use Rattle.tfpg_graph.specs.declared.cause.GraphCause.TheVariants.{BadHeader, NoIncoming, ZeroCycle, MissingEnd}
 use Rattle.tfpg_graph.specs.ZeroCycle.{LiesOnZeroCycle}
 use Rattle.tfpg_graph.specs.Statements.{declares_node, declares_edge}
-use Rattle.tfpg_graph.specs.Faults.{IsClean, IsLineFault, IsLineSaying, LacksIncoming, HasIncomingBefore, HasNoZeroCycle, IsWholeFault}
+use Rattle.tfpg_graph.specs.Valid.{HasIncomingBefore}
+use Rattle.tfpg_graph.specs.Faults.{IsClean, IsLineFault, IsLineSaying, LacksIncoming, HasNoZeroCycle, IsWholeFault}
 use Rattle.tfpg_graph.specs.declared.reading.reader.Part.TheVariants.{Header, Declarations}
 use Rattle.tfpg_graph.specs.declared.reading.reader.Reader.{Reader}
 use Rattle.tfpg_graph.specs.inside.reading.Turns.{turn, part_after, ReaderRepresents}

@@ -37,11 +37,12 @@ no_mode_no_edge graph (DeclaresNode name words) fails = absurd cc
 no_mode_no_edge graph (DeclaresEdge source target tmin tmax modes) fails = absurd cc
 no_mode_no_edge graph Ends fails = absurd cc
 
-no_edge : (graph : Tfpg) (said : Statement) → declares_edge said ≡ false → edge_declared graph said ≡ None
-no_edge graph (DeclaresMode name) fails = refl
-no_edge graph (DeclaresNode name words) fails = refl
-no_edge graph (DeclaresEdge source target tmin tmax modes) fails = absurd cc
-no_edge graph Ends fails = refl
+-- a statement that declares no edge has none
+edge_declared-none : (graph : Tfpg) (said : Statement) → declares_edge said ≡ false → edge_declared graph said ≡ None
+edge_declared-none graph (DeclaresMode name) fails = refl
+edge_declared-none graph (DeclaresNode name words) fails = refl
+edge_declared-none graph (DeclaresEdge source target tmin tmax modes) fails = absurd cc
+edge_declared-none graph Ends fails = refl
 
 -- where a statement declares a mode, there is one
 pub some_mode_declared : (said : List Statement) → list_any declares_mode said ≡ true → 0 < length (filter_map mode_declared said)
@@ -65,7 +66,7 @@ module _ (before : List Statement) where
       → is_out_of_order before (DeclaresNode name words) ≡ false → (graph_said before).edges ≡ []
   no_edge_before_node name words in_order =
       let unlike = or_parts _ (list_any declares_edge before) in_order in
-      filter_map-unlike (edge_declared (named_by before)) declares_edge (no_edge (named_by before)) before unlike.1
+      filter_map-unlike (edge_declared (named_by before)) declares_edge (edge_declared-none (named_by before)) before unlike.1
 
   -- One mode more.
   pub graph_said-mode : (name : List ℕ) → is_out_of_order before (DeclaresMode name) ≡ false
@@ -90,7 +91,7 @@ module _ (before : List Statement) where
       let node : Node = record { name = name; kind = kind } in
       let after : Tfpg = named_by (before ++ DeclaresNode name words ∷ []) in
       let unlike = or_parts _ (list_any declares_edge before) in_order in
-      let none : filter_map (edge_declared after) before ≡ [] = filter_map-unlike (edge_declared after) declares_edge (no_edge after) before unlike.1 in
+      let none : filter_map (edge_declared after) before ≡ [] = filter_map-unlike (edge_declared after) declares_edge (edge_declared-none after) before unlike.1 in
       let edges : filter_map (edge_declared after) (before ++ DeclaresNode name words ∷ []) ≡ (graph_said before).edges =
       filter_map-push_none (edge_declared after) before (DeclaresNode name words) refl ∙ none ∙ sym (no_edge_before_node name words in_order) in
       λ i. record {

@@ -6,13 +6,12 @@ use Rattle.std.specs.List.{AllByRecursion, list_any, list_all, join_with_byte}
 use Rattle.std.proofs.lemmas.Bool.{ne_eqb, le-ltb, false≢true, or_from}
 use Rattle.std.proofs.lemmas.List.Elements.{All-cons, All-append}
 use Rattle.tfpg_base.specs.Words.{line_of, is_name, is_number}
-use Rattle.tfpg_base.specs.Lines.{longest_line}
+use Rattle.tfpg_base.specs.declared.limits.TheConstants.{LONGEST_LINE, MAX_TIME}
 use Rattle.tfpg_base.proofs.Numbers.{is_number-decimal}
 use Rattle.tfpg_base.proofs.Separators.{Lacks, lacks_checked, name_lacks, decimal_lacks, slice_split-join}
 use Rattle.tfpg_graph.specs.declared.kind.Kind.{Kind}
 use Rattle.tfpg_graph.specs.declared.kind.Kind.TheVariants.{Failure, Or, And}
 use Rattle.tfpg_graph.specs.Text.{mode_line, node_words, tmax_word}
-use Rattle.tfpg_base.specs.Times.{max_time}
 use Rattle.tfpg_graph.specs.Valid.{HasValidNumber}
 use Rattle.tfpg_graph.specs.Statements.{NodeWords, FailureWords, OrWords, AndWords, Statement, DeclaresMode, DeclaresNode, DeclaresEdge, Ends, statement_in, statement_of}
 use Rattle.tfpg_graph.proofs.lemmas.writing.LineLengths.{short_mode, short_node}
@@ -35,9 +34,9 @@ no_space (word ∷ words) are = (are.0.lacks, no_space words are.1)
 
 -- A line of words that is short says what the words say.
 pub short_line_says : (words : List (List ℕ)) → 0 < length words → AllByRecursion IsWord words
-    → length (line_of words) ≤ longest_line → statement_of (line_of words) ≡ statement_in words
+    → length (line_of words) ≤ LONGEST_LINE → statement_of (line_of words) ≡ statement_in words
 short_line_says words some are short =
-    (λ i. cond (le-ltb longest_line (length (line_of words)) short i) None
+    (λ i. cond (le-ltb LONGEST_LINE (length (line_of words)) short i) None
     (said (slice_split-join 32 words some (no_space words are) i)))
     ∙ ap (λ b. cond b None (statement_in words)) (no_empty_word words are)
   where
@@ -110,15 +109,15 @@ statement_of-node name (And (Some lag)) named small =
     ) (short_node name (And
     (Some lag)) named small)
 
-IsWord-tmax : (tmax : Option ℕ) → IfSome tmax (λ time. time ≤ max_time) → IsWord (tmax_word tmax)
+IsWord-tmax : (tmax : Option ℕ) → IfSome tmax (λ time. time ≤ MAX_TIME) → IsWord (tmax_word tmax)
 IsWord-tmax None small = keyword (codes "inf") refl refl
 IsWord-tmax (Some time) small = IsWord-decimal time (omega arith)
 
 -- The line of an edge says that it declares the edge.
 pub statement_of-edge : (source target : List ℕ) (tmin : ℕ) (tmax : Option ℕ) (modes : List ℕ) → IsTrue (is_name source)
-    → IsTrue (is_name target) → tmin ≤ max_time
-    → IfSome tmax (λ time. time ≤ max_time) → IsWord modes
-    → length (line_of (codes "edge" ∷ source ∷ target ∷ decimal tmin ∷ tmax_word tmax ∷ modes ∷ [])) ≤ longest_line
+    → IsTrue (is_name target) → tmin ≤ MAX_TIME
+    → IfSome tmax (λ time. time ≤ MAX_TIME) → IsWord modes
+    → length (line_of (codes "edge" ∷ source ∷ target ∷ decimal tmin ∷ tmax_word tmax ∷ modes ∷ [])) ≤ LONGEST_LINE
     → statement_of (line_of (codes "edge" ∷ source ∷ target ∷ decimal tmin ∷ tmax_word tmax ∷ modes ∷ []))
     ≡ Some (DeclaresEdge source target (decimal tmin) (tmax_word tmax) modes)
 statement_of-edge source target tmin tmax modes from to least most word short =

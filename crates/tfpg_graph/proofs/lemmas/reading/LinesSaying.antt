@@ -12,10 +12,6 @@ use Rattle.tfpg_graph.specs.inside.reading.Turns.{ReaderRepresents}
 use Rattle.tfpg_graph.proofs.lemmas.reading.DeclaredBy.{count-modes, count-nodes, count-edges}
 
 module _ {X : Type 0} (test : X → Bool) where
-  -- a count, by its first
-  count_by-cons : (x : X) (xs : List X) → count_by test (x ∷ xs) ≡ cond (test x) 1 0 + count_by test xs
-  count_by-cons x xs = sum_by-cons (λ y. cond (test y) 1 0) x xs
-
   -- a index whose item passes, after so many that do
   abbrev PassesAfter : List X → ℕ → X → Type 0
   PassesAfter xs count default = (index : ℕ) × (index < length xs) × (test (get_or xs index default) ≡ true) × (count_by test (take index xs) ≡ count)
@@ -24,11 +20,11 @@ module _ {X : Type 0} (test : X → Bool) where
   pub passes_after : (xs : List X) (count : ℕ) (default : X) → count < count_by test xs → PassesAfter xs count default
   passes_after [] count default more = absurd (omega arith)
   passes_after (x ∷ xs) count default more =
-      by (test x) refl count (subst (λ n. count < n) (count_by-cons x xs) more) (λ before fewer. passes_after xs before default fewer)
+      by (test x) refl count (subst (λ n. count < n) (sum_by-cons (λ y. cond (test y) 1 0) x xs) more) (λ before fewer. passes_after xs before default fewer)
     where
       later : (b : Bool) → test x ≡ b → (before : ℕ) → PassesAfter xs before default
           → PassesAfter (x ∷ xs) (cond b 1 0 + before) default
-      later b is before found = (suc found.0, omega (arith, found.1), found.2, count_by-cons x (take found.0 xs) ∙ (λ i. cond (is i) 1 0 + found.3 i))
+      later b is before found = (suc found.0, omega (arith, found.1), found.2, sum_by-cons (λ y. cond (test y) 1 0) x (take found.0 xs) ∙ (λ i. cond (is i) 1 0 + found.3 i))
 
       by : (b : Bool) → test x ≡ b → (before : ℕ) → before < cond b 1 0 + count_by test xs
           → ((n : ℕ) → n < count_by test xs → PassesAfter xs n default) → PassesAfter (x ∷ xs) before default
@@ -42,12 +38,12 @@ count_by-filter_map : {X Y : Type 0} (value : X → Option Y) (test : Y → Bool
     → count_by (λ x. option_map_or test (value x) false) xs ≡ count_by test (filter_map value xs)
 count_by-filter_map value test [] = refl
 count_by-filter_map value test (x ∷ xs) =
-    count_by-cons (λ y. option_map_or test (value y) false) x xs ∙ by (value x) (count_by-filter_map value test xs)
+    sum_by-cons (λ y. cond (option_map_or test (value y) false) 1 0) x xs ∙ by (value x) (count_by-filter_map value test xs)
   where
     by : (o : Option _) → count_by (λ y. option_map_or test (value y) false) xs ≡ count_by test (filter_map value xs)
         → cond (option_map_or test o false) 1 0 + count_by (λ y. option_map_or test (value y) false) xs ≡ count_by test (cons_option o (filter_map value xs))
     by None rest = omega (arith, rest)
-    by (Some y) rest = ap (λ n. cond (test y) 1 0 + n) rest ∙ sym (count_by-cons test y (filter_map value xs))
+    by (Some y) rest = ap (λ n. cond (test y) 1 0 + n) rest ∙ sym (sum_by-cons (λ z. cond (test z) 1 0) y (filter_map value xs))
 
 module _ (test : Statement → Bool) (lines : List (List ℕ)) where
   -- as many lines say such a thing as statements do

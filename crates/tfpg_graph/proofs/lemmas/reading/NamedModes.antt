@@ -18,7 +18,8 @@ use Rattle.tfpg_base.proofs.lists.Elements.{All-from_members, Contains-head, Con
 use Rattle.tfpg_graph.specs.Graph.{Tfpg, mode_named}
 use Rattle.tfpg_graph.specs.Causes.{has_twice}
 use Rattle.tfpg_graph.specs.inside.reading.LineCauses.{with_option}
-use Rattle.tfpg_graph.proofs.lemmas.reading.SaidModes.{mode_found, unlike_others, filter_map-some, All-filter_map}
+use Rattle.tfpg_graph.proofs.lemmas.reading.SaidModes.{mode_found, unlike_others, filter_map-some}
+use Rattle.tfpg_base.proofs.lists.Passing.{All-filter_map}
 
 -- one more member that is new is worth its own more
 sum_by-with_member : (f : ℕ → ℕ) (index : ℕ) (members : List ℕ) → (Contains members index → ⊥) → sum_by f (with_member index members) ≡ f index + sum_by f members

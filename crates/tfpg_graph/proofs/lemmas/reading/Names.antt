@@ -1,6 +1,5 @@
 -- Names in a list, as references to their bytes.
-use Rattle.std.proofs.Common.{◌≡◌, ℕ, ◌-◌, Bool, true, false, ◌||◌, ◌&&◌, List, ◌∷◌, map, length, take, drop, refl, sym, ap, ◌∙◌, arith}
-use Rattle.std.proofs.lemmas.List.{take_all, length-drop}
+use Rattle.std.proofs.Common.{◌≡◌, ℕ, Bool, true, false, ◌||◌, ◌&&◌, List, ◌∷◌, map, drop, refl, sym, ap, ◌∙◌}
 use Rattle.std.proofs.lemmas.List.Folds.{list_all-map}
 use Rattle.tfpg_base.proofs.lists.Images.{list_any-map}
 use Rattle.std.specs.List.{list_any, list_all}
@@ -21,10 +20,6 @@ module _ (names others : List (Bor (List ℕ))) (name : Bor (List ℕ)) (are : n
       ap (λ all. has_twice (map (λ other. other.now) all)) are
       ∙ ap (λ b. b || has_twice (map (λ other. other.now) others)) (list_any-map (bytes_eq name.now) (λ other. other.now) others ∙ once)
       ∙ ap (λ all. has_twice (map (λ other. other.now) (drop 1 all))) (sym are)
-
--- the elements from a place on, as a slice has them
-pub take_rest : {X : Type 0} (xs : List X) (place : ℕ) → take (length xs - place) (drop place xs) ≡ drop place xs
-take_rest xs place = take_all (length xs - place) (drop place xs) (omega (arith, length-drop place xs))
 
 -- what a test says of all names that a word lists
 pub list_all-listed : (p : List ℕ → Bool) (names : List (Bor (List ℕ))) (listed : List (List ℕ)) → map (λ name. name.now) names ≡ listed → list_all (λ name. p name.now) names ≡ list_all p listed

@@ -15,7 +15,7 @@ use Rattle.tfpg_graph.specs.declared.kind.Kind.{Kind}
 use Rattle.tfpg_graph.specs.declared.kind.Kind.TheVariants.{Failure, Or, And}
 use Rattle.tfpg_graph.specs.Graph.{Tfpg, is_kind_at, is_failure, failures, incoming, node_named, mode_named, edge_from_to}
 use Rattle.tfpg_graph.specs.Text.{tmax_word}
-use Rattle.tfpg_base.specs.Times.{max_time}
+use Rattle.tfpg_base.specs.declared.limits.TheConstants.{MAX_TIME}
 use Rattle.tfpg_graph.specs.Valid.{HasValidNumber}
 use Rattle.tfpg_graph.specs.declared.limits.TheConstants.{MAX_RARITY}
 use Rattle.tfpg_graph.specs.Statements.{Statement, DeclaresMode, DeclaresNode, DeclaresEdge, Ends}
@@ -131,9 +131,9 @@ module _ (name : List ℕ) where
   node_small : (kind : Kind) → HasValidNumber kind → has_large_number (DeclaresNode name (words_of_kind kind)) ≡ false
   node_small (Failure rarity) small = ap (λ b. b || false) (not_above MAX_RARITY rarity small (omega arith))
   node_small (Or None) small = refl
-  node_small (Or (Some lag)) small = ap (λ b. b || false) (not_above max_time lag small (omega arith))
+  node_small (Or (Some lag)) small = ap (λ b. b || false) (not_above MAX_TIME lag small (omega arith))
   node_small (And None) small = refl
-  node_small (And (Some lag)) small = ap (λ b. b || false) (not_above max_time lag small (omega arith))
+  node_small (And (Some lag)) small = ap (λ b. b || false) (not_above MAX_TIME lag small (omega arith))
 
 failure_room_for : (kind : Kind) (count : ℕ) → (IsTrue (is_failure kind) → count < 64)
     → (are_failure_words (words_of_kind kind) && nat_le 64 count) ≡ false
@@ -168,7 +168,7 @@ HasNoCause-node out_of_order graph name kind in_order named new number room fail
 
 -- the delays of an edge are in order and within their limit
 abbrev pub AreDelays : ℕ → Option ℕ → Type 0
-AreDelays tmin tmax = (tmin ≤ max_time) × IfSome tmax (λ time. (tmin ≤ time) × (time ≤ max_time))
+AreDelays tmin tmax = (tmin ≤ MAX_TIME) × IfSome tmax (λ time. (tmin ≤ time) × (time ≤ MAX_TIME))
 
 module _ (source target : List ℕ) (tmin : ℕ) (word : List ℕ) where
   edge_numbers : (tmax : Option ℕ) → AreDelays tmin tmax
@@ -177,17 +177,17 @@ module _ (source target : List ℕ) (tmin : ℕ) (word : List ℕ) where
   edge_numbers (Some time) delays =
       (λ i. not (is_number-decimal tmin (omega (arith, delays.0)) i
       && list_all (λ (number : List ℕ × ℕ). is_number number.0)
-      (cond (decimal-not_inf time (omega (arith, delays.1)) i) [] ((decimal time, max_time) ∷ []))))
+      (cond (decimal-not_inf time (omega (arith, delays.1)) i) [] ((decimal time, MAX_TIME) ∷ []))))
       ∙ ap (λ b. not (b && true)) (is_number-decimal time (omega (arith, delays.1)))
 
   edge_small : (tmax : Option ℕ) → AreDelays tmin tmax
       → has_large_number (DeclaresEdge source target (decimal tmin) (tmax_word tmax) word) ≡ false
-  edge_small None delays = ap (λ b. b || false) (not_above max_time tmin delays.0 (omega (arith, delays.0)))
+  edge_small None delays = ap (λ b. b || false) (not_above MAX_TIME tmin delays.0 (omega (arith, delays.0)))
   edge_small (Some time) delays =
-      (λ i. not_above max_time tmin delays.0 (omega (arith, delays.0)) i
+      (λ i. not_above MAX_TIME tmin delays.0 (omega (arith, delays.0)) i
       || list_any (λ (number : List ℕ × ℕ). nat_lt number.1 (digits_value 10 number.0))
-      (cond (decimal-not_inf time (omega (arith, delays.1)) i) [] ((decimal time, max_time) ∷ [])))
-      ∙ ap (λ b. b || false) (not_above max_time time delays.1.1 (omega (arith, delays.1)))
+      (cond (decimal-not_inf time (omega (arith, delays.1)) i) [] ((decimal time, MAX_TIME) ∷ [])))
+      ∙ ap (λ b. b || false) (not_above MAX_TIME time delays.1.1 (omega (arith, delays.1)))
 
   edge_in_order : (tmax : Option ℕ) → AreDelays tmin tmax
       → has_min_over_max (DeclaresEdge source target (decimal tmin) (tmax_word tmax) word) ≡ false

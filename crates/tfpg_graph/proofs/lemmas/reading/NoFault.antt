@@ -1,14 +1,14 @@
 -- A text that spells a valid graph has no fault.
-use Rattle.std.proofs.Common.{◌≡◌, ℕ, suc, zero, ◌<◌, ◌≤◌, ◌==◌, ◌&&◌, Bool, true, false, cond, not, nat_lt, nat_le, List, [], ◌∷◌, ◌++◌, length, map, get_or, take, filter, All, Option, Some, None, codes, refl, ap, sym, ◌∙◌, subst, arith, append_assoc, ⊎_elim}
-use Rattle.std.specs.List.{AllZip, list_any, filter_map, cons_option, onto_first}
-use Rattle.std.proofs.lemmas.Bool.{eqb-true, le-leb, or_right, false≢true}
+use Rattle.std.proofs.Common.{◌≡◌, ℕ, suc, zero, ◌<◌, ◌≤◌, ◌&&◌, Bool, true, false, cond, not, nat_le, List, [], ◌∷◌, ◌++◌, length, map, get_or, take, filter, All, Some, None, codes, refl, ap, sym, ◌∙◌, subst, arith, append_assoc, ⊎_elim}
+use Rattle.std.specs.List.{AllZip, list_any, cons_option}
+use Rattle.std.proofs.lemmas.Bool.{le-leb, or_right, false≢true}
 use Rattle.std.proofs.lemmas.List.{append-nil}
-use Rattle.std.proofs.lemmas.List.Elements.{All-head, All-tail, All-same, All-filter, filter_map-append}
+use Rattle.std.proofs.lemmas.List.Elements.{All-head, All-tail, All-same, All-filter}
 use Rattle.std.proofs.lemmas.List.Folds.{list_any-append}
 use Rattle.std.proofs.lemmas.Option.{none-some}
 use Rattle.tfpg_base.proofs.lists.Elements.{All-front, All-back, Contains-at}
-use Rattle.tfpg_base.specs.Words.{words_of}
-use Rattle.tfpg_base.specs.Lines.{lines_of, longest_line}
+use Rattle.tfpg_base.specs.Lines.{lines_of}
+use Rattle.tfpg_base.specs.declared.limits.TheConstants.{LONGEST_LINE}
 use Rattle.tfpg_graph.specs.declared.cause.GraphCause.TheVariants.{AfterEnd}
 use Rattle.tfpg_graph.specs.declared.cause.GraphFault.{GraphFault}
 use Rattle.tfpg_graph.specs.declared.edge.Edge.{Edge}
@@ -16,33 +16,16 @@ use Rattle.tfpg_graph.specs.Graph.{Tfpg}
 use Rattle.tfpg_graph.specs.Text.{header, mode_line, node_line, SpellsEdge, is_empty_or_comment, Spells}
 use Rattle.tfpg_graph.specs.Valid.{IsValid, IsValidEdge}
 use Rattle.tfpg_graph.specs.ZeroCycle.{LiesOnZeroCycle}
-use Rattle.tfpg_graph.specs.Statements.{Statement, DeclaresMode, Ends, statement_in, statement_of, statements_of, ends_text}
-use Rattle.tfpg_graph.specs.Declares.{mode_declared, node_declared, edge_declared, graph_said, declared_by}
+use Rattle.tfpg_graph.specs.Statements.{Statement, DeclaresMode, Ends, statement_of, statements_of, ends_text}
+use Rattle.tfpg_graph.specs.Declares.{graph_said, declared_by}
 use Rattle.tfpg_graph.specs.Causes.{cause_of_said, cause_after}
 use Rattle.tfpg_graph.specs.Faults.{LacksIncoming, IsClean, IsLineFault, IsIncomingFault, IsCycleFault, IsEndFault, IsWholeFault, IsFirstFault}
+use Rattle.tfpg_graph.proofs.lemmas.reading.GraphsSaid.{graph_said-end}
+use Rattle.tfpg_graph.proofs.lemmas.reading.SaidWords.{skipped_says_nothing}
 use Rattle.tfpg_graph.proofs.lemmas.reading.LinesSay.{statement_of-mode, statement_of-node, statement_of-end}
 use Rattle.tfpg_graph.proofs.lemmas.reading.SpelledEdges.{edge_said, statement_of-edge_line}
 use Rattle.tfpg_graph.proofs.lemmas.reading.SaidSoFar.{node_said, said_so_far}
 use Rattle.tfpg_graph.proofs.lemmas.reading.CleanRuns.{Runs, IsEdgeSaid, edges_declared, Runs-whole}
-
--- ---- lines that are skipped
-
-none_both : {X : Type 0} (b : Bool) → cond {A = Option X} b None None ≡ None
-none_both true = refl
-none_both false = refl
-
-silent_parts : (is_long : Bool) (parts : List (List ℕ))
-    → cond is_long None (cond (list_any (λ word. length word == 0) (onto_first 35 parts)) None (statement_in (onto_first 35 parts))) ≡ None
-silent_parts true parts = refl
-silent_parts false [] = refl
-silent_parts false (part ∷ parts) = none_both (list_any (λ word. length word == 0) ((35 ∷ part) ∷ parts))
-
--- A line that is skipped says nothing.
-pub statement_of-skipped : (line : List ℕ) → is_empty_or_comment line ≡ true → statement_of line ≡ None
-statement_of-skipped [] skipped = refl
-statement_of-skipped (first ∷ others) skipped =
-    subst (λ byte. statement_of (byte ∷ others) ≡ None) (sym (eqb-true first 35 skipped))
-    (silent_parts (nat_lt longest_line (length (35 ∷ others))) (words_of others))
 
 -- ---- lines that say what runs without a cause
 
@@ -70,23 +53,23 @@ statements_of-kept (line ∷ lines) said says =
         → (skipped : Bool) → is_empty_or_comment line ≡ skipped → (said : List Statement)
         → AllZip Says (kept_with skipped line lines) said → cons_option (statement_of line) (statements_of lines) ≡ said
     by rest true skipped said says =
-        ap (λ s. cons_option s (statements_of lines)) (statement_of-skipped line skipped) ∙ rest said says
+        ap (λ s. cons_option s (statements_of lines)) (skipped_says_nothing line skipped) ∙ rest said says
     by rest false skipped [] says = absurd says
     by rest false skipped (s ∷ said) says = λ i. cons_option (says.0 i) (rest said says.1 i)
 
 -- Where what they say runs without a cause after other statements, no line has a cause.
 pub clean_after : (lines : List (List ℕ)) (before said : List Statement)
-    → All (λ line. length line ≤ longest_line) lines → AllZip Says (kept lines) said → Runs before said
+    → All (λ line. length line ≤ LONGEST_LINE) lines → AllZip Says (kept lines) said → Runs before said
     → (index : ℕ) → index < length lines
     → cause_after (before ++ statements_of (take index lines)) (get_or lines index []) ≡ None
 clean_after [] before said short says runs index within = absurd (omega arith)
 clean_after (line ∷ lines) before said short says runs index within =
     by (λ before others says runs index within. clean_after lines before others
-    (All-tail (λ l. length l ≤ longest_line) line lines short) says runs index within)
+    (All-tail (λ l. length l ≤ LONGEST_LINE) line lines short) says runs index within)
     (is_empty_or_comment line) refl said says runs index within
   where
-    fits : nat_le (length line) longest_line ≡ true
-    fits = le-leb (length line) longest_line (All-head (λ l. length l ≤ longest_line) line lines short)
+    fits : nat_le (length line) LONGEST_LINE ≡ true
+    fits = le-leb (length line) LONGEST_LINE (All-head (λ l. length l ≤ LONGEST_LINE) line lines short)
 
     by : ((before others : List Statement) → AllZip Says (kept lines) others → Runs before others → (index : ℕ)
         → index < length lines
@@ -100,12 +83,12 @@ clean_after (line ∷ lines) before said short says runs index within =
         (cond (list_any ends_text (before ++ [])) (Some AfterEnd) (cause_of_said (before ++ []) (statement_of line)))
     by rest true skipped said says runs (suc index) within =
         ap (λ s. cause_after (before ++ cons_option s (statements_of (take index lines))) (get_or lines index []))
-        (statement_of-skipped line skipped)
+        (skipped_says_nothing line skipped)
         ∙ rest before said says runs index (omega arith)
     by rest false skipped [] says runs index within = absurd says
     by rest false skipped (s ∷ said) says runs zero within =
         ap (λ b. cause_after b line) (append-nil before)
-        ∙ (λ i. cond (skipped i && nat_le (length line) longest_line) None
+        ∙ (λ i. cond (skipped i && nat_le (length line) LONGEST_LINE) None
         (cond (runs.0 i) (Some AfterEnd) (cause_of_said before (says.0 i))))
         ∙ runs.1
     by rest false skipped (s ∷ said) says runs (suc index) within =
@@ -131,7 +114,7 @@ AllZip-maps R f g (z ∷ zs) all =
 
 -- the line is not too long
 abbrev IsShort : List ℕ → Type 0
-IsShort line = length line ≤ longest_line
+IsShort line = length line ≤ LONGEST_LINE
 
 module _ (graph : Tfpg) (valid : IsValid graph) where
   -- lines that spell edges and are short say what declares the edges
@@ -175,27 +158,6 @@ module _ (graph : Tfpg) (valid : IsValid graph) where
       says)
       (statement_of-end, tt)
 
-  -- the end declares nothing
-  filter_map-end : {X : Type 0} (f : Statement → Option X) (said : List Statement) → f Ends ≡ None
-      → filter_map f (said ++ Ends ∷ []) ≡ filter_map f said
-  filter_map-end f said none =
-      filter_map-append f said (Ends ∷ []) ∙ ap (λ o. filter_map f said ++ cons_option o []) none
-      ∙ append-nil (filter_map f said)
-
-  graph_said-end : (said : List Statement) → graph_said (said ++ Ends ∷ []) ≡ graph_said said
-  graph_said-end said =
-      (λ i. record {
-        nodes = filter_map-end node_declared said refl i;
-        edges =
-            filter_map (edge_declared
-            (record { nodes = filter_map-end node_declared said refl i; edges = []; modes = filter_map-end mode_declared said refl i })) (said ++ Ends ∷ []);
-        modes = filter_map-end mode_declared said refl i;
-      })
-      ∙ ap (λ edges. record { nodes = filter_map node_declared said; edges = edges; modes = filter_map mode_declared said })
-      (filter_map-end
-      (edge_declared
-      (record { nodes = filter_map node_declared said; edges = []; modes = filter_map mode_declared said })) said refl)
-
 -- what is to be shown of the lines
 abbrev IsCleanText : Tfpg → List (List ℕ) → Type 0
 IsCleanText graph lines = IsClean lines × (declared_by lines ≡ graph) × (list_any ends_text (statements_of lines) ≡ true)
@@ -216,7 +178,7 @@ module _ (graph : Tfpg) (valid : IsValid graph) (after : List (List ℕ)) (short
   clean_text : IsCleanText graph (header ∷ after)
   clean_text = (
     clean,
-    ap graph_said all_said ∙ graph_said-end graph valid (said_so_far graph.modes graph.nodes said)
+    ap graph_said all_said ∙ graph_said-end (said_so_far graph.modes graph.nodes said)
         ∙ edges_declared graph valid graph.edges said are,
     ap (list_any ends_text) all_said ∙ list_any-append ends_text (said_so_far graph.modes graph.nodes said) (Ends ∷ [])
         ∙ or_right (list_any ends_text (said_so_far graph.modes graph.nodes said)) true refl,
@@ -255,10 +217,11 @@ IsValid-no_zero_cycle graph valid number lies =
     valid.no_zero_cycle lies.edge.source lies.steps
     (lies.edge, Contains-at graph.edges number lies.edge lies.numbered, refl, lies.no_time, lies.back)
 
-module _ (lines : List (List ℕ)) (graph : Tfpg) (valid : IsValid graph) (fault : GraphFault) where
-  no_line_fault : IsClean lines → IsLineFault lines fault → ⊥
-  no_line_fault clean is = none-some fault.cause (sym (clean is.index is.tested) ∙ is.cause)
+-- where no line has a cause, no line has a fault
+pub no_line_fault : (lines : List (List ℕ)) (fault : GraphFault) → IsClean lines → IsLineFault lines fault → ⊥
+no_line_fault lines fault clean is = none-some fault.cause (sym (clean is.index is.tested) ∙ is.cause)
 
+module _ (lines : List (List ℕ)) (graph : Tfpg) (valid : IsValid graph) (fault : GraphFault) where
   no_incoming_fault : declared_by lines ≡ graph → IsIncomingFault lines fault → ⊥
   no_incoming_fault declared is =
       let lacks = subst (λ g. LacksIncoming g is.node) declared is.lacks in
@@ -281,5 +244,5 @@ pub Spells-no_fault : (text : List ℕ) (graph : Tfpg) → Spells text graph →
     → IsFirstFault text fault → ⊥
 Spells-no_fault text graph spells valid fault =
     let is = Spells-clean text graph spells valid in
-    ⊎_elim (no_line_fault (lines_of text) graph valid fault is.0)
+    ⊎_elim (no_line_fault (lines_of text) fault is.0)
     (λ whole_fault. no_whole_fault (lines_of text) graph valid fault is.1 is.2 whole_fault.1)

@@ -7,7 +7,7 @@ use Rattle.tfpg_base.specs.Words.{is_number, number_of, number_up_to}
 use Rattle.tfpg_base.specs.declared.word.Number.TheVariants.{Value, TooLarge}
 use Rattle.tfpg_graph.specs.declared.cause.GraphCause.{GraphCause}
 use Rattle.tfpg_graph.specs.declared.cause.GraphCause.TheVariants.{BadNumber, NumberTooLarge, MinOverMax}
-use Rattle.tfpg_base.specs.Times.{max_time}
+use Rattle.tfpg_base.specs.declared.limits.TheConstants.{MAX_TIME}
 use Rattle.tfpg_graph.specs.Declares.{delays_of_words}
 use Rattle.std.specs.Bool.{then_some}
 use Rattle.tfpg_base.specs.Choice.{first_of}
@@ -22,8 +22,8 @@ one_word false large cause e = e
 
 -- where there is no greatest delay, the least decides
 pub delays-no_greatest : (tmin tmax : List ℕ) (cause : GraphCause) → bytes_eq tmax (codes "inf") ≡ true
-    → first_of (number_causes ((tmin, max_time) ∷ [])) ≡ Some cause → first_of (delay_causes tmin tmax) ≡ Some cause
-delays-no_greatest tmin tmax cause none e = rw none (one_word (is_number tmin) (nat_lt max_time (digits_value 10 tmin)) cause e)
+    → first_of (number_causes ((tmin, MAX_TIME) ∷ [])) ≡ Some cause → first_of (delay_causes tmin tmax) ≡ Some cause
+delays-no_greatest tmin tmax cause none e = rw none (one_word (is_number tmin) (nat_lt MAX_TIME (digits_value 10 tmin)) cause e)
 
 value_within : (most number value : ℕ) (within : Bool) → leb value most ≡ within → cond within (Value value) TooLarge ≡ Value number → (nat_lt most value ≡ false) × (value ≡ number)
 value_within most number value true at read = (grind (arith, nat_tests), cc)
@@ -38,9 +38,9 @@ in_order true least most = refl
 in_order false least most = (refl, refl)
 
 -- where both are numbers, their order decides
-pub delays-values : (tmin tmax : List ℕ) (least most : ℕ) → bytes_eq tmax (codes "inf") ≡ false → number_up_to max_time (number_of tmin) ≡ Value least → number_up_to max_time (number_of tmax) ≡ Value most
+pub delays-values : (tmin tmax : List ℕ) (least most : ℕ) → bytes_eq tmax (codes "inf") ≡ false → number_up_to MAX_TIME (number_of tmin) ≡ Value least → number_up_to MAX_TIME (number_of tmax) ≡ Value most
     → ReadAs (first_of (delay_causes tmin tmax)) (delays_of_words tmin tmax) (cond {A = Result (ℕ × Option ℕ) GraphCause} (nat_lt most least) (Err MinOverMax) (Ok (least, Some most)))
 delays-values tmin tmax least most some first second =
-    let a = value_read max_time least (digits_value 10 tmin) (is_number tmin) first in
-    let b = value_read max_time most (digits_value 10 tmax) (is_number tmax) second in
+    let a = value_read MAX_TIME least (digits_value 10 tmin) (is_number tmin) first in
+    let b = value_read MAX_TIME most (digits_value 10 tmax) (is_number tmax) second in
     rw (some, a.0, a.1, a.2, b.0, b.1, b.2) (in_order (nat_lt most least) least most)

@@ -1,20 +1,21 @@
 -- A text has at most one first fault.
-use Rattle.std.proofs.Common.{◌≡◌, ◌⊎◌, ℕ, ◌+◌, ◌<◌, ◌≤◌, Bool, true, cond, ⊎_elim, inl, inr, List, [], length, get_or, take, Some, None, Result, Ok, Err, IfOk, IfErr, count_by, ap, sym, ◌∙◌, subst, arith}
+use Rattle.std.proofs.Common.{◌≡◌, ◌⊎◌, ℕ, ◌+◌, ◌<◌, ◌≤◌, Bool, true, cond, ⊎_elim, inl, inr, List, [], length, get_or, take, Some, Result, Ok, Err, IfOk, IfErr, count_by, ap, sym, ◌∙◌, subst, arith}
 use Rattle.std.proofs.lemmas.Bool.{cases_lt}
 use Rattle.std.proofs.lemmas.List.{take-take}
 use Rattle.std.proofs.lemmas.List.Sums.{count_by_more_yes, sum_by-take-le}
+use Rattle.std.proofs.lemmas.Option.{none-some}
 use Rattle.tfpg_graph.specs.declared.cause.GraphFault.{GraphFault}
 use Rattle.tfpg_graph.specs.declared.cause.GraphRefusal.{GraphRefusal}
 use Rattle.tfpg_graph.specs.declared.cause.GraphRefusal.TheVariants.{Fault, NoMemory}
 use Rattle.tfpg_graph.specs.Graph.{Tfpg}
 use Rattle.tfpg_graph.specs.Text.{Spells}
-use Rattle.tfpg_graph.specs.Valid.{IsValid}
+use Rattle.tfpg_graph.specs.Valid.{IsValid, HasIncomingBefore}
 use Rattle.tfpg_graph.specs.Statements.{Statement}
 use Rattle.tfpg_graph.specs.Declares.{declared_by}
 use Rattle.tfpg_graph.specs.Causes.{cause_at}
-use Rattle.tfpg_graph.specs.Faults.{IsClean, IsLineFault, IsLineSaying, IsIncomingFault, IsCycleFault, IsEndFault, IsWholeFault, IsFirstFault, IsRefusalOf, IsFaultAnswer, LacksIncoming, HasIncomingBefore, says}
+use Rattle.tfpg_graph.specs.Faults.{IsLineFault, IsLineSaying, IsIncomingFault, IsCycleFault, IsEndFault, IsWholeFault, IsFirstFault, IsRefusalOf, IsFaultAnswer, LacksIncoming, says}
 use Rattle.tfpg_base.specs.Lines.{lines_of}
-use Rattle.tfpg_graph.proofs.lemmas.reading.NoFault.{Spells-no_fault}
+use Rattle.tfpg_graph.proofs.lemmas.reading.NoFault.{no_line_fault, Spells-no_fault}
 
 -- of two numbers one is less, or they are the same
 same_or_less : (a b : ℕ) → (a < b) ⊎ ((b < a) ⊎ (a ≡ b))
@@ -24,10 +25,6 @@ same_or_less a b = by (cases_lt a b) (cases_lt b a)
     by (inl less) other = inl less
     by (inr most) (inl more) = inr (inl more)
     by (inr most) (inr least) = inr (inr (omega arith))
-
--- a cause is not none
-some_not_none : {X : Type 0} (x : X) → None ≡ Some x → ⊥
-some_not_none x same = cc
 
 -- numbers of which neither is less are the same
 same_unless_less : (a b : ℕ) → (a < b → ⊥) → (b < a → ⊥) → a ≡ b
@@ -64,8 +61,8 @@ module _ (lines : List (List ℕ)) (one other : GraphFault) where
   line_faults : IsLineFault lines one → IsLineFault lines other → one ≡ other
   line_faults is so =
       let index : is.index ≡ so.index = same_unless_less is.index so.index
-      (λ less. some_not_none one.cause (sym (so.first is.index less) ∙ is.cause))
-      (λ less. some_not_none other.cause (sym (is.first so.index less) ∙ so.cause)) in
+      (λ less. none-some one.cause (sym (so.first is.index less) ∙ is.cause))
+      (λ less. none-some other.cause (sym (is.first so.index less) ∙ so.cause)) in
       let cause : Some one.cause ≡ Some other.cause = sym is.cause ∙ ap (cause_at lines) index ∙ so.cause in
       same_fault one other (is.number ∙ ap (λ n. n + 1) index ∙ sym so.number) (cc)
 
@@ -105,15 +102,11 @@ module _ (lines : List (List ℕ)) where
   whole_faults one other (inr (inr is)) (inr (inl so)) = absurd (is.no_cycle so.edge so.lies)
   whole_faults one other (inr (inr is)) (inr (inr so)) = end_faults lines one other is so
 
-  -- where no line has a cause, no line has a fault
-  clean_or_fault : (fault : GraphFault) → IsClean lines → IsLineFault lines fault → ⊥
-  clean_or_fault fault clean is = some_not_none fault.cause (sym (clean is.index is.tested) ∙ is.cause)
-
 -- A text has at most one first fault.
 pub IsFirstFault-one : (text : List ℕ) (one other : GraphFault) → IsFirstFault text one → IsFirstFault text other → one ≡ other
 IsFirstFault-one text one other (inl is) (inl so) = line_faults (lines_of text) one other is so
-IsFirstFault-one text one other (inl is) (inr so) = absurd (clean_or_fault (lines_of text) one so.0 is)
-IsFirstFault-one text one other (inr is) (inl so) = absurd (clean_or_fault (lines_of text) other is.0 so)
+IsFirstFault-one text one other (inl is) (inr so) = absurd (no_line_fault (lines_of text) one so.0 is)
+IsFirstFault-one text one other (inr is) (inl so) = absurd (no_line_fault (lines_of text) other is.0 so)
 IsFirstFault-one text one other (inr is) (inr so) = whole_faults (lines_of text) one other is.1 so.1
 
 -- What is returned for a text with a first fault, where each result has its cause.

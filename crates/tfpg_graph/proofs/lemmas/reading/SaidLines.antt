@@ -2,9 +2,10 @@
 use Rattle.std.proofs.Common.{◌≡◌, ◌≢◌, ℕ, ◌<◌, ◌≤◌, ◌==◌, ◌↔◌, Bool, true, false, cond, List, [], ◌∷◌, length, All, Contains, Option, Some, None, refl, ap, sym, ◌∙◌, subst, arith}
 use Rattle.std.specs.List.{AllByRecursion, list_any, onto_first}
 use Rattle.std.proofs.lemmas.Bool.{or_parts, ne_eqb, eq-eqb, false≢true}
+use Rattle.std.proofs.lemmas.List.{nil_from_length}
 use Rattle.std.proofs.lemmas.List.Elements.{All-nil, All-cons, All-head, All-tail, All-contains}
 use Rattle.tfpg_base.specs.Words.{words_of}
-use Rattle.tfpg_base.specs.Lines.{longest_line}
+use Rattle.tfpg_base.specs.declared.limits.TheConstants.{LONGEST_LINE}
 use Rattle.tfpg_base.proofs.lists.Elements.{All-from_members}
 use Rattle.tfpg_base.proofs.Separators.{Lacks}
 use Rattle.tfpg_graph.specs.Statements.{NodeWords, FailureWords, OrWords, AndWords, Statement, DeclaresMode, DeclaresNode, DeclaresEdge, Ends, words_of_watch, words_of_node, words_of_statement, IsLineWord, SaysStatement, lag_in, statement_in, statement_of}
@@ -41,14 +42,10 @@ line_words (word ∷ words) none lack =
 -- and back
 is_word : (word : List ℕ) → IsLineWord word → IsWord word
 is_word word is = record {
-  some = ne_eqb (length word) 0 (λ empty. is.0 (nothing word empty));
+  some = ne_eqb (length word) 0 (λ empty. is.0 (nil_from_length word empty));
   lacks = All-from_members (λ other. (other == 32) ≡ false) word
       (λ byte member. ne_eqb byte 32 (λ space. is.1 (subst (λ (other : ℕ). Contains word other) space member)));
 }
-  where
-    nothing : (bytes : List ℕ) → length bytes ≡ 0 → bytes ≡ []
-    nothing [] empty = refl
-    nothing (first ∷ others) empty = absurd (omega arith)
 
 pub are_words : (words : List (List ℕ)) → All IsLineWord words → AllByRecursion IsWord words
 are_words [] are = tt
@@ -98,7 +95,7 @@ pub statement_of-says : (line : List ℕ) (said : Statement) → SaysStatement l
 statement_of-says line said says =
     let words = words_of_statement said in
     ap statement_of says.words
-    ∙ short_line_says words (some_words said) (are_words words says.each) (subst (λ (l : List ℕ). length l ≤ longest_line) says.words says.short)
+    ∙ short_line_says words (some_words said) (are_words words says.each) (subst (λ (l : List ℕ). length l ≤ LONGEST_LINE) says.words says.short)
     ∙ statement_in-words said
 
 pub says_both_ways : (line : List ℕ) (said : Statement) → (statement_of line ≡ Some said) ↔ SaysStatement line said

@@ -15,6 +15,7 @@ use Rattle.tfpg_graph.specs.Text.{SpellsModes}
 use Rattle.tfpg_graph.specs.Declares.{modes_listed, modes_of_word}
 use Rattle.tfpg_graph.specs.Causes.{has_twice}
 use Rattle.tfpg_base.proofs.lists.SameBytes.{bytes_eq-false}
+use Rattle.tfpg_base.proofs.lists.Passing.{All-filter_map}
 
 -- ---- items that are looked up and found
 
@@ -30,15 +31,6 @@ module _ {X Y : Type 0} (look : X → Option Y) where
   -- where an item is found, the values begin with its value
   filter_map-found : (x : X) (y : Y) (xs : List X) → look x ≡ Some y → filter_map look (x ∷ xs) ≡ y ∷ filter_map look xs
   filter_map-found x y xs is = ap (λ o. cons_option o (filter_map look xs)) is
-
-  -- what holds of each value found holds of all of them
-  pub All-filter_map : (P : Y → Type 0) → ((x : X) (y : Y) → look x ≡ Some y → P y) → (xs : List X) → All P (filter_map look xs)
-  All-filter_map P each [] = All-nil P
-  All-filter_map P each (x ∷ xs) = by (look x) refl (All-filter_map P each xs)
-    where
-      by : (o : Option Y) → look x ≡ o → All P (filter_map look xs) → All P (cons_option o (filter_map look xs))
-      by None none rest = rest
-      by (Some y) some rest = All-cons P y (filter_map look xs) (each x y some) rest
 
   -- items of which none is missed have values where there are any
   pub filter_map-some : (xs : List X) → 0 < length xs → list_any (λ x. is_none (look x)) xs ≡ false → filter_map look xs ≢ []

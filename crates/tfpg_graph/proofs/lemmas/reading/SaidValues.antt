@@ -14,7 +14,7 @@ use Rattle.tfpg_graph.specs.declared.kind.Kind.TheVariants.{Failure, Or, And}
 use Rattle.tfpg_graph.specs.declared.edge.Edge.{Edge}
 use Rattle.tfpg_graph.specs.Graph.{Tfpg, name_at, node_named}
 use Rattle.tfpg_graph.specs.Text.{node_words, watch_words, tmax_word, SpellsEdge}
-use Rattle.tfpg_base.specs.Times.{max_time}
+use Rattle.tfpg_base.specs.declared.limits.TheConstants.{MAX_TIME}
 use Rattle.tfpg_graph.specs.declared.limits.TheConstants.{MAX_RARITY}
 use Rattle.tfpg_graph.specs.Statements.{NodeWords, FailureWords, OrWords, AndWords, DeclaresNode, DeclaresEdge, words_of_watch, words_of_node, words_of_statement}
 use Rattle.tfpg_graph.specs.Declares.{lag_of_word, kind_of_words, tmax_of_word, delays_of_words, ends_named, edge_declared, modes_of_word}
@@ -47,7 +47,7 @@ lag_said : (lag : Option (List ℕ)) → are_numbers (lag_number lag) ≡ true �
     → (value : Option ℕ) × (lag_of_word lag ≡ Some value) × (words_of_watch lag ≡ watch_words value)
 lag_said None numbers small = (None, refl, refl)
 lag_said (Some word) numbers small =
-    let is = number_said word max_time (omega arith) (and_parts (is_number word) true numbers).0 (or_parts _ false small).0 in
+    let is = number_said word MAX_TIME (omega arith) (and_parts (is_number word) true numbers).0 (or_parts _ false small).0 in
     (Some (digits_value 10 word), ap (option_map Some) is.0, ap (λ lag. codes "watch" ∷ lag ∷ []) is.1)
 
 kind_said : (name : List ℕ) (words : NodeWords) → are_numbers (node_number words) ≡ true → has_large (node_number words) ≡ false
@@ -72,12 +72,12 @@ node_said name words numbers small = kind_said name words (not-false (are_number
 
 -- the greatest delay, as the test for `inf` comes out
 tmax_said : (tmax : List ℕ) (endless : Bool) → bytes_eq tmax (codes "inf") ≡ endless
-    → are_numbers (cond endless [] ((tmax, max_time) ∷ [])) ≡ true
-    → has_large (cond endless [] ((tmax, max_time) ∷ [])) ≡ false
+    → are_numbers (cond endless [] ((tmax, MAX_TIME) ∷ [])) ≡ true
+    → has_large (cond endless [] ((tmax, MAX_TIME) ∷ [])) ≡ false
     → (most : Option ℕ) × (cond endless (Some None) (option_map Some (number_of tmax)) ≡ Some most) × (tmax ≡ tmax_word most)
 tmax_said tmax true is numbers small = (None, refl, (bytes_eq-Decides tmax (codes "inf")).0 is)
 tmax_said tmax false is numbers small =
-    let value = number_said tmax max_time (omega arith) (and_parts (is_number tmax) true numbers).0 (or_parts _ false small).0 in
+    let value = number_said tmax MAX_TIME (omega arith) (and_parts (is_number tmax) true numbers).0 (or_parts _ false small).0 in
     (Some (digits_value 10 tmax), ap (option_map Some) value.0, value.1)
 
 -- the words for an edge's delays
@@ -88,7 +88,7 @@ delays_said : (source target tmin tmax modes : List ℕ)
 delays_said source target tmin tmax modes numbers small =
     let right = and_parts (is_number tmin) _ (not-false _ numbers) in
     let within = or_parts _ _ small in
-    let first = number_said tmin max_time (omega arith) right.0 within.0 in
+    let first = number_said tmin MAX_TIME (omega arith) right.0 within.0 in
     let second = tmax_said tmax (bytes_eq tmax (codes "inf")) refl right.1 within.1 in (
       digits_value 10 tmin,
       second.0,

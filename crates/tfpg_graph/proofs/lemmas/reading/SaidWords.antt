@@ -7,7 +7,7 @@ use Rattle.std.proofs.lemmas.Option.{cond_some}
 use Rattle.tfpg_base.proofs.lists.Choices.{option_map-some}
 use Rattle.std.proofs.lemmas.Slice.Eq.{bytes_eq-Decides}
 use Rattle.tfpg_base.specs.Words.{line_of, words_of}
-use Rattle.tfpg_base.specs.Lines.{longest_line}
+use Rattle.tfpg_base.specs.declared.limits.TheConstants.{LONGEST_LINE}
 use Rattle.tfpg_base.proofs.Separators.{join_with_byte-words_of}
 use Rattle.tfpg_graph.specs.Text.{is_empty_or_comment}
 use Rattle.tfpg_graph.specs.Statements.{FailureWords, OrWords, AndWords, Statement, DeclaresMode, DeclaresNode, DeclaresEdge, Ends, words_of_watch, words_of_statement, lag_in, mode_in, failure_in, or_in, and_in, edge_in, end_in, statement_in, statement_of}
@@ -93,12 +93,12 @@ statement_in_words (keyword ∷ others) said some =
 
 -- A line that says something is not too long, and is the words of what it says.
 pub said_by_words : (line : List ℕ) (said : Statement) → statement_of line ≡ Some said
-    → (length line ≤ longest_line) × (line ≡ line_of (words_of_statement said))
+    → (length line ≤ LONGEST_LINE) × (line ≡ line_of (words_of_statement said))
 said_by_words line said some =
     let short = cond_second _ _ said some in
     let shaped = cond_second _ _ said short.1 in
     let words = statement_in_words (words_of line) said shaped.1 in
-    (ltb-false longest_line (length line) short.0, sym (join_with_byte-words_of line) ∙ ap line_of words)
+    (ltb-false LONGEST_LINE (length line) short.0, sym (join_with_byte-words_of line) ∙ ap line_of words)
 
 -- ---- lines that are skipped
 

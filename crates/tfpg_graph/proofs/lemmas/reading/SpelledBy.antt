@@ -2,13 +2,15 @@
 use Rattle.std.proofs.Common.{◌≡◌, ℕ, suc, ◌<◌, ◌≤◌, Bool, true, false, not, ◌||◌, cond, List, [], ◌∷◌, ◌++◌, length, filter, get_or, take, All, Option, Some, None, ◌⊎◌, inl, inr, ⊎_elim, refl, ap, sym, ◌∙◌, subst, arith, append_assoc}
 use Rattle.std.specs.Str.{bytes_eq}
 use Rattle.std.specs.List.{list_any, cons_option}
+use Rattle.std.proofs.Math.Bool.{or-false}
 use Rattle.std.proofs.lemmas.Bool.{and_parts, leb-true, false_from_ne_true}
 use Rattle.std.proofs.lemmas.List.{append-nil}
 use Rattle.std.proofs.lemmas.List.Elements.{All-nil, All-cons, All-same, filter-append, filter_map-append}
 use Rattle.std.proofs.lemmas.List.Folds.{list_any-append}
 use Rattle.std.proofs.lemmas.Option.{none-some}
 use Rattle.std.proofs.lemmas.Slice.Eq.{bytes_eq-Decides}
-use Rattle.tfpg_base.specs.Lines.{lines_of, longest_line}
+use Rattle.tfpg_base.specs.Lines.{lines_of}
+use Rattle.tfpg_base.specs.declared.limits.TheConstants.{LONGEST_LINE}
 use Rattle.tfpg_graph.specs.declared.cause.GraphCause.{GraphCause}
 use Rattle.tfpg_graph.specs.declared.cause.GraphCause.TheVariants.{BadHeader, AfterEnd}
 use Rattle.tfpg_graph.specs.Graph.{Tfpg}
@@ -61,9 +63,9 @@ line_cases before line clean = passed (is_skipped line) refl clean
     passed false is clean = inr (ended (list_any ends_text before) refl clean)
 
 -- a line without a cause is not too long
-line_short : (before : List Statement) (line : List ℕ) → cause_after before line ≡ None → length line ≤ longest_line
+line_short : (before : List Statement) (line : List ℕ) → cause_after before line ≡ None → length line ≤ LONGEST_LINE
 line_short before line clean = ⊎_elim
-    (λ passed. leb-true (length line) longest_line (and_parts (is_empty_or_comment line) _ passed).1)
+    (λ passed. leb-true (length line) LONGEST_LINE (and_parts (is_empty_or_comment line) _ passed).1)
     (λ saying. (said_by_words line saying.said saying.says).0)
     (line_cases before line clean)
 
@@ -76,14 +78,10 @@ saying_kept : (line : List ℕ) (said : Statement) → statement_of line ≡ Som
 saying_kept line said says =
     false_from_ne_true (is_empty_or_comment line) (λ skipped. none-some said (sym (skipped_says_nothing line skipped) ∙ says))
 
-or_false : (b : Bool) → (b || false) ≡ b
-or_false true = refl
-or_false false = refl
-
 -- whether statements that have not ended have ended with one more
 ended_push : (before : List Statement) (said : Statement) → list_any ends_text before ≡ false → list_any ends_text (before ++ said ∷ []) ≡ ends_text said
 ended_push before said unended =
-    list_any-append ends_text before (said ∷ []) ∙ (λ i. unended i || (ends_text said || false)) ∙ or_false (ends_text said)
+    list_any-append ends_text before (said ∷ []) ∙ (λ i. unended i || (ends_text said || false)) ∙ or-false (ends_text said)
 
 -- A line without a cause keeps what is declared spelled.
 line_spelled : (before : List Statement) (lines : List (List ℕ)) (line : List ℕ) → cause_after before line ≡ None
@@ -137,10 +135,10 @@ clean_after before (line ∷ lines) clean = (
 
 -- lines without a cause are not too long
 lines_short : (before : List Statement) (lines : List (List ℕ)) → AreCleanAfter before lines
-    → All (λ line. length line ≤ longest_line) lines
-lines_short before [] clean = All-nil (λ line. length line ≤ longest_line)
+    → All (λ line. length line ≤ LONGEST_LINE) lines
+lines_short before [] clean = All-nil (λ line. length line ≤ LONGEST_LINE)
 lines_short before (line ∷ lines) clean =
-    All-cons (λ line. length line ≤ longest_line) line lines (line_short before line clean.0)
+    All-cons (λ line. length line ≤ LONGEST_LINE) line lines (line_short before line clean.0)
     (lines_short (before ++ statements_of (line ∷ [])) lines clean.1)
 
 -- Lines without a cause keep what is declared spelled.
@@ -218,8 +216,8 @@ Spells-read text progress stands ended =
       after = whole.after;
       lines = whole.begins;
       said = record { edge_lines = spelled.edge_lines; edges = spelled.edges; all = spelled.all };
-      short = All-same (λ line. length line ≤ longest_line) (lines_of text) (header ∷ whole.after) whole.begins
-          (All-cons (λ line. length line ≤ longest_line) header whole.after (omega arith) (lines_short [] whole.after whole.clean));
+      short = All-same (λ line. length line ≤ LONGEST_LINE) (lines_of text) (header ∷ whole.after) whole.begins
+          (All-cons (λ line. length line ≤ LONGEST_LINE) header whole.after (omega arith) (lines_short [] whole.after whole.clean));
     }
 
 -- Lines that are read to their end without a cause declare a mode.

@@ -8,13 +8,12 @@ use Rattle.std.proofs.lemmas.Bool.{and_from}
 use Rattle.std.proofs.lemmas.List.{length-map}
 use Rattle.std.proofs.lemmas.Option.{slice_get-get_or}
 use Rattle.tfpg_base.specs.Words.{is_name}
-use Rattle.tfpg_base.specs.Lines.{longest_line}
+use Rattle.tfpg_base.specs.declared.limits.TheConstants.{LONGEST_LINE, MAX_TIME}
 use Rattle.tfpg_base.proofs.Numbers.{number_of-decimal}
 use Rattle.tfpg_graph.specs.declared.kind.Kind.TheVariants.{Failure}
 use Rattle.tfpg_graph.specs.declared.edge.Edge.{Edge}
 use Rattle.tfpg_graph.specs.Graph.{Tfpg, Node, name_at, node_named, mode_named}
 use Rattle.tfpg_graph.specs.Text.{tmax_word, all_modes, SpellsModes, edge_line}
-use Rattle.tfpg_base.specs.Times.{max_time}
 use Rattle.tfpg_graph.specs.Valid.{IsValid, IsValidEdge}
 use Rattle.tfpg_graph.specs.Statements.{Statement, DeclaresEdge, statement_of}
 use Rattle.tfpg_graph.specs.Declares.{modes_listed, modes_of_word, edge_declared}
@@ -121,14 +120,14 @@ module _ (graph : Tfpg) (valid : IsValid graph) where
       (IsModesWord-names graph valid.so_far.mode_names valid.so_far.modes_differ listed.0 listed.1 listed.2 listed.3))
 
   module _ (edge : Edge) (is : IsValidEdge graph edge) where
-    tmax_small : (tmax : Option ℕ) → IfSome tmax (λ time. (edge.tmin ≤ time) × (time ≤ max_time))
-        → IfSome tmax (λ time. time ≤ max_time)
+    tmax_small : (tmax : Option ℕ) → IfSome tmax (λ time. (edge.tmin ≤ time) × (time ≤ MAX_TIME))
+        → IfSome tmax (λ time. time ≤ MAX_TIME)
     tmax_small None small = tt
     tmax_small (Some time) small = small.1
 
     -- The line of an edge that is short says that it declares the edge.
     pub statement_of-edge_line : (word : List ℕ) → SpellsModes graph edge.modes word
-        → length (edge_line graph edge word) ≤ longest_line
+        → length (edge_line graph edge word) ≤ LONGEST_LINE
         → statement_of (edge_line graph edge word) ≡ Some (edge_said graph edge word)
     statement_of-edge_line word spells short =
         statement_of-edge (name_of graph edge.source) (name_of graph edge.target) edge.tmin edge.tmax word

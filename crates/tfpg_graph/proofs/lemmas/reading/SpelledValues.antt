@@ -16,7 +16,7 @@ use Rattle.tfpg_base.proofs.lists.Elements.{AllPairs-head, AllPairs-tail}
 use Rattle.tfpg_graph.specs.declared.kind.Kind.{Kind}
 use Rattle.tfpg_graph.specs.declared.kind.Kind.TheVariants.{Failure, Or, And}
 use Rattle.tfpg_graph.specs.Text.{tmax_word}
-use Rattle.tfpg_base.specs.Times.{max_time}
+use Rattle.tfpg_base.specs.declared.limits.TheConstants.{MAX_TIME}
 use Rattle.tfpg_graph.specs.Valid.{HasValidNumber}
 use Rattle.tfpg_graph.specs.Declares.{kind_of_words, lag_of_word, tmax_of_word, modes_listed}
 use Rattle.tfpg_graph.specs.Causes.{has_twice}
@@ -31,7 +31,7 @@ bytes_eq-differ xs ys differ = false_from_ne_true (bytes_eq xs ys) (λ equal. di
 pub bytes_eq-same : (xs : List ℕ) → bytes_eq xs xs ≡ true
 bytes_eq-same xs = (bytes_eq-Decides xs xs).1 refl
 
-lag_read : (lag : Option ℕ) → IfSome lag (λ l. l ≤ max_time) → lag_of_word (option_map decimal lag) ≡ Some lag
+lag_read : (lag : Option ℕ) → IfSome lag (λ l. l ≤ MAX_TIME) → lag_of_word (option_map decimal lag) ≡ Some lag
 lag_read None small = refl
 lag_read (Some lag) small = ap (option_map Some) (number_of-decimal lag (omega arith))
 
@@ -48,7 +48,7 @@ decimal-not_inf number small =
     (λ same. false≢true (sym (ap is_number same) ∙ is_number-decimal number small))
 
 -- The word for a greatest delay is read as it.
-pub tmax_of_word-tmax : (tmax : Option ℕ) → IfSome tmax (λ time. time ≤ max_time)
+pub tmax_of_word-tmax : (tmax : Option ℕ) → IfSome tmax (λ time. time ≤ MAX_TIME)
     → tmax_of_word (tmax_word tmax) ≡ Some tmax
 tmax_of_word-tmax None small = refl
 tmax_of_word-tmax (Some time) small =

@@ -17,7 +17,8 @@ use Rattle.tfpg_graph.specs.declared.reading.reader.Part.TheVariants.{Header, De
 use Rattle.tfpg_graph.specs.declared.reading.reader.Reader.{Reader}
 use Rattle.tfpg_graph.specs.inside.reading.Turns.{nothing_read, is_misplaced, progress_with, cause_or_value, turn_said, turn_of, turn, part_after, HasValue, ReaderRepresents}
 use Rattle.tfpg_graph.proofs.lemmas.reading.SaidBy.{statement_of-skipped, statement_of-header, statements_of-push, statements_of-silent}
-use Rattle.tfpg_graph.proofs.lemmas.reading.DeclaredBy.{AllHaveValues, is_misplaced-said, graph_said-mode, graph_said-node, graph_said-edge, graph_said-end, values-mode, values-node, values-edge, values-end}
+use Rattle.tfpg_graph.proofs.lemmas.reading.GraphsSaid.{graph_said-mode, graph_said-node, graph_said-edge, graph_said-end}
+use Rattle.tfpg_graph.proofs.lemmas.reading.DeclaredBy.{AllHaveValues, is_misplaced-said, values-mode, values-node, values-edge, values-end}
 use Rattle.tfpg_graph.proofs.lemmas.reading.CauseAt.{AllClean, clean-push, cause-skipped}
 use Rattle.tfpg_graph.proofs.lemmas.reading.CausedSaid.{in_order, cause_declared, cause-said}
 use Rattle.tfpg_graph.proofs.lemmas.reading.PartAfter.{part-declarations, part-ended, no_header, part_after-said, part_after-silent}
@@ -77,7 +78,7 @@ module _ (lines : List (List ℕ)) (line : List ℕ) (clean : AllClean lines) (v
     stands_taken (DeclaresMode name) says none with_it =
         let in_turn = ordered (DeclaresMode name) none in
         stands_grown (DeclaresMode name) (record { part = Declarations; declared = with_mode (declared_by lines) name }) says none (cc) refl
-        (graph_said-mode (statements_of lines) name in_turn) (values-mode (statements_of lines) values name in_turn)
+        (sym (graph_said-mode (statements_of lines) name in_turn)) (values-mode (statements_of lines) values name in_turn)
     stands_taken (DeclaresNode name words) says none with_it = by (kind_of_words words) refl with_it
       where
         by : (kind : Option Kind) → kind_of_words words ≡ kind
@@ -87,7 +88,7 @@ module _ (lines : List (List ℕ)) (line : List ℕ) (clean : AllClean lines) (v
         by (Some kind) is grown =
             let in_turn = ordered (DeclaresNode name words) none in
             stands_grown (DeclaresNode name words) (record { part = Declarations; declared = with_node (declared_by lines) name kind }) says none (cc) refl
-            (graph_said-node (statements_of lines) name words kind in_turn is) (values-node (statements_of lines) values name words in_turn (ap is_some is))
+            (sym (graph_said-node (statements_of lines) name words kind in_turn is)) (values-node (statements_of lines) values name words in_turn (ap is_some is))
     stands_taken (DeclaresEdge source target tmin tmax modes) says none with_it = by (edge_declared (declared_by lines) (DeclaresEdge source target tmin tmax modes)) refl with_it
       where
         by : (edge : Option GraphEdge)
@@ -97,9 +98,9 @@ module _ (lines : List (List ℕ)) (line : List ℕ) (clean : AllClean lines) (v
         by None is grown = absurd cc
         by (Some edge) is grown =
             stands_grown (DeclaresEdge source target tmin tmax modes) (record { part = Declarations; declared = with_edge (declared_by lines) edge }) says none (cc) refl
-            (graph_said-edge (statements_of lines) source target tmin tmax modes edge is) (values-edge (statements_of lines) values source target tmin tmax modes (ap is_some is))
+            (sym (graph_said-edge (statements_of lines) source target tmin tmax modes edge is)) (values-edge (statements_of lines) values source target tmin tmax modes (ap is_some is))
     stands_taken Ends says none with_it =
-        stands_grown Ends (record { part = Ended; declared = declared_by lines }) says none (cc) refl (graph_said-end (statements_of lines)) (values-end (statements_of lines) values)
+        stands_grown Ends (record { part = Ended; declared = declared_by lines }) says none (cc) refl (sym (graph_said-end (statements_of lines))) (values-end (statements_of lines) values)
 
     -- a line before the end that is not skipped
     stands_said : (said : Option Statement) → statement_of line ≡ said → turn_said (declared_by lines) said ≡ Ok next

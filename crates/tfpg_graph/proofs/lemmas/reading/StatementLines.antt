@@ -1,18 +1,17 @@
 -- What a line says, by its words.
-use Rattle.std.proofs.Common.{◌≡◌, ℕ, true, false, eqb, List, length, None, refl, nat_lt}
-use Rattle.std.specs.List.{list_any}
-use Rattle.tfpg_base.specs.Words.{words_of}
-use Rattle.tfpg_base.specs.Lines.{longest_line}
+use Rattle.std.proofs.Common.{◌≡◌, ℕ, true, false, List, None, refl}
+use Rattle.tfpg_base.specs.Words.{has_empty_word, words_of}
+use Rattle.tfpg_base.specs.Lines.{is_too_long}
 use Rattle.tfpg_graph.specs.Statements.{statement_of, statement_in}
 
 -- a line that is too long says nothing
-pub statement_of-long : (line : List ℕ) → nat_lt longest_line (length line) ≡ true → statement_of line ≡ None
+pub statement_of-long : (line : List ℕ) → is_too_long line ≡ true → statement_of line ≡ None
 statement_of-long line long = rw long refl
 
 -- nor does one with an empty word
-pub statement_of-empty : (line : List ℕ) → nat_lt longest_line (length line) ≡ false → list_any (λ word. eqb (length word) 0) (words_of line) ≡ true → statement_of line ≡ None
+pub statement_of-empty : (line : List ℕ) → is_too_long line ≡ false → has_empty_word (words_of line) ≡ true → statement_of line ≡ None
 statement_of-empty line short empty = rw (short, empty) refl
 
 -- and else its words decide
-pub statement_of-words : (line : List ℕ) → nat_lt longest_line (length line) ≡ false → list_any (λ word. eqb (length word) 0) (words_of line) ≡ false → statement_of line ≡ statement_in (words_of line)
+pub statement_of-words : (line : List ℕ) → is_too_long line ≡ false → has_empty_word (words_of line) ≡ false → statement_of line ≡ statement_in (words_of line)
 statement_of-words line short none = rw (short, none) refl

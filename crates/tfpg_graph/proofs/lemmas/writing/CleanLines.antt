@@ -13,7 +13,7 @@ use Rattle.tfpg_graph.specs.declared.kind.Kind.TheVariants.{Failure, Or, And}
 use Rattle.tfpg_graph.specs.declared.edge.Edge.{Edge}
 use Rattle.tfpg_graph.specs.Graph.{Tfpg, Node, name_at}
 use Rattle.tfpg_graph.specs.Text.{header, mode_line, node_words, watch_words, tmax_word, edge_line, modes_word, all_modes}
-use Rattle.tfpg_base.specs.Times.{max_time}
+use Rattle.tfpg_base.specs.declared.limits.TheConstants.{MAX_TIME}
 use Rattle.tfpg_graph.specs.Valid.{HasValidNumber, IsValidEdge}
 use Rattle.tfpg_graph.specs.inside.writing.Written.{modes_before, mode_names_before}
 use Rattle.tfpg_graph.proofs.lemmas.writing.ModeNames.{All-named}
@@ -35,7 +35,7 @@ clean_one word clean = All-cons HasNoLineEnd word [] clean (All-nil HasNoLineEnd
 pub clean_name : (name : List ℕ) → IsTrue (is_name name) → HasNoLineEnd name
 clean_name name named = name_lacks 10 name refl named
 
-clean_number : (number : ℕ) → number ≤ max_time → HasNoLineEnd (decimal number)
+clean_number : (number : ℕ) → number ≤ MAX_TIME → HasNoLineEnd (decimal number)
 clean_number number small = decimal_lacks 10 number refl (omega arith)
 
 -- a keyword and the other words
@@ -51,7 +51,7 @@ clean_end = clean_name (codes "end") refl
 pub clean_mode : (name : List ℕ) → IsTrue (is_name name) → HasNoLineEnd (mode_line name)
 clean_mode name named = clean_words (codes "mode") (name ∷ []) refl (clean_one name (clean_name name named))
 
-clean_watch : (lag : Option ℕ) → IfSome lag (λ l. l ≤ max_time) → All HasNoLineEnd (watch_words lag)
+clean_watch : (lag : Option ℕ) → IfSome lag (λ l. l ≤ MAX_TIME) → All HasNoLineEnd (watch_words lag)
 clean_watch None small = clean_one (codes "hidden") (clean_name (codes "hidden") refl)
 clean_watch (Some lag) small =
     All-cons HasNoLineEnd (codes "watch") (decimal lag ∷ []) (clean_name (codes "watch") refl) (clean_one (decimal lag) (clean_number lag small))
@@ -70,7 +70,7 @@ clean_name_in [] node named = All-nil (λ byte. eqb byte 10 ≡ false)
 clean_name_in (first ∷ others) zero named = clean_name first.name (All-head (λ n. IsTrue (is_name n.name)) first others named)
 clean_name_in (first ∷ others) (suc node) named = clean_name_in others node (All-tail (λ n. IsTrue (is_name n.name)) first others named)
 
-clean_tmax : (tmax : Option ℕ) (tmin : ℕ) → IfSome tmax (λ time. (tmin ≤ time) × (time ≤ max_time)) → HasNoLineEnd (tmax_word tmax)
+clean_tmax : (tmax : Option ℕ) (tmin : ℕ) → IfSome tmax (λ time. (tmin ≤ time) × (time ≤ MAX_TIME)) → HasNoLineEnd (tmax_word tmax)
 clean_tmax None tmin small = clean_name (codes "inf") refl
 clean_tmax (Some tmax) tmin small = clean_number tmax small.1
 

@@ -7,8 +7,7 @@ use Rattle.std.proofs.lemmas.Bool.{cond_both}
 use Rattle.std.proofs.lemmas.List.{length-append}
 use Rattle.std.proofs.lemmas.List.Elements.{All-head, All-tail}
 use Rattle.tfpg_base.specs.Words.{is_name, line_of}
-use Rattle.tfpg_base.specs.Lines.{longest_line}
-use Rattle.tfpg_base.specs.Times.{max_time}
+use Rattle.tfpg_base.specs.declared.limits.TheConstants.{LONGEST_LINE, MAX_TIME}
 use Rattle.tfpg_base.proofs.WordLengths.{name_short, number_short}
 use Rattle.tfpg_graph.specs.declared.kind.Kind.{Kind}
 use Rattle.tfpg_graph.specs.declared.kind.Kind.TheVariants.{Failure, Or, And}
@@ -18,16 +17,17 @@ use Rattle.tfpg_graph.specs.Text.{mode_line, node_words, watch_words, tmax_word,
 use Rattle.tfpg_graph.specs.Valid.{HasValidNumber, IsValidEdge}
 use Rattle.tfpg_graph.specs.inside.writing.Written.{modes_before, mode_names_before}
 use Rattle.tfpg_graph.proofs.lemmas.writing.ModeBits.{modes_before-few}
-use Rattle.tfpg_graph.proofs.lemmas.writing.ModeNames.{All-named, length-named}
+use Rattle.tfpg_base.proofs.lists.Passing.{length-filter_map}
+use Rattle.tfpg_graph.proofs.lemmas.writing.ModeNames.{All-named}
 
-pub short_mode : (name : List ℕ) → IsTrue (is_name name) → length (mode_line name) ≤ longest_line
+pub short_mode : (name : List ℕ) → IsTrue (is_name name) → length (mode_line name) ≤ LONGEST_LINE
 short_mode name named = omega (arith, name_short name named)
 
-short_watch : (name : List ℕ) (lag : Option ℕ) → length name ≤ 32 → IfSome lag (λ l. l ≤ max_time) → length (line_of (name ∷ watch_words lag)) ≤ 100
+short_watch : (name : List ℕ) (lag : Option ℕ) → length name ≤ 32 → IfSome lag (λ l. l ≤ MAX_TIME) → length (line_of (name ∷ watch_words lag)) ≤ 100
 short_watch name None named small = omega (arith, length-append name (32 ∷ codes "hidden"))
 short_watch name (Some lag) named small = omega (arith, length-append name (32 ∷ codes "watch" ++ 32 ∷ decimal lag), number_short lag small)
 
-pub short_node : (name : List ℕ) (kind : Kind) → IsTrue (is_name name) → HasValidNumber kind → length (line_of (node_words name kind)) ≤ longest_line
+pub short_node : (name : List ℕ) (kind : Kind) → IsTrue (is_name name) → HasValidNumber kind → length (line_of (node_words name kind)) ≤ LONGEST_LINE
 short_node name (Failure rarity) named small = omega (arith, name_short name named, length-append name (32 ∷ decimal rarity), number_short rarity (omega arith))
 short_node name (Or lag) named small = omega (arith, short_watch name lag (name_short name named) small)
 short_node name (And lag) named small = omega (arith, short_watch name lag (name_short name named) small)
@@ -37,7 +37,7 @@ short_name_in [] node named = omega arith
 short_name_in (first ∷ others) zero named = name_short first.name (All-head (λ n. IsTrue (is_name n.name)) first others named)
 short_name_in (first ∷ others) (suc node) named = short_name_in others node (All-tail (λ n. IsTrue (is_name n.name)) first others named)
 
-short_tmax : (tmax : Option ℕ) (tmin : ℕ) → IfSome tmax (λ time. (tmin ≤ time) × (time ≤ max_time)) → length (tmax_word tmax) ≤ 13
+short_tmax : (tmax : Option ℕ) (tmin : ℕ) → IfSome tmax (λ time. (tmin ≤ time) × (time ≤ MAX_TIME)) → length (tmax_word tmax) ≤ 13
 short_tmax None tmin small = omega arith
 short_tmax (Some tmax) tmin small = number_short tmax small.1
 
@@ -60,10 +60,10 @@ short_modes graph bits named few =
     let short : All (λ name. length name ≤ 32) names = All-named (λ name. length name ≤ 32) graph.modes (λ k d within. name_short _ (named k d within)) (modes_before bits end) in
     cond_both (bits == all_modes graph) (codes "*") (join_with_byte 44 names) (λ word. length word ≤ 2112)
     (λ all. omega arith)
-    (λ some. omega (arith, few, length-joined 44 names short, length-named graph.modes (modes_before bits end), modes_before-few bits end))
+    (λ some. omega (arith, few, length-joined 44 names short, length-filter_map (slice_get graph.modes) (modes_before bits end), modes_before-few bits end))
 
 pub short_edge : (graph : Tfpg) (edge : Edge) (word : List ℕ) → All (λ n. IsTrue (is_name n.name)) graph.nodes → IsValidEdge graph edge → length word ≤ 2112
-    → length (edge_line graph edge word) ≤ longest_line
+    → length (edge_line graph edge word) ≤ LONGEST_LINE
 short_edge graph edge word named valid short =
     let source = unwrap_or (name_at graph edge.source) [] in
     let target = unwrap_or (name_at graph edge.target) [] in

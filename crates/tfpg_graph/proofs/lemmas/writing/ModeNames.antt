@@ -1,5 +1,5 @@
 -- The names of the modes whose bits are set.
-use Rattle.std.proofs.Common.{◌≡◌, ℕ, suc, ◌+◌, ◌≤◌, ◌==◌, Bool, true, false, cond, eqb, List, [], ◌∷◌, ◌++◌, length, All, Option, Some, None, slice_get, refl, sym, ap, ◌∙◌, append_assoc, append-nil, add-one, arith}
+use Rattle.std.proofs.Common.{◌≡◌, ℕ, ◌+◌, ◌==◌, Bool, true, false, cond, eqb, List, [], ◌∷◌, ◌++◌, length, All, Option, Some, None, slice_get, refl, sym, ap, ◌∙◌, append_assoc, append-nil, add-one, arith}
 use Rattle.std.specs.List.{join_with_byte, filter_map, cons_option}
 use Rattle.std.specs.Int.{bit_at}
 use Rattle.std.proofs.lemmas.Bool.Decides.{nat_tests}
@@ -10,26 +10,12 @@ use Rattle.tfpg_base.proofs.Joined.{join-push}
 use Rattle.tfpg_graph.specs.Graph.{Tfpg}
 use Rattle.tfpg_graph.specs.inside.writing.Written.{modes_before, mode_names_before}
 use Rattle.tfpg_base.proofs.lists.Elements.{All-at}
+use Rattle.tfpg_base.proofs.lists.Passing.{All-filter_map}
 use Rattle.tfpg_graph.proofs.lemmas.writing.ModeBits.{modes_before-more}
 
-module _ (P : List ℕ → Type 0) (names : List (List ℕ)) (all : All P names) where
-  -- what holds of each name holds of those of some numbers
-  pub All-named : (numbers : List ℕ) → All P (filter_map (slice_get names) numbers)
-  All-named [] = All-nil P
-  All-named (number ∷ numbers) = by (slice_get names number) refl (All-named numbers)
-    where
-      by : (o : Option (List ℕ)) → slice_get names number ≡ o → All P (filter_map (slice_get names) numbers) → All P (cons_option o (filter_map (slice_get names) numbers))
-      by None at rest = rest
-      by (Some name) at rest = All-cons P name (filter_map (slice_get names) numbers) (All-at P names number name all at) rest
-
--- there are no more names than numbers
-pub length-named : (names : List (List ℕ)) (numbers : List ℕ) → length (filter_map (slice_get names) numbers) ≤ length numbers
-length-named names [] = omega arith
-length-named names (number ∷ numbers) = by (slice_get names number) (length-named names numbers)
-  where
-    by : (o : Option (List ℕ)) → length (filter_map (slice_get names) numbers) ≤ length numbers → length (cons_option o (filter_map (slice_get names) numbers)) ≤ suc (length numbers)
-    by None rest = omega arith
-    by (Some name) rest = omega arith
+-- what holds of each name holds of those of some numbers
+pub All-named : (P : List ℕ → Type 0) (names : List (List ℕ)) → All P names → (numbers : List ℕ) → All P (filter_map (slice_get names) numbers)
+All-named P names all numbers = All-filter_map (slice_get names) P (λ number name at. All-at P names number name all at) numbers
 
 module _ (graph : Tfpg) (bits mode : ℕ) where
   -- the names before the next mode

@@ -4,7 +4,8 @@ use Rattle.std.specs.List.{AllZip, join_with_byte}
 use Rattle.std.proofs.lemmas.Bool.{eqb-true}
 use Rattle.std.proofs.lemmas.List.Elements.{All-head, All-tail, All-map, All-append, All-cons, All-nil, All-weaker, All-same}
 use Rattle.tfpg_base.specs.Words.{line_of, is_name}
-use Rattle.tfpg_base.specs.Lines.{lines_of, longest_line, HasNoLineEnd}
+use Rattle.tfpg_base.specs.Lines.{lines_of, HasNoLineEnd}
+use Rattle.tfpg_base.specs.declared.limits.TheConstants.{LONGEST_LINE}
 use Rattle.tfpg_base.proofs.LinesOf.{lines_of-after}
 use Rattle.tfpg_graph.specs.declared.kind.Kind.{Kind}
 use Rattle.tfpg_graph.specs.declared.kind.Kind.TheVariants.{Failure, Or, And}
@@ -66,12 +67,12 @@ kept graph = filter-all (λ line. not (is_empty_or_comment line)) (lines_after g
 
 module _ (graph : Tfpg) (valid : IsValid graph) where
   -- no line is too long
-  short : All (λ line. length line ≤ longest_line) (canonical_lines graph)
-  short = All-cons (λ line. length line ≤ longest_line) header (lines_after graph) (omega arith)
-      (All-after (λ line. length line ≤ longest_line) graph
-      (All-weaker (λ mode. IsTrue (is_name mode)) (λ mode. length (mode_line mode) ≤ longest_line) short_mode graph.modes valid.so_far.mode_names)
+  short : All (λ line. length line ≤ LONGEST_LINE) (canonical_lines graph)
+  short = All-cons (λ line. length line ≤ LONGEST_LINE) header (lines_after graph) (omega arith)
+      (All-after (λ line. length line ≤ LONGEST_LINE) graph
+      (All-weaker (λ mode. IsTrue (is_name mode)) (λ mode. length (mode_line mode) ≤ LONGEST_LINE) short_mode graph.modes valid.so_far.mode_names)
       (λ k d within. short_node _ _ (valid.so_far.node_names k d within) (valid.so_far.node_numbers k d within))
-      (All-weaker (IsValidEdge graph) (λ edge. length (edge_line graph edge (modes_word graph edge.modes)) ≤ longest_line)
+      (All-weaker (IsValidEdge graph) (λ edge. length (edge_line graph edge (modes_word graph edge.modes)) ≤ LONGEST_LINE)
       (λ edge own. short_edge graph edge (modes_word graph edge.modes) valid.so_far.node_names own (short_modes graph edge.modes valid.so_far.mode_names valid.so_far.few_modes))
       graph.edges valid.so_far.edges)
       (omega arith))
@@ -98,7 +99,7 @@ module _ (graph : Tfpg) (valid : IsValid graph) where
     after = lines_after graph;
     lines = lines;
     said = record { edge_lines = edge_lines_of graph; edges = spelled_edges; all = kept graph };
-    short = All-same (λ line. length line ≤ longest_line) (lines_of text) (canonical_lines graph) lines short;
+    short = All-same (λ line. length line ≤ LONGEST_LINE) (lines_of text) (canonical_lines graph) lines short;
   }
 
   -- and so does the canonical text

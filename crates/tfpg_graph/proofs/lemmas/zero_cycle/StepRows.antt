@@ -3,11 +3,8 @@ use Rattle.std.proofs.Common.{◌≡◌, ◌≢◌, ℕ, ◌<◌, ◌⊎◌, inl
 use Rattle.std.proofs.lemmas.Bool.{cases_lt, cases_eq}
 use Rattle.std.proofs.lemmas.List.{get_or-replicate, length-replicate, get_or_past, length-set}
 use Rattle.std.proofs.lemmas.List.Elements.{Contains-append_left, Contains-push, Contains-push_cases}
+use Rattle.tfpg_base.proofs.lists.Elements.{Contains-nil}
 use Rattle.tfpg_graph.specs.inside.zero_cycle.ZeroSearch.{row, IsStep, with_zero_step, AreWithin}
-
--- nothing is in the empty list
-pub none_in : (xs : List ℕ) (x : ℕ) → xs ≡ [] → Contains xs x → ⊥
-none_in xs x empty has = omega (arith, has.1, ap length empty)
 
 row_of_none : (count node : ℕ) → row (replicate count []) node ≡ []
 row_of_none count node = ⊎_elim
@@ -17,13 +14,13 @@ row_of_none count node = ⊎_elim
     (cases_lt node count)
 
 pub no_step : (count from to : ℕ) → IsStep (replicate count []) from to → ⊥
-no_step count from to leads = none_in (row (replicate count []) from) to (row_of_none count from) leads
+no_step count from to leads = Contains-nil to (subst (λ (nodes : List ℕ). Contains nodes to) (row_of_none count from) leads)
 
 -- a step begins at a node
 pub IsStep-begin : (rows : List (List ℕ)) (from to : ℕ) → IsStep rows from to → from < length rows
 IsStep-begin rows from to leads = ⊎_elim
     (λ within. within)
-    (λ past. absurd (none_in (row rows from) to (get_or_past rows from [] past) leads))
+    (λ past. absurd (Contains-nil to (subst (λ (nodes : List ℕ). Contains nodes to) (get_or_past rows from [] past) leads)))
     (cases_lt from (length rows))
 
 module _ (rows : List (List ℕ)) (from to : ℕ) (within : from < length rows) where

@@ -7,7 +7,7 @@ use Rattle.tfpg_graph.specs.Faults.{IsRefusalOf}
 use Rattle.tfpg_graph.specs.inside.reading.Turns.{ReaderRepresents}
 use Rattle.tfpg_graph.specs.inside.reading.Answered.{refusal_at}
 use Rattle.tfpg_graph.proofs.lemmas.reading.Standing.{ReaderRepresents-ok}
-use Rattle.tfpg_graph.proofs.lemmas.reading.Ending.{some_part}
+use Rattle.tfpg_base.proofs.LinesOf.{parts_of_some}
 use Rattle.tfpg_graph.proofs.lemmas.reading.WholeText.{IsBody, lines_at, IsRefusalOf-line, IsAnswerOf-refused, IfOk-spelled, IfErr-refused, IsAnswerOf-end}
 use Rattle.tfpg_graph.proofs.lemmas.reading.OneFault.{IsFaultAnswer-from}
 use Rattle.tfpg_graph.proofs.reading.read.Goals as goal
@@ -88,21 +88,21 @@ pub returns-clause-spelled : goal.returns-clause-spelled
 returns-clause-spelled c =
     let body = c.without_last_line_end-body.result.now in
     let at = goal.at.returns-clause-spelled c in
-    IfOk-spelled c.args.text.now body (is_body at.After-next) c.loop-line.reader (stands at.In-None) (some_part body)
+    IfOk-spelled c.args.text.now body (is_body at.After-next) c.loop-line.reader (stands at.In-None) (parts_of_some body)
     c.end.result c.end.ensures.graph
 
 pub returns-clause-refused : goal.returns-clause-refused
 returns-clause-refused c =
     let body = c.without_last_line_end-body.result.now in
     let at = goal.at.returns-clause-refused c in
-    IfErr-refused c.args.text.now body (is_body at.After-next) c.loop-line.reader (stands at.In-None) (some_part body)
+    IfErr-refused c.args.text.now body (is_body at.After-next) c.loop-line.reader (stands at.In-None) (parts_of_some body)
     c.end.result c.end.ensures.fault
 
 pub returns-clause-exact : goal.returns-clause-exact
 returns-clause-exact c =
     let body = c.without_last_line_end-body.result.now in
     let at = goal.at.returns-clause-exact c in
-    IsAnswerOf-end c.args.text.now body (is_body at.After-next) c.loop-line.reader (stands at.In-None) (some_part body)
+    IsAnswerOf-end c.args.text.now body (is_body at.After-next) c.loop-line.reader (stands at.In-None) (parts_of_some body)
     c.end.result c.end.ensures.graph c.end.ensures.fault
 
 pub returns-clause-faulty : goal.returns-clause-faulty

@@ -16,10 +16,10 @@ returns-then-not-has c log spans by_now =
 pub returns-in_err-lo : goal.returns-in_err-lo
 returns-in_err-lo c log spans by_now =
     absurd (no_beginning log c.args.changes.now spans c.args.modes.now c.args.number c.args.horizon c.in_ok-span.span by_now c.in_ok-span.ensures
-    c.first_of-first.result c.last_of-last.result c.first_of-first.ensures c.last_of-last.ensures c.in_err-lo.ensures)
+    c.run_start-first.result c.run_end-last.result c.run_start-first.ensures c.run_end-last.ensures c.in_err-lo.ensures)
 
 pub returns : goal.returns
 returns c log spans by_now =
     window_walked log c.args.changes.now spans c.args.modes.now c.args.number c.args.horizon c.in_ok-span.span by_now c.in_ok-span.ensures
-    c.first_of-first.result c.last_of-last.result c.first_of-first.ensures c.last_of-last.ensures c.in_ok-lo.lo c.end_of_span-hi.result
+    c.run_start-first.result c.run_end-last.result c.run_start-first.ensures c.run_end-last.ensures c.in_ok-lo.lo c.end_of_span-hi.result
     c.in_ok-lo.ensures c.end_of_span-hi.ensures

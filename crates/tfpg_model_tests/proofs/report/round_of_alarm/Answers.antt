@@ -3,9 +3,10 @@ use Rattle.std.proofs.Common.{◌≡◌, ℕ, ◌<◌, List, [], ◌∷◌, refl
 use Rattle.std.proofs.lemmas.List.Elements.{All-nil, All-cons, All-same}
 use Rattle.std.specs.Prelude.{IsTrue}
 use Rattle.tfpg_base.proofs.lists.Elements.{AllPairs-cons}
+use Rattle.tfpg_graph.specs.Graph.{Sizes}
 use Rattle.tfpg_evidence.specs.declared.finding.Finding.{Finding}
 use Rattle.tfpg_evidence.specs.declared.round.Round.{Round}
-use Rattle.tfpg_evidence.specs.RoundOf.{Sizes, IsFindingOf, IsRankedIn, IsRoundOf, is_ranked}
+use Rattle.tfpg_evidence.specs.RoundOf.{IsFindingOf, IsRankedIn, IsRoundOf, is_ranked}
 use Rattle.tfpg_report.proofs.Findings.{RiseByNumber, finding_numbered-at}
 use Rattle.tfpg_model_tests.proofs.report.round_of_alarm.Goals as goal
 

@@ -1,6 +1,6 @@
 use Rattle.std.proofs.Common.{sym}
 use Rattle.tfpg_evidence.specs.RoundOf.{IsFindingOf}
-use Rattle.tfpg_report.specs.Blocks.{sizes_of}
+use Rattle.tfpg_graph.specs.Graph.{sizes_of}
 use Rattle.tfpg_report.proofs.Findings.{finding_numbered-all}
 use Rattle.tfpg_report.proofs.ranked_lines.append_numbered.Goals as goal
 

@@ -9,4 +9,4 @@ returns c =
     (rw (c.as_slice-findings.ensures, c.as_slice.ensures) at c.in_ok-append_all_ranked.ensures)
     (rw c.as_slice-findings.ensures at c.in_ok-append_section-2.ensures)
     (rw c.as_slice-findings.ensures at c.in_ok-append_section-3.ensures)
-    c.append_counts.ensures
+    c.append_counts_line.ensures

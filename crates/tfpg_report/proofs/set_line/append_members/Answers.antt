@@ -17,7 +17,7 @@ loop-position-preserved c =
       | then-has+in_ok-append_part w ↦
           rw (w.into-is, w.is_first-is)
           (AreNamed-more c.args.graph.now c.args.set _ _ _ _ c.loop-position.position c.has.ensures.set.rising (c.has.ensures.member.0 w.if-has.true) c.loop-position.invariant
-          (w.in_ok-append_part.ensures ∙ ap (λ (t : List ℕ). c.loop-position.into.items ++ separated 44 c.loop-position.is_first t) w.failure_name.ensures))
+          (w.in_ok-append_part.ensures ∙ ap (λ (t : List ℕ). c.loop-position.into.items ++ separated 44 c.loop-position.is_first t) w.failure_word.ensures))
       | else-has w ↦ rw (w.into-is, w.is_first-is) (AreNamed-same c.args.graph.now c.args.set _ _ _ c.loop-position.position
           (λ member. let known : c.has.result ≡ true = c.has.ensures.member.1 member in absurd (cc (w.if-has.false))) c.loop-position.invariant)
     ]

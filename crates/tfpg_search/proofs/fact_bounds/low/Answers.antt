@@ -4,7 +4,7 @@ use Rattle.std.specs.Prelude.{Contains}
 use Rattle.std.proofs.lemmas.Bool.Decides.{same_from_decides}
 use Rattle.tfpg_graph.proofs.lemmas.reach.Reaches.{among-from_Contains, Contains-from_among}
 use Rattle.tfpg_graph.specs.Reach.{is_among}
-use Rattle.tfpg_clause.specs.Bounds.{at_least}
+use Rattle.tfpg_base.specs.Bounds.{at_least}
 use Rattle.tfpg_clause.specs.Facts.{fact}
 use Rattle.tfpg_search.proofs.StatedBounds.{low_of_events, unreached_stated}
 use Rattle.tfpg_search.proofs.fact_bounds.low.Goals as goal

@@ -1,7 +1,7 @@
-use Rattle.std.proofs.Common.{◌≤◌, ◌^◌, All, length, true, false, sym, ap, subst, ◌∙◌, arith}
+use Rattle.std.proofs.Common.{length, true, false, sym, ap, subst, ◌∙◌, arith}
 use Rattle.std.proofs.lemmas.Result.{IfOk-weaker}
 use Rattle.tfpg_graph.specs.Graph.{incoming}
-use Rattle.tfpg_sim.specs.declared.flight.Flight.{Flight}
+use Rattle.tfpg_sim.specs.inside.Arrivals.{AreNearFlights}
 use Rattle.tfpg_sim.specs.inside.Flights.{LandsBy}
 use Rattle.tfpg_sim.specs.Simulation.{IsFirst}
 use Rattle.tfpg_sim.proofs.ArrivingFlights.{flights_small, or_arrival, and_arrival, no_arrival}
@@ -9,12 +9,12 @@ use Rattle.tfpg_sim.proofs.arrival.first_arrival.Goals as goal
 
 pub first_landing-requires-clause-flights : goal.first_landing-requires-clause-flights
 first_landing-requires-clause-flights c =
-    subst (All (λ (flight : Flight). (flight.start ≤ 2 ^ 42) × (flight.delay ≤ 2 ^ 42))) (sym (c.deref.ensures.value ∙ c.in_ok-flights.ensures))
+    subst (AreNearFlights) (sym (c.deref.ensures.value ∙ c.in_ok-flights.ensures))
     (flights_small c.args.delayed.now.graph.now c.args.delayed.now.delays.now c.args.trace.now (incoming c.args.delayed.now.graph.now c.args.node) c.requires.delayed.delays c.requires.times)
 
 pub first_landing-requires-in-And-clause-flights : goal.first_landing-requires-in-And-clause-flights
 first_landing-requires-in-And-clause-flights c =
-    subst (All (λ (flight : Flight). (flight.start ≤ 2 ^ 42) × (flight.delay ≤ 2 ^ 42))) (sym (c.deref-in-And.ensures.value ∙ c.in_ok-flights.ensures))
+    subst (AreNearFlights) (sym (c.deref-in-And.ensures.value ∙ c.in_ok-flights.ensures))
     (flights_small c.args.delayed.now.graph.now c.args.delayed.now.delays.now c.args.trace.now (incoming c.args.delayed.now.graph.now c.args.node) c.requires.delayed.delays c.requires.times)
 
 pub returns-in-Or : goal.returns-in-Or

@@ -1,4 +1,5 @@
-use Rattle.std.proofs.Common.{◌+◌, ◌≤◌, ◌^◌, All, length, subst, ◌++◌, ◌∷◌, [], sym, ap, ◌∙◌}
+use Rattle.std.proofs.Common.{◌+◌, ◌≤◌, length, subst, ◌++◌, ◌∷◌, [], sym, ap, ◌∙◌}
+use Rattle.tfpg_sim.specs.inside.Arrivals.{AreNearDelays, far}
 use Rattle.tfpg_sim.specs.Draws.{drawn, after_draw, delay_of}
 use Rattle.tfpg_sim.proofs.DrawLists.{delays_from-more, after_edges-more}
 use Rattle.tfpg_sim.proofs.draws.draw_delays.Goals as goal
@@ -14,7 +15,7 @@ loop-number-preserved c =
           ∙ sym (delays_from-more c.args.state.now c.args.graph.now.edges c.loop-number.number c.edge.result c.edge.ensures);
       after = c.draw_delay.ensures.after ∙ ap after_draw before.after
           ∙ sym (after_edges-more c.args.state.now c.args.graph.now.edges c.loop-number.number c.edge.result c.edge.ensures);
-      small = subst (All (λ delay. delay ≤ 2 ^ 42)) (sym c.in_ok-push.ensures.items)
-          (All-append (λ delay. delay ≤ 2 ^ 42) c.loop-number.delays.items (c.draw_delay.result ∷ []) before.small (All-cons (λ delay. delay ≤ 2 ^ 42) c.draw_delay.result [] c.draw_delay.ensures.small (All-nil (λ delay. delay ≤ 2 ^ 42))));
+      small = subst (AreNearDelays) (sym c.in_ok-push.ensures.items)
+          (All-append (λ delay. delay ≤ far) c.loop-number.delays.items (c.draw_delay.result ∷ []) before.small (All-cons (λ delay. delay ≤ far) c.draw_delay.result [] c.draw_delay.ensures.small (All-nil (λ delay. delay ≤ far))));
       count = ap length c.in_ok-push.ensures.items ∙ length_push c.loop-number.delays.items c.draw_delay.result ∙ ap (λ n. n + 1) before.count;
     }

@@ -1,4 +1,5 @@
-use Rattle.std.proofs.Common.{◌≡◌, ◌≤◌, ◌^◌, All, length, take}
+use Rattle.std.proofs.Common.{◌≡◌, length, take}
+use Rattle.tfpg_sim.specs.inside.Arrivals.{AreNearDelays}
 use Rattle.tfpg_sim.specs.Draws.{after_edges, delays_from}
 use Rattle.tfpg_sim.proofs.draws.draw_delays.Given as goal
 
@@ -7,6 +8,6 @@ abbrev pub invariant-loop-number : goal.invariant-loop-number
 invariant-loop-number l = record {
   delays : l.delays.items ≡ delays_from l.initial.state (take l.number l.graph.edges);
   after : l.state ≡ after_edges l.initial.state (take l.number l.graph.edges);
-  small : All (λ delay. delay ≤ 2 ^ 42) l.delays.items;
+  small : AreNearDelays l.delays.items;
   count : length l.delays.items ≡ l.number;
 }

@@ -24,9 +24,9 @@ returns-clause-simulated c =
       trace = subst (λ es. IsSimulated graph es (delays graph c.args.number) trace) c.deref.ensures.value
           (subst (λ ds. IsSimulated graph c.deref.result.now ds trace) (c.deref-2.ensures.value ∙ c.in_ok-draws.ensures.delays) c.in_ok-trace.ensures.simulated);
       log = c.in_ok-log.ensures ∙ ap (log_text graph) (c.deref-6.ensures.value ∙ c.in_ok-events.ensures.events
-          ∙ ap (λ es. log_events es trace c.deref-5.result.now c.last_time-stop.result) c.deref-4.ensures.value
-          ∙ ap (λ ls. log_events entries trace ls c.last_time-stop.result) (c.deref-5.ensures.value ∙ c.in_ok-draws.ensures.latenesses)
-          ∙ ap (log_events entries trace lates) (c.last_time-stop.ensures ∙ ap time_so_far c.deref-3.ensures.value));
+          ∙ ap (λ es. log_events es trace c.deref-5.result.now c.time_so_far-stop.result) c.deref-4.ensures.value
+          ∙ ap (λ ls. log_events entries trace ls c.time_so_far-stop.result) (c.deref-5.ensures.value ∙ c.in_ok-draws.ensures.latenesses)
+          ∙ ap (log_events entries trace lates) (c.time_so_far-stop.ensures ∙ ap time_so_far c.deref-3.ensures.value));
     }
 
 pub returns-clause-accepted : goal.returns-clause-accepted

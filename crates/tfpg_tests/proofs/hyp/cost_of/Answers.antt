@@ -5,4 +5,4 @@ use Rattle.tfpg_tests.proofs.hyp.cost_of.Goals as goal
 pub cost-requires : goal.cost-requires
 cost-requires c =
     ((c.requires.hypotheses.exact c.set.result).0
-    (c.args.number, slice_get_within c.args.table.now.sets c.args.number c.set.result c.set.ensures, get_or_from_slice_get c.args.table.now.sets c.args.number c.set.result c.set.result c.set.ensures)).members
+    (c.args.number, slice_get_within c.args.table.now.sets c.args.number c.set.result c.set.ensures, get_or_from_slice_get c.args.table.now.sets c.args.number c.set.result c.set.result c.set.ensures)).of_graph.members

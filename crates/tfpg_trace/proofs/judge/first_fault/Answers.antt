@@ -1,5 +1,16 @@
 use Rattle.tfpg_trace.proofs.Explained.{explained}
+use Rattle.tfpg_trace.proofs.SomeVerdict.{by_event}
 use Rattle.tfpg_trace.proofs.judge.first_fault.Goals as goal
+
+pub returns-in-Some-first_not_shown : goal.returns-in-Some-first_not_shown
+returns-in-Some-first_not_shown c =
+    let first = c.in-Some-first_not_shown.ensures in
+    by_event c.args.graph.now c.args.log.now c.args.set c.args.trace.now
+    (record {
+      own = record { on_time = c.in_default.ensures; from_set = c.in_default-first_stranger.ensures };
+      rules = c.in_default-broken_rule.ensures;
+    })
+    first.place first.event first.at first.before c.in-Some-first_not_shown.fault first.not_shown
 
 pub returns : goal.returns
 returns c =

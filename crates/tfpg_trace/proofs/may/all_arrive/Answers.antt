@@ -1,7 +1,7 @@
 use Rattle.std.proofs.Common.{nat_eq, refl, sym, ◌∙◌}
 use Rattle.std.proofs.lemmas.Bool.{false≢true}
 use Rattle.tfpg_log.specs.Rules.{HasAge}
-use Rattle.tfpg_trace.proofs.IncomingEdges.{number_within, not_all_at_place, all_at_places}
+use Rattle.tfpg_base.proofs.lists.Numbered.{number_within, not_all_at_place, all_at_places}
 use Rattle.tfpg_trace.proofs.may.all_arrive.Goals as goal
 
 pub arrives-requires-clause-edge : goal.arrives-requires-clause-edge

@@ -1,5 +1,6 @@
 use Rattle.std.proofs.Common.{◌≡◌, ◌≤◌, None, ap, ◌∙◌, sym, subst, arith}
-use Rattle.tfpg_base.specs.Lines.{Buffered, HasNoLineEnd, max_bytes}
+use Rattle.tfpg_base.specs.Lines.{Buffered, HasNoLineEnd}
+use Rattle.tfpg_base.specs.declared.limits.TheConstants.{MAX_BYTES}
 use Rattle.tfpg_base.proofs.Histories.{Continues-searched}
 use Rattle.tfpg_base.proofs.Searches.{Continues-at_once}
 use Rattle.tfpg_base.proofs.lines.Lines.next.Goals as goal
@@ -7,7 +8,7 @@ use Rattle.tfpg_base.proofs.lines.Lines.next.Goals as goal
 pub returns-in-Some-line_end : goal.returns-in-Some-line_end
 returns-in-Some-line_end g c =
     let unended : c.args.self.now.ended ≡ None = sym (ap (λ (b : Buffered). b.ended) c.self.view_is) ∙ c.in_default.is in
-    let few : c.args.self.now.taken ≤ max_bytes = omega (arith, c.self.invariant.few c.in_default.is, ap (λ (b : Buffered). b.taken) c.self.view_is) in
+    let few : c.args.self.now.taken ≤ MAX_BYTES = omega (arith, c.self.invariant.few c.in_default.is, ap (λ (b : Buffered). b.taken) c.self.view_is) in
     let given = c.give_whole.ensures in
     Continues-at_once c.args.self.now c.give_whole.new.self (g.S.Source.state c.args.source.now) c.give_whole.result
     c.waiting.result.now c.in-Some-line_end.count c.waiting.ensures c.in-Some-line_end.ensures.some unended few

@@ -1,6 +1,7 @@
 use Rattle.std.proofs.Common.{◌≡◌, ℕ, ◌+◌, ◌≤◌, List, [], ◌∷◌, ◌++◌, length, slice_range, ap, ◌∙◌, refl, arith, Ok, Result}
 use Rattle.tfpg_base.specs.declared.outside.Failed.{Failed}
-use Rattle.tfpg_base.specs.Lines.{Buffered, max_bytes}
+use Rattle.tfpg_base.specs.Lines.{Buffered}
+use Rattle.tfpg_base.specs.declared.limits.TheConstants.{MAX_BYTES}
 use Rattle.tfpg_base.proofs.Taking.{Takes-same}
 use Rattle.tfpg_base.proofs.Ranges.{slice_range-longer, length-slice_range-written, one_element, only_one}
 use Rattle.tfpg_base.proofs.lines.Lines.refill.Goals as goal
@@ -13,9 +14,9 @@ returns-then-self-gt-MAX_BYTES-clause-refilled g c =
     let fits : r.end + count ≤ length items = omega (arith, c.in-Ok.ensures.room, c.with_room-self-inside.ensures.room, c.in-Ok.ensures.within, c.wanted.ensures.within, c.take_into.new.buffer.ok.0) in
     let taken : c.self.inside.taken ≡ c.args.self.now.taken = ap (λ (b : Buffered). b.taken) c.self.view_is in
     let asked : count ≤ c.wanted.result = omega (arith, c.in-Ok.ensures.within) in
-    let one : count ≡ 1 = only_one max_bytes c.self.inside.taken c.wanted.result count (omega (arith, taken, c.requires.few)) c.wanted.ensures.few c.wanted.ensures.one asked c.if-self-gt-MAX_BYTES.true in
+    let one : count ≡ 1 = only_one MAX_BYTES c.self.inside.taken c.wanted.result count (omega (arith, taken, c.requires.few)) c.wanted.ensures.few c.wanted.ensures.one asked c.if-self-gt-MAX_BYTES.true in
     let only : (x : ℕ) × (slice_range items r.end (r.end + count) ≡ x ∷ []) = one_element (slice_range items r.end (r.end + count)) (length-slice_range-written items r.end count fits ∙ one) in
-    let all : c.self.inside.taken + count ≡ max_bytes + 1 = omega (arith, one, taken, c.requires.few, c.if-self-gt-MAX_BYTES.true) in (
+    let all : c.self.inside.taken + count ≡ MAX_BYTES + 1 = omega (arith, one, taken, c.requires.few, c.if-self-gt-MAX_BYTES.true) in (
       only.0,
       record {
         takes = Takes-same (g.S.Source.state c.args.source.now) (g.S.Source.state c.take_into.new.source) (slice_range items r.end (r.end + count)) (only.0 ∷ []) only.1 c.in-Ok.ensures.taken;

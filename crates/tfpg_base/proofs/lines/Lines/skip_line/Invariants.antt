@@ -1,5 +1,5 @@
 use Rattle.std.proofs.Common.{◌≡◌, ◌<◌, ◌+◌, ◌-◌, length, None}
-use Rattle.tfpg_base.specs.Lines.{max_bytes}
+use Rattle.tfpg_base.specs.declared.limits.TheConstants.{MAX_BYTES}
 use Rattle.tfpg_base.proofs.Searches.{SoFar}
 use Rattle.tfpg_base.proofs.lines.Lines.skip_line.Given as goal
 
@@ -12,4 +12,4 @@ invariant-loop-self g l = record {
 }
 
 abbrev pub decreases-loop-self : goal.decreases-loop-self
-decreases-loop-self g l = max_bytes + 1 - l.self.taken
+decreases-loop-self g l = MAX_BYTES + 1 - l.self.taken

@@ -3,18 +3,18 @@ use Rattle.std.proofs.lemmas.Bool.{ltb-true}
 use Rattle.tfpg_base.proofs.Sets.{IsSet-from_bits, bit_says_member, beyond_no_member}
 use Rattle.tfpg_base.proofs.set.Set.has.Goals as goal
 
-pub returns-then-position-lt64-clause-member : goal.returns-then-position-lt64-clause-member
-returns-then-position-lt64-clause-member c =
-    bit_says_member c.self.inside.bits c.args.position c.args.self c.self.view_is c.if-position-lt64.true
+pub returns-then-position-lt-MAX_MEMBERS-clause-member : goal.returns-then-position-lt-MAX_MEMBERS-clause-member
+returns-then-position-lt-MAX_MEMBERS-clause-member c =
+    bit_says_member c.self.inside.bits c.args.position c.args.self c.self.view_is c.if-position-lt-MAX_MEMBERS.true
 
-pub returns-then-position-lt64-clause-set : goal.returns-then-position-lt64-clause-set
-returns-then-position-lt64-clause-set c = IsSet-from_bits c.self.inside.bits c.args.self c.self.view_is
+pub returns-then-position-lt-MAX_MEMBERS-clause-set : goal.returns-then-position-lt-MAX_MEMBERS-clause-set
+returns-then-position-lt-MAX_MEMBERS-clause-set c = IsSet-from_bits c.self.inside.bits c.args.self c.self.view_is
 
-pub returns-else-position-lt64-clause-member : goal.returns-else-position-lt64-clause-member
-returns-else-position-lt64-clause-member c = (
-  λ below. absurd (omega (arith, ltb-true c.args.position 64 below, c.if-position-lt64.false)),
-  λ member. absurd (beyond_no_member c.self.inside.bits c.args.position c.args.self c.self.view_is c.if-position-lt64.false member),
+pub returns-else-position-lt-MAX_MEMBERS-clause-member : goal.returns-else-position-lt-MAX_MEMBERS-clause-member
+returns-else-position-lt-MAX_MEMBERS-clause-member c = (
+  λ below. absurd (omega (arith, ltb-true c.args.position 64 below, c.if-position-lt-MAX_MEMBERS.false)),
+  λ member. absurd (beyond_no_member c.self.inside.bits c.args.position c.args.self c.self.view_is c.if-position-lt-MAX_MEMBERS.false member),
 )
 
-pub returns-else-position-lt64-clause-set : goal.returns-else-position-lt64-clause-set
-returns-else-position-lt64-clause-set c = IsSet-from_bits c.self.inside.bits c.args.self c.self.view_is
+pub returns-else-position-lt-MAX_MEMBERS-clause-set : goal.returns-else-position-lt-MAX_MEMBERS-clause-set
+returns-else-position-lt-MAX_MEMBERS-clause-set c = IsSet-from_bits c.self.inside.bits c.args.self c.self.view_is

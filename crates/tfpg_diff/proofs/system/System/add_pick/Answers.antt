@@ -8,7 +8,7 @@ use Rattle.tfpg_diff.specs.declared.pick.Pick.{Pick}
 use Rattle.tfpg_diff.specs.Demands.{Demands, demand_of_pick, demands_of}
 use Rattle.tfpg_diff.specs.Solution.{HasSolution}
 use Rattle.tfpg_diff.specs.Cycle.{NamesNegativeCycle}
-use Rattle.tfpg_base.specs.Times.{never}
+use Rattle.tfpg_base.specs.declared.limits.TheConstants.{NEVER}
 use Rattle.tfpg_diff.specs.State.{State, with_pick}
 use Rattle.tfpg_diff.specs.inside.Kept.{IsMetBy, IsKept, IsReady}
 use Rattle.tfpg_diff.proofs.Totals.{HasNoSolution-cycle}
@@ -32,7 +32,7 @@ pushed c =
 
 pub is_broken-requires-clause-small : goal.is_broken-requires-clause-small
 is_broken-requires-clause-small c =
-    All-same (λ (value : ℕ). value ≤ never) c.deref.result.now c.self.inside.labels.values.items c.deref.ensures.value
+    All-same (λ (value : ℕ). value ≤ NEVER) c.deref.result.now c.self.inside.labels.values.items c.deref.ensures.value
     (small-kept (demands_of c.self.inside.bounds.items c.self.inside.picks.items) c.self.invariant.sound c.self.inside.labels.values.items c.self.inside.labels.links.items c.self.invariant.kept)
 
 -- the values meet the pick where the test says so

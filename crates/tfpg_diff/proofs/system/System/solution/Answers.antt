@@ -3,7 +3,7 @@ use Rattle.std.proofs.Common.{ℕ, ◌≤◌, List, drop, sym, ap, subst}
 use Rattle.std.proofs.lemmas.List.{take_rest}
 use Rattle.tfpg_diff.specs.Demands.{Demands, demands_of}
 use Rattle.tfpg_diff.specs.Solution.{IsLatest}
-use Rattle.tfpg_base.specs.Times.{never}
+use Rattle.tfpg_base.specs.declared.limits.TheConstants.{NEVER}
 use Rattle.tfpg_diff.specs.State.{State}
 use Rattle.std.specs.Prelude.{All}
 use Rattle.std.proofs.lemmas.List.Elements.{All-drop}
@@ -22,6 +22,6 @@ returns-clause-latest c =
 pub returns-clause-within : goal.returns-clause-within
 returns-clause-within c =
     let small = small-kept (demands_of c.self.inside.bounds.items c.self.inside.picks.items) c.self.invariant.sound c.self.inside.labels.values.items c.self.inside.labels.links.items c.self.invariant.kept in
-    subst (λ (times : List ℕ). All (λ time. time ≤ never) times) (sym (take_rest c.deref.result.now 1))
-    (subst (λ (values : List ℕ). All (λ time. time ≤ never) (drop 1 values)) (sym c.deref.ensures.value)
-    (All-drop (λ (time : ℕ). time ≤ never) 1 c.self.inside.labels.values.items small))
+    subst (λ (times : List ℕ). All (λ time. time ≤ NEVER) times) (sym (take_rest c.deref.result.now 1))
+    (subst (λ (values : List ℕ). All (λ time. time ≤ NEVER) (drop 1 values)) (sym c.deref.ensures.value)
+    (All-drop (λ (time : ℕ). time ≤ NEVER) 1 c.self.inside.labels.values.items small))

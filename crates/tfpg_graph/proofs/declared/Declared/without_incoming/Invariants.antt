@@ -1,4 +1,4 @@
-use Rattle.tfpg_graph.specs.Faults.{HasIncomingBefore}
+use Rattle.tfpg_graph.specs.Valid.{HasIncomingBefore}
 use Rattle.tfpg_graph.proofs.declared.Declared.without_incoming.Given as goal
 
 abbrev pub invariant-loop-node : goal.invariant-loop-node

@@ -1,8 +1,7 @@
 use Rattle.std.proofs.Common.{◌≡◌, ℕ, ◌-◌, Bool, List, map, length, take, drop, sym, ap, ◌∙◌}
 use Rattle.std.specs.Borrow.{Bor}
-use Rattle.std.proofs.lemmas.List.{drop-drop}
+use Rattle.std.proofs.lemmas.List.{drop-drop, take_rest}
 use Rattle.tfpg_graph.specs.Causes.{has_twice}
-use Rattle.tfpg_graph.proofs.lemmas.reading.Names.{take_rest}
 use Rattle.tfpg_graph.proofs.reading.list_modes.has_twice.Goals as goal
 
 -- whether a name stands twice among these
