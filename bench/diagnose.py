@@ -38,7 +38,7 @@ def large_graph(draws, failures=64, nodes=512, edges=2048):
     """A graph of so many nodes and edges, each of which leads to a later node."""
     name = lambda node: f"F{node}" if node < failures else f"D{node}"
     lines = ["tfpg 1", "mode N", "mode D"]
-    lines += [f"failure F{place} {place + 1}" for place in range(failures)]
+    lines += [f"failure F{position} {position + 1}" for position in range(failures)]
     for node in range(failures, nodes):
         kind = "and" if draws.random() < 0.15 else "or"
         monitor = f"watch {draws.randint(0, 20)}" if draws.random() < 0.6 else "hidden"
@@ -51,9 +51,9 @@ def large_graph(draws, failures=64, nodes=512, edges=2048):
         seen.add((source, target))
         incoming[target] += 1
         least = draws.randint(1, 50)
-        most = "inf" if draws.random() < 0.1 else least + draws.randint(0, 60)
+        greatest = "inf" if draws.random() < 0.1 else least + draws.randint(0, 60)
         modes = "*" if draws.random() < 0.8 else "N"
-        lines.append(f"edge {name(source)} {name(target)} {least} {most} {modes}")
+        lines.append(f"edge {name(source)} {name(target)} {least} {greatest} {modes}")
 
     for node in range(failures, nodes):
         add(draws.randint(0, failures - 1 if draws.random() < 0.5 else node - 1), node)
@@ -76,9 +76,9 @@ def large_script(draws, events=250):
 
 def many_pairs(failures=64, hubs=20):
     """A graph in which each failure mode leads to one of two monitored nodes, by way of a hidden one."""
-    lines = ["tfpg 1", "mode N", *[f"failure F{place} {place + 1}" for place in range(failures)]]
+    lines = ["tfpg 1", "mode N", *[f"failure F{position} {position + 1}" for position in range(failures)]]
     lines += [*[f"or H{hub} hidden" for hub in range(hubs)], "or A watch 10", "or B watch 10"]
-    lines += [f"edge F{place} H{place % hubs} 1 50 *" for place in range(failures)]
+    lines += [f"edge F{position} H{position % hubs} 1 50 *" for position in range(failures)]
     lines += [f"edge H{hub} {'A' if 2 * hub < hubs else 'B'} 1 50 *" for hub in range(hubs)]
     return "\n".join([*lines, "end"]) + "\n"
 

@@ -19,7 +19,7 @@ def latest(count, floors, picks):
         numbers = (0,) + times
         if any(numbers[v + 1] < least for v, least in floors):
             continue
-        if any(numbers[left] - numbers[right] > most for left, right, most in picks):
+        if any(numbers[left] - numbers[right] > bound for left, right, bound in picks):
             continue
         best = times if best is None else tuple(max(a, b) for a, b in zip(best, times))
     return best
@@ -35,15 +35,15 @@ def main():
         for _ in range(random.randint(2, 6)):
             left, right = random.sample(range(count + 1), 2)
             picks.append((left, right, random.randint(-4, 3)))
-        answer = latest(count, floors, picks)
-        kind = "none" if answer is None else "some"
-        if not wanted[kind] or (answer and all(t == TOP for t in answer)):
+        solution = latest(count, floors, picks)
+        kind = "none" if solution is None else "some"
+        if not wanted[kind] or (solution and all(t == TOP for t in solution)):
             continue
         # the systems without a solution are to lose it at the last pick
-        if answer is None and latest(count, floors, picks[:-1]) is None:
+        if solution is None and latest(count, floors, picks[:-1]) is None:
             continue
         wanted[kind] -= 1
-        shown = "None" if answer is None else f"Some(&{list(answer)})"
+        shown = "None" if solution is None else f"Some(&{list(solution)})"
         print(f"    Case {{ count: {count}, floors: &{floors}, picks: &{picks}, latest: {shown} }},")
 
 

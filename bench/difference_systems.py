@@ -77,7 +77,7 @@ fn main(rt: HostRuntime) -> io::Result<()> {
         let second = words.next().and_then(|word| word.parse::<u32>().ok());
         let third = words.next().and_then(|word| word.parse::<i64>().ok());
         match (first, second, third) {
-            (Some(left), Some(right), Some(most)) => picks.push(Constraint { left, right, most })?,
+            (Some(left), Some(right), Some(bound)) => picks.push(Constraint { left, right, bound })?,
             (Some(next), _, _) => {
                 if !picks.is_empty() {
                     timed(&rt, count, &picks)?;

@@ -3,7 +3,7 @@
 
     bench/graph_texts.py [FOLDER]
 
-It writes three texts into the folder, or into a temporary one: the most nodes, edges and modes that a graph may have, with
+It writes three texts into the folder, or into a temporary one: as many nodes, edges and modes as a graph may have, with
 names of 32 bytes; 16 MiB of comments; and 16 MiB of empty lines. For each it prints the shortest of five runs of
 
 - the program on that text and an empty log, so that all it does is to start, to read the graph, and to write the head of a

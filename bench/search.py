@@ -65,7 +65,7 @@ def dense_graph(draws, layers, width, modes):
     lines = ["tfpg 1", *[f"mode M{mode}" for mode in range(modes)], "failure F 1"]
     rows = [["F"]]
     for layer in range(layers):
-        rows.append([f"N{layer}_{place}" for place in range(width)])
+        rows.append([f"N{layer}_{number}" for number in range(width)])
         for name in rows[-1]:
             kind = "and" if draws.random() < 0.4 else "or"
             seen = layer == layers - 1 and draws.random() < 0.5
@@ -74,10 +74,10 @@ def dense_graph(draws, layers, width, modes):
         for target in row:
             for source in draws.sample(before, min(len(before), draws.randint(1, 3))):
                 least = draws.randint(0, 6)
-                most = least + draws.randint(0, 8)
+                greatest = least + draws.randint(0, 8)
                 active = sorted(draws.sample(range(modes), draws.randint(1, modes)))
                 words = "*" if len(active) == modes else ",".join(f"M{mode}" for mode in active)
-                lines.append(f"edge {source} {target} {least} {most} {words}")
+                lines.append(f"edge {source} {target} {least} {greatest} {words}")
     return "\n".join([*lines, "end"]) + "\n"
 
 

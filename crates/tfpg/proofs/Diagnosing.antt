@@ -2,12 +2,11 @@
 use Rattle.std.proofs.Common.{◌≡◌, ℕ, ◌+◌, ◌-◌, ◌<◌, ⊎_elim, cond, List, [], ◌∷◌, ◌++◌, length, map, take, Some, None, refl, sym, ap, subst, ◌∙◌, arith}
 use Rattle.std.specs.Prelude.{slice_get, option_map}
 use Rattle.std.proofs.lemmas.Bool.{cases_lt}
-use Rattle.std.proofs.lemmas.List.{take-append-le, take_all, take-map, map-append, length_push}
+use Rattle.std.proofs.lemmas.List.{take-append-le, take_all, take-map, length_push}
 use Rattle.std.proofs.lemmas.Option.{slice_get_within, slice_get-map, same_Some}
 use Rattle.tfpg_base.proofs.lists.Written.{slice_get-push_before, slice_get-push_at}
 use Rattle.tfpg_graph.specs.Graph.{Tfpg}
-use Rattle.tfpg_log.specs.declared.event.Offered.TheVariants.{Accepted, Refused}
-use Rattle.tfpg_log.specs.declared.refusal.Refusal.{Refusal}
+use Rattle.tfpg_log.specs.declared.event.Offered.TheVariants.{Accepted}
 use Rattle.tfpg_log.specs.Accepted.{reply_to}
 use Rattle.tfpg_log.specs.Log.{Logbook, with_event}
 use Rattle.tfpg_log.specs.LogOfLines.{new_log, log_after_reply, log_of_lines}
@@ -17,7 +16,6 @@ use Rattle.tfpg_hyp.specs.Rounds.{IsRound}
 use Rattle.tfpg_engine.specs.Earned.{AreEarned}
 use Rattle.tfpg_engine.specs.Engining.{EngineRepresents, GivesRound}
 use Rattle.tfpg_sim.specs.AcceptedLog.{AreAccepted, IsAccepted}
-use Rattle.tfpg_base.proofs.lists.Cuts.{take-next}
 use Rattle.tfpg.specs.declared.diagnosis.Diagnosis.{Diagnosis}
 use Rattle.tfpg.specs.declared.limits.TheConstants.{GENERATED_K, GENERATED_BUDGET}
 use Rattle.tfpg.specs.Diagnosed.{IsRoundOfLine}
@@ -34,7 +32,7 @@ nothing_diagnosed graph d graph_is k_is budget_is log_is represents last = recor
   counted = ap (λ (l : Logbook). length l.events) log_is;
   rounds = [];
   represents = represents;
-  rounds_are = record { one_each = refl; each = λ place round at. absurd (let none : None ≡ Some round = at in cc) };
+  rounds_are = record { one_each = refl; each = λ index round at. absurd (let none : None ≡ Some round = at in cc) };
   last_is = last;
 }
 
@@ -45,10 +43,6 @@ module _ {X : Type 0} (f : X → List ℕ) (xs : List X) (i : ℕ) (x : X) (at :
   pub line_accepted : (graph : Tfpg) → AreAccepted graph (map f xs) → IsAccepted graph (map f (take i xs)) (f x)
   line_accepted graph accepted =
       subst (λ (ls : List (List ℕ)). IsAccepted graph ls (f x)) (take-map f i xs) (accepted i (f x) (slice_get-map f xs i ∙ ap (option_map f) at))
-
-  -- and comes after them
-  pub lines_more : map f (take i xs) ++ f x ∷ [] ≡ map f (take (i + 1) xs)
-  lines_more = sym (ap (map f) (take-next xs i x at) ∙ map-append f (take i xs) (x ∷ []))
 
 -- ---- one line more
 
@@ -96,35 +90,35 @@ module _ (graph : Tfpg) (lines : List (List ℕ)) (line : List ℕ) (before now 
       }
 
   -- the rounds before it are those of the lines before it
-  earlier_round : (place : ℕ) (other : Round) → place < length lines → IsRoundOfLine graph GENERATED_K GENERATED_BUDGET lines place (take place has.rounds) other
-      → IsRoundOfLine graph GENERATED_K GENERATED_BUDGET (lines ++ line ∷ []) place (take place (has.rounds ++ round ∷ [])) other
-  earlier_round place other within is =
+  earlier_round : (index : ℕ) (other : Round) → index < length lines → IsRoundOfLine graph GENERATED_K GENERATED_BUDGET lines index (take index has.rounds) other
+      → IsRoundOfLine graph GENERATED_K GENERATED_BUDGET (lines ++ line ∷ []) index (take index (has.rounds ++ round ∷ [])) other
+  earlier_round index other within is =
       let one_each = has.rounds_are.one_each in
-      let rounds : take place (has.rounds ++ round ∷ []) ≡ take place has.rounds = take-append-le place has.rounds (round ∷ []) (omega arith) in
-      let front : take (place + 1) (lines ++ line ∷ []) ≡ take (place + 1) lines = take-append-le (place + 1) lines (line ∷ []) (omega arith) in
-      subst (λ (rs : List Round). IsRoundOfLine graph GENERATED_K GENERATED_BUDGET (lines ++ line ∷ []) place rs other) (sym rounds)
+      let rounds : take index (has.rounds ++ round ∷ []) ≡ take index has.rounds = take-append-le index has.rounds (round ∷ []) (omega arith) in
+      let front : take (index + 1) (lines ++ line ∷ []) ≡ take (index + 1) lines = take-append-le (index + 1) lines (line ∷ []) (omega arith) in
+      subst (λ (rs : List Round). IsRoundOfLine graph GENERATED_K GENERATED_BUDGET (lines ++ line ∷ []) index rs other) (sym rounds)
       (record {
-        round_is = subst (λ (ls : List (List ℕ)). IsRound graph GENERATED_K GENERATED_BUDGET (take place has.rounds) (log_of_lines graph ls) (place + 1) other) (sym front) is.round_is;
-        earned = subst (λ (ls : List (List ℕ)). AreEarned graph (log_of_lines graph ls) GENERATED_BUDGET (take place has.rounds) other) (sym front) is.earned;
+        round_is = subst (λ (ls : List (List ℕ)). IsRound graph GENERATED_K GENERATED_BUDGET (take index has.rounds) (log_of_lines graph ls) (index + 1) other) (sym front) is.round_is;
+        earned = subst (λ (ls : List (List ℕ)). AreEarned graph (log_of_lines graph ls) GENERATED_BUDGET (take index has.rounds) other) (sym front) is.earned;
       })
 
-  each_round : (place : ℕ) (other : Round) → slice_get (has.rounds ++ round ∷ []) place ≡ Some other
-      → IsRoundOfLine graph GENERATED_K GENERATED_BUDGET (lines ++ line ∷ []) place (take place (has.rounds ++ round ∷ [])) other
-  each_round place other at =
+  each_round : (index : ℕ) (other : Round) → slice_get (has.rounds ++ round ∷ []) index ≡ Some other
+      → IsRoundOfLine graph GENERATED_K GENERATED_BUDGET (lines ++ line ∷ []) index (take index (has.rounds ++ round ∷ [])) other
+  each_round index other at =
       let one_each = has.rounds_are.one_each in
-      let within = slice_get_within (has.rounds ++ round ∷ []) place other at in
+      let within = slice_get_within (has.rounds ++ round ∷ []) index other at in
       ⊎_elim
-      (λ earlier. earlier_round place other (omega (arith, one_each, earlier))
-      (has.rounds_are.each place other (sym (slice_get-push_before has.rounds round place earlier) ∙ at)))
+      (λ earlier. earlier_round index other (omega (arith, one_each, earlier))
+      (has.rounds_are.each index other (sym (slice_get-push_before has.rounds round index earlier) ∙ at)))
       (λ past.
-      let last : place ≡ length has.rounds = omega (arith, past, within, length_push has.rounds round) in
-      let same : round ≡ other = same_Some round other (sym (slice_get-push_at has.rounds round place last) ∙ at) in
-      let front : take place (has.rounds ++ round ∷ []) ≡ has.rounds =
-      take-append-le place has.rounds (round ∷ []) (omega (arith, last)) ∙ take_all place has.rounds (omega (arith, last)) in
-      subst (λ (r : Round). IsRoundOfLine graph GENERATED_K GENERATED_BUDGET (lines ++ line ∷ []) place (take place (has.rounds ++ round ∷ [])) r) same
-      (subst (λ (rs : List Round). IsRoundOfLine graph GENERATED_K GENERATED_BUDGET (lines ++ line ∷ []) place rs round) (sym front)
+      let last : index ≡ length has.rounds = omega (arith, past, within, length_push has.rounds round) in
+      let same : round ≡ other = same_Some round other (sym (slice_get-push_at has.rounds round index last) ∙ at) in
+      let front : take index (has.rounds ++ round ∷ []) ≡ has.rounds =
+      take-append-le index has.rounds (round ∷ []) (omega (arith, last)) ∙ take_all index has.rounds (omega (arith, last)) in
+      subst (λ (r : Round). IsRoundOfLine graph GENERATED_K GENERATED_BUDGET (lines ++ line ∷ []) index (take index (has.rounds ++ round ∷ [])) r) same
+      (subst (λ (rs : List Round). IsRoundOfLine graph GENERATED_K GENERATED_BUDGET (lines ++ line ∷ []) index rs round) (sym front)
       (subst (λ (n : ℕ). IsRoundOfLine graph GENERATED_K GENERATED_BUDGET (lines ++ line ∷ []) n has.rounds round) (sym (last ∙ one_each)) round_of_line)))
-      (cases_lt place (length has.rounds))
+      (cases_lt index (length has.rounds))
 
   -- The diagnosis has taken one line more.
   pub one_more_diagnosed : now.engine.graph ≡ before.engine.graph → now.engine.k ≡ before.engine.k → now.engine.budget ≡ before.engine.budget → now.last ≡ Some round
@@ -144,12 +138,3 @@ module _ (graph : Tfpg) (lines : List (List ℕ)) (line : List ℕ) (before now 
         rounds_are = record { one_each = omega (arith, length_push has.rounds round, one_each, length_push lines line); each = each_round };
         last_is = last ∙ sym (slice_get-push_at has.rounds round (length (has.rounds ++ round ∷ []) - 1) (omega (arith, length_push has.rounds round)));
       }
-
--- an accepted line is not refused
-pub not_refused : (graph : Tfpg) (lines : List (List ℕ)) (line : List ℕ) (before : Diagnosis) (refusal : Refusal) → HasDiagnosed graph lines before → IsAccepted graph lines line
-    → reply_to before.engine.graph before.engine.log line ≡ Refused refusal → ⊥
-not_refused graph lines line before refusal has accepted is =
-    let refused : reply_to graph (log_of_lines graph lines) line ≡ Refused refusal =
-    subst (λ (g : Tfpg). reply_to g (log_of_lines graph lines) line ≡ Refused refusal) has.graph_is
-    (subst (λ (l : Logbook). reply_to before.engine.graph l line ≡ Refused refusal) has.log_is is) in
-    let both : Accepted accepted.0 ≡ Refused refusal = sym accepted.2 ∙ refused in cc

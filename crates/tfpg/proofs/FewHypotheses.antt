@@ -4,9 +4,11 @@ use Rattle.tfpg_graph.specs.Graph.{Tfpg, failures}
 use Rattle.tfpg_hyp.specs.Hypotheses.{HasHypotheses}
 use Rattle.tfpg_hyp.specs.declared.limits.TheConstants.{MAX_HYPOTHESES}
 use Rattle.tfpg_hyp.proofs.Tables.{one_count, HasHypotheses-counted}
+use Rattle.tfpg_sim.specs.declared.limits.TheConstants.{FAILURE_COUNT}
+use Rattle.tfpg.specs.declared.limits.TheConstants.{GENERATED_K}
 
 -- they are not too many
-pub few_hypotheses : (graph : Tfpg) (count : ℕ) → length (failures graph) ≡ 16 → MAX_HYPOTHESES < count → HasHypotheses graph 2 count → ⊥
+pub few_hypotheses : (graph : Tfpg) (count : ℕ) → length (failures graph) ≡ FAILURE_COUNT → MAX_HYPOTHESES < count → HasHypotheses graph GENERATED_K count → ⊥
 few_hypotheses graph count failing many has =
-    let same : count ≡ 137 = one_count graph 2 count 137 has (HasHypotheses-counted graph 2 16 137 (sym failing) refl) in
+    let same : count ≡ 137 = one_count graph GENERATED_K count 137 has (HasHypotheses-counted graph GENERATED_K FAILURE_COUNT 137 (sym failing) refl) in
     omega (arith, same, many)

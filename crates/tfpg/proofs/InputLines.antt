@@ -60,7 +60,7 @@ module _ (reading : Reading) (first : List ℕ) (input : SourceState) (next : Is
           ∙ ap (λ (bytes : List ℕ). take (length reading.given + 1) (lines_of bytes)) (append-nil reading.taken) ∙ next.front
 
 -- What holds where a call has found the end, after which no more was taken than may be.
-pub record CameToEnd (reading : Reading) (before after : SourceState) : Type 0 where
+pub record FoundEnd (reading : Reading) (before after : SourceState) : Type 0 where
   pub more : List ℕ
   pub takes : Takes before after more
   pub few : length (reading.taken ++ more) ≤ MAX_BYTES
@@ -70,14 +70,14 @@ pub record CameToEnd (reading : Reading) (before after : SourceState) : Type 0 w
 
 pub came_to_end : (reading : Reading) (before after : SourceState) (old reader : Buffered) → length reading.taken ≤ MAX_BYTES
     → (reading.ended ≡ None) ⊎ ((reading.ended ≡ Some (Ok line.End)) × IsAtEnd before) → LinesRepresent old reading → Continues reading reading.ended before after (Ok line.End) reader
-    → CameToEnd reading before after
+    → FoundEnd reading before after
 came_to_end reading before after old reader few goes_on represents continues = go reading.ended refl goes_on continues
   where
     go : (ended : Option (Result Line LineFault)) → reading.ended ≡ ended → (ended ≡ None) ⊎ ((ended ≡ Some (Ok line.End)) × IsAtEnd before)
-        → Continues reading ended before after (Ok line.End) reader → CameToEnd reading before after
+        → Continues reading ended before after (Ok line.End) reader → FoundEnd reading before after
     go None was is turn = record { more = turn.more; takes = turn.takes; few = turn.returns.2; all = turn.returns.0; end = turn.returns.1; no_fault = turn.faults }
-    go (Some answer) was (inl is) turn = absurd cc
-    go (Some answer) was (inr is) turn = record {
+    go (Some result) was (inl is) turn = absurd cc
+    go (Some result) was (inr is) turn = record {
       more = [];
       takes = subst (λ source. Takes before source []) (sym turn.1) (Takes-nothing before);
       few = omega (arith, few, ap length (append-nil reading.taken));

@@ -7,25 +7,21 @@ use Rattle.tfpg_trace.specs.declared.verdict.Verdict.{Verdict}
 use Rattle.tfpg_trace.specs.FirstFault.{IsVerdict}
 use Rattle.tfpg.specs.declared.fault.JudgeFault.TheVariants.{WriteFault}
 use Rattle.tfpg.specs.declared.map.Map.{Map}
-use Rattle.tfpg.specs.Judging.{HasVerdict, JudgesMap}
-use Rattle.tfpg.specs.Streams.{Streams}
+use Rattle.tfpg.specs.Judging.{GivesVerdict, JudgesMap}
+use Rattle.tfpg.specs.Streams.{Streams, streams}
 use Rattle.tfpg.specs.Verdicts.{verdict_text}
 use Rattle.tfpg.specs.inside.MapReading.{ReadsMap}
 
--- the streams after both have changed
-abbrev pub after_both : SourceState → SinkState → Streams
-after_both input output = record { input = input; output = output }
-
 module _ (graph : Tfpg) (log : Logbook) (before : Streams) (input : SourceState) (map : Map) (reads : ReadsMap graph before.input input map)
     (v : Verdict) (right : IsVerdict graph log map.set map.trace v) where
-  has_verdict : HasVerdict graph log input reads.taken v
-  has_verdict = record { set = map.set; trace = map.trace; gives = reads.gives; right = right }
+  gives_verdict : GivesVerdict graph log input reads.taken v
+  gives_verdict = record { set = map.set; trace = map.trace; gives = reads.gives; right = right }
 
   -- the output fails
   pub judges_badly : (line : List ℕ) (output : SinkState) (front rest : List ℕ) → line ≡ verdict_text graph v → line ≡ front ++ rest → Puts before.output output front
-      → Rose before.output.faults output.faults → JudgesMap graph log before (after_both input output) (Err WriteFault)
+      → Rose before.output.faults output.faults → JudgesMap graph log before (streams input output) (Err WriteFault)
   judges_badly line output front rest line_is parts puts rose = record {
     taken = reads.taken;
     takes = reads.takes;
-    ends = record { verdict = v; has = has_verdict; front = front; rest = rest; parts = sym line_is ∙ parts; writes = puts; rose = rose };
+    ends = record { verdict = v; has = gives_verdict; front = front; rest = rest; parts = sym line_is ∙ parts; writes = puts; rose = rose };
   }

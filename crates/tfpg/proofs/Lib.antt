@@ -1,7 +1,7 @@
 pub mod Refused
 pub mod LogTexts
 pub mod Putting
-pub mod AnsweredLines
+pub mod LineBlocks
 pub mod InputLines
 pub mod Turns
 pub mod MapCourse

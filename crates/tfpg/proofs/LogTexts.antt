@@ -1,18 +1,11 @@
 -- The log of a text, whose last part may be empty.
-use Rattle.std.proofs.Common.{◌≡◌, ℕ, ◌+◌, ◌-◌, ◌<◌, List, [], ◌∷◌, ◌++◌, length, refl, ap, sym, ◌∙◌, arith}
-use Rattle.std.proofs.lemmas.List.{append-nil, take_all, take_more}
-use Rattle.std.proofs.lemmas.List.Splits.{length-slice_split}
-use Rattle.tfpg_base.specs.Lines.{ends_line, parts_of, whole_lines, last_part, line_of_part, lines_of}
+use Rattle.std.proofs.Common.{◌≡◌, ℕ, List, [], ◌∷◌, ◌++◌, refl, ap, sym, ◌∙◌}
+use Rattle.std.proofs.lemmas.List.{append-nil}
+use Rattle.tfpg_base.specs.Lines.{parts_of, whole_lines, last_part, line_of_part, lines_of}
+use Rattle.tfpg_base.proofs.LinesAndParts.{parts_of-last}
 use Rattle.tfpg_graph.specs.Graph.{Tfpg}
 use Rattle.tfpg_log.specs.LogOfLines.{log_of_lines}
 use Rattle.tfpg_log.proofs.LogsOfLines.{log_of_lines-push}
-
--- the parts are the whole lines and the last part
-parts_are : (bytes : List ℕ) → parts_of bytes ≡ whole_lines bytes ++ last_part bytes ∷ []
-parts_are bytes =
-    let parts = parts_of bytes in
-    let some : 0 < length parts = omega (arith, length-slice_split ends_line bytes) in
-    sym (take_all (length parts - 1 + 1) parts (omega (arith, some))) ∙ take_more parts (length parts - 1) [] (omega (arith, some))
 
 -- an empty part leaves no trace
 without_part : (graph : Tfpg) (lines : List (List ℕ)) (part : List ℕ) → log_of_lines graph (lines ++ part ∷ []) ≡ log_of_lines graph (lines ++ line_of_part part)
@@ -21,4 +14,4 @@ without_part graph lines (byte ∷ bytes) = refl
 
 -- the log of the parts is that of the lines
 pub log_of_parts : (graph : Tfpg) (bytes : List ℕ) → log_of_lines graph (parts_of bytes) ≡ log_of_lines graph (lines_of bytes)
-log_of_parts graph bytes = ap (log_of_lines graph) (parts_are bytes) ∙ without_part graph (whole_lines bytes) (last_part bytes)
+log_of_parts graph bytes = ap (log_of_lines graph) (sym (parts_of-last bytes)) ∙ without_part graph (whole_lines bytes) (last_part bytes)

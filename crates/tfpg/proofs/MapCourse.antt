@@ -126,7 +126,7 @@ module _ (graph : Tfpg) (before now : SourceState) (lines lines' : Buffered) (ma
             rest = rest_of input;
             left = rest_is_left input;
             fault = inl (record {
-              place = length reading.given;
+              index = length reading.given;
               counted = omega (arith, gave.stands.number, length-append reading.given (gave.first ∷ []));
               within = within;
               before = subst (BeginsMap graph) (sym (front_before all reading.given gave.first front)) so_far;
@@ -202,22 +202,22 @@ timed_in_graph graph (first ∷ others) node time of e =
     by false is same later = later same
 
 -- each activation has a time
-has_time : (trace : List Activation) (place : ℕ) (d : Activation) → place < length trace → (time : ℕ) × (time_of trace (get_or trace place d).node ≡ Some time)
-has_time [] place d within = absurd (omega arith)
+has_time : (trace : List Activation) (index : ℕ) (d : Activation) → index < length trace → (time : ℕ) × (time_of trace (get_or trace index d).node ≡ Some time)
+has_time [] index d within = absurd (omega arith)
 has_time (first ∷ others) zero d within = (first.time, ap (λ b. cond b (Some first.time) (time_of others first.node)) (eq-eqb first.node first.node refl))
-has_time (first ∷ others) (suc place) d within = by (first.node == (get_or others place d).node) (has_time others place d (omega arith))
+has_time (first ∷ others) (suc index) d within = by (first.node == (get_or others index d).node) (has_time others index d (omega arith))
   where
-    by : (b : Bool) → (time : ℕ) × (time_of others (get_or others place d).node ≡ Some time)
-        → (time : ℕ) × (cond b (Some first.time) (time_of others (get_or others place d).node) ≡ Some time)
+    by : (b : Bool) → (time : ℕ) × (time_of others (get_or others index d).node ≡ Some time)
+        → (time : ℕ) × (cond b (Some first.time) (time_of others (get_or others index d).node) ≡ Some time)
     by true later = (first.time, refl)
     by false later = later
 
 -- a map names only nodes of the graph
 pub spelled_in_graph : (graph : Tfpg) (lines : List (List ℕ)) (set : List ℕ) (trace : List Activation) → SpellsMap graph lines set trace
     → All (λ activation. activation.node < length graph.nodes) trace
-spelled_in_graph graph lines set trace spells place d within =
-    let timed = has_time trace place d within in
-    let node = (get_or trace place d).node in
+spelled_in_graph graph lines set trace spells index d within =
+    let timed = has_time trace index d within in
+    let node = (get_or trace index d).node in
     timed_in_graph graph spells.listed node timed.0 spells.of_nodes (sym (spells.same_times node) ∙ timed.1)
 
 -- what all lines spell

@@ -97,14 +97,14 @@ SpellsMap-more graph lines set trace now line spells takes short =
 -- ---- lines with which no map goes on
 
 -- the activation of the line after those that are listed
-record IsNext (graph : Tfpg) (listed others : List Activation) (line : List ℕ) : Type 0 where
+record IsNextActivation (graph : Tfpg) (listed others : List Activation) (line : List ℕ) : Type 0 where
   activation : Activation
   among : Contains others activation
   spelled : line ≡ activation_line graph activation
   nowhere : time_of listed activation.node ≡ None
 
 next_listed : (graph : Tfpg) → IsValid graph → (listed others : List Activation) (line : List ℕ) (more : List (List ℕ)) → All (IsActivationOf graph) listed → All (IsActivationOf graph) others
-    → AllPairs (λ earlier later. earlier.node ≢ later.node) others → map (activation_line graph) listed ++ line ∷ more ≡ map (activation_line graph) others → IsNext graph listed others line
+    → AllPairs (λ earlier later. earlier.node ≢ later.node) others → map (activation_line graph) listed ++ line ∷ more ≡ map (activation_line graph) others → IsNextActivation graph listed others line
 next_listed graph valid [] [] line more these those once e = absurd cc
 next_listed graph valid [] (activation ∷ others) line more these those once e = record { activation = activation; among = Contains-head activation others; spelled = cc; nowhere = refl }
 next_listed graph valid (first ∷ listed) [] line more these those once e = absurd cc

@@ -23,11 +23,11 @@ use Rattle.tfpg_graph.specs.Graph.{Tfpg, name_at, name_word, node_named, failure
 use Rattle.tfpg_graph.specs.Valid.{IsValid}
 use Rattle.tfpg_graph.proofs.lemmas.declared.Named.{named_found}
 use Rattle.tfpg_base.proofs.lists.Positions.{position-at}
-use Rattle.tfpg_graph.proofs.lemmas.reading.SpelledEdges.{is_name-name_of, node_named-name_of}
-use Rattle.tfpg_base.proofs.lists.Numbered.{one_place}
+use Rattle.tfpg_graph.proofs.lemmas.reading.SpelledEdges.{is_name-name_word, node_named-name_word}
+use Rattle.tfpg_base.proofs.lists.Numbered.{one_index}
 use Rattle.tfpg_report.specs.Blocks.{set_word, activation_line, failure_word}
 use Rattle.tfpg.specs.Map.{IsActivationOf, set_line}
-use Rattle.tfpg.specs.inside.MapLines.{word_after_set, words_after_at, position_named, AreFrom}
+use Rattle.tfpg.specs.inside.MapLines.{word_after_set, words_after_at, position_named, AreRisingFrom}
 use Rattle.std.proofs.lemmas.Option.{same_Some}
 use Rattle.tfpg_graph.proofs.Numbered.{failure_at-below}
 
@@ -102,14 +102,14 @@ module _ (graph : Tfpg) (valid : IsValid graph) where
       ap words_after_at (slice_split-join 32 (codes "at" ∷ name_word graph activation.node ∷ decimal activation.time ∷ []) (omega arith) (
         lacks_checked 32 (codes "at") refl,
         (
-          name_lacks 32 (name_word graph activation.node) refl (is_name-name_of graph activation.node of.in_graph valid.so_far.node_names),
+          name_lacks 32 (name_word graph activation.node) refl (is_name-name_word graph activation.node of.in_graph valid.so_far.node_names),
           (decimal_lacks 32 activation.time refl (small_time activation.time of.in_range), tt),
         ),
       ))
 
   -- the name of a node names it
   pub node_of_word : (node : ℕ) → node < length graph.nodes → node_named graph (name_word graph node) ≡ Some node
-  node_of_word node within = node_named-name_of graph node within valid.so_far.nodes_differ
+  node_of_word node within = node_named-name_word graph node within valid.so_far.nodes_differ
 
   -- two lines of activations that are the same are of one node
   pub one_node : (one other : Activation) → IsActivationOf graph one → IsActivationOf graph other → activation_line graph one ≡ activation_line graph other → one.node ≡ other.node
@@ -124,146 +124,146 @@ word_of_named graph name node found = let is = named_found graph name node found
 -- ---- names of failure modes
 
 -- its name is that of the node
-failure_word-node : (graph : Tfpg) (place node : ℕ) → failure_at graph place ≡ Some node → failure_word graph place ≡ name_word graph node
-failure_word-node graph place node at = ap (λ o. unwrap_or (option_and_then (name_at graph) o) []) at
+failure_word-node : (graph : Tfpg) (position node : ℕ) → failure_at graph position ≡ Some node → failure_word graph position ≡ name_word graph node
+failure_word-node graph position node at = ap (λ o. unwrap_or (option_and_then (name_at graph) o) []) at
 
 -- a failure mode stands at its position, and at no earlier one
-place_of-failure : (graph : Tfpg) (place node : ℕ) → place < length (failures graph) → failure_at graph place ≡ Some node → position_of_failure graph node ≡ Some place
-place_of-failure graph place node within at =
+position_of-failure : (graph : Tfpg) (position node : ℕ) → position < length (failures graph) → failure_at graph position ≡ Some node → position_of_failure graph node ≡ Some position
+position_of-failure graph position node within at =
     let same : (k : ℕ) → k < length (failures graph) → failure_at graph k ≡ Some (get_or (failures graph) k 0) = λ k lt. slice_get-get_or (failures graph) k 0 lt in
-    position-at (λ failure. failure == node) (failures graph) place 0 within
-    (eq-eqb _ _ (same_Some _ _ (sym (same place within) ∙ at)))
+    position-at (λ failure. failure == node) (failures graph) position 0 within
+    (eq-eqb _ _ (same_Some _ _ (sym (same position within) ∙ at)))
     (λ earlier before. ne_eqb (get_or (failures graph) earlier 0) node (λ is. omega (
       arith,
       before,
-      one_place (λ n. is_failure n.kind) 0 graph.nodes earlier place node (same earlier (omega (arith, before, within)) ∙ ap Some is) at,
+      one_index (λ n. is_failure n.kind) 0 graph.nodes earlier position node (same earlier (omega (arith, before, within)) ∙ ap Some is) at,
     )))
 
 module _ (graph : Tfpg) (valid : IsValid graph) where
   -- the name of a failure mode names its position
-  pub position_named-name : (place : ℕ) → place < length (failures graph) → position_named graph (failure_word graph place) ≡ Some place
-  position_named-name place within =
-      let node = get_or (failures graph) place 0 in
-      let at : failure_at graph place ≡ Some node = slice_get-get_or (failures graph) place 0 within in
-      ap (position_named graph) (failure_word-node graph place node at)
-      ∙ ap (λ o. option_and_then (position_of_failure graph) o) (node_of_word graph valid node (failure_at-below graph place node at))
-      ∙ place_of-failure graph place node within at
+  pub position_named-name : (position : ℕ) → position < length (failures graph) → position_named graph (failure_word graph position) ≡ Some position
+  position_named-name position within =
+      let node = get_or (failures graph) position 0 in
+      let at : failure_at graph position ≡ Some node = slice_get-get_or (failures graph) position 0 within in
+      ap (position_named graph) (failure_word-node graph position node at)
+      ∙ ap (λ o. option_and_then (position_of_failure graph) o) (node_of_word graph valid node (failure_at-below graph position node at))
+      ∙ position_of-failure graph position node within at
 
   -- and is a name
-  pub failure_word-is_name : (place : ℕ) → place < length (failures graph) → IsTrue (is_name (failure_word graph place))
-  failure_word-is_name place within =
-      let node = get_or (failures graph) place 0 in
-      let at : failure_at graph place ≡ Some node = slice_get-get_or (failures graph) place 0 within in
-      ap is_name (failure_word-node graph place node at) ∙ is_name-name_of graph node (failure_at-below graph place node at) valid.so_far.node_names
+  pub failure_word-is_name : (position : ℕ) → position < length (failures graph) → IsTrue (is_name (failure_word graph position))
+  failure_word-is_name position within =
+      let node = get_or (failures graph) position 0 in
+      let at : failure_at graph position ≡ Some node = slice_get-get_or (failures graph) position 0 within in
+      ap is_name (failure_word-node graph position node at) ∙ is_name-name_word graph node (failure_at-below graph position node at) valid.so_far.node_names
 
 -- a position that a name names is of a failure mode of that name
-pub place_named : (graph : Tfpg) (name : List ℕ) (place : ℕ) → position_named graph name ≡ Some place → (place < length (failures graph)) × (failure_word graph place ≡ name)
-place_named graph name place e = by (node_named graph name) refl e
+pub named_position : (graph : Tfpg) (name : List ℕ) (position : ℕ) → position_named graph name ≡ Some position → (position < length (failures graph)) × (failure_word graph position ≡ name)
+named_position graph name position e = by (node_named graph name) refl e
   where
-    by : (o : Option ℕ) → node_named graph name ≡ o → option_and_then (position_of_failure graph) o ≡ Some place → (place < length (failures graph)) × (failure_word graph place ≡ name)
+    by : (o : Option ℕ) → node_named graph name ≡ o → option_and_then (position_of_failure graph) o ≡ Some position → (position < length (failures graph)) × (failure_word graph position ≡ name)
     by None is same = absurd cc
     by (Some node) is same =
-        let found = position-Some (λ failure. failure == node) (failures graph) place 0 same in
-        let at : failure_at graph place ≡ Some node = slice_get-get_or (failures graph) place 0 found.0 ∙ ap Some (eqb-true _ _ found.1) in
-        (found.0, failure_word-node graph place node at ∙ sym (word_of_named graph name node is).1)
+        let found = position-Some (λ failure. failure == node) (failures graph) position 0 same in
+        let at : failure_at graph position ≡ Some node = slice_get-get_or (failures graph) position 0 found.0 ∙ ap Some (eqb-true _ _ found.1) in
+        (found.0, failure_word-node graph position node at ∙ sym (word_of_named graph name node is).1)
 
 -- ---- the positions of names
 
 -- a member before all others is the first
-with_first : (place : ℕ) (places : List ℕ) → All (λ other. place + 1 ≤ other) places → with_member place places ≡ place ∷ places
-with_first place [] later = refl
-with_first place (first ∷ others) later =
-    let above : place + 1 ≤ first = All-head (λ other. place + 1 ≤ other) first others later in
-    ap (λ b. cond b (place ∷ first ∷ others) (cond (place == first) (first ∷ others) (first ∷ with_member place others))) (lt-ltb place first (omega (arith, above)))
+with_first : (position : ℕ) (positions : List ℕ) → All (λ other. position + 1 ≤ other) positions → with_member position positions ≡ position ∷ positions
+with_first position [] later = refl
+with_first position (first ∷ others) later =
+    let above : position + 1 ≤ first = All-head (λ other. position + 1 ≤ other) first others later in
+    ap (λ b. cond b (position ∷ first ∷ others) (cond (position == first) (first ∷ others) (first ∷ with_member position others))) (lt-ltb position first (omega (arith, above)))
 
 module _ (graph : Tfpg) (least : ℕ) where
   -- the positions after the first
-  AreFrom-others : (first : ℕ) (others : List ℕ) → AreFrom graph least (first ∷ others) → AreFrom graph (first + 1) others
-  AreFrom-others first others are = record {
+  AreRisingFrom-others : (first : ℕ) (others : List ℕ) → AreRisingFrom graph least (first ∷ others) → AreRisingFrom graph (first + 1) others
+  AreRisingFrom-others first others are = record {
     rising = AllPairs-tail (λ a b. a < b) first others are.rising;
     not_before = All-weaker (λ other. first < other) (λ other. first + 1 ≤ other) (λ other lt. omega (arith, lt)) others (AllPairs-head (λ a b. a < b) first others are.rising);
-    members = All-tail (λ place. place < length (failures graph)) first others are.members;
+    members = All-tail (λ position. position < length (failures graph)) first others are.members;
   }
 
   -- one more position before the others
-  AreFrom-first : (first : ℕ) (others : List ℕ) → least ≤ first → first < length (failures graph) → AreFrom graph (first + 1) others → AreFrom graph least (first ∷ others)
-  AreFrom-first first others from within are = record {
+  AreRisingFrom-first : (first : ℕ) (others : List ℕ) → least ≤ first → first < length (failures graph) → AreRisingFrom graph (first + 1) others → AreRisingFrom graph least (first ∷ others)
+  AreRisingFrom-first first others from within are = record {
     rising = AllPairs-cons (λ a b. a < b) first others (All-weaker (λ other. first + 1 ≤ other) (λ other. first < other) (λ other le. omega (arith, le)) others are.not_before) are.rising;
     not_before = All-cons (λ other. least ≤ other) first others from (All-weaker (λ other. first + 1 ≤ other) (λ other. least ≤ other) (λ other le. omega (arith, le, from)) others are.not_before);
-    members = All-cons (λ place. place < length (failures graph)) first others within are.members;
+    members = All-cons (λ position. position < length (failures graph)) first others within are.members;
   }
 
   -- with a first name of no failure mode, there are no positions of these names
-  pub no_places-unknown : IsValid graph → (name : List ℕ) (names : List (List ℕ)) (places : List ℕ) → position_named graph name ≡ None → AreFrom graph least places
-      → map (failure_word graph) places ≡ name ∷ names → ⊥
-  no_places-unknown valid name names [] none are e = absurd cc
-  no_places-unknown valid name names (place ∷ places) none are e =
-      let head : failure_word graph place ≡ name = cc in
-      let found = position_named-name graph valid place (All-head (λ p. p < length (failures graph)) place places are.members) in
+  pub no_positions-unknown : IsValid graph → (name : List ℕ) (names : List (List ℕ)) (positions : List ℕ) → position_named graph name ≡ None → AreRisingFrom graph least positions
+      → map (failure_word graph) positions ≡ name ∷ names → ⊥
+  no_positions-unknown valid name names [] none are e = absurd cc
+  no_positions-unknown valid name names (position ∷ positions) none are e =
+      let head : failure_word graph position ≡ name = cc in
+      let found = position_named-name graph valid position (All-head (λ p. p < length (failures graph)) position positions are.members) in
       let same = sym found ∙ ap (position_named graph) head ∙ none in
       cc
 
   -- nor with one of a failure mode that is too early
-  pub no_places-early : IsValid graph → (name : List ℕ) (names : List (List ℕ)) (first : ℕ) (places : List ℕ) → position_named graph name ≡ Some first → first < least → AreFrom graph least places
-      → map (failure_word graph) places ≡ name ∷ names → ⊥
-  no_places-early valid name names first [] some early are e = absurd cc
-  no_places-early valid name names first (place ∷ places) some early are e =
-      let head : failure_word graph place ≡ name = cc in
-      let found = position_named-name graph valid place (All-head (λ p. p < length (failures graph)) place places are.members) in
+  pub no_positions-early : IsValid graph → (name : List ℕ) (names : List (List ℕ)) (first : ℕ) (positions : List ℕ) → position_named graph name ≡ Some first → first < least → AreRisingFrom graph least positions
+      → map (failure_word graph) positions ≡ name ∷ names → ⊥
+  no_positions-early valid name names first [] some early are e = absurd cc
+  no_positions-early valid name names first (position ∷ positions) some early are e =
+      let head : failure_word graph position ≡ name = cc in
+      let found = position_named-name graph valid position (All-head (λ p. p < length (failures graph)) position positions are.members) in
       let same = same_Some _ _ (sym found ∙ ap (position_named graph) head ∙ some) in
-      omega (arith, same, early, All-head (λ other. least ≤ other) place places are.not_before)
+      omega (arith, same, early, All-head (λ other. least ≤ other) position positions are.not_before)
 
   -- nor where there are none of the others
-  pub no_places-others : IsValid graph → (name : List ℕ) (names : List (List ℕ)) (first : ℕ) (places : List ℕ) → position_named graph name ≡ Some first
-      → ((others : List ℕ) → AreFrom graph (first + 1) others → map (failure_word graph) others ≡ names → ⊥) → AreFrom graph least places
-      → map (failure_word graph) places ≡ name ∷ names → ⊥
-  no_places-others valid name names first [] some none are e = absurd cc
-  no_places-others valid name names first (place ∷ places) some none are e =
-      let head : failure_word graph place ≡ name = cc in
-      let tail : map (failure_word graph) places ≡ names = cc in
-      let found = position_named-name graph valid place (All-head (λ p. p < length (failures graph)) place places are.members) in
+  pub no_positions-others : IsValid graph → (name : List ℕ) (names : List (List ℕ)) (first : ℕ) (positions : List ℕ) → position_named graph name ≡ Some first
+      → ((others : List ℕ) → AreRisingFrom graph (first + 1) others → map (failure_word graph) others ≡ names → ⊥) → AreRisingFrom graph least positions
+      → map (failure_word graph) positions ≡ name ∷ names → ⊥
+  no_positions-others valid name names first [] some none are e = absurd cc
+  no_positions-others valid name names first (position ∷ positions) some none are e =
+      let head : failure_word graph position ≡ name = cc in
+      let tail : map (failure_word graph) positions ≡ names = cc in
+      let found = position_named-name graph valid position (All-head (λ p. p < length (failures graph)) position positions are.members) in
       let same = same_Some _ _ (sym found ∙ ap (position_named graph) head ∙ some) in
-      none places (subst (λ (p : ℕ). AreFrom graph (p + 1) places) same (AreFrom-others place places are)) tail
+      none positions (subst (λ (p : ℕ). AreRisingFrom graph (p + 1) positions) same (AreRisingFrom-others position positions are)) tail
 
   -- with one more name, there is one more position
-  pub places-more : (name : List ℕ) (names : List (List ℕ)) (first : ℕ) (others : List ℕ) → position_named graph name ≡ Some first → least ≤ first → AreFrom graph (first + 1) others
-      → map (failure_word graph) others ≡ names → AreFrom graph least (with_member first others) × (map (failure_word graph) (with_member first others) ≡ name ∷ names)
-  places-more name names first others some from are e =
-      let named = place_named graph name first some in
+  pub positions-more : (name : List ℕ) (names : List (List ℕ)) (first : ℕ) (others : List ℕ) → position_named graph name ≡ Some first → least ≤ first → AreRisingFrom graph (first + 1) others
+      → map (failure_word graph) others ≡ names → AreRisingFrom graph least (with_member first others) × (map (failure_word graph) (with_member first others) ≡ name ∷ names)
+  positions-more name names first others some from are e =
+      let named = named_position graph name first some in
       let is : with_member first others ≡ first ∷ others = with_first first others are.not_before in (
-        subst (AreFrom graph least) (sym is) (AreFrom-first first others from named.0 are),
+        subst (AreRisingFrom graph least) (sym is) (AreRisingFrom-first first others from named.0 are),
         ap (map (failure_word graph)) is ∙ ap (λ (n : List ℕ). n ∷ map (failure_word graph) others) named.1 ∙ ap (λ (ns : List (List ℕ)). name ∷ ns) e,
       )
 
 -- ---- the word of a set
 
-pub names_lack : (graph : Tfpg) → IsValid graph → (byte : ℕ) → is_name_byte byte ≡ false → (places : List ℕ) → All (λ place. place < length (failures graph)) places
-    → AllByRecursion (Lacks byte) (map (failure_word graph) places)
+pub names_lack : (graph : Tfpg) → IsValid graph → (byte : ℕ) → is_name_byte byte ≡ false → (positions : List ℕ) → All (λ position. position < length (failures graph)) positions
+    → AllByRecursion (Lacks byte) (map (failure_word graph) positions)
 names_lack graph valid byte other_byte [] are = tt
-names_lack graph valid byte other_byte (place ∷ places) are = (
-  name_lacks byte (failure_word graph place) other_byte (failure_word-is_name graph valid place (All-head (λ p. p < length (failures graph)) place places are)),
-  names_lack graph valid byte other_byte places (All-tail (λ p. p < length (failures graph)) place places are),
+names_lack graph valid byte other_byte (position ∷ positions) are = (
+  name_lacks byte (failure_word graph position) other_byte (failure_word-is_name graph valid position (All-head (λ p. p < length (failures graph)) position positions are)),
+  names_lack graph valid byte other_byte positions (All-tail (λ p. p < length (failures graph)) position positions are),
 )
 
 -- a word whose parts are the names of some positions spells their set
-pub set_spelled : (graph : Tfpg) (word : List ℕ) (places : List ℕ) → AreFrom graph 0 places → map (failure_word graph) places ≡ slice_split (λ byte. byte == 44) word
-    → IsSetOf graph places × (word ≡ set_word graph places)
+pub set_spelled : (graph : Tfpg) (word : List ℕ) (positions : List ℕ) → AreRisingFrom graph 0 positions → map (failure_word graph) positions ≡ slice_split (λ byte. byte == 44) word
+    → IsSetOf graph positions × (word ≡ set_word graph positions)
 set_spelled graph word [] are e = absurd (omega (arith, ap length e, length-slice_split (λ byte. byte == 44) word))
-set_spelled graph word (place ∷ places) are e =
+set_spelled graph word (position ∷ positions) are e =
     (record { rising = are.rising; members = are.members }, sym (join_with_byte-slice_split 44 word) ∙ ap (join_with_byte 44) (sym e))
 
 -- a word that spells a set, and is no hyphen, has the names of the set's positions as its parts
-pub set_parts : (graph : Tfpg) → IsValid graph → (word : List ℕ) (places : List ℕ) → bytes_eq word (codes "-") ≡ false → IsSetOf graph places → word ≡ set_word graph places
-    → AreFrom graph 0 places × (map (failure_word graph) places ≡ slice_split (λ byte. byte == 44) word)
+pub set_parts : (graph : Tfpg) → IsValid graph → (word : List ℕ) (positions : List ℕ) → bytes_eq word (codes "-") ≡ false → IsSetOf graph positions → word ≡ set_word graph positions
+    → AreRisingFrom graph 0 positions × (map (failure_word graph) positions ≡ slice_split (λ byte. byte == 44) word)
 set_parts graph valid word [] no_hyphen set e = absurd (false≢true (sym no_hyphen ∙ (bytes_eq-Decides word (codes "-")).1 e))
-set_parts graph valid word (place ∷ places) no_hyphen set e = (
+set_parts graph valid word (position ∷ positions) no_hyphen set e = (
   record { rising = set.rising; not_before = λ k d within. omega arith; members = set.members },
-  sym (ap (slice_split (λ byte. byte == 44)) e ∙ slice_split-join 44 (map (failure_word graph) (place ∷ places)) (omega arith) (names_lack graph valid 44 refl (place ∷ places) set.members)),
+  sym (ap (slice_split (λ byte. byte == 44)) e ∙ slice_split-join 44 (map (failure_word graph) (position ∷ positions)) (omega arith) (names_lack graph valid 44 refl (position ∷ positions) set.members)),
 )
 
-hyphen_or_names : (graph : Tfpg) → IsValid graph → (places : List ℕ) → All (λ place. place < length (failures graph)) places → Lacks 32 (set_word graph places)
+hyphen_or_names : (graph : Tfpg) → IsValid graph → (positions : List ℕ) → All (λ position. position < length (failures graph)) positions → Lacks 32 (set_word graph positions)
 hyphen_or_names graph valid [] members = lacks_checked 32 (codes "-") refl
-hyphen_or_names graph valid (place ∷ places) members = join_lacks (map (failure_word graph) (place ∷ places)) (names_lack graph valid 32 refl (place ∷ places) members)
+hyphen_or_names graph valid (position ∷ positions) members = join_lacks (map (failure_word graph) (position ∷ positions)) (names_lack graph valid 32 refl (position ∷ positions) members)
   where
     join_lacks : (words : List (List ℕ)) → AllByRecursion (Lacks 32) words → Lacks 32 (join_with_byte 44 words)
     join_lacks [] are = All-nil (λ other. (other == 32) ≡ false)
@@ -273,10 +273,10 @@ hyphen_or_names graph valid (place ∷ places) members = join_lacks (map (failur
         (All-cons (λ other. (other == 32) ≡ false) 44 (join_with_byte 44 (second ∷ others)) refl (join_lacks (second ∷ others) are.1))
 
 -- the line of a set is read so
-pub set_line-read : (graph : Tfpg) → IsValid graph → (places : List ℕ) → IsSetOf graph places → word_after_set (words_of (set_line graph places)) ≡ Some (set_word graph places)
-set_line-read graph valid places set =
-    ap word_after_set (slice_split-join 32 (codes "set" ∷ set_word graph places ∷ []) (omega arith)
-    (lacks_checked 32 (codes "set") refl, (hyphen_or_names graph valid places set.members, tt)))
+pub set_line-read : (graph : Tfpg) → IsValid graph → (positions : List ℕ) → IsSetOf graph positions → word_after_set (words_of (set_line graph positions)) ≡ Some (set_word graph positions)
+set_line-read graph valid positions set =
+    ap word_after_set (slice_split-join 32 (codes "set" ∷ set_word graph positions ∷ []) (omega arith)
+    (lacks_checked 32 (codes "set") refl, (hyphen_or_names graph valid positions set.members, tt)))
 
 -- ---- as the code comes to it
 

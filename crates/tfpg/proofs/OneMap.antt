@@ -45,21 +45,21 @@ module _ (graph : Tfpg) (valid : IsValid graph) where
   same_listed = map-injective (IsActivationOf graph) (activation_line graph) one_activation
 
   -- names that are the same are of the same positions
-  same_places : (one other : List ℕ) → All (λ place. place < length (failures graph)) one → All (λ place. place < length (failures graph)) other
+  same_positions : (one other : List ℕ) → All (λ position. position < length (failures graph)) one → All (λ position. position < length (failures graph)) other
       → map (failure_word graph) one ≡ map (failure_word graph) other → one ≡ other
-  same_places = map-injective (λ place. place < length (failures graph)) (failure_word graph)
+  same_positions = map-injective (λ position. position < length (failures graph)) (failure_word graph)
       (λ one other of too same. same_Some one other (sym (position_named-name graph valid one of) ∙ ap (position_named graph) same ∙ position_named-name graph valid other too))
 
   -- the parts of a word that is no hyphen
-  parts : (place : ℕ) (places : List ℕ) → IsSetOf graph (place ∷ places) → slice_split (λ byte. byte == 44) (set_word graph (place ∷ places)) ≡ map (failure_word graph) (place ∷ places)
-  parts place places of = slice_split-join 44 (map (failure_word graph) (place ∷ places)) (omega arith) (names_lack graph valid 44 refl (place ∷ places) of.members)
+  parts : (position : ℕ) (positions : List ℕ) → IsSetOf graph (position ∷ positions) → slice_split (λ byte. byte == 44) (set_word graph (position ∷ positions)) ≡ map (failure_word graph) (position ∷ positions)
+  parts position positions of = slice_split-join 44 (map (failure_word graph) (position ∷ positions)) (omega arith) (names_lack graph valid 44 refl (position ∷ positions) of.members)
 
   -- names are no hyphen
-  no_hyphen : (place : ℕ) (places : List ℕ) → IsSetOf graph (place ∷ places) → set_word graph (place ∷ places) ≡ codes "-" → ⊥
-  no_hyphen place places of e =
-      let same : map (failure_word graph) (place ∷ places) ≡ codes "-" ∷ [] = sym (parts place places of) ∙ ap (slice_split (λ byte. byte == 44)) e in
-      let first : failure_word graph place ≡ codes "-" = cc in
-      false≢true (sym (ap is_name first) ∙ failure_word-is_name graph valid place (All-head (λ p. p < length (failures graph)) place places of.members))
+  no_hyphen : (position : ℕ) (positions : List ℕ) → IsSetOf graph (position ∷ positions) → set_word graph (position ∷ positions) ≡ codes "-" → ⊥
+  no_hyphen position positions of e =
+      let same : map (failure_word graph) (position ∷ positions) ≡ codes "-" ∷ [] = sym (parts position positions of) ∙ ap (slice_split (λ byte. byte == 44)) e in
+      let first : failure_word graph position ≡ codes "-" = cc in
+      false≢true (sym (ap is_name first) ∙ failure_word-is_name graph valid position (All-head (λ p. p < length (failures graph)) position positions of.members))
 
   -- a word spells one set
   same_set : (one other : List ℕ) → IsSetOf graph one → IsSetOf graph other → set_word graph one ≡ set_word graph other → one ≡ other
@@ -67,7 +67,7 @@ module _ (graph : Tfpg) (valid : IsValid graph) where
   same_set [] (second ∷ other) of too e = absurd (no_hyphen second other too (sym e))
   same_set (first ∷ one) [] of too e = absurd (no_hyphen first one of e)
   same_set (first ∷ one) (second ∷ other) of too e =
-      same_places (first ∷ one) (second ∷ other) of.members too.members (sym (parts first one of) ∙ ap (slice_split (λ byte. byte == 44)) e ∙ parts second other too)
+      same_positions (first ∷ one) (second ∷ other) of.members too.members (sym (parts first one of) ∙ ap (slice_split (λ byte. byte == 44)) e ∙ parts second other too)
 
 -- ---- traces with the same times
 

@@ -15,6 +15,7 @@ use Rattle.tfpg_evidence.specs.declared.round.Round.{Round}
 use Rattle.tfpg_evidence.specs.RoundOf.{is_rejected}
 use Rattle.tfpg_hyp.specs.Table.{IsHypothesis}
 use Rattle.tfpg_hyp.specs.Rounds.{IsRound}
+use Rattle.tfpg_sim.specs.declared.limits.TheConstants.{FAILURE_COUNT}
 use Rattle.tfpg_sim.specs.declared.simulated.Simulated.{Simulated}
 use Rattle.tfpg_sim.specs.Generated.{generated_graph, generated_script}
 use Rattle.tfpg_sim.specs.Simulated.{IsSimulationOf}
@@ -143,11 +144,11 @@ module _ (number size : ℕ) (graph : Tfpg) (simulated : Simulated) (drawn : IsD
   pub drawn_log : 0 < length simulated.log
   drawn_log = some_byte simulated.log log_here
 
-  -- the graph has 16 failure modes
-  pub drawn_failures : length (failures graph) ≡ 16
+  -- the graph has so many failure modes
+  pub drawn_failures : length (failures graph) ≡ FAILURE_COUNT
   drawn_failures = ap (λ (g : Tfpg). length (failures g)) drawn.graph_is ∙ generated_failures number size
 
-  members_here : All (λ place. place < length (failures (generated_graph number size))) simulated.set
+  members_here : All (λ position. position < length (failures (generated_graph number size))) simulated.set
   members_here = simulated_members (generated_graph number size) (generated_script number size) number simulated simulation_here
 
   module _ (given : List (List ℕ)) (d : Diagnosis) (given_is : given ≡ lines_of simulated.log) (has : HasDiagnosed graph given d) where
@@ -155,8 +156,8 @@ module _ (number size : ℕ) (graph : Tfpg) (simulated : Simulated) (drawn : IsD
     has_here = subst (λ (g : Tfpg). HasDiagnosed g (lines_of simulated.log) d) drawn.graph_is (subst (λ (ls : List (List ℕ)). HasDiagnosed graph ls d) given_is has)
 
     -- the set has failure modes of the graph
-    pub members_there : All (λ place. place < length (failures d.engine.graph)) simulated.set
-    members_there = subst (λ (g : Tfpg). All (λ place. place < length (failures g)) simulated.set) (sym has_here.graph_is) members_here
+    pub members_there : All (λ position. position < length (failures d.engine.graph)) simulated.set
+    members_there = subst (λ (g : Tfpg). All (λ position. position < length (failures g)) simulated.set) (sym has_here.graph_is) members_here
 
     -- and a finding in the last round
     pub found_there : IsSomeAnd d.last (HasFindingOn simulated.set)

@@ -12,16 +12,16 @@ use Rattle.tfpg_base.specs.declared.line.LineFault.{LineFault}
 use Rattle.tfpg_base.specs.declared.line.LineFault.TheVariants as fault
 use Rattle.tfpg_base.specs.Outside.{SourceState, SinkState, Rose, Takes, Puts}
 use Rattle.tfpg_base.specs.Lines.{Buffered, LinesRepresent, Continues, with_bytes, with_line, lines_of, whole_lines, new_reading}
-use Rattle.tfpg_base.specs.declared.limits.TheConstants.{MAX_BYTES}
+use Rattle.tfpg_base.specs.declared.limits.TheConstants.{LONGEST_LINE, MAX_BYTES}
 use Rattle.tfpg_base.proofs.LinesOf.{take-lines_of}
 use Rattle.tfpg_base.proofs.Taking.{Takes-append, Takes-nothing}
 use Rattle.tfpg_base.proofs.ReadingOn.{GaveLine, Continues-turn, Continues-text, Continues-too_long}
 use Rattle.tfpg_graph.specs.Graph.{Tfpg}
-use Rattle.tfpg_base.proofs.lists.Written.{slice_get-push_before, slice_get-push_at as slice_get-push_last}
+use Rattle.tfpg_base.proofs.lists.Written.{slice_get-push_before, slice_get-push_at}
 use Rattle.tfpg_report.specs.declared.refused_line.RefusedLine.TheVariants.{TooLong}
 use Rattle.tfpg_report.specs.Blocks.{Block, block_text, head_text, refused_text}
 use Rattle.tfpg_check.specs.Report.{Progress, IsBlock, AreBlocks, report_text, progress_of}
-use Rattle.tfpg_check.specs.Report.{new_progress as start, progress_after as after}
+use Rattle.tfpg_check.specs.Report.{new_progress, progress_after}
 use Rattle.tfpg_engine.specs.Engining.{Engining}
 use Rattle.tfpg.specs.declared.fault.StreamFault.{StreamFault}
 use Rattle.tfpg.specs.declared.fault.StreamFault.TheVariants as faults
@@ -30,9 +30,9 @@ use Rattle.tfpg.specs.ForNow.{LosesNone}
 use Rattle.tfpg.specs.Saying.{BlockSays, RoundsSay}
 use Rattle.tfpg.specs.Run.{BeginsReportOfInput, DiagnosisEnds, Diagnoses}
 use Rattle.tfpg.specs.Streams.{Streams}
-use Rattle.tfpg.specs.inside.Answering.{EngineReports, HasBlock}
+use Rattle.tfpg.specs.inside.LineBlocks.{EngineReports, HasBlock}
 use Rattle.tfpg.specs.inside.Course.{IsDiagnosing}
-use Rattle.tfpg.proofs.AnsweredLines.{block_of_long_line}
+use Rattle.tfpg.proofs.LineBlocks.{block_of_long_line}
 use Rattle.tfpg_base.proofs.lists.Cuts.{front_is_within, front_before, front_with}
 use Rattle.tfpg.proofs.InputLines.{rest_of, rest_is_left, front_of_input, came_to_end, few_lines}
 use Rattle.tfpg.proofs.Putting.{Puts-append, Puts-same_held}
@@ -43,51 +43,51 @@ use Rattle.std.proofs.lemmas.Option.{same_Some}
 -- How far a report has come after one block more is a law of reports.
 abbrev GoesOnByBlocks : Type 0
 GoesOnByBlocks = (graph : Tfpg) (lines : List (List ℕ)) (blocks : List Block) (line : List ℕ) (block : Block)
-    → progress_of graph (lines ++ line ∷ []) (blocks ++ block ∷ []) ≡ after graph (progress_of graph lines blocks) line block
+    → progress_of graph (lines ++ line ∷ []) (blocks ++ block ∷ []) ≡ progress_after graph (progress_of graph lines blocks) line block
 
 -- no line has no block
 AreBlocks-none : (graph : Tfpg) (k b : ℕ) → AreBlocks graph k b [] []
-AreBlocks-none graph k b = record { one_each = refl; each = λ place line block at there. absurd (omega (arith, slice_get_within {A = List ℕ} [] place line at)) }
+AreBlocks-none graph k b = record { one_each = refl; each = λ index line block at there. absurd (omega (arith, slice_get_within {A = List ℕ} [] index line at)) }
 
 -- what holds of each line and of its block, after what the report had come to
 abbrev HoldsOfEach : Tfpg → (Progress → ℕ → List ℕ → Block → Type 0) → List (List ℕ) → List Block → Type 0
 HoldsOfEach graph P lines blocks =
-    (place : ℕ) (line : List ℕ) (block : Block) → slice_get lines place ≡ Some line → slice_get blocks place ≡ Some block
-    → P (progress_of graph (take place lines) (take place blocks)) place line block
+    (index : ℕ) (line : List ℕ) (block : Block) → slice_get lines index ≡ Some line → slice_get blocks index ≡ Some block
+    → P (progress_of graph (take index lines) (take index blocks)) index line block
 
 -- so it does of one more
 module _ (graph : Tfpg) (P : Progress → ℕ → List ℕ → Block → Type 0) (lines : List (List ℕ)) (blocks : List Block) (last : List ℕ) (end : Block) (one_each : length blocks ≡ length lines) where
-  block_at : (place : ℕ) (line : List ℕ) (block : Block) (firsts : List (List ℕ)) (before : List Block) → take place (lines ++ last ∷ []) ≡ firsts → take place (blocks ++ end ∷ []) ≡ before
-      → P (progress_of graph firsts before) place line block
-      → P (progress_of graph (take place (lines ++ last ∷ [])) (take place (blocks ++ end ∷ []))) place line block
-  block_at place line block firsts before f e is =
-      subst (λ (fs : List (List ℕ)). P (progress_of graph fs (take place (blocks ++ end ∷ []))) place line block) (sym f)
-      (subst (λ (bs : List Block). P (progress_of graph firsts bs) place line block) (sym e) is)
+  block_at : (index : ℕ) (line : List ℕ) (block : Block) (firsts : List (List ℕ)) (before : List Block) → take index (lines ++ last ∷ []) ≡ firsts → take index (blocks ++ end ∷ []) ≡ before
+      → P (progress_of graph firsts before) index line block
+      → P (progress_of graph (take index (lines ++ last ∷ [])) (take index (blocks ++ end ∷ []))) index line block
+  block_at index line block firsts before f e is =
+      subst (λ (fs : List (List ℕ)). P (progress_of graph fs (take index (blocks ++ end ∷ []))) index line block) (sym f)
+      (subst (λ (bs : List Block). P (progress_of graph firsts bs) index line block) (sym e) is)
 
   pub holds_of_one_more : HoldsOfEach graph P lines blocks → P (progress_of graph lines blocks) (length lines) last end → HoldsOfEach graph P (lines ++ last ∷ []) (blocks ++ end ∷ [])
-  holds_of_one_more each is place line block at there = ⊎_elim
+  holds_of_one_more each is index line block at there = ⊎_elim
       (λ early.
-      let early_block : place < length blocks = omega (arith, early, one_each) in
-      block_at place line block (take place lines) (take place blocks)
-      (take-append-le place lines (last ∷ []) (omega (arith, early))) (take-append-le place blocks (end ∷ []) (omega (arith, early_block)))
-      (each place line block (sym (slice_get-push_before lines last place early) ∙ at) (sym (slice_get-push_before blocks end place early_block) ∙ there)))
+      let early_block : index < length blocks = omega (arith, early, one_each) in
+      block_at index line block (take index lines) (take index blocks)
+      (take-append-le index lines (last ∷ []) (omega (arith, early))) (take-append-le index blocks (end ∷ []) (omega (arith, early_block)))
+      (each index line block (sym (slice_get-push_before lines last index early) ∙ at) (sym (slice_get-push_before blocks end index early_block) ∙ there)))
       (λ late.
-      let here : place ≡ length lines = omega (arith, late, slice_get_within (lines ++ last ∷ []) place line at, length-append lines (last ∷ [])) in
-      let here_block : place ≡ length blocks = omega (arith, here, one_each) in
-      let line_is : last ≡ line = same_Some _ _ (sym (slice_get-push_last lines last place here) ∙ at) in
-      let block_is : end ≡ block = same_Some _ _ (sym (slice_get-push_last blocks end place here_block) ∙ there) in
-      block_at place line block lines blocks (take_at lines (last ∷ []) place (sym here)) (take_at blocks (end ∷ []) place (sym here_block))
+      let here : index ≡ length lines = omega (arith, late, slice_get_within (lines ++ last ∷ []) index line at, length-append lines (last ∷ [])) in
+      let here_block : index ≡ length blocks = omega (arith, here, one_each) in
+      let line_is : last ≡ line = same_Some _ _ (sym (slice_get-push_at lines last index here) ∙ at) in
+      let block_is : end ≡ block = same_Some _ _ (sym (slice_get-push_at blocks end index here_block) ∙ there) in
+      block_at index line block lines blocks (take_at lines (last ∷ []) index (sym here)) (take_at blocks (end ∷ []) index (sym here_block))
       (subst (λ (n : ℕ). P (progress_of graph lines blocks) n line block) (sym here)
       (subst (λ (l : List ℕ). P (progress_of graph lines blocks) (length lines) l block) line_is
       (subst (λ (x : Block). P (progress_of graph lines blocks) (length lines) last x) block_is is))))
-      (cases_lt place (length lines))
+      (cases_lt index (length lines))
 
 -- the blocks of some lines, and one block more
 pub AreBlocks-push : (graph : Tfpg) (k b : ℕ) (lines : List (List ℕ)) (blocks : List Block) (last : List ℕ) (end : Block) (number : ℕ) → AreBlocks graph k b lines blocks
     → number ≡ 1 + length lines → IsBlock graph k b (progress_of graph lines blocks) number last end → AreBlocks graph k b (lines ++ last ∷ []) (blocks ++ end ∷ [])
 AreBlocks-push graph k b lines blocks last end number are numbered is = record {
   one_each = omega (arith, are.one_each, length-append blocks (end ∷ []), length-append lines (last ∷ []));
-  each = holds_of_one_more graph (λ before place line block. IsBlock graph k b before (place + 1) line block) lines blocks last end are.one_each are.each
+  each = holds_of_one_more graph (λ before index line block. IsBlock graph k b before (index + 1) line block) lines blocks last end are.one_each are.each
       (subst (λ (n : ℕ). IsBlock graph k b (progress_of graph lines blocks) n last end) (omega (arith, numbered)) is);
 }
 
@@ -95,11 +95,11 @@ AreBlocks-push graph k b lines blocks last end number are numbered is = record {
 RoundsSay-push : (graph : Tfpg) (k b : ℕ) (lines : List (List ℕ)) (blocks : List Block) (last : List ℕ) (end : Block) → length blocks ≡ length lines → RoundsSay graph k b lines blocks
     → BlockSays graph k b (progress_of graph lines blocks) last end → RoundsSay graph k b (lines ++ last ∷ []) (blocks ++ end ∷ [])
 RoundsSay-push graph k b lines blocks last end one_each say says =
-    holds_of_one_more graph (λ before place line block. BlockSays graph k b before line block) lines blocks last end one_each say says
+    holds_of_one_more graph (λ before index line block. BlockSays graph k b before line block) lines blocks last end one_each say says
 
 -- no line has no round
 RoundsSay-none : (graph : Tfpg) (k b : ℕ) → RoundsSay graph k b [] []
-RoundsSay-none graph k b place line block at there = absurd (omega (arith, slice_get_within {A = List ℕ} [] place line at))
+RoundsSay-none graph k b index line block at there = absurd (omega (arith, slice_get_within {A = List ℕ} [] index line at))
 
 -- the text of one block more
 pub report_text-push : (graph : Tfpg) (k b : ℕ) (blocks : List Block) (block : Block) → report_text graph k b blocks ++ block_text graph block ≡ report_text graph k b (blocks ++ block ∷ [])
@@ -107,6 +107,7 @@ report_text-push graph k b blocks block =
     append_assoc (head_text k b) (flat_map (block_text graph) blocks) (block_text graph block)
     ∙ ap (λ (t : List ℕ). head_text k b ++ t) (sym (flat_map-append (block_text graph) blocks (block ∷ []) ∙ ap (λ (t : List ℕ). flat_map (block_text graph) blocks ++ t) (append-nil (block_text graph block))))
 
+-- what holds of each of some items and of one more holds of each of all
 AllByRecursion-push : {X : Type 0} (P : X → Type 0) (xs : List X) (x : X) → AllByRecursion P xs → P x → AllByRecursion P (xs ++ x ∷ [])
 AllByRecursion-push P [] x are is = (is, tt)
 AllByRecursion-push P (first ∷ others) x are is = (are.0, AllByRecursion-push P others x are.1 is)
@@ -217,20 +218,20 @@ module _ (graph : Tfpg) (k b : ℕ) (before now : Streams) (lines : Buffered) (e
         );
       }
 
-  module _ (number : ℕ) (bytes : List ℕ) (answered : Engining) (output : SinkState)
-      (number_is : number ≡ reader.number) (block : HasBlock graph k b (progress_of graph under.reading.given under.blocks) number gave.first bytes answered) where
+  module _ (number : ℕ) (bytes : List ℕ) (later : Engining) (output : SinkState)
+      (number_is : number ≡ reader.number) (block : HasBlock graph k b (progress_of graph under.reading.given under.blocks) number gave.first bytes later) where
     blocks_are : AreBlocks graph k b (under.reading.given ++ gave.first ∷ []) (under.blocks ++ block.block ∷ [])
     blocks_are =
         let given = under.reading.given in
-        let place : number ≡ 1 + length given = omega (arith, number_is, gave.stands.number, length-append given (gave.first ∷ [])) in
-        AreBlocks-push graph k b given under.blocks gave.first block.block number under.are_blocks place block.is_block
+        let index : number ≡ 1 + length given = omega (arith, number_is, gave.stands.number, length-append given (gave.first ∷ [])) in
+        AreBlocks-push graph k b given under.blocks gave.first block.block number under.are_blocks index block.is_block
 
     rounds_say : RoundsSay graph k b (under.reading.given ++ gave.first ∷ []) (under.blocks ++ block.block ∷ [])
     rounds_say = RoundsSay-push graph k b under.reading.given under.blocks gave.first block.block under.are_blocks.one_each under.say block.says
 
     -- where the block is written, the diagnosis is under way still
     pub gave_block : GoesOnByBlocks → Puts now.output output bytes → output.faults ≡ now.output.faults
-        → IsDiagnosing graph k b before (record { input = input; output = output }) reader answered
+        → IsDiagnosing graph k b before (record { input = input; output = output }) reader later
     gave_block goes_on puts no_fault =
         let reading = under.reading in
         let given = reading.given in
@@ -248,7 +249,7 @@ module _ (graph : Tfpg) (k b : ℕ) (before now : Streams) (lines : Buffered) (e
           are_blocks = blocks_are;
           no_losses = AllByRecursion-push LosesNone under.blocks block.block under.no_losses block.no_losses;
           say = rounds_say;
-          reports = subst (EngineReports graph k b answered) (sym (goes_on graph given under.blocks gave.first block.block)) block.reports;
+          reports = subst (EngineReports graph k b later) (sym (goes_on graph given under.blocks gave.first block.block)) block.reports;
           no_fault = record { input = gave.no_fault ∙ under.no_fault.input; output = no_fault ∙ under.no_fault.output };
         }
 
@@ -284,10 +285,10 @@ module _ (graph : Tfpg) (k b : ℕ) (before now : Streams) (lines : Buffered) (e
 -- ---- as the code comes to it
 
 -- A line was read, and these bytes are its block.
-pub record IsAnswered (graph : Tfpg) (k b : ℕ) (before now : Streams) (lines : Buffered) (engine : Engining) (input : SourceState) (reader : Buffered)
-    (under : IsDiagnosing graph k b before now lines engine) (number : ℕ) (bytes : List ℕ) (answered : Engining) : Type 0 where
+pub record IsLineBlock (graph : Tfpg) (k b : ℕ) (before now : Streams) (lines : Buffered) (engine : Engining) (input : SourceState) (reader : Buffered)
+    (under : IsDiagnosing graph k b before now lines engine) (number : ℕ) (bytes : List ℕ) (later : Engining) : Type 0 where
   pub gave : GaveLine under.reading now.input input reader
-  pub block : HasBlock graph k b (progress_of graph under.reading.given under.blocks) number gave.first bytes answered
+  pub block : HasBlock graph k b (progress_of graph under.reading.given under.blocks) number gave.first bytes later
 
 module _ (graph : Tfpg) (k b : ℕ) (before now : Streams) (lines : Buffered) (engine : Engining) (input : SourceState) (reader : Buffered)
     (under : IsDiagnosing graph k b before now lines engine) (l : Line) (continues : Continues under.reading under.reading.ended now.input input (Ok l) reader) where
@@ -297,33 +298,33 @@ module _ (graph : Tfpg) (k b : ℕ) (before now : Streams) (lines : Buffered) (e
       (subst (λ (x : Line). Continues under.reading under.reading.ended now.input input (Ok x) reader) e continues)
 
   -- a text was read
-  pub met_text : l ≡ line.Text → (gave : GaveLine under.reading now.input input reader) × (length gave.first ≤ 4096) × (reader.text ≡ gave.first)
+  pub met_text : l ≡ line.Text → (gave : GaveLine under.reading now.input input reader) × (length gave.first ≤ LONGEST_LINE) × (reader.text ≡ gave.first)
   met_text e = Continues-text under.reading now.input input reader under.goes_on
       (subst (λ (x : Line). Continues under.reading under.reading.ended now.input input (Ok x) reader) e continues)
 
   -- a line that is too long was passed
-  pub met_long : l ≡ line.TooLong → (gave : GaveLine under.reading now.input input reader) × (4096 < length gave.first)
+  pub met_long : l ≡ line.TooLong → (gave : GaveLine under.reading now.input input reader) × (LONGEST_LINE < length gave.first)
   met_long e = Continues-too_long under.reading now.input input reader under.goes_on
       (subst (λ (x : Line). Continues under.reading under.reading.ended now.input input (Ok x) reader) e continues)
 
   -- the block of a text
-  pub answered_text : (number : ℕ) (text bytes : List ℕ) (answered : Engining) → l ≡ line.Text → text ≡ reader.text
-      → ((before : Progress) → EngineReports graph k b engine before → length text ≤ 4096 → HasBlock graph k b before number text bytes answered)
-      → IsAnswered graph k b before now lines engine input reader under number bytes answered
-  answered_text number text bytes answered e t answers =
+  pub block_of_text : (number : ℕ) (text bytes : List ℕ) (later : Engining) → l ≡ line.Text → text ≡ reader.text
+      → ((before : Progress) → EngineReports graph k b engine before → length text ≤ LONGEST_LINE → HasBlock graph k b before number text bytes later)
+      → IsLineBlock graph k b before now lines engine input reader under number bytes later
+  block_of_text number text bytes later e t gives =
       let met = met_text e in
       let text_is : text ≡ met.0.first = t ∙ met.2 in
-      let short : length text ≤ 4096 = subst (λ (x : List ℕ). length x ≤ 4096) (sym text_is) met.1 in
+      let short : length text ≤ LONGEST_LINE = subst (λ (x : List ℕ). length x ≤ LONGEST_LINE) (sym text_is) met.1 in
       let at = progress_of graph under.reading.given under.blocks in
       record {
         gave = met.0;
-        block = subst (λ (x : List ℕ). HasBlock graph k b at number x bytes answered) text_is (answers at under.reports short);
+        block = subst (λ (x : List ℕ). HasBlock graph k b at number x bytes later) text_is (gives at under.reports short);
       }
 
   -- the block of a line that is too long
-  pub answered_long : (number : ℕ) (bytes : List ℕ) → l ≡ line.TooLong → bytes ≡ refused_text number TooLong
-      → IsAnswered graph k b before now lines engine input reader under number bytes engine
-  answered_long number bytes e text =
+  pub block_of_long : (number : ℕ) (bytes : List ℕ) → l ≡ line.TooLong → bytes ≡ refused_text number TooLong
+      → IsLineBlock graph k b before now lines engine input reader under number bytes engine
+  block_of_long number bytes e text =
       let met = met_long e in
       record {
         gave = met.0;
@@ -356,7 +357,7 @@ head_as k' k b' b bytes e f is = subst (λ (y : ℕ). bytes ≡ head_text k y) f
 
 -- a diagnosis begins
 pub begins_under_way : (graph : Tfpg) (k b : ℕ) (before : Streams) (lines : Buffered) (engine : Engining) (output : SinkState)
-    → LinesRepresent lines new_reading → EngineReports graph k b engine start → Puts before.output output (head_text k b) → output.faults ≡ before.output.faults
+    → LinesRepresent lines new_reading → EngineReports graph k b engine new_progress → Puts before.output output (head_text k b) → output.faults ≡ before.output.faults
     → IsDiagnosing graph k b before (record { input = before.input; output = output }) lines engine
 begins_under_way graph k b before lines engine output unread new puts no_fault = record {
   reading = new_reading;

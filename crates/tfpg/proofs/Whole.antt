@@ -3,13 +3,6 @@ use Rattle.std.proofs.Common.{◌≡◌, ◌<◌, ℕ, List, ◌++◌, Option, S
 use Rattle.std.proofs.lemmas.List.{length-append}
 use Rattle.std.specs.Io.KnownBytes.{Consumes}
 
--- two reads give what each of them gave
-pub consumes_both : (before now after : Option (List ℕ)) (given part : List ℕ) → Consumes before now given → Consumes now after part → Consumes before after (given ++ part)
-consumes_both None now after given part p q = tt
-consumes_both (Some known) None after given part p q = absurd p
-consumes_both (Some known) (Some left) None given part p q = absurd q
-consumes_both (Some known) (Some left) (Some rest) given part p q = p ∙ ap (λ (l : List ℕ). given ++ l) q ∙ sym (append_assoc given part rest)
-
 -- where what was read passes the room, what is known passes it too
 pub more_is_known : (before now after : Option (List ℕ)) (given part front : List ℕ) → Consumes before now given → Consumes now after part
     → (more : List ℕ) × (0 < length more) × (given ++ part ≡ front ++ more)

@@ -2,25 +2,25 @@
 use Rattle.std.proofs.Common.{◌≡◌, ℕ, ◌+◌, ◌*◌, ◌<◌, ◌≤◌, ◌^◌, List, [], ◌∷◌, ◌++◌, length, map, flat_map, All, Bool, true, false, IsTrue, eqb, codes, refl, sym, ap, subst, ◌∙◌, arith, length-append}
 use Rattle.std.specs.Prelude.{decimal}
 use Rattle.std.specs.List.{join_with_byte}
-use Rattle.std.proofs.lemmas.List.{append-nil, length-map}
+use Rattle.std.proofs.lemmas.List.{length-map}
 use Rattle.std.proofs.lemmas.List.Elements.{All-nil, All-cons, All-head, All-tail, All-weaker, All-append}
 use Rattle.std.proofs.lemmas.List.Folds.{flat_map-map}
 use Rattle.tfpg_base.specs.declared.activation.Activation.{Activation}
 use Rattle.tfpg_base.specs.Lines.{HasNoLineEnd, lines_of, with_line_end}
 use Rattle.tfpg_base.specs.declared.limits.TheConstants.{LONGEST_LINE, MAX_TIME}
 use Rattle.tfpg_base.specs.Trace.{IsRisingByNode}
-use Rattle.tfpg_base.proofs.LinesOf.{lines_of-after}
 use Rattle.tfpg_base.proofs.Separators.{lacks_checked, name_lacks, decimal_lacks}
 use Rattle.tfpg_base.proofs.WordLengths.{name_short, number_short}
 use Rattle.tfpg_base.proofs.lists.Distinct.{length-le_distinct}
 use Rattle.tfpg_base.proofs.lists.Ordered.{Rises-differ}
 use Rattle.tfpg_graph.specs.Graph.{Tfpg, name_word, failures, IsSetOf}
 use Rattle.tfpg_graph.specs.Valid.{IsValid}
-use Rattle.tfpg_graph.proofs.lemmas.reading.SpelledEdges.{is_name-name_of}
+use Rattle.tfpg_graph.proofs.lemmas.reading.SpelledEdges.{is_name-name_word}
 use Rattle.tfpg_log.specs.Log.{Logbook, IsOrdered, now_of}
 use Rattle.tfpg_log.specs.Explains.{Explains}
 use Rattle.tfpg_clause.proofs.InRange.{now_in_range}
 use Rattle.tfpg_sim.specs.declared.simulated.Simulated.{Simulated}
+use Rattle.tfpg_sim.proofs.AcceptedLines.{lines_again}
 use Rattle.tfpg_report.specs.Blocks.{set_word, failure_word, activation_line}
 use Rattle.tfpg.specs.Map.{IsActivationOf, SpellsMap, set_line}
 use Rattle.tfpg.specs.MapText.{map_text}
@@ -28,9 +28,9 @@ use Rattle.tfpg.specs.Simulating.{simulated_text}
 use Rattle.tfpg.proofs.MapWords.{failure_word-is_name}
 
 -- a text without a line end, of at most so many bytes
-record IsLinePart (most : ℕ) (text : List ℕ) : Type 0 where
+record IsLinePart (limit : ℕ) (text : List ℕ) : Type 0 where
   lacks : HasNoLineEnd text
-  few : length text ≤ most
+  few : length text ≤ limit
 
 -- names with commas between
 joined : (names : List (List ℕ)) → All (IsLinePart 32) names → IsLinePart (length names * 33) (join_with_byte 44 names)
@@ -50,19 +50,19 @@ joined (name ∷ second ∷ others) are =
 module _ (graph : Tfpg) (valid : IsValid graph) where
   -- ---- the line of a set
 
-  names_are : (set : List ℕ) → All (λ place. place < length (failures graph)) set → All (IsLinePart 32) (map (failure_word graph) set)
+  names_are : (set : List ℕ) → All (λ position. position < length (failures graph)) set → All (IsLinePart 32) (map (failure_word graph) set)
   names_are [] members = All-nil (IsLinePart 32)
-  names_are (place ∷ places) members =
-      let named = failure_word-is_name graph valid place (All-head (λ p. p < length (failures graph)) place places members) in
-      All-cons (IsLinePart 32) (failure_word graph place) (map (failure_word graph) places)
-      (record { lacks = name_lacks 10 (failure_word graph place) refl named; few = name_short (failure_word graph place) named })
-      (names_are places (All-tail (λ p. p < length (failures graph)) place places members))
+  names_are (position ∷ positions) members =
+      let named = failure_word-is_name graph valid position (All-head (λ p. p < length (failures graph)) position positions members) in
+      All-cons (IsLinePart 32) (failure_word graph position) (map (failure_word graph) positions)
+      (record { lacks = name_lacks 10 (failure_word graph position) refl named; few = name_short (failure_word graph position) named })
+      (names_are positions (All-tail (λ p. p < length (failures graph)) position positions members))
 
-  set_word_is : (set : List ℕ) → All (λ place. place < length (failures graph)) set → IsLinePart (length set * 33 + 1) (set_word graph set)
+  set_word_is : (set : List ℕ) → All (λ position. position < length (failures graph)) set → IsLinePart (length set * 33 + 1) (set_word graph set)
   set_word_is [] members = record { lacks = lacks_checked 10 (codes "-") refl; few = omega arith }
-  set_word_is (place ∷ places) members =
-      let part = joined (map (failure_word graph) (place ∷ places)) (names_are (place ∷ places) members) in
-      record { lacks = part.lacks; few = omega (arith, part.few, length-map (place ∷ places) (failure_word graph)) }
+  set_word_is (position ∷ positions) members =
+      let part = joined (map (failure_word graph) (position ∷ positions)) (names_are (position ∷ positions) members) in
+      record { lacks = part.lacks; few = omega (arith, part.few, length-map (position ∷ positions) (failure_word graph)) }
 
   set_line_is : (set : List ℕ) → IsSetOf graph set → IsLinePart LONGEST_LINE (set_line graph set)
   set_line_is set of =
@@ -78,7 +78,7 @@ module _ (graph : Tfpg) (valid : IsValid graph) where
 
   at_line_is : (activation : Activation) → IsActivationOf graph activation → IsLinePart LONGEST_LINE (activation_line graph activation)
   at_line_is activation of =
-      let named = is_name-name_of graph activation.node of.in_graph valid.so_far.node_names in
+      let named = is_name-name_word graph activation.node of.in_graph valid.so_far.node_names in
       let name = name_word graph activation.node in
       let time = decimal activation.time in
       let time_few = number_short activation.time of.in_range in
@@ -110,9 +110,7 @@ module _ (graph : Tfpg) (valid : IsValid graph) where
 
     spelled : lines_of (map_text graph set trace) ≡ lines
     spelled =
-        ap lines_of (text_is ∙ sym (append-nil (flat_map with_line_end lines)))
-        ∙ lines_of-after lines [] (All-weaker (IsLinePart LONGEST_LINE) HasNoLineEnd (λ line part. part.lacks) lines lines_are)
-        ∙ append-nil lines
+        ap lines_of text_is ∙ lines_again lines (All-weaker (IsLinePart LONGEST_LINE) HasNoLineEnd (λ line part. part.lacks) lines lines_are)
 
     spells : IsRisingByNode trace → SpellsMap graph (lines_of (map_text graph set trace)) set trace
     spells rising = record {

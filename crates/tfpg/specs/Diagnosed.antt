@@ -8,13 +8,13 @@ use Rattle.tfpg_engine.specs.Earned.{AreEarned}
 
 -- The round of the line at an index, after these rounds: it is one of the log of the lines so far, and its steps are
 -- earned. Indexes begin with 0, numbers of lines with 1.
-pub record IsRoundOfLine (graph : Tfpg) (k budget : ℕ) (lines : List (List ℕ)) (place : ℕ) (earlier : List Round)
+pub record IsRoundOfLine (graph : Tfpg) (k budget : ℕ) (lines : List (List ℕ)) (index : ℕ) (earlier : List Round)
     (round : Round) : Type 0 where
-  pub round_is : IsRound graph k budget earlier (log_of_lines graph (take (place + 1) lines)) (place + 1) round
-  pub earned : AreEarned graph (log_of_lines graph (take (place + 1) lines)) budget earlier round
+  pub round_is : IsRound graph k budget earlier (log_of_lines graph (take (index + 1) lines)) (index + 1) round
+  pub earned : AreEarned graph (log_of_lines graph (take (index + 1) lines)) budget earlier round
 
 -- These are the rounds of the lines: one for each, after those of the lines before it.
 pub record AreRoundsOf (graph : Tfpg) (k budget : ℕ) (lines : List (List ℕ)) (rounds : List Round) : Type 0 where
   pub one_each : length rounds ≡ length lines
-  pub each : (place : ℕ) (round : Round) → slice_get rounds place ≡ Some round
-      → IsRoundOfLine graph k budget lines place (take place rounds) round
+  pub each : (index : ℕ) (round : Round) → slice_get rounds index ≡ Some round
+      → IsRoundOfLine graph k budget lines index (take index rounds) round

@@ -21,7 +21,7 @@ pub record GivesMap (graph : Tfpg) (input : SourceState) (taken set : List ℕ) 
   pub at_end : IsAtEnd input
 
 -- The whole input was taken, its lines spell a map, and this is the verdict on it.
-pub record HasVerdict (graph : Tfpg) (log : Logbook) (input : SourceState) (taken : List ℕ)
+pub record GivesVerdict (graph : Tfpg) (log : Logbook) (input : SourceState) (taken : List ℕ)
     (verdict : Verdict) : Type 0 where
   pub set : List ℕ
   pub trace : List Activation
@@ -31,14 +31,14 @@ pub record HasVerdict (graph : Tfpg) (log : Logbook) (input : SourceState) (take
 -- The verdict on the map was written, and nothing failed.
 pub record WritesVerdict (graph : Tfpg) (log : Logbook) (before now : Streams) (taken : List ℕ) : Type 0 where
   pub verdict : Verdict
-  pub has : HasVerdict graph log now.input taken verdict
+  pub has : GivesVerdict graph log now.input taken verdict
   pub writes : Puts before.output now.output (verdict_text graph verdict)
   pub no_fault : HasNoFault before now
 
 -- The output failed, and what was written begins the verdict on the map.
 pub record BeginsVerdict (graph : Tfpg) (log : Logbook) (before now : Streams) (taken : List ℕ) : Type 0 where
   pub verdict : Verdict
-  pub has : HasVerdict graph log now.input taken verdict
+  pub has : GivesVerdict graph log now.input taken verdict
   pub front : List ℕ
   pub rest : List ℕ
   pub parts : verdict_text graph verdict ≡ front ++ rest

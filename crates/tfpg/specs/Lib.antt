@@ -15,5 +15,5 @@ pub mod Completeness
 pub mod Diagnosed
 pub mod Summary
 pub mod Generating
--- What no public contract cites.
+-- What the code and its proofs need besides. No public clause reaches it.
 pub mod inside

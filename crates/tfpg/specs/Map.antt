@@ -35,11 +35,11 @@ BeginsMap graph lines =
 
 -- The line of this number, counted from 1, is at fault: some map begins with the lines before it, and none with it too.
 pub record IsFaultyLine (graph : Tfpg) (lines : List (List ℕ)) (number : ℕ) : Type 0 where
-  pub place : ℕ
-  pub counted : number ≡ place + 1
-  pub within : place < length lines
-  pub before : BeginsMap graph (take place lines)
-  pub with_it : BeginsMap graph (take (place + 1) lines) → ⊥
+  pub index : ℕ
+  pub counted : number ≡ index + 1
+  pub within : index < length lines
+  pub before : BeginsMap graph (take index lines)
+  pub with_it : BeginsMap graph (take (index + 1) lines) → ⊥
 
 -- Where lines are no map: their first faulty line, or line 1 where there is no line.
 abbrev pub IsMapFault : Tfpg → List (List ℕ) → ℕ → Type 0

@@ -19,15 +19,16 @@ pub record RoundSays (graph : Tfpg) (k budget : ℕ) (rounds : List Round) (log 
   pub minimal : HasNoneOpen round → AreThoseOfMinimalSets graph log k round.findings
   pub settled : IsEnough graph log budget → HasNoneOpen round
 
--- the round of a line's block says this, after the rounds and the log so far
+-- What the block of a line promises after the rounds and the log so far: its round says what a round says of the log
+-- with the line, after these rounds. The block of a refused line has no round, and promises nothing.
 abbrev pub BlockSays : Tfpg → ℕ → ℕ → Progress → List ℕ → Block → Type 0
 BlockSays graph k budget before line (RefusedBlock number cause) = Unit {0}
 BlockSays graph k budget before line (RoundBlock round losses) =
     RoundSays graph k budget before.rounds (log_after graph before.log line) round
 
--- each round of a report on these lines says this
+-- Each block of a report on these lines keeps the promise of the block of its line, after the blocks before it.
 abbrev pub RoundsSay : Tfpg → ℕ → ℕ → List (List ℕ) → List Block → Type 0
 RoundsSay graph k budget lines blocks =
-    (place : ℕ) (line : List ℕ) (block : Block) → slice_get lines place ≡ Some line
-    → slice_get blocks place ≡ Some block
-    → BlockSays graph k budget (progress_of graph (take place lines) (take place blocks)) line block
+    (index : ℕ) (line : List ℕ) (block : Block) → slice_get lines index ≡ Some line
+    → slice_get blocks index ≡ Some block
+    → BlockSays graph k budget (progress_of graph (take index lines) (take index blocks)) line block

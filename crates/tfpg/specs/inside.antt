@@ -1,5 +1,5 @@
--- What no public contract cites.
-pub mod Answering
+-- What the code and its proofs need besides. No public clause reaches it.
+pub mod LineBlocks
 pub mod Course
 pub mod MapLines
 pub mod MapReading

@@ -9,11 +9,11 @@ ghost use Rattle.tfpg_engine.specs.Engining.{EngineRepresents};
 ghost use Rattle.tfpg_report.specs.Blocks.{head_text};
 ghost use Rattle.tfpg.specs.Run.{Diagnoses};
 ghost use Rattle.tfpg.specs.Streams.{Streams, streams};
-ghost use Rattle.tfpg.specs.inside.Answering.{IsEngineReady};
+ghost use Rattle.tfpg.specs.inside.LineBlocks.{IsEngineReady};
 ghost use Rattle.tfpg.specs.inside.Course.{IsDiagnosing, ComesTo};
 
-use crate::answering::{answer, refused_block};
 use crate::fault::StreamFault;
+use crate::line_blocks::{line_block, refused_block};
 use crate::output::write_all;
 use std::alloc::Global;
 use std::sync::ledger::Ledger;
@@ -93,7 +93,7 @@ fn take_turn<S: Source, K: Sink, L: Ledger>(
             write_block(out, &block)
         }
         Line::Text => {
-            let block = answer(alloc, engine, lines.number(), lines.text(), work)?;
+            let block = line_block(alloc, engine, lines.number(), lines.text(), work)?;
             write_block(out, &block)
         }
     }

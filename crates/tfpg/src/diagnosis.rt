@@ -4,6 +4,7 @@ ghost use Rattle.std.specs.Prelude.{◌≡◌, ◌<◌, ◌++◌, ◌∷◌, [],
 ghost use Rattle.tfpg_base.specs.Lines.{lines_of};
 ghost use Rattle.tfpg_graph.specs.Graph.{Tfpg, failures};
 ghost use Rattle.tfpg_sim.specs.AcceptedLog.{AreAccepted, IsAccepted};
+ghost use Rattle.tfpg_sim.specs.declared.limits.TheConstants.{FAILURE_COUNT};
 ghost use Rattle.tfpg.specs.inside.Diagnosed.{HasDiagnosed};
 
 use crate::limits::{GENERATED_BUDGET, GENERATED_K};
@@ -29,7 +30,7 @@ pub(crate) fn diagnose_lines<L: Ledger>(
     lines: &[&[u8]],
     work: &mut Steps<L>,
 ) -> Result<Diagnosis, NoMemory>
-    requires few { length (failures graph) ≡ 16 }
+    requires few { length (failures graph) ≡ FAILURE_COUNT }
     requires accepted { AreAccepted graph (map (λ line. line.now) lines.now) }
     ensures { IfOk result (HasDiagnosed graph (map (λ line. line.now) lines.now)) }
 {
@@ -55,7 +56,7 @@ pub(crate) fn lines_in(alloc: Global, text: &[u8]) -> Result<Vec<&[u8]>, NoMemor
 impl Diagnosis {
     /// A diagnosis of no line. Of 16 failure modes there are 137 sets of at most 2, which are not too many.
     fn new(alloc: Global, graph: Graph) -> Result<Diagnosis, NoMemory>
-        requires { length (failures graph) ≡ 16 }
+        requires { length (failures graph) ≡ FAILURE_COUNT }
         ensures { IfOk result (HasDiagnosed graph []) }
     {
         match Engine::new(alloc, graph, GENERATED_K, GENERATED_BUDGET) {
@@ -72,14 +73,9 @@ impl Diagnosis {
             OnOk result (HasDiagnosed graph (lines ++ line.now ∷ []) self.new) }
     {
         let number = u64::from(self.engine.log().len()) + 1;
-        match self.engine.event(number, line, work) {
-            Ok(Told::Round(round)) => {
-                self.last = Some(round);
-                Ok(())
-            }
-            // The line is accepted, so this never comes.
-            Ok(Told::Refused(_)) => Ok(()),
-            Err(_) => Err(NoMemory),
+        if let Told::Round(round) = self.engine.event(number, line, work)? {
+            self.last = Some(round);
         }
+        Ok(())
     }
 }

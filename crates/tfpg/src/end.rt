@@ -84,10 +84,10 @@ impl End {
             End::Usage { cause } => append_usage(*cause, into),
             End::Graph { line, cause } => append_graph(*line, *cause, into),
             End::TooManyHypotheses { count } => append_too_many(*count, into),
-            End::ReadFault => put(b"read fault", into),
-            End::WriteFault => put(b"write fault", into),
-            End::TooMuchInput => put(b"too much input", into),
-            End::NoMemory => put(b"no memory", into),
+            End::ReadFault => append_text(b"read fault", into),
+            End::WriteFault => append_text(b"write fault", into),
+            End::TooMuchInput => append_text(b"too much input", into),
+            End::NoMemory => append_text(b"no memory", into),
         }
     }
 }
@@ -244,7 +244,7 @@ fn append_too_many(count: u128, into: &mut Vec<u8>) -> Result<(), NoMemory>
 }
 
 /// Appends a text.
-fn put(text: &[u8], into: &mut Vec<u8>) -> Result<(), NoMemory>
+fn append_text(text: &[u8], into: &mut Vec<u8>) -> Result<(), NoMemory>
     ensures { Appends result into.old.items into.new.items text.now }
 {
     into.extend_from_slice(text)?;

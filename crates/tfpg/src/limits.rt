@@ -1,7 +1,7 @@
 //! The limits of the diagnosis that `generate` makes.
 
-/// The greatest number of failure modes of a hypothesis.
+/// The `k` of that diagnosis: the greatest number of failure modes of a hypothesis.
 pub const GENERATED_K: u32 = 2;
 
-/// How many splits a hypothesis has in a round at most.
+/// Its budget: how many splits a hypothesis has in a round at most.
 pub const GENERATED_BUDGET: u64 = 50;

@@ -9,7 +9,6 @@
 
 ghost use Rattle.std.specs.Prelude.{◌≡◌, ◌<◌};
 
-mod answering;
 mod course;
 mod diagnosis;
 mod end;
@@ -19,6 +18,7 @@ mod generating;
 mod judging;
 mod laws;
 mod limits;
+mod line_blocks;
 mod map;
 mod map_lines;
 mod map_reading;

@@ -7,7 +7,7 @@ ghost use Rattle.tfpg_graph.specs.Valid.{IsValid};
 ghost use Rattle.tfpg_graph.specs.Graph.{name_word, IsSetOf};
 ghost use Rattle.tfpg_report.specs.Blocks.{activation_line, failure_word, set_word};
 ghost use Rattle.tfpg.specs.Map.{IsActivationOf, set_line};
-ghost use Rattle.tfpg.specs.inside.MapLines.{word_after_set, words_after_at, position_named, AreFrom};
+ghost use Rattle.tfpg.specs.inside.MapLines.{word_after_set, words_after_at, position_named, AreRisingFrom};
 
 use crate::map::MapFault;
 use std::alloc::Global;
@@ -49,7 +49,7 @@ fn read_set(alloc: Global, graph: &Graph, word: &[u8]) -> Result<Set, MapFault>
         return Ok(Set::empty());
     }
     let names = parts_at_commas(alloc, word)?;
-    match rising_places(graph, &names, 0) {
+    match rising_positions(graph, &names, 0) {
         Some(set) => Ok(set),
         None => Err(MapFault::BadMap),
     }
@@ -57,27 +57,27 @@ fn read_set(alloc: Global, graph: &Graph, word: &[u8]) -> Result<Set, MapFault>
 
 /// The positions of the failure modes of these names, where they rise, and none is before the least one. Calls as deep as
 /// there are failure modes, at most.
-fn rising_places(graph: &Graph, names: &[&[u8]], least: u32) -> Option<Set>
-    ensures found { IfSome result (λ set. AreFrom graph.now least set ×
+fn rising_positions(graph: &Graph, names: &[&[u8]], least: u32) -> Option<Set>
+    ensures found { IfSome result (λ set. AreRisingFrom graph.now least set ×
         (map (failure_word graph.now) set ≡ map (λ name. name.now) names.now)) }
-    ensures none { IsNone result → (set : List ℕ) → AreFrom graph.now least set →
+    ensures none { IsNone result → (set : List ℕ) → AreRisingFrom graph.now least set →
         map (failure_word graph.now) set ≡ map (λ name. name.now) names.now → ⊥ }
 {
     match names.split_first() {
         None => Some(Set::empty()),
         Some((first, others)) => {
-            let place = find_failure(graph, first)?;
-            if place < least {
+            let position = find_failure(graph, first)?;
+            if position < least {
                 return None;
             }
-            Some(rising_places(graph, others, place + 1)?.with(place))
+            Some(rising_positions(graph, others, position + 1)?.with(position))
         }
     }
 }
 
 /// The position of the failure mode of this name.
 fn find_failure(graph: &Graph, name: &[u8]) -> Option<u32>
-    ensures place { result ≡ position_named graph.now name.now }
+    ensures position { result ≡ position_named graph.now name.now }
     ensures valid { IsValid graph.now }
 {
     let _valid = graph.node_count();

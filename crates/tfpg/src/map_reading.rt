@@ -53,17 +53,17 @@ fn take_line<S: Source>(
 {
     match lines.next(input)? {
         Line::End => Ok(MapTurn::Ended),
-        Line::TooLong => Err(refused(lines)),
+        Line::TooLong => Err(not_a_map(lines)),
         Line::Text => match reader.take(graph, lines.text()) {
             Ok(()) => Ok(MapTurn::Read),
-            Err(MapFault::BadMap) => Err(refused(lines)),
+            Err(MapFault::BadMap) => Err(not_a_map(lines)),
             Err(MapFault::NoMemory) => Err(NoMap::NoMemory),
         },
     }
 }
 
 /// The line that was returned last is faulty.
-fn refused(lines: &Lines) -> NoMap
+fn not_a_map(lines: &Lines) -> NoMap
     ensures { result ≡ NoMap.Refused lines.now.number }
 {
     NoMap::Refused {

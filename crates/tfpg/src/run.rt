@@ -29,8 +29,8 @@ use tfpg_words::{Command, plan};
 /// Does what the words say. To diagnose it reads the graph that they name, then takes the input line by line, and writes the
 /// block of each line before the next one is taken. To explain it reads the graph and the log that they name, then the map of
 /// the input, and then writes the verdict on it. To simulate it reads the graph and the script that they name, and writes the log
-/// or the map of what happens. To generate it draws both, diagnoses the log, and writes what became of the truth. Searches count
-/// their steps on `work`.
+/// or the map of what happens. To generate it draws a graph and a script, diagnoses the log, and writes what became of
+/// the truth. Searches count their steps on `work`.
 pub fn run<F: Shelf, S: Source, K: Sink, L: Ledger>(
     alloc: Global,
     words: &[String],

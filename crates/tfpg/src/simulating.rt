@@ -3,7 +3,7 @@
 ghost use Rattle.std.specs.Prelude.{◌≡◌, ◌∷◌, ◌<◌, [], All, IfOk, IfErr, OnOk, Ok, Err, length};
 ghost use Rattle.tfpg_graph.specs.Graph.{AreFailures};
 ghost use Rattle.tfpg_sim.specs.Script.{script_of};
-ghost use Rattle.tfpg_sim.specs.ScriptAnswers.{IsFaultAt};
+ghost use Rattle.tfpg_sim.specs.ScriptFaults.{IsFaultAt};
 ghost use Rattle.tfpg.specs.Fetch.{AsksInOrder};
 ghost use Rattle.tfpg.specs.Simulating.{HasSimulation, SimulateEnds, SimulationEnds, simulated_text};
 

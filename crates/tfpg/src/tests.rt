@@ -91,7 +91,7 @@ const REFUSED_WORDS: [(&str, &[&str], UsageCause); 6] = [
 pub(crate) struct InMemory<'a> {
     files: &'a [(&'a str, &'a [u8])],
     input: &'a [u8],
-    most: usize,
+    piece_size: usize,
     shelf_fails: &'a [u64],
     input_fails: &'a [u64],
     output_fails: &'a [u64],
@@ -103,7 +103,7 @@ impl<'a> InMemory<'a> {
         InMemory {
             files,
             input,
-            most: 4096,
+            piece_size: 4096,
             shelf_fails: &[],
             input_fails: &[],
             output_fails: &[],
@@ -118,9 +118,9 @@ fn run_in_memory(
     memory: &InMemory<'_>,
 ) -> Result<(End, Vec<u8>, usize), AllocError> {
     let mut shelf = MemoryShelf::new(alloc, memory.files, memory.shelf_fails);
-    let most = memory.most.max(1);
-    let mut input = MemorySource::new(memory.input, most, memory.input_fails);
-    let mut out = MemorySink::new(alloc, most, memory.output_fails);
+    let piece_size = memory.piece_size.max(1);
+    let mut input = MemorySource::new(memory.input, piece_size, memory.input_fails);
+    let mut out = MemorySink::new(alloc, piece_size, memory.output_fails);
     let end = run_over(alloc, words, &mut shelf, &mut input, &mut out);
     Ok((
         end,
@@ -162,14 +162,14 @@ pub(crate) fn diagnosed(
 /// calls, and what it writes.
 fn diagnosed_in_pieces(
     alloc: Global,
-    most: usize,
+    piece_size: usize,
     input_fails: &[u64],
     output_fails: &[u64],
 ) -> Result<(End, Vec<u8>), AllocError> {
     let words = words_of(alloc, &["diagnose", "g"], &["--k", "0"])?;
     let files = [("g", GRAPH)];
     let memory = InMemory {
-        most,
+        piece_size,
         input_fails,
         output_fails,
         ..InMemory::of(&files, LOG)
@@ -197,10 +197,10 @@ fn end_on_words(
 
 #[test]
 fn pieces_change_no_byte(rt: HostRuntime) -> Result<(), Fail> {
-    for most in [1, 7, 4096] {
-        let (end, report) = diagnosed_in_pieces(rt.alloc(), most, &[], &[])?;
-        assert_eq!(rt; end, End::Done, "in pieces of {most}");
-        assert_eq!(rt; report.as_slice(), REPORT, "in pieces of {most}");
+    for piece_size in [1, 7, 4096] {
+        let (end, report) = diagnosed_in_pieces(rt.alloc(), piece_size, &[], &[])?;
+        assert_eq!(rt; end, End::Done, "in pieces of {piece_size}");
+        assert_eq!(rt; report.as_slice(), REPORT, "in pieces of {piece_size}");
     }
     Ok(())
 }
@@ -307,7 +307,7 @@ pub(crate) fn log_of(
 }
 
 #[test]
-fn answers_each_line_of_a_log(rt: HostRuntime) -> Result<(), Fail> {
+fn writes_a_block_for_each_line_of_a_log(rt: HostRuntime) -> Result<(), Fail> {
     for (name, lengths, after, blocks) in &LOGS {
         let log = log_of(rt.alloc(), *lengths, *after)?;
         let (end, report) = diagnosed(rt.alloc(), &["--k", "0"], TWO_MODES, &log)?;

@@ -33,20 +33,20 @@ pub Appends-after : (result : Result (Unit {0}) NoMemory) (old mid new a b : Lis
 Appends-after (Ok done) old mid new a b e h = appended_after old mid new a b e h
 Appends-after (Err short) old mid new a b e h = kept_after old mid new a e h
 
--- the texts of the items before a place, and after them that of the item there
-pub appended_more : {X : Type 0} (f : X → List ℕ) (xs : List X) (place : ℕ) (d : X) (old mid new : List ℕ) → place < length xs
-    → mid ≡ old ++ flat_map f (take place xs) → new ≡ mid ++ f (get_or xs place d) → new ≡ old ++ flat_map f (take (place + 1) xs)
-appended_more f xs place d old mid new lt e h =
-    h ∙ ap (λ (t : List ℕ). t ++ f (get_or xs place d)) e ∙ flat_map_more f old (take place xs) (get_or xs place d)
-    ∙ ap (λ ys. old ++ flat_map f ys) (sym (take_more xs place d lt))
+-- the texts of the items before an index, and after them that of the item there
+pub appended_more : {X : Type 0} (f : X → List ℕ) (xs : List X) (index : ℕ) (d : X) (old mid new : List ℕ) → index < length xs
+    → mid ≡ old ++ flat_map f (take index xs) → new ≡ mid ++ f (get_or xs index d) → new ≡ old ++ flat_map f (take (index + 1) xs)
+appended_more f xs index d old mid new lt e h =
+    h ∙ ap (λ (t : List ℕ). t ++ f (get_or xs index d)) e ∙ flat_map_more f old (take index xs) (get_or xs index d)
+    ∙ ap (λ ys. old ++ flat_map f ys) (sym (take_more xs index d lt))
 
--- the same, where the item at the place is known
+-- the same, where the item at the index is known
 pub appended_next : {X : Type 0} (f : X → List ℕ) (xs : List X) (number : ℕ) (x : X) (old mid new : List ℕ) → slice_get xs number ≡ Some x
     → mid ≡ old ++ flat_map f (take number xs) → new ≡ mid ++ f x → new ≡ old ++ flat_map f (take (number + 1) xs)
 appended_next f xs number x old mid new at e h =
     appended_more f xs number x old mid new (slice_get_within xs number x at) e (h ∙ ap (λ y. mid ++ f y) (sym (get_or_from_slice_get xs number x x at)))
 
 -- the texts of all items
-pub appended_all : {X : Type 0} (f : X → List ℕ) (xs : List X) (place : ℕ) (old new : List ℕ) → length xs ≤ place
-    → new ≡ old ++ flat_map f (take place xs) → new ≡ old ++ flat_map f xs
-appended_all f xs place old new le e = e ∙ ap (λ ys. old ++ flat_map f ys) (take_all place xs le)
+pub appended_all : {X : Type 0} (f : X → List ℕ) (xs : List X) (index : ℕ) (old new : List ℕ) → length xs ≤ index
+    → new ≡ old ++ flat_map f (take index xs) → new ≡ old ++ flat_map f xs
+appended_all f xs index old new le e = e ∙ ap (λ ys. old ++ flat_map f ys) (take_all index xs le)

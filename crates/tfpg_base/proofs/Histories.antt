@@ -67,8 +67,8 @@ module _ (reading : Reading) (bytes : List ℕ) (split : reading.taken ≡ flat_
   lines_of-last first h some e = lines_of-taken ∙ ap (λ b. reading.given ++ lines_of b) e ∙ ap (λ lines. reading.given ++ lines) (lines_of-one first h some)
 
 -- after a whole line nothing has ended
-not_ended : (next : Option (List ℕ)) (first : List ℕ) (answer : Result Line LineFault) → next ≡ Some first → ended_after_line next ≡ Some answer → ⊥
-not_ended next first answer is e = let none : ended_after_line next ≡ None = ap ended_after_line is in cc
+not_ended : (next : Option (List ℕ)) (first : List ℕ) (ending : Result Line LineFault) → next ≡ Some first → ended_after_line next ≡ Some ending → ⊥
+not_ended next first ending is e = let none : ended_after_line next ≡ None = ap ended_after_line is in cc
 
 -- after a last line the end comes
 ended_by_last : (next : Option (List ℕ)) → next ≡ None → ended_after_line next ≡ None → ⊥
@@ -82,20 +82,20 @@ with_line_end-push given first rest =
     ∙ ap (λ b. b ++ rest) (flat_map_more with_line_end [] given first)
 
 -- all but the last
-take_but_one : (most : ℕ) (taken front : List ℕ) (last : ℕ) → taken ≡ front ++ last ∷ [] → length taken ≡ most + 1 → take most taken ≡ front
-take_but_one most taken front last is count =
-    ap (take most) is ∙ take_at front (last ∷ []) most (omega (arith, count, ap length is, length_push front last))
+take_but_one : (limit : ℕ) (taken front : List ℕ) (last : ℕ) → taken ≡ front ++ last ∷ [] → length taken ≡ limit + 1 → take limit taken ≡ front
+take_but_one limit taken front last is count =
+    ap (take limit) is ∙ take_at front (last ∷ []) limit (omega (arith, count, ap length is, length_push front last))
 
 -- where there is none there is not some
 is_none : (next : Option (List ℕ)) → next ≡ None → IsSome next → ⊥
 is_none next e some = let f : IsSome {T = List ℕ} None = subst IsSome e some in cc
 
 -- What is known of the reader after a call, but for what it returns.
-record Stands (reading : Reading) (lines : ℕ) (now : Buffered) : Type 0 where
+record IsCounted (reading : Reading) (lines : ℕ) (now : Buffered) : Type 0 where
   lines_given : lines ≡ length reading.given
   counted : now.taken ≡ length reading.taken
 
-module _ (reading : Reading) (bytes : List ℕ) (lines : ℕ) (now : Buffered) (split : reading.taken ≡ flat_map with_line_end reading.given ++ bytes) (clean : All HasNoLineEnd reading.given) (stands : Stands reading lines now) (source_ended : Type 0) where
+module _ (reading : Reading) (bytes : List ℕ) (lines : ℕ) (now : Buffered) (split : reading.taken ≡ flat_map with_line_end reading.given ++ bytes) (clean : All HasNoLineEnd reading.given) (stands : IsCounted reading lines now) (source_ended : Type 0) where
   -- the line that was given is next
   IsNext-given : (first : List ℕ) → IsGiven bytes first lines source_ended now → IsNext reading first source_ended
   IsNext-given first is = elim is.ends [
@@ -148,8 +148,8 @@ module _ (reading : Reading) (bytes : List ℕ) (lines : ℕ) (now : Buffered) (
   LinesRepresent-given first is = elim is.ends [ inl ends ↦ LinesRepresent-begins first is ends | inr ends ↦ LinesRepresent-last first is ends ]
 
   -- the reader represents the history that the result ends
-  LinesRepresent-ended : (answer : Result Line LineFault) → IsEnded lines answer now → (Some answer ≡ Some (Ok line.End) → lines_of reading.taken ≡ reading.given) → LinesRepresent now (ended_by reading answer)
-  LinesRepresent-ended answer is all = record {
+  LinesRepresent-ended : (ending : Result Line LineFault) → IsEnded lines ending now → (Some ending ≡ Some (Ok line.End) → lines_of reading.taken ≡ reading.given) → LinesRepresent now (ended_by reading ending)
+  LinesRepresent-ended ending is all = record {
     number = is.number ∙ stands.lines_given;
     taken = stands.counted;
     ended = is.ended;
@@ -180,8 +180,8 @@ module _ (reading : Reading) (bytes : List ℕ) (lines : ℕ) (now : Buffered) (
       (all, count, found.5.text, LinesRepresent-ended (Err fault.TooMuchInput) found.5 (λ e. absurd (cc)))
 
 -- the reader represents the history also when it lends nothing any more
-LinesRepresent-lends_none : (old now : Buffered) (reading : Reading) (answer : Result Line LineFault) → reading.ended ≡ Some answer → now.number ≡ old.number → now.taken ≡ old.taken → now.ended ≡ old.ended → LinesRepresent old reading → LinesRepresent now reading
-LinesRepresent-lends_none old now reading answer is number taken ended stands = record {
+LinesRepresent-lends_none : (old now : Buffered) (reading : Reading) (ending : Result Line LineFault) → reading.ended ≡ Some ending → now.number ≡ old.number → now.taken ≡ old.taken → now.ended ≡ old.ended → LinesRepresent old reading → LinesRepresent now reading
+LinesRepresent-lends_none old now reading ending is number taken ended stands = record {
   number = number ∙ stands.number;
   taken = taken ∙ stands.taken;
   ended = ended ∙ stands.ended;
@@ -190,10 +190,10 @@ LinesRepresent-lends_none old now reading answer is number taken ended stands = 
 }
 
 -- what ended a reader is returned again
-pub Continues-ended : (old now : Buffered) (answer : Result Line LineFault) (source : SourceState) → old.ended ≡ Some answer → now.text ≡ [] → now.number ≡ old.number → now.taken ≡ old.taken → now.ended ≡ old.ended → (reading : Reading) → LinesRepresent old reading → Continues reading reading.ended source source answer now
-Continues-ended old now answer source is text number taken ended reading stands =
-    let was : reading.ended ≡ Some answer = sym stands.ended ∙ is in
-    subst (λ e. Continues reading e source source answer now) (sym was) (refl, refl, text, LinesRepresent-lends_none old now reading answer was number taken ended stands)
+pub Continues-ended : (old now : Buffered) (ending : Result Line LineFault) (source : SourceState) → old.ended ≡ Some ending → now.text ≡ [] → now.number ≡ old.number → now.taken ≡ old.taken → now.ended ≡ old.ended → (reading : Reading) → LinesRepresent old reading → Continues reading reading.ended source source ending now
+Continues-ended old now ending source is text number taken ended reading stands =
+    let was : reading.ended ≡ Some ending = sym stands.ended ∙ is in
+    subst (λ e. Continues reading e source source ending now) (sym was) (refl, refl, text, LinesRepresent-lends_none old now reading ending was number taken ended stands)
 
 -- the bytes of a search came in pieces, with a whole line at last or none
 ComesInPieces-searched : (old : Buffered) (reading : Reading) (more : List ℕ) → IsGoingOn old reading → LinesRepresent old reading → Pieces old more → ComesInPieces reading more
@@ -214,7 +214,7 @@ module _ (old now : Buffered) (before after : SourceState) (result : Result Line
       let unended_too : reading.ended ≡ None = sym stands.ended ∙ unended in
       let going : IsGoingOn old reading = stands.going_on unended_too in
       let split : reading.taken ++ more ≡ flat_map with_line_end reading.given ++ (old.waiting ++ more) = ap (λ b. b ++ more) going.bytes ∙ append_assoc (flat_map with_line_end reading.given) old.waiting more in
-      let known : Stands (with_bytes reading more) old.number now = record { lines_given = stands.number; counted = took.count ∙ ap (λ n. n + length more) stands.taken ∙ sym (length-append reading.taken more) } in
+      let known : IsCounted (with_bytes reading more) old.number now = record { lines_given = stands.number; counted = took.count ∙ ap (λ n. n + length more) stands.taken ∙ sym (length-append reading.taken more) } in
       subst (λ ended. Continues reading ended before after result now) (sym unended_too)
       (record {
         more = more;

@@ -3,7 +3,7 @@ pub mod lists
 pub use Rattle.tfpg_base.proofs.lists.Elements
 -- On the notions of this crate.
 pub mod Appended
-pub mod Joined
+pub mod LinesByWord
 pub mod Numbers
 pub mod Separators
 pub mod WordLengths
@@ -17,4 +17,3 @@ pub mod ReadingOn
 -- On what its code does.
 mod Histories
 mod Searches
-mod Ranges

@@ -21,7 +21,7 @@ parts_of-push (byte ∷ bytes) = by (byte == 10) (parts_of-push bytes)
     by false rest = ap (onto_first byte) rest ∙ onto_first-push byte (parts_of bytes) (parts_of_some bytes)
 
 -- all parts, the last one written apart
-parts_of-last : (bytes : List ℕ) → whole_lines bytes ++ last_part bytes ∷ [] ≡ parts_of bytes
+pub parts_of-last : (bytes : List ℕ) → whole_lines bytes ++ last_part bytes ∷ [] ≡ parts_of bytes
 parts_of-last bytes =
     let parts = parts_of bytes in
     sym (take_more parts (length parts - 1) [] (omega (arith, parts_of_some bytes)))

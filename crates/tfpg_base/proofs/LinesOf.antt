@@ -76,7 +76,7 @@ pub last_part-none : (bytes : List ℕ) → HasNoLineEnd bytes → last_part byt
 last_part-none bytes h = rw (slice_split_none ends_line bytes h) refl
 
 -- Bytes are lines with their line ends, and a rest without one.
-record IsCut (bytes : List ℕ) : Type 0 where
+record IsCutIntoLines (bytes : List ℕ) : Type 0 where
   lines : List (List ℕ)
   rest : List ℕ
   whole : bytes ≡ flat_map with_line_end lines ++ rest
@@ -84,15 +84,15 @@ record IsCut (bytes : List ℕ) : Type 0 where
   part : HasNoLineEnd rest
 
 -- a byte that ends no line belongs to the first line, or to the rest where there is no line
-IsCut-cons : (byte : ℕ) (bytes : List ℕ) (lines : List (List ℕ)) (rest : List ℕ) → ends_line byte ≡ false → bytes ≡ flat_map with_line_end lines ++ rest → All HasNoLineEnd lines → HasNoLineEnd rest → IsCut (byte ∷ bytes)
-IsCut-cons byte bytes [] rest e whole clean part = record {
+IsCutIntoLines-cons : (byte : ℕ) (bytes : List ℕ) (lines : List (List ℕ)) (rest : List ℕ) → ends_line byte ≡ false → bytes ≡ flat_map with_line_end lines ++ rest → All HasNoLineEnd lines → HasNoLineEnd rest → IsCutIntoLines (byte ∷ bytes)
+IsCutIntoLines-cons byte bytes [] rest e whole clean part = record {
   lines = [];
   rest = byte ∷ rest;
   whole = ap (λ b. byte ∷ b) whole;
   clean = clean;
   part = All-cons (λ b. ends_line b ≡ false) byte rest e part;
 }
-IsCut-cons byte bytes (line ∷ lines) rest e whole clean part = record {
+IsCutIntoLines-cons byte bytes (line ∷ lines) rest e whole clean part = record {
   lines = (byte ∷ line) ∷ lines;
   rest = rest;
   whole = ap (λ b. byte ∷ b) whole;
@@ -101,10 +101,10 @@ IsCut-cons byte bytes (line ∷ lines) rest e whole clean part = record {
 }
 
 -- all bytes are so
-cut : (bytes : List ℕ) → IsCut bytes
+cut : (bytes : List ℕ) → IsCutIntoLines bytes
 cut [] = record { lines = []; rest = []; whole = refl; clean = All-nil HasNoLineEnd; part = All-nil (λ b. ends_line b ≡ false) }
 cut (byte ∷ bytes) = go (ends_line byte) refl (cut bytes) where
-  go : (ends : Bool) → ends_line byte ≡ ends → IsCut bytes → IsCut (byte ∷ bytes)
+  go : (ends : Bool) → ends_line byte ≡ ends → IsCutIntoLines bytes → IsCutIntoLines (byte ∷ bytes)
   go true e is = record {
     lines = [] ∷ is.lines;
     rest = is.rest;
@@ -112,17 +112,17 @@ cut (byte ∷ bytes) = go (ends_line byte) refl (cut bytes) where
     clean = All-cons HasNoLineEnd [] is.lines (All-nil (λ b. ends_line b ≡ false)) is.clean;
     part = is.part;
   }
-  go false e is = IsCut-cons byte bytes is.lines is.rest e is.whole is.clean is.part
+  go false e is = IsCutIntoLines-cons byte bytes is.lines is.rest e is.whole is.clean is.part
 
 module _ (bytes : List ℕ) where
-  whole_lines-cut : (is : IsCut bytes) → whole_lines bytes ≡ is.lines
+  whole_lines-cut : (is : IsCutIntoLines bytes) → whole_lines bytes ≡ is.lines
   whole_lines-cut is =
       ap whole_lines is.whole
       ∙ whole_lines-after is.lines is.rest is.clean
       ∙ ap (λ lines. is.lines ++ lines) (whole_lines-none is.rest is.part)
       ∙ append-nil is.lines
 
-  last_part-cut : (is : IsCut bytes) → last_part bytes ≡ is.rest
+  last_part-cut : (is : IsCutIntoLines bytes) → last_part bytes ≡ is.rest
   last_part-cut is = ap last_part is.whole ∙ last_part-after is.lines is.rest is.clean ∙ last_part-none is.rest is.part
 
   -- no whole line has a line end in it

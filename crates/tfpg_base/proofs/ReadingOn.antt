@@ -1,5 +1,6 @@
 -- One call after another: what a caller that hands in the same source knows after each result.
 use Rattle.std.proofs.Common.{◌≡◌, ◌⊎◌, inl, inr, ℕ, ◌<◌, ◌≤◌, List, length, [], ◌++◌, Option, Some, None, Result, Ok, refl, ap, ◌∙◌, sym, subst, append-nil}
+use Rattle.std.proofs.lemmas.Option.{same_Some}
 use Rattle.tfpg_base.specs.declared.line.Line.{Line}
 use Rattle.tfpg_base.specs.declared.line.Line.TheVariants as line
 use Rattle.tfpg_base.specs.declared.line.LineFault.{LineFault}
@@ -9,34 +10,30 @@ use Rattle.tfpg_base.specs.declared.limits.TheConstants.{LONGEST_LINE}
 use Rattle.tfpg_base.proofs.Taking.{Takes-nothing}
 
 -- Nothing has ended the reader, or the last line was given and the source has ended.
-abbrev pub GoesOn : Reading → SourceState → Type 0
-GoesOn reading source = (reading.ended ≡ None) ⊎ ((reading.ended ≡ Some (Ok line.End)) × IsAtEnd source)
+abbrev pub CanContinue : Reading → SourceState → Type 0
+CanContinue reading source = (reading.ended ≡ None) ⊎ ((reading.ended ≡ Some (Ok line.End)) × IsAtEnd source)
 
--- equal results in an option are equal
-some_same : (answer other : Result Line LineFault) → Some answer ≡ Some other → answer ≡ other
-some_same answer other is = cc
-
--- a new reader goes on
-pub GoesOn-new : (source : SourceState) → GoesOn new_reading source
-GoesOn-new source = inl refl
+-- a new reader can continue
+pub CanContinue-new : (source : SourceState) → CanContinue new_reading source
+CanContinue-new source = inl refl
 
 -- and so does one that returned a line
-pub GoesOn-with_line : (reading : Reading) (first : List ℕ) (source : SourceState) → IsNext reading first (IsAtEnd source) → GoesOn (with_line reading first) source
-GoesOn-with_line reading first source next = go (next_whole reading) next.whole where
+pub CanContinue-with_line : (reading : Reading) (first : List ℕ) (source : SourceState) → IsNext reading first (IsAtEnd source) → CanContinue (with_line reading first) source
+CanContinue-with_line reading first source next = go (next_whole reading) next.whole where
   go : (whole : Option (List ℕ)) → (whole ≡ Some first) ⊎ IsAtEnd source → (ended_after_line whole ≡ None) ⊎ ((ended_after_line whole ≡ Some (Ok line.End)) × IsAtEnd source)
   go (Some found) is = inl refl
   go None (inl is) = absurd (cc)
   go None (inr end) = inr (refl, end)
 
 -- a call that returns anything but the end is a turn of a reader that nothing has ended
-pub Continues-turn : (reading : Reading) (before after : SourceState) (result : Result Line LineFault) (reader : Buffered) → GoesOn reading before → (result ≡ Ok line.End → ⊥) → Continues reading reading.ended before after result reader → GoesFurther reading before after result reader
+pub Continues-turn : (reading : Reading) (before after : SourceState) (result : Result Line LineFault) (reader : Buffered) → CanContinue reading before → (result ≡ Ok line.End → ⊥) → Continues reading reading.ended before after result reader → GoesFurther reading before after result reader
 Continues-turn reading before after result reader goes_on other continues = go reading.ended goes_on continues where
   go : (ended : Option (Result Line LineFault)) → (ended ≡ None) ⊎ ((ended ≡ Some (Ok line.End)) × IsAtEnd before) → Continues reading ended before after result reader → GoesFurther reading before after result reader
   go None is same = same
-  go (Some answer) (inl is) same = absurd (cc)
-  go (Some answer) (inr is) same = absurd (other (same.0 ∙ some_same answer (Ok line.End) is.0))
+  go (Some ending) (inl is) same = absurd (cc)
+  go (Some ending) (inr is) same = absurd (other (same.0 ∙ same_Some ending (Ok line.End) is.0))
 
--- A call took these bytes and returned this line, and the reader goes on.
+-- A call took these bytes and returned this line, and the reader can continue.
 pub record GaveLine (reading : Reading) (before after : SourceState) (reader : Buffered) : Type 0 where
   pub more : List ℕ
   pub first : List ℕ
@@ -44,22 +41,22 @@ pub record GaveLine (reading : Reading) (before after : SourceState) (reader : B
   pub no_fault : after.faults ≡ before.faults
   pub next : IsNext (with_bytes reading more) first (IsAtEnd after)
   pub stands : LinesRepresent reader (with_line (with_bytes reading more) first)
-  pub goes_on : GoesOn (with_line (with_bytes reading more) first) after
+  pub goes_on : CanContinue (with_line (with_bytes reading more) first) after
 
-module _ (reading : Reading) (before after : SourceState) (reader : Buffered) (goes_on : GoesOn reading before) where
+module _ (reading : Reading) (before after : SourceState) (reader : Buffered) (goes_on : CanContinue reading before) where
   -- a call that returns a text has read it
   pub Continues-text : Continues reading reading.ended before after (Ok line.Text) reader → (gave : GaveLine reading before after reader) × (length gave.first ≤ LONGEST_LINE) × (reader.text ≡ gave.first)
   Continues-text continues =
       let turn = Continues-turn reading before after (Ok line.Text) reader goes_on (λ e. cc) continues in
       let given = turn.returns in
-      (record { more = turn.more; first = given.0; takes = turn.takes; no_fault = turn.faults; next = given.1; stands = given.4; goes_on = GoesOn-with_line (with_bytes reading turn.more) given.0 after given.1 }, given.2, given.3)
+      (record { more = turn.more; first = given.0; takes = turn.takes; no_fault = turn.faults; next = given.1; stands = given.4; goes_on = CanContinue-with_line (with_bytes reading turn.more) given.0 after given.1 }, given.2, given.3)
 
   -- a call that returns that a line is too long has passed it
   pub Continues-too_long : Continues reading reading.ended before after (Ok line.TooLong) reader → (gave : GaveLine reading before after reader) × (LONGEST_LINE < length gave.first)
   Continues-too_long continues =
       let turn = Continues-turn reading before after (Ok line.TooLong) reader goes_on (λ e. cc) continues in
       let given = turn.returns in
-      (record { more = turn.more; first = given.0; takes = turn.takes; no_fault = turn.faults; next = given.1; stands = given.4; goes_on = GoesOn-with_line (with_bytes reading turn.more) given.0 after given.1 }, given.2)
+      (record { more = turn.more; first = given.0; takes = turn.takes; no_fault = turn.faults; next = given.1; stands = given.4; goes_on = CanContinue-with_line (with_bytes reading turn.more) given.0 after given.1 }, given.2)
 
 -- A call found the end: it took what was left, no fault was counted, and all lines were returned.
 pub record CameToEnd (reading : Reading) (before after : SourceState) (reader : Buffered) : Type 0 where
@@ -71,12 +68,12 @@ pub record CameToEnd (reading : Reading) (before after : SourceState) (reader : 
   pub number : reader.number ≡ length reading.given
 
 -- a call that returns the end has taken what was left, and all lines are returned
-pub Continues-end : (reading : Reading) (before after : SourceState) (old reader : Buffered) → GoesOn reading before → LinesRepresent old reading → Continues reading reading.ended before after (Ok line.End) reader → CameToEnd reading before after reader
+pub Continues-end : (reading : Reading) (before after : SourceState) (old reader : Buffered) → CanContinue reading before → LinesRepresent old reading → Continues reading reading.ended before after (Ok line.End) reader → CameToEnd reading before after reader
 Continues-end reading before after old reader goes_on stands continues = go reading.ended refl goes_on continues where
   go : (ended : Option (Result Line LineFault)) → reading.ended ≡ ended → (ended ≡ None) ⊎ ((ended ≡ Some (Ok line.End)) × IsAtEnd before) → Continues reading ended before after (Ok line.End) reader → CameToEnd reading before after reader
   go None was is turn = record { more = turn.more; takes = turn.takes; no_fault = turn.faults; all = turn.returns.0; end = turn.returns.1; number = turn.returns.4.number }
-  go (Some answer) was (inl is) turn = absurd (cc)
-  go (Some answer) was (inr is) turn = record {
+  go (Some ending) was (inl is) turn = absurd (cc)
+  go (Some ending) was (inr is) turn = record {
     more = [];
     takes = subst (λ source. Takes before source []) (sym turn.1) (Takes-nothing before);
     no_fault = ap (λ (source : SourceState). source.faults) turn.1;

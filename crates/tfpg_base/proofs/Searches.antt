@@ -11,7 +11,7 @@ use Rattle.tfpg_base.specs.declared.line.LineFault.TheVariants as fault
 use Rattle.tfpg_base.specs.Outside.{SourceState, Takes, IsAtEnd}
 use Rattle.tfpg_base.specs.Lines.{Buffered, Reading, LinesRepresent, Continues, HasNoLineEnd, ends_line}
 use Rattle.tfpg_base.specs.declared.limits.TheConstants.{LONGEST_LINE, MAX_BYTES, BUFFER_SIZE}
-use Rattle.tfpg_base.specs.inside.LineSearch.{IsAtLineEnd, kind_of, lent_of, IsGiven, IsEnded, GivesLast, FoundLine, Took, Pieces, Refilled, IsRefilled, Searched}
+use Rattle.tfpg_base.specs.inside.LineSearch.{IsAtLineEnd, returned_line, lent_of, IsGiven, IsEnded, GivesLast, FoundLine, Took, Pieces, Refilled, IsRefilled, Searched}
 use Rattle.tfpg_base.proofs.Taking.{Takes-nothing, Takes-append}
 use Rattle.tfpg_base.proofs.Histories.{Continues-found}
 
@@ -32,23 +32,23 @@ pub record IsReading (old now : Buffered) (before mid : SourceState) : Type 0 wh
   pub ended : now.ended ≡ None
 
 -- of a line that was found the kind is returned
-FoundLine-line : (bytes first : List ℕ) (lines : ℕ) (source_ended : Type 0) (now : Buffered) → IsGiven bytes first lines source_ended now → now.text ≡ lent_of first → FoundLine bytes lines source_ended (Ok (kind_of first)) now
+FoundLine-line : (bytes first : List ℕ) (lines : ℕ) (source_ended : Type 0) (now : Buffered) → IsGiven bytes first lines source_ended now → now.text ≡ lent_of first → FoundLine bytes lines source_ended (Ok (returned_line first)) now
 FoundLine-line bytes first lines source_ended now is text = go (leb (length first) LONGEST_LINE) refl text where
   go : (short : Bool) → leb (length first) LONGEST_LINE ≡ short → now.text ≡ cond short first [] → FoundLine bytes lines source_ended (Ok (cond short line.Text line.TooLong)) now
   go true e lent = (first, is, leb-true (length first) LONGEST_LINE e, lent)
   go false e lent = (first, is, leb-false (length first) LONGEST_LINE e, lent)
 
 -- what is said of a line that is not too long
-kind_of-short : (bytes : List ℕ) → length bytes ≤ LONGEST_LINE → kind_of bytes ≡ line.Text
-kind_of-short bytes short = ap (λ is. cond is line.Text line.TooLong) (le-leb (length bytes) LONGEST_LINE short)
+returned_line-short : (bytes : List ℕ) → length bytes ≤ LONGEST_LINE → returned_line bytes ≡ line.Text
+returned_line-short bytes short = ap (λ is. cond is line.Text line.TooLong) (le-leb (length bytes) LONGEST_LINE short)
 
 -- it is lent
 lent_of-short : (bytes : List ℕ) → length bytes ≤ LONGEST_LINE → lent_of bytes ≡ bytes
 lent_of-short bytes short = ap (λ is. cond is bytes []) (le-leb (length bytes) LONGEST_LINE short)
 
 -- what is said of a line that is too long
-kind_of-long : (bytes : List ℕ) → LONGEST_LINE < length bytes → kind_of bytes ≡ line.TooLong
-kind_of-long bytes long = ap (λ short. cond short line.Text line.TooLong) (lt-leb (length bytes) LONGEST_LINE long)
+returned_line-long : (bytes : List ℕ) → LONGEST_LINE < length bytes → returned_line bytes ≡ line.TooLong
+returned_line-long bytes long = ap (λ short. cond short line.Text line.TooLong) (lt-leb (length bytes) LONGEST_LINE long)
 
 -- nothing of it is lent
 lent_of-long : (bytes : List ℕ) → LONGEST_LINE < length bytes → lent_of bytes ≡ []
@@ -95,7 +95,7 @@ module _ (old : Buffered) (before mid : SourceState) (taken : ℕ) where
       }
 
       -- a line ended among the bytes of the last turn
-      pub Searched-whole : (front : List ℕ) → more ≡ front ++ 10 ∷ now.waiting → HasNoLineEnd front → now.taken ≤ MAX_BYTES → now.ended ≡ None → now.number ≡ old.number + 1 → now.text ≡ lent_of (old.waiting ++ so_far.more ++ front) → Searched old before after (Ok (kind_of (old.waiting ++ so_far.more ++ front))) now
+      pub Searched-whole : (front : List ℕ) → more ≡ front ++ 10 ∷ now.waiting → HasNoLineEnd front → now.taken ≤ MAX_BYTES → now.ended ≡ None → now.number ≡ old.number + 1 → now.text ≡ lent_of (old.waiting ++ so_far.more ++ front) → Searched old before after (Ok (returned_line (old.waiting ++ so_far.more ++ front))) now
       Searched-whole front is clean few going number text =
           let first : List ℕ = old.waiting ++ so_far.more ++ front in (
             so_far.more ++ more,
@@ -115,7 +115,7 @@ module _ (old : Buffered) (before mid : SourceState) (taken : ℕ) where
           )
 
       -- the source ended after a line without a line end
-      pub Searched-last : length more ≡ 0 → 0 < length (old.waiting ++ so_far.more) → IsAtEnd after → now.taken ≤ MAX_BYTES → now.ended ≡ Some (Ok line.End) → now.number ≡ old.number + 1 → now.text ≡ lent_of (old.waiting ++ so_far.more) → Searched old before after (Ok (kind_of (old.waiting ++ so_far.more))) now
+      pub Searched-last : length more ≡ 0 → 0 < length (old.waiting ++ so_far.more) → IsAtEnd after → now.taken ≤ MAX_BYTES → now.ended ≡ Some (Ok line.End) → now.number ≡ old.number + 1 → now.text ≡ lent_of (old.waiting ++ so_far.more) → Searched old before after (Ok (returned_line (old.waiting ++ so_far.more))) now
       Searched-last none some source_ended few ended number text =
           let first : List ℕ = old.waiting ++ so_far.more in (
             so_far.more ++ more,
@@ -146,7 +146,7 @@ module _ (old : Buffered) (before mid : SourceState) (taken : ℕ) where
       Searched-long long front is clean few going number text =
           let first : List ℕ = old.waiting ++ so_far.more ++ front in
           let longer : LONGEST_LINE < length first = omega (arith, length-append (old.waiting ++ so_far.more) front, length-append old.waiting so_far.more) in
-          subst (λ kind. Searched old before after (Ok kind) now) (kind_of-long first longer)
+          subst (λ kind. Searched old before after (Ok kind) now) (returned_line-long first longer)
           (Searched-whole front is clean few going number (text ∙ sym (lent_of-long first longer)))
 
       -- the source ended after a line that is too long
@@ -154,12 +154,12 @@ module _ (old : Buffered) (before mid : SourceState) (taken : ℕ) where
       Searched-long_last long none source_ended few ended number text =
           let first : List ℕ = old.waiting ++ so_far.more in
           let longer : LONGEST_LINE < length first = omega (arith, length-append old.waiting so_far.more) in
-          subst (λ kind. Searched old before after (Ok kind) now) (kind_of-long first longer)
+          subst (λ kind. Searched old before after (Ok kind) now) (returned_line-long first longer)
           (Searched-last none (omega (arith, longer)) source_ended few ended number (text ∙ sym (lent_of-long first longer)))
 
 -- what ended the reader after so many lines ended it after as many
-IsEnded-same : (lines number : ℕ) (answer : Result Line LineFault) (now : Buffered) → lines ≡ number → IsEnded lines answer now → IsEnded number answer now
-IsEnded-same lines number answer now same is = record { number = is.number ∙ same; text = is.text; ended = is.ended }
+IsEnded-same : (lines number : ℕ) (ending : Result Line LineFault) (now : Buffered) → lines ≡ number → IsEnded lines ending now → IsEnded number ending now
+IsEnded-same lines number ending now same is = record { number = is.number ∙ same; text = is.text; ended = is.ended }
 
 -- a fault in a turn is the fault of the call
 pub Searched-fault : (old now end : Buffered) (before mid after : SourceState) (taken : ℕ) (so_far : SoFar old before mid taken) → now.taken ≡ taken → now.number ≡ old.number → (why : LineFault) → Refilled now mid after (Err why) end → Searched old before after (Err why) end
@@ -241,38 +241,37 @@ module _ (old now : Buffered) (before mid : SourceState) (reading : IsReading ol
 
   module _ (done : Buffered) where
     -- one of them ends the line
-    pub Searched-read : (kind : Line) (seen place : ℕ) → seen ≡ length now.waiting → IsAtLineEnd filled.more place → kind ≡ kind_of (take (seen + place) end.waiting) → done.waiting ≡ drop (seen + place + 1) end.waiting → done.text ≡ lent_of (take (seen + place) end.waiting) → done.number ≡ end.number + 1 → done.taken ≡ end.taken → done.ended ≡ end.ended → Searched old before after (Ok kind) done
-    Searched-read kind seen place at is kinds waits lends number taken ended =
-        let front : List ℕ = take place filled.more in
+    pub Searched-read : (kind : Line) (seen index : ℕ) → seen ≡ length now.waiting → IsAtLineEnd filled.more index → kind ≡ returned_line (take (seen + index) end.waiting) → done.waiting ≡ drop (seen + index + 1) end.waiting → done.text ≡ lent_of (take (seen + index) end.waiting) → done.number ≡ end.number + 1 → done.taken ≡ end.taken → done.ended ≡ end.ended → Searched old before after (Ok kind) done
+    Searched-read kind seen index at is kinds waits lends number taken ended =
+        let front : List ℕ = take index filled.more in
         let first : List ℕ = old.waiting ++ reading.so_far.more ++ front in
-        let first_is : take (seen + place) end.waiting ≡ first =
-        ap (λ n. take (n + place) end.waiting) at
-        ∙ ap (take (length now.waiting + place)) filled.waiting
-        ∙ take-append-add now.waiting filled.more place
+        let first_is : take (seen + index) end.waiting ≡ first =
+        ap (λ n. take (n + index) end.waiting) at
+        ∙ ap (take (length now.waiting + index)) filled.waiting
+        ∙ take-append-add now.waiting filled.more index
         ∙ ap (λ b. b ++ front) reading.waiting in
-        let beyond : seen + place + 1 ≡ length now.waiting + (place + 1) = omega arith in
-        let rest_is : drop (seen + place + 1) end.waiting ≡ drop (place + 1) filled.more =
+        let beyond : seen + index + 1 ≡ length now.waiting + (index + 1) = omega arith in
+        let rest_is : drop (seen + index + 1) end.waiting ≡ drop (index + 1) filled.more =
         ap (λ n. drop n end.waiting) beyond
-        ∙ ap (drop (length now.waiting + (place + 1))) filled.waiting
-        ∙ drop-append-add now.waiting filled.more (place + 1) in
-        subst (λ answer. Searched old before after (Ok answer) done) (sym (kinds ∙ ap kind_of first_is))
+        ∙ ap (drop (length now.waiting + (index + 1))) filled.waiting
+        ∙ drop-append-add now.waiting filled.more (index + 1) in
+        subst (λ ending. Searched old before after (Ok ending) done) (sym (kinds ∙ ap returned_line first_is))
         (Searched-whole old before mid now.taken reading.so_far after filled.more filled.took.takes (omega (arith, filled.length, filled.small)) done (taken ∙ filled.took.count) front
         (is.whole ∙ ap (λ b. front ++ 10 ∷ b) (sym rest_is ∙ sym waits)) is.line (omega (arith, taken, filled.few))
         (ended ∙ filled.ended ∙ reading.ended) (omega (arith, number, filled.number, reading.number)) (lends ∙ ap lent_of first_is))
 
     -- the source has ended
-    pub Searched-given_last : (kind : Line) → count ≡ 0 → length now.waiting ≤ LONGEST_LINE → GivesLast end kind done → done.taken ≡ end.taken → done.ended ≡ Some (Ok line.End) → Searched old before after (Ok kind) done
-    Searched-given_last line.Text none short gives taken ended =
+    pub Searched-given_last : (some : Bool) → count ≡ 0 → length now.waiting ≤ LONGEST_LINE → GivesLast end some done → done.taken ≡ end.taken → done.ended ≡ Some (Ok line.End) → Searched old before after (Ok (cond some line.Text line.End)) done
+    Searched-given_last true none short gives taken ended =
         let more_none : length filled.more ≡ 0 = filled.length ∙ none in
         let first : List ℕ = old.waiting ++ reading.so_far.more in
         let waits : end.waiting ≡ first = filled.waiting ∙ ap (λ b. now.waiting ++ b) (nil_from_length filled.more more_none) ∙ append-nil now.waiting ∙ reading.waiting in
         let fits : length first ≤ LONGEST_LINE = omega (arith, short, ap length reading.waiting) in
-        subst (λ answer. Searched old before after (Ok answer) done) (kind_of-short first fits)
+        subst (λ ending. Searched old before after (Ok ending) done) (returned_line-short first fits)
         (Searched-last old before mid now.taken reading.so_far after filled.more filled.took.takes (omega (arith, filled.length, filled.small)) done (taken ∙ filled.took.count)
         more_none (omega (arith, gives.0, ap length waits)) (filled.end none) (omega (arith, taken, filled.few)) ended
         (omega (arith, gives.2, filled.number, reading.number)) (gives.1 ∙ waits ∙ sym (lent_of-short first fits)))
-    Searched-given_last line.TooLong none short gives taken ended = absurd gives
-    Searched-given_last line.End none short gives taken ended =
+    Searched-given_last false none short gives taken ended =
         let more_none : length filled.more ≡ 0 = filled.length ∙ none in
         let waits : end.waiting ≡ old.waiting ++ reading.so_far.more = filled.waiting ∙ ap (λ b. now.waiting ++ b) (nil_from_length filled.more more_none) ∙ append-nil now.waiting ∙ reading.waiting in
         Searched-end old before mid now.taken reading.so_far after filled.more filled.took.takes (omega (arith, filled.length, filled.small)) done (taken ∙ filled.took.count)
@@ -280,18 +279,18 @@ module _ (old now : Buffered) (before mid : SourceState) (reading : IsReading ol
         (record { number = gives.2 ∙ filled.number ∙ reading.number; text = gives.1; ended = ended })
 
 -- a line that waits whole is given at once, and nothing is taken
-pub Continues-at_once : (old now : Buffered) (source : SourceState) (kind : Line) (bytes : List ℕ) (place : ℕ) → bytes ≡ old.waiting → IsAtLineEnd bytes place → old.ended ≡ None → old.taken ≤ MAX_BYTES → kind ≡ kind_of (take place old.waiting) → now.waiting ≡ drop (place + 1) old.waiting → now.text ≡ lent_of (take place old.waiting) → now.number ≡ old.number + 1 → now.taken ≡ old.taken → now.ended ≡ old.ended → (reading : Reading) → LinesRepresent old reading → Continues reading reading.ended source source (Ok kind) now
-Continues-at_once old now source kind bytes place is_waiting is unended few kinds waits lends number taken ended reading stands =
-    let first : List ℕ = take place old.waiting in
+pub Continues-at_once : (old now : Buffered) (source : SourceState) (kind : Line) (bytes : List ℕ) (index : ℕ) → bytes ≡ old.waiting → IsAtLineEnd bytes index → old.ended ≡ None → old.taken ≤ MAX_BYTES → kind ≡ returned_line (take index old.waiting) → now.waiting ≡ drop (index + 1) old.waiting → now.text ≡ lent_of (take index old.waiting) → now.number ≡ old.number + 1 → now.taken ≡ old.taken → now.ended ≡ old.ended → (reading : Reading) → LinesRepresent old reading → Continues reading reading.ended source source (Ok kind) now
+Continues-at_once old now source kind bytes index is_waiting is unended few kinds waits lends number taken ended reading stands =
+    let first : List ℕ = take index old.waiting in
     let whole : old.waiting ++ [] ≡ first ++ 10 ∷ now.waiting =
-    append-nil old.waiting ∙ subst (λ b. b ≡ take place b ++ 10 ∷ drop (place + 1) b) is_waiting is.whole ∙ ap (λ rest. first ++ 10 ∷ rest) (sym waits) in
-    let found : FoundLine (old.waiting ++ []) old.number (IsAtEnd source) (Ok (kind_of first)) now = FoundLine-line (old.waiting ++ []) first old.number (IsAtEnd source) now
+    append-nil old.waiting ∙ subst (λ b. b ≡ take index b ++ 10 ∷ drop (index + 1) b) is_waiting is.whole ∙ ap (λ rest. first ++ 10 ∷ rest) (sym waits) in
+    let found : FoundLine (old.waiting ++ []) old.number (IsAtEnd source) (Ok (returned_line first)) now = FoundLine-line (old.waiting ++ []) first old.number (IsAtEnd source) now
     record {
-      line = subst (λ b. HasNoLineEnd (take place b)) is_waiting is.line;
+      line = subst (λ b. HasNoLineEnd (take index b)) is_waiting is.line;
       ends = inl (record { whole = whole; ended = ended ∙ unended });
       number = number;
       few = omega (arith, taken, few);
     }
     lends in
     Continues-found old now source source (Ok kind) refl [] (record { takes = Takes-nothing source; count = omega (arith, taken) })
-    (subst (λ answer. FoundLine (old.waiting ++ []) old.number (IsAtEnd source) (Ok answer) now) (sym kinds) found) unended reading stands (λ _. refl, inl refl)
+    (subst (λ ending. FoundLine (old.waiting ++ []) old.number (IsAtEnd source) (Ok ending) now) (sym kinds) found) unended reading stands (λ _. refl, inl refl)

@@ -13,73 +13,74 @@ use Rattle.tfpg_base.proofs.lists.Elements.{AllPairs-head, AllPairs-tail, AllPai
 pub use Rattle.tfpg_base.proofs.lists.Ordered.{Rises, same_from_members}
 use Rattle.tfpg_base.proofs.lists.Ordered.{least_first}
 use Rattle.tfpg_base.specs.Set.{with_member, IsSubset, IsSet}
+use Rattle.tfpg_base.specs.declared.limits.TheConstants.{MAX_MEMBERS}
 use Rattle.tfpg_base.specs.SetBits.{ones_below, members_of, bits_of}
-pub use Rattle.tfpg_base.specs.inside.BitsOfMembers.{bits_of-members_of}
+pub use Rattle.tfpg_base.specs.inside.BitsOfMembers.{bits_of-one, bits_of-ones_below, bits_of-members_of}
 
 -- ---- a member more
 
 -- the three ways in which a set gets a member
-with_member_cases : (P : List ℕ → Type 0) (place first : ℕ) (others : List ℕ) → (place < first → P (place ∷ first ∷ others)) → (place ≡ first → P (first ∷ others)) → (first < place → P (first ∷ with_member place others)) → P (with_member place (first ∷ others))
-with_member_cases P place first others below same above =
-    cond_both (ltb place first) _ _ P (λ less. below (ltb-true place first less))
-    (λ not_less. cond_both (eqb place first) _ _ P (λ equal. same (eqb-true place first equal))
-    (λ unequal. above (omega (arith, ltb-false place first not_less, eqb-false place first unequal))))
+with_member_cases : (P : List ℕ → Type 0) (position first : ℕ) (others : List ℕ) → (position < first → P (position ∷ first ∷ others)) → (position ≡ first → P (first ∷ others)) → (first < position → P (first ∷ with_member position others)) → P (with_member position (first ∷ others))
+with_member_cases P position first others below same above =
+    cond_both (ltb position first) _ _ P (λ less. below (ltb-true position first less))
+    (λ not_less. cond_both (eqb position first) _ _ P (λ equal. same (eqb-true position first equal))
+    (λ unequal. above (omega (arith, ltb-false position first not_less, eqb-false position first unequal))))
 
 -- The new member is one.
-pub Contains-with_member : (place : ℕ) (members : List ℕ) → Contains (with_member place members) place
-Contains-with_member place [] = Contains-head place []
-Contains-with_member place (first ∷ others) =
-    with_member_cases (λ more. Contains more place) place first others (λ less. Contains-head place (first ∷ others))
+pub Contains-with_member : (position : ℕ) (members : List ℕ) → Contains (with_member position members) position
+Contains-with_member position [] = Contains-head position []
+Contains-with_member position (first ∷ others) =
+    with_member_cases (λ more. Contains more position) position first others (λ less. Contains-head position (first ∷ others))
     (λ same. rw same (Contains-head first others))
-    (λ above. Contains-tail first (with_member place others) place (Contains-with_member place others))
+    (λ above. Contains-tail first (with_member position others) position (Contains-with_member position others))
 
 -- The old members stay.
-pub with_member-keeps : (place : ℕ) (members : List ℕ) (other : ℕ) → Contains members other → Contains (with_member place members) other
-with_member-keeps place [] other member = absurd (Contains-nil other member)
-with_member-keeps place (first ∷ others) other member =
-    with_member_cases (λ more. Contains more other) place first others (λ less. Contains-tail place (first ∷ others) other member)
+pub with_member-keeps : (position : ℕ) (members : List ℕ) (other : ℕ) → Contains members other → Contains (with_member position members) other
+with_member-keeps position [] other member = absurd (Contains-nil other member)
+with_member-keeps position (first ∷ others) other member =
+    with_member_cases (λ more. Contains more other) position first others (λ less. Contains-tail position (first ∷ others) other member)
     (λ same. member)
-    (λ above. ⊎_elim (λ is. rw (← is) (Contains-head first (with_member place others)))
-    (λ beyond. Contains-tail first (with_member place others) other (with_member-keeps place others other beyond))
+    (λ above. ⊎_elim (λ is. rw (← is) (Contains-head first (with_member position others)))
+    (λ beyond. Contains-tail first (with_member position others) other (with_member-keeps position others other beyond))
     (Contains-cons_cases first others other member))
 
 -- No other members come.
-pub with_member-only : (place : ℕ) (members : List ℕ) (other : ℕ) → Contains (with_member place members) other → (place ≡ other) ⊎ Contains members other
-with_member-only place [] other member = Contains-cons_cases place [] other member
-with_member-only place (first ∷ others) other member =
-    with_member_cases (λ more. Contains more other → (place ≡ other) ⊎ Contains (first ∷ others) other) place first others (λ less. Contains-cons_cases place (first ∷ others) other)
+pub with_member-only : (position : ℕ) (members : List ℕ) (other : ℕ) → Contains (with_member position members) other → (position ≡ other) ⊎ Contains members other
+with_member-only position [] other member = Contains-cons_cases position [] other member
+with_member-only position (first ∷ others) other member =
+    with_member_cases (λ more. Contains more other → (position ≡ other) ⊎ Contains (first ∷ others) other) position first others (λ less. Contains-cons_cases position (first ∷ others) other)
     (λ same member. inr member)
     (λ above member. ⊎_elim (λ is. inr (rw (← is) (Contains-head first others)))
-    (λ beyond. ⊎_elim (λ new. inl new) (λ old. inr (Contains-tail first others other old)) (with_member-only place others other beyond))
-    (Contains-cons_cases first (with_member place others) other member))
+    (λ beyond. ⊎_elim (λ new. inl new) (λ old. inr (Contains-tail first others other old)) (with_member-only position others other beyond))
+    (Contains-cons_cases first (with_member position others) other member))
     member
 
 -- The members then are the new one and the old ones.
-pub members-with_member : (place : ℕ) (members : List ℕ) (other : ℕ) → Contains (with_member place members) other ↔ ((place ≡ other) ⊎ Contains members other)
-members-with_member place members other = (
-  with_member-only place members other,
-  λ either. ⊎_elim (λ same. rw (← same) (Contains-with_member place members)) (λ old. with_member-keeps place members other old) either,
+pub members-with_member : (position : ℕ) (members : List ℕ) (other : ℕ) → Contains (with_member position members) other ↔ ((position ≡ other) ⊎ Contains members other)
+members-with_member position members other = (
+  with_member-only position members other,
+  λ either. ⊎_elim (λ same. rw (← same) (Contains-with_member position members)) (λ old. with_member-keeps position members other old) either,
 )
 
 -- With one member more the list still rises.
-pub Rises-with_member : (place : ℕ) (members : List ℕ) → Rises members → Rises (with_member place members)
-Rises-with_member place [] rising = AllPairs-cons ◌<◌ place [] (All-nil (λ later. place < later)) rising
-Rises-with_member place (first ∷ others) rising =
-    with_member_cases Rises place first others
-    (λ less. AllPairs-cons ◌<◌ place (first ∷ others)
-    (All-from_members (λ later. place < later) (first ∷ others) (λ later member. omega (arith, less, least_first first others later rising member))) rising)
+pub Rises-with_member : (position : ℕ) (members : List ℕ) → Rises members → Rises (with_member position members)
+Rises-with_member position [] rising = AllPairs-cons ◌<◌ position [] (All-nil (λ later. position < later)) rising
+Rises-with_member position (first ∷ others) rising =
+    with_member_cases Rises position first others
+    (λ less. AllPairs-cons ◌<◌ position (first ∷ others)
+    (All-from_members (λ later. position < later) (first ∷ others) (λ later member. omega (arith, less, least_first first others later rising member))) rising)
     (λ same. rising)
-    (λ above. AllPairs-cons ◌<◌ first (with_member place others)
-    (All-from_members (λ later. first < later) (with_member place others)
-    (λ later member. ⊎_elim (λ new. omega (arith, above, new)) (λ old. All-contains (λ later. first < later) others later (AllPairs-head ◌<◌ first others rising) old) (with_member-only place others later member)))
-    (Rises-with_member place others (AllPairs-tail ◌<◌ first others rising)))
+    (λ above. AllPairs-cons ◌<◌ first (with_member position others)
+    (All-from_members (λ later. first < later) (with_member position others)
+    (λ later member. ⊎_elim (λ new. omega (arith, above, new)) (λ old. All-contains (λ later. first < later) others later (AllPairs-head ◌<◌ first others rising) old) (with_member-only position others later member)))
+    (Rises-with_member position others (AllPairs-tail ◌<◌ first others rising)))
 
 -- With one member more a set is still a set.
-pub IsSet-with_member : (place : ℕ) (members : List ℕ) → place < 64 → IsSet members → IsSet (with_member place members)
-IsSet-with_member place members small set = record {
-  rising = Rises-with_member place members set.rising;
-  small = All-from_members (λ later. later < 64) (with_member place members)
-      (λ later member. ⊎_elim (λ new. omega (arith, small, new)) (λ old. All-contains (λ later. later < 64) members later set.small old) (with_member-only place members later member));
+pub IsSet-with_member : (position : ℕ) (members : List ℕ) → position < MAX_MEMBERS → IsSet members → IsSet (with_member position members)
+IsSet-with_member position members small set = record {
+  rising = Rises-with_member position members set.rising;
+  small = All-from_members (λ later. later < MAX_MEMBERS) (with_member position members)
+      (λ later member. ⊎_elim (λ new. omega (arith, small, new)) (λ old. All-contains (λ later. later < MAX_MEMBERS) members later set.small old) (with_member-only position members later member));
 }
 
 -- ---- the bits of a set
@@ -89,33 +90,33 @@ pub members_of-zero : members_of 0 ≡ []
 unfolding members_of ones_below
 members_of-zero = refl
 
--- the one place, where there is one
-Contains-cond : (chosen : Bool) (only place : ℕ) → Contains (cond chosen (only ∷ []) []) place → (chosen ≡ true) × (only ≡ place)
-Contains-cond true only place member = (refl, ⊎_elim (λ is. is) (λ beyond. absurd (Contains-nil place beyond)) (Contains-cons_cases only [] place member))
-Contains-cond false only place member = absurd (Contains-nil place member)
+-- the one position, where there is one
+Contains-cond : (chosen : Bool) (only index : ℕ) → Contains (cond chosen (only ∷ []) []) index → (chosen ≡ true) × (only ≡ index)
+Contains-cond true only index member = (refl, ⊎_elim (λ is. is) (λ beyond. absurd (Contains-nil index beyond)) (Contains-cons_cases only [] index member))
+Contains-cond false only index member = absurd (Contains-nil index member)
 
--- what stands among the ones below a count is a place below it with a one
-ones_below-only : (count bits place : ℕ) → Contains (ones_below count bits) place → (place < count) × (bit_at bits place ≡ 1)
+-- what stands among the ones below a count is an index below it with a one
+pub ones_below-only : (count bits index : ℕ) → Contains (ones_below count bits) index → (index < count) × (bit_at bits index ≡ 1)
 unfolding ones_below
-ones_below-only zero bits place member = absurd (Contains-nil place member)
-ones_below-only (suc count) bits place member =
-    ⊎_elim (λ before. let old = ones_below-only count bits place before in (omega (arith, old.0), old.1))
-    (λ last. let new = Contains-cond (eqb (bit_at bits count) 1) count place last in
+ones_below-only zero bits index member = absurd (Contains-nil index member)
+ones_below-only (suc count) bits index member =
+    ⊎_elim (λ before. let old = ones_below-only count bits index before in (omega (arith, old.0), old.1))
+    (λ last. let new = Contains-cond (eqb (bit_at bits count) 1) count index last in
     (omega (arith, new.1), rw (← new.1) (eqb-true (bit_at bits count) 1 new.0)))
-    (Contains-append_cases (ones_below count bits) _ place member)
+    (Contains-append_cases (ones_below count bits) _ index member)
 
--- each place below a count with a one stands among them
-ones_below-all : (count bits place : ℕ) → place < count → bit_at bits place ≡ 1 → Contains (ones_below count bits) place
+-- each index below a count with a one stands among them
+pub ones_below-all : (count bits index : ℕ) → index < count → bit_at bits index ≡ 1 → Contains (ones_below count bits) index
 unfolding ones_below
-ones_below-all zero bits place within one = absurd (omega arith)
-ones_below-all (suc count) bits place within one =
-    ⊎_elim (λ last. Contains-append_right (ones_below count bits) (cond (eqb (bit_at bits count) 1) (count ∷ []) []) place
+ones_below-all zero bits index within one = absurd (omega arith)
+ones_below-all (suc count) bits index within one =
+    ⊎_elim (λ last. Contains-append_right (ones_below count bits) (cond (eqb (bit_at bits count) 1) (count ∷ []) []) index
     (rw (cond-true (eqb (bit_at bits count) 1) (count ∷ []) [] (eq-eqb (bit_at bits count) 1 (ap (bit_at bits) (sym last) ∙ one))) (rw last (Contains-head count []))))
-    (λ before. Contains-append_left (ones_below count bits) _ place (ones_below-all count bits place (omega (arith, before, within)) one))
-    (cases_eq place count)
+    (λ before. Contains-append_left (ones_below count bits) _ index (ones_below-all count bits index (omega (arith, before, within)) one))
+    (cases_eq index count)
 
 -- the ones below a count rise
-Rises-ones_below : (count bits : ℕ) → Rises (ones_below count bits)
+pub Rises-ones_below : (count bits : ℕ) → Rises (ones_below count bits)
 unfolding ones_below
 Rises-ones_below zero bits = λ i j d before within. absurd (omega arith)
 Rises-ones_below (suc count) bits =
@@ -128,25 +129,25 @@ Rises-ones_below (suc count) bits =
 pub IsSet-members_of : (bits : ℕ) → IsSet (members_of bits)
 unfolding members_of
 IsSet-members_of bits = record {
-  rising = Rises-ones_below 64 bits;
-  small = All-from_members (λ place. place < 64) (ones_below 64 bits) (λ place member. (ones_below-only 64 bits place member).0);
+  rising = Rises-ones_below MAX_MEMBERS bits;
+  small = All-from_members (λ index. index < MAX_MEMBERS) (ones_below MAX_MEMBERS bits) (λ index member. (ones_below-only MAX_MEMBERS bits index member).0);
 }
 
--- the members are the places below 64 whose bit is 1
-pub members_of-is : (bits place : ℕ) → Contains (members_of bits) place ↔ ((place < 64) × (bit_at bits place ≡ 1))
+-- the members are the indexes below the maximum number of members whose bit is 1
+pub members_of-is : (bits index : ℕ) → Contains (members_of bits) index ↔ ((index < MAX_MEMBERS) × (bit_at bits index ≡ 1))
 unfolding members_of
-members_of-is bits place = (ones_below-only 64 bits place, λ both. ones_below-all 64 bits place both.0 both.1)
+members_of-is bits index = (ones_below-only MAX_MEMBERS bits index, λ both. ones_below-all MAX_MEMBERS bits index both.0 both.1)
 
 -- a bit has as many ones as it is worth
 count_ones-bit : (bit : ℕ) → bit < 2 → count_ones bit ≡ bit
 count_ones-bit bit small =
     ⊎_elim (λ none. none ∙ sym (zero_from_ones bit none)) (λ some. omega (arith, some, small, ones_le_self bit)) (cases_eq (count_ones bit) 0)
 
--- a place stands once where its bit is 1, and else not at all
-length-cond : (bit place : ℕ) → bit < 2 → length (cond (eqb bit 1) (place ∷ []) []) ≡ bit
-length-cond zero place small = refl
-length-cond (suc zero) place small = refl
-length-cond (suc (suc bit)) place small = absurd (omega arith)
+-- an index stands once where its bit is 1, and else not at all
+length-cond : (bit index : ℕ) → bit < 2 → length (cond (eqb bit 1) (index ∷ []) []) ≡ bit
+length-cond zero index small = refl
+length-cond (suc zero) index small = refl
+length-cond (suc (suc bit)) index small = absurd (omega arith)
 
 -- there are as many ones below a count as among the lowest bits
 length-ones_below : (count bits : ℕ) → length (ones_below count bits) ≡ count_ones (bits % 2 ^ count)
@@ -165,54 +166,54 @@ length-ones_below (suc count) bits =
 -- A set has as many members as its bits have ones.
 pub length-members_of : (bits : ℕ) → bits < 2 ^ 64 → length (members_of bits) ≡ count_ones bits
 unfolding members_of
-length-members_of bits small = length-ones_below 64 bits ∙ ap count_ones (mod-eq_of_lt small)
+length-members_of bits small = length-ones_below MAX_MEMBERS bits ∙ ap count_ones (mod-eq_of_lt small)
 
 -- Bits that keep the same members are the same.
 pub same_from_members_of : (a b : ℕ) → a < 2 ^ 64 → b < 2 ^ 64 → members_of a ≡ members_of b → a ≡ b
 same_from_members_of a b small_a small_b same = sym (bits_of-members_of a small_a) ∙ ap bits_of same ∙ bits_of-members_of b small_b
 
 -- To set one more bit is to have one member more.
-pub members_of-set : (bits place : ℕ) → place < 64 → members_of (bit_or bits (1 * 2 ^ place % 2 ^ 64)) ≡ with_member place (members_of bits)
-members_of-set bits place small =
-    let more = bit_or bits (1 * 2 ^ place % 2 ^ 64) in
-    same_from_members (members_of more) (with_member place (members_of bits)) (IsSet-members_of more).rising (Rises-with_member place (members_of bits) (IsSet-members_of bits).rising)
+pub members_of-set : (bits index : ℕ) → index < MAX_MEMBERS → members_of (bit_or bits (1 * 2 ^ index % 2 ^ 64)) ≡ with_member index (members_of bits)
+members_of-set bits index small =
+    let more = bit_or bits (1 * 2 ^ index % 2 ^ 64) in
+    same_from_members (members_of more) (with_member index (members_of bits)) (IsSet-members_of more).rising (Rises-with_member index (members_of bits) (IsSet-members_of bits).rising)
     (λ other member. let both = (members_of-is more other).0 member in
-    ⊎_elim (λ same. rw same (Contains-with_member place (members_of bits)))
-    (λ unlike. with_member-keeps place (members_of bits) other ((members_of-is bits other).1 (both.0, sym (bit_at_set_other w64 bits place small other unlike) ∙ both.1)))
-    (cases_eq other place))
+    ⊎_elim (λ same. rw same (Contains-with_member index (members_of bits)))
+    (λ unlike. with_member-keeps index (members_of bits) other ((members_of-is bits other).1 (both.0, sym (bit_at_set_other w64 bits index small other unlike) ∙ both.1)))
+    (cases_eq other index))
     (λ other member. (members_of-is more other).1
-    (⊎_elim (λ same. rw (← same) (small, bit_at_set_same w64 bits place small))
+    (⊎_elim (λ same. rw (← same) (small, bit_at_set_same w64 bits index small))
     (λ old. let both = (members_of-is bits other).0 old in
-    ⊎_elim (λ same. (both.0, rw same (bit_at_set_same w64 bits place small)))
-    (λ unlike. (both.0, bit_at_set_other w64 bits place small other unlike ∙ both.1))
-    (cases_eq other place))
-    (with_member-only place (members_of bits) other member)))
+    ⊎_elim (λ same. (both.0, rw same (bit_at_set_same w64 bits index small)))
+    (λ unlike. (both.0, bit_at_set_other w64 bits index small other unlike ∙ both.1))
+    (cases_eq other index))
+    (with_member-only index (members_of bits) other member)))
 
 -- Each member is one of the other set where no bit is lost by taking the bits of both.
 pub IsSubset-from_bits : (a b : ℕ) → bit_and a b ≡ a → IsSubset (members_of a) (members_of b)
 IsSubset-from_bits a b kept =
     All-from_members (Contains (members_of b)) (members_of a)
-    (λ place member. let both = (members_of-is a place).0 member in
-    (members_of-is b place).1
-    (both.0, omega (arith, both.1, bit_at_and a b place, ap (λ bits. bit_at bits place) kept, bit_at-lt b place)))
+    (λ index member. let both = (members_of-is a index).0 member in
+    (members_of-is b index).1
+    (both.0, omega (arith, both.1, bit_at_and a b index, ap (λ bits. bit_at bits index) kept, bit_at-lt b index)))
 
--- a one of 64 bits has a place below 64
-one_within : (bits place : ℕ) → bits < 2 ^ 64 → bit_at bits place ≡ 1 → place < 64
-one_within bits place small one =
-    ⊎_elim (λ within. within) (λ beyond. absurd (omega (arith, one, bit_at_above bits 64 place small beyond))) (cases_lt place 64)
+-- a one of the bits has an index below the maximum number of members
+one_within : (bits index : ℕ) → bits < 2 ^ 64 → bit_at bits index ≡ 1 → index < MAX_MEMBERS
+one_within bits index small one =
+    ⊎_elim (λ within. within) (λ beyond. absurd (omega (arith, one, bit_at_above bits MAX_MEMBERS index small beyond))) (cases_lt index MAX_MEMBERS)
 
 -- No bit is lost by taking the bits of both where each member is one of the other set.
-pub bits_from_IsPart : (a b : ℕ) → a < 2 ^ 64 → IsSubset (members_of a) (members_of b) → bit_and a b ≡ a
-bits_from_IsPart a b small part =
+pub bits_from_IsSubset : (a b : ℕ) → a < 2 ^ 64 → IsSubset (members_of a) (members_of b) → bit_and a b ≡ a
+bits_from_IsSubset a b small part =
     same_from_bits (bit_and a b) a
-    (λ place. ⊎_elim
-    (λ none. omega (arith, bit_at_and a b place, none))
+    (λ index. ⊎_elim
+    (λ none. omega (arith, bit_at_and a b index, none))
     (λ some.
-    let one : bit_at a place ≡ 1 = omega (arith, some, bit_at-lt a place) in
-    let within = one_within a place small one in
-    let other = (members_of-is b place).0 (All-contains (Contains (members_of b)) (members_of a) place part ((members_of-is a place).1 (within, one))) in
-    omega (arith, one, other.1, bit_at_and a b place))
-    (cases_eq (bit_at a place) 0))
+    let one : bit_at a index ≡ 1 = omega (arith, some, bit_at-lt a index) in
+    let within = one_within a index small one in
+    let other = (members_of-is b index).0 (All-contains (Contains (members_of b)) (members_of a) index part ((members_of-is a index).1 (within, one))) in
+    omega (arith, one, other.1, bit_at_and a b index))
+    (cases_eq (bit_at a index) 0))
 
 -- ---- what the tests on bits say of the members
 
@@ -220,18 +221,18 @@ bits_from_IsPart a b small part =
 pub IsSet-from_bits : (bits : ℕ) (members : List ℕ) → members_of bits ≡ members → IsSet members
 IsSet-from_bits bits members view = rw (← view) (IsSet-members_of bits)
 
--- the bit of a place says whether it is a member
-pub bit_says_member : (bits place : ℕ) (members : List ℕ) → members_of bits ≡ members → place < 64 → IsTrue (nat_eq (bit_and (bits / 2 ^ place) 1) 1) ↔ Contains members place
-bit_says_member bits place members view small =
+-- the bit of an index says whether it is a member
+pub bit_says_member : (bits index : ℕ) (members : List ℕ) → members_of bits ≡ members → index < MAX_MEMBERS → IsTrue (nat_eq (bit_and (bits / 2 ^ index) 1) 1) ↔ Contains members index
+bit_says_member bits index members view small =
     rw (← view) (
-      λ yes. (members_of-is bits place).1 (small, sym (shr_and_one bits place) ∙ eqb-true (bit_and (bits / 2 ^ place) 1) 1 yes),
-      λ member. eq-eqb (bit_and (bits / 2 ^ place) 1) 1 (shr_and_one bits place ∙ ((members_of-is bits place).0 member).1),
+      λ yes. (members_of-is bits index).1 (small, sym (shr_and_one bits index) ∙ eqb-true (bit_and (bits / 2 ^ index) 1) 1 yes),
+      λ member. eq-eqb (bit_and (bits / 2 ^ index) 1) 1 (shr_and_one bits index ∙ ((members_of-is bits index).0 member).1),
     )
 
--- a place from 64 on is no member
-pub beyond_no_member : (bits place : ℕ) (members : List ℕ) → members_of bits ≡ members → 64 ≤ place → Contains members place → ⊥
-beyond_no_member bits place members view beyond =
-    rw (← view) (λ member. omega (arith, beyond, ((members_of-is bits place).0 member).0))
+-- an index from the maximum number of members on is no member
+pub beyond_no_member : (bits index : ℕ) (members : List ℕ) → members_of bits ≡ members → MAX_MEMBERS ≤ index → Contains members index → ⊥
+beyond_no_member bits index members view beyond =
+    rw (← view) (λ member. omega (arith, beyond, ((members_of-is bits index).0 member).0))
 
 -- the bits are equal where the members are
 pub bits_say_equal : (a b : ℕ) (xs ys : List ℕ) → members_of a ≡ xs → members_of b ≡ ys → a < 2 ^ 64 → b < 2 ^ 64 → IsTrue (nat_eq a b) ↔ (xs ≡ ys)
@@ -242,9 +243,9 @@ bits_say_equal a b xs ys view_a view_b small_a small_b =
     )
 
 -- the bits of both say whether one set is a subset of the other
-pub bits_say_part : (a b : ℕ) (xs ys : List ℕ) → members_of a ≡ xs → members_of b ≡ ys → a < 2 ^ 64 → IsTrue (nat_eq (bit_and a b) a) ↔ IsSubset xs ys
-bits_say_part a b xs ys view_a view_b small =
+pub bits_say_subset : (a b : ℕ) (xs ys : List ℕ) → members_of a ≡ xs → members_of b ≡ ys → a < 2 ^ 64 → IsTrue (nat_eq (bit_and a b) a) ↔ IsSubset xs ys
+bits_say_subset a b xs ys view_a view_b small =
     rw (← view_a, ← view_b) (
       λ yes. IsSubset-from_bits a b (eqb-true (bit_and a b) a yes),
-      λ part. eq-eqb (bit_and a b) a (bits_from_IsPart a b small part),
+      λ part. eq-eqb (bit_and a b) a (bits_from_IsSubset a b small part),
     )

@@ -9,26 +9,26 @@ use Rattle.std.proofs.lemmas.List.Elements.{All-cons, All-weaker, All-contains}
 use Rattle.tfpg_base.proofs.lists.Elements.{AllPairs-head, AllPairs-tail, AllPairs-cons, All-from_members, Contains-head, Contains-tail, Contains-cons_cases, Contains-nil}
 use Rattle.tfpg_base.specs.declared.activation.Activation.{Activation}
 use Rattle.tfpg_base.specs.Trace.{TimesAfter, IsRisingByNode, time_of, with_time}
-use Rattle.tfpg_base.specs.inside.TraceSearch.{StandsAt, IsPlaceFor}
+use Rattle.tfpg_base.specs.inside.TraceSearch.{StandsAt, IsInsertedAt}
 use Rattle.tfpg_base.proofs.lists.Ordered.{comparisons_rise}
 
 -- ---- a search by node
 
 -- where a binary search by node found something, the node stands
 pub StandsAt-searched : (trace : List Activation) (node : ℕ) (found : Result ℕ ℕ) → IsRisingByNode trace → IsSearchInRange found (length trace) → IsBinarySearchResult (λ activation. nat_cmp activation.node node) trace found → IfOk found (StandsAt trace node)
-StandsAt-searched trace node (Ok place) rising in_range equal =
-    let here : HoldsAt (λ activation. activation.node ≡ node) trace place = λ d. ranked _ node _ (sym (equal d)) in
+StandsAt-searched trace node (Ok index) rising in_range equal =
+    let here : HoldsAt (λ activation. activation.node ≡ node) trace index = λ d. ranked _ node _ (sym (equal d)) in
     record {
       in_range = in_range;
-      before = λ k d from upto. omega (arith, rising k place d upto in_range, here d);
+      before = λ k d from upto. omega (arith, rising k index d upto in_range, here d);
       here = here;
     }
-StandsAt-searched trace node (Err place) rising in_range parted = tt
+StandsAt-searched trace node (Err index) rising in_range parted = tt
 
--- where it found nothing, there is the place for the node
-pub IsPlaceFor-searched : (trace : List Activation) (node : ℕ) (found : Result ℕ ℕ) → IsRisingByNode trace → IsSearchInRange found (length trace) → IsBinarySearchResult (λ activation. nat_cmp activation.node node) trace found → IfErr found (IsPlaceFor trace node)
-IsPlaceFor-searched trace node (Ok place) rising in_range equal = tt
-IsPlaceFor-searched trace node (Err place) rising in_range parted =
+-- where it found nothing, it found where the node would be inserted
+pub IsInsertedAt-searched : (trace : List Activation) (node : ℕ) (found : Result ℕ ℕ) → IsRisingByNode trace → IsSearchInRange found (length trace) → IsBinarySearchResult (λ activation. nat_cmp activation.node node) trace found → IfErr found (IsInsertedAt trace node)
+IsInsertedAt-searched trace node (Ok index) rising in_range equal = tt
+IsInsertedAt-searched trace node (Err index) rising in_range parted =
     let halves = parted (comparisons_rise (λ (activation : Activation). activation.node) trace node rising) in
     record {
       in_range = in_range;
@@ -38,30 +38,30 @@ IsPlaceFor-searched trace node (Err place) rising in_range parted =
 
 -- ---- the time of a node
 
--- in the rest of a trace a node stands one place lower
-StandsAt-tail : (first : Activation) (others : List Activation) (node place : ℕ) → StandsAt (first ∷ others) node (suc place) → StandsAt others node place
-StandsAt-tail first others node place stands = record {
+-- in the rest of a trace a node stands one index lower
+StandsAt-tail : (first : Activation) (others : List Activation) (node index : ℕ) → StandsAt (first ∷ others) node (suc index) → StandsAt others node index
+StandsAt-tail first others node index stands = record {
   in_range = omega (arith, stands.in_range);
   before = λ k d from upto. stands.before (suc k) d (omega arith) (omega arith);
   here = stands.here;
 }
 
--- in the rest of a trace the place for a node is one lower
-IsPlaceFor-tail : (first : Activation) (others : List Activation) (node place : ℕ) → IsPlaceFor (first ∷ others) node (suc place) → IsPlaceFor others node place
-IsPlaceFor-tail first others node place fits = record {
+-- in the rest of a trace a node would be inserted one index lower
+IsInsertedAt-tail : (first : Activation) (others : List Activation) (node index : ℕ) → IsInsertedAt (first ∷ others) node (suc index) → IsInsertedAt others node index
+IsInsertedAt-tail first others node index fits = record {
   in_range = omega (arith, fits.in_range);
   before = λ k d from upto. fits.before (suc k) d (omega arith) (omega arith);
   after = λ k d from upto. fits.after (suc k) d (omega arith) (omega arith);
 }
 
--- the time of a node that stands at a place is the time there
-pub time_of-stands : (trace : List Activation) (node place : ℕ) (d : Activation) → StandsAt trace node place → time_of trace node ≡ Some (get_or trace place d).time
-time_of-stands [] node place d stands = absurd (omega (arith, stands.in_range))
+-- the time of a node that stands at an index is the time there
+pub time_of-stands : (trace : List Activation) (node index : ℕ) (d : Activation) → StandsAt trace node index → time_of trace node ≡ Some (get_or trace index d).time
+time_of-stands [] node index d stands = absurd (omega (arith, stands.in_range))
 time_of-stands (first ∷ others) node zero d stands = cond-true (eqb first.node node) _ _ (eq-eqb first.node node (stands.here d))
-time_of-stands (first ∷ others) node (suc place) d stands =
+time_of-stands (first ∷ others) node (suc index) d stands =
     let lesser = stands.before 0 d (omega arith) (omega arith) in
     cond-false (eqb first.node node) (Some first.time) (time_of others node) (ne_eqb first.node node (λ same. omega (arith, lesser, same)))
-    ∙ time_of-stands others node place d (StandsAt-tail first others node place stands)
+    ∙ time_of-stands others node index d (StandsAt-tail first others node index stands)
 
 -- a node that no activation has has no time
 time_of-none : (trace : List Activation) (node : ℕ) → ((k : ℕ) (d : Activation) → k < length trace → (get_or trace k d).node ≢ node) → time_of trace node ≡ None
@@ -70,11 +70,11 @@ time_of-none (first ∷ others) node none =
     cond-false (eqb first.node node) (Some first.time) (time_of others node) (ne_eqb first.node node (none 0 first (omega arith)))
     ∙ time_of-none others node (λ k d within. none (suc k) d (omega arith))
 
--- a node for which there is a place has no time
-pub time_of-absent : (trace : List Activation) (node place : ℕ) → IsPlaceFor trace node place → time_of trace node ≡ None
-time_of-absent trace node place fits =
+-- a node that would have to be inserted has no time
+pub time_of-absent : (trace : List Activation) (node index : ℕ) → IsInsertedAt trace node index → time_of trace node ≡ None
+time_of-absent trace node index fits =
     time_of-none trace node
-    (λ k d within same. ⊎_elim (λ before. omega (arith, same, fits.before k d (omega arith) before)) (λ beyond. omega (arith, same, fits.after k d beyond within)) (cases_lt k place))
+    (λ k d within same. ⊎_elim (λ before. omega (arith, same, fits.before k d (omega arith) before)) (λ beyond. omega (arith, same, fits.after k d beyond within)) (cases_lt k index))
 
 -- ---- a time for a node
 
@@ -91,21 +91,21 @@ with_time-above node time first others above =
     cond-false (ltb node first.node) _ _ (le-ltb node first.node (omega (arith, above)))
     ∙ cond-false (eqb node first.node) _ _ (ne_eqb node first.node (λ same. omega (arith, above, same)))
 
--- to give a time to a node that stands at a place is to write there
-pub with_time-stands : (trace : List Activation) (node time place : ℕ) → StandsAt trace node place → set trace place (record { node = node; time = time }) ≡ with_time node time trace
-with_time-stands [] node time place stands = absurd (omega (arith, stands.in_range))
+-- to give a time to a node that stands at an index is to write there
+pub with_time-stands : (trace : List Activation) (node time index : ℕ) → StandsAt trace node index → set trace index (record { node = node; time = time }) ≡ with_time node time trace
+with_time-stands [] node time index stands = absurd (omega (arith, stands.in_range))
 with_time-stands (first ∷ others) node time zero stands = sym (with_time-here node time first others (stands.here first))
-with_time-stands (first ∷ others) node time (suc place) stands =
-    ap (λ rest. first ∷ rest) (with_time-stands others node time place (StandsAt-tail first others node place stands))
+with_time-stands (first ∷ others) node time (suc index) stands =
+    ap (λ rest. first ∷ rest) (with_time-stands others node time index (StandsAt-tail first others node index stands))
     ∙ sym (with_time-above node time first others (stands.before 0 first (omega arith) (omega arith)))
 
--- to give a time to a node for which there is a place is to insert it there
-pub with_time-absent : (trace : List Activation) (node time place : ℕ) → IsPlaceFor trace node place → insert trace place (record { node = node; time = time }) ≡ with_time node time trace
+-- to give a time to a node that does not stand in the trace is to insert it
+pub with_time-absent : (trace : List Activation) (node time index : ℕ) → IsInsertedAt trace node index → insert trace index (record { node = node; time = time }) ≡ with_time node time trace
 with_time-absent [] node time zero fits = refl
-with_time-absent [] node time (suc place) fits = absurd (omega (arith, fits.in_range))
+with_time-absent [] node time (suc index) fits = absurd (omega (arith, fits.in_range))
 with_time-absent (first ∷ others) node time zero fits = sym (with_time-below node time first others (fits.after 0 first (omega arith) (omega arith)))
-with_time-absent (first ∷ others) node time (suc place) fits =
-    ap (λ rest. first ∷ rest) (with_time-absent others node time place (IsPlaceFor-tail first others node place fits))
+with_time-absent (first ∷ others) node time (suc index) fits =
+    ap (λ rest. first ∷ rest) (with_time-absent others node time index (IsInsertedAt-tail first others node index fits))
     ∙ sym (with_time-above node time first others (fits.before 0 first (omega arith) (omega arith)))
 
 -- ---- what a trace with one time more says

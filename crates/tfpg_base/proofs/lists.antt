@@ -5,20 +5,25 @@ pub mod Ordered
 pub mod Distinct
 pub mod Below
 pub mod Pigeons
--- What is at a place, and at which place something is.
+-- What is at an index, and at which index something is.
 pub mod Written
 pub mod Positions
 pub mod FirstFound
 pub mod Cuts
+pub mod Ranges
 -- Lists made of others: images, those that pass, values that there are.
 pub mod Images
+pub mod Zipped
+pub mod Filtered
 pub mod Passing
 pub mod Numbered
 pub mod Valued
+pub mod LookedUp
 pub mod Choices
 pub mod Scans
 -- Bytes and numbers.
 pub mod SameBytes
+pub mod Joined
 pub mod Sequences
 -- What can be decided.
 pub mod Decided

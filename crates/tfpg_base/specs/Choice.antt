@@ -1,5 +1,5 @@
 -- Choices among optional values, and among the items of a list.
-use Rattle.std.specs.Prelude.{ℕ, zero, suc, ◌+◌, Bool, List, [], ◌∷◌, Option, Some, None, option_map, slice_get, Result, Ok, Err, if◌then◌else◌}
+use Rattle.std.specs.Prelude.{ℕ, zero, suc, ◌+◌, Bool, List, [], ◌∷◌, Option, Some, None, option_map, slice_get, Result, Ok, Err, if◌then◌else◌, min}
 
 -- the first value that there is
 abbrev pub first_of : {X : Type 0} → List (Option X) → Option X
@@ -12,6 +12,12 @@ abbrev pub each_of : {X : Type 0} → List (Option X) → Option (List X)
 each_of [] = Some []
 each_of (None ∷ others) = None
 each_of (Some x ∷ others) = option_map (λ xs. x ∷ xs) (each_of others)
+
+-- the lesser of two times, where both are there, and else the one that is
+abbrev pub earlier : Option ℕ → Option ℕ → Option ℕ
+earlier None other = other
+earlier (Some one) None = Some one
+earlier (Some one) (Some other) = Some (min one other)
 
 -- the value, unless there is a refusal
 abbrev pub unless_refused : {X E : Type 0} → Option E → X → Result X E

@@ -19,4 +19,4 @@ HasDistinctLefts constraints = AllPairs (λ earlier later. earlier.left ≢ late
 
 -- the sum of their bounds
 abbrev pub sum_of : List Constraint → ℤ
-sum_of constraints = fold (λ total constraint. total +ℤ constraint.most) (pos 0) constraints
+sum_of constraints = fold (λ total constraint. total +ℤ constraint.bound) (pos 0) constraints

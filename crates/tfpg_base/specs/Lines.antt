@@ -67,7 +67,7 @@ with_line reading line = record reading { given = reading.given ++ line ∷ []; 
 
 -- the history after a result that ends it
 abbrev pub ended_by : Reading → Result Line LineFault → Reading
-ended_by reading answer = record reading { ended = Some answer }
+ended_by reading ending = record reading { ended = Some ending }
 
 -- what contracts see of a reader: the bytes in its buffer, how many it took, what it lends, and what ended it
 pub record Buffered : Type 0 where
@@ -151,5 +151,5 @@ pub record GoesFurther (reading : Reading) (before after : SourceState) (result 
 
 -- One call: what ended a reader is returned again, and the source is left as it was. Else the reader goes further.
 abbrev pub Continues : Reading → Option (Result Line LineFault) → SourceState → SourceState → Result Line LineFault → Buffered → Type 0
-Continues reading (Some answer) before after result reader = (result ≡ answer) × (after ≡ before) × (reader.text ≡ []) × LinesRepresent reader reading
+Continues reading (Some ending) before after result reader = (result ≡ ending) × (after ≡ before) × (reader.text ≡ []) × LinesRepresent reader reading
 Continues reading None before after result reader = GoesFurther reading before after result reader

@@ -3,7 +3,7 @@ use Rattle.std.specs.Prelude.{ℕ, zero, suc, ◌^◌, List, [], ◌∷◌, ◌+
 use Rattle.std.specs.Int.{bit_at}
 use Rattle.tfpg_base.specs.declared.limits.TheConstants.{MAX_MEMBERS}
 
--- the places of the ones among the lowest bits, rising
+-- the indexes of the ones among the lowest bits, rising
 unfoldable pub ones_below : ℕ → ℕ → List ℕ
 ones_below zero bits = []
 ones_below (suc count) bits = ones_below count bits ++ (if bit_at bits count == 1 then count ∷ [] else [])
@@ -12,6 +12,6 @@ ones_below (suc count) bits = ones_below count bits ++ (if bit_at bits count == 
 unfoldable pub members_of : ℕ → List ℕ
 members_of bits = ones_below MAX_MEMBERS bits
 
--- the number of which these are the places of the ones
+-- the number of which these are the indexes of the ones
 abbrev pub bits_of : List ℕ → ℕ
-bits_of members = sum_by (λ place. 2 ^ place) members
+bits_of members = sum_by (λ index. 2 ^ index) members

@@ -50,7 +50,7 @@ is_number (first ∷ second ∷ others) = is_ascii_digit first && (not (first ==
 abbrev pub number_of : List ℕ → Option ℕ
 number_of word = if is_number word then Some (digits_value 10 word) else None
 
--- what stands in the place of a number of at most `most`, by the number that its word spells
+-- what stands in the place of a number of at most `limit`, by the number that its word spells
 abbrev pub number_up_to : ℕ → Option ℕ → Number
-number_up_to most None = NotANumber
-number_up_to most (Some number) = if nat_le number most then Value number else TooLarge
+number_up_to limit None = NotANumber
+number_up_to limit (Some number) = if nat_le number limit then Value number else TooLarge

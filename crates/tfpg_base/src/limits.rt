@@ -9,7 +9,7 @@ pub const LONGEST_LINE: usize = 4_096;
 /// How many bytes the buffer of a reader of lines has, which is more than a line may have.
 pub const BUFFER_SIZE: usize = 65_536;
 
-/// How many bytes a reader of lines takes at most: 2^32, and one more by which it sees that there are more.
+/// How many bytes a reader of lines reads at most: 2^32. It takes one byte after them at most, to see that there are more.
 pub const MAX_BYTES: u64 = 4_294_967_296;
 
 /// How many bytes a name has at most.

@@ -1,11 +1,11 @@
 //! Bytes as lines.
 //!
-//! [`Lines`] keeps the bytes that it took in one buffer, and lends each line from its place there. The bytes after the
+//! [`Lines`] keeps the bytes that it took in one buffer, and lends each line as a part of it. The bytes after the
 //! last line returned wait in the buffer. A line that is too long for the buffer is passed in pieces.
 
 ghost use Rattle.std.specs.Prelude.{◌≡◌, ◌<◌, ◌≤◌, ◌+◌, [], ℕ, List, take, drop, length, slice_range, IfOk, IfNone, IfSome};
 ghost use Rattle.tfpg_base.specs.Lines.{Reading, new_reading, LinesRepresent, Continues, HasNoLineEnd};
-ghost use Rattle.tfpg_base.specs.inside.LineSearch.{IsAtLineEnd, kind_of, lent_of};
+ghost use Rattle.tfpg_base.specs.inside.LineSearch.{IsAtLineEnd, returned_line, lent_of};
 
 mod refill;
 mod search;
@@ -14,16 +14,16 @@ use crate::{BUFFER_SIZE, LONGEST_LINE, Line, LineFault, NoMemory, Source};
 use std::alloc::Global;
 use std::marker::Model;
 
-/// Places of the buffer, from the one up to before the other.
+/// A part of the buffer, from the one index up to before the other.
 #[derive(Clone, Copy)]
-struct Places {
+struct Part {
     start: usize,
     end: usize,
 }
 
-impl Places {
-    /// No place.
-    const NONE: Places = Places { start: 0, end: 0 };
+impl Part {
+    /// A part with no byte.
+    const NONE: Part = Part { start: 0, end: 0 };
 }
 
 /// Cuts the bytes of one source into lines.
@@ -32,8 +32,8 @@ impl Places {
 #[derive(Drop)]
 pub struct Lines {
     buffer: Vec<u8>,
-    waiting: Places,
-    text: Places,
+    waiting: Part,
+    text: Part,
     number: u64,
     taken: u64,
     ended: Option<Result<Line, LineFault>>,
@@ -59,8 +59,8 @@ impl Lines {
     {
         Ok(Lines {
             buffer: vec![in alloc; 0; BUFFER_SIZE]?,
-            waiting: Places::NONE,
-            text: Places::NONE,
+            waiting: Part::NONE,
+            text: Part::NONE,
             number: 0,
             taken: 0,
             ended: None,
@@ -81,9 +81,9 @@ impl Lines {
         ensures { (reading : Reading) → LinesRepresent self.old reading
             → Continues reading reading.ended (S.state source.old) (S.state source.new) result self.new }
     {
-        if let Some(answer) = self.ended {
-            self.text = Places::NONE;
-            return answer;
+        if let Some(ending) = self.ended {
+            self.text = Part::NONE;
+            return ending;
         }
         match line_end(self.waiting()) {
             Some(count) => Ok(self.give_whole(count)),
@@ -115,7 +115,7 @@ impl Lines {
     /// Returns so many of the bytes that wait as a line, and passes the line end after them.
     fn give_whole(&mut self, count: usize) -> Line
         requires { count < length self.old.waiting }
-        ensures kind { result ≡ kind_of (take count self.old.waiting) }
+        ensures kind { result ≡ returned_line (take count self.old.waiting) }
         ensures waiting { self.new.waiting ≡ drop (count + 1) self.old.waiting }
         ensures text { self.new.text ≡ lent_of (take count self.old.waiting) }
         ensures number { self.new.number ≡ self.old.number + 1 }
@@ -125,7 +125,7 @@ impl Lines {
         self.text = lent(self.waiting.start, count);
         self.waiting.start += count + 1;
         self.number += 1;
-        kind(count)
+        line_of_length(count)
     }
 }
 
@@ -138,8 +138,8 @@ fn line_end(bytes: &[u8]) -> Option<usize>
 }
 
 /// What is returned at a line of so many bytes.
-fn kind(count: usize) -> Line
-    ensures { (line : List ℕ) → length line ≡ count → result ≡ kind_of line }
+fn line_of_length(count: usize) -> Line
+    ensures { (line : List ℕ) → length line ≡ count → result ≡ returned_line line }
 {
     if count <= LONGEST_LINE {
         Line::Text
@@ -149,9 +149,9 @@ fn kind(count: usize) -> Line
 }
 
 /// Where the text of a line of so many bytes stands: nowhere for one that is too long.
-fn lent(start: usize, count: usize) -> Places
+fn lent(start: usize, count: usize) -> Part
     requires { start + count ≤ BUFFER_SIZE }
-    ensures place { result.start ≤ result.end }
+    ensures index { result.start ≤ result.end }
     ensures within { result.end ≤ start + count }
     ensures text { (bytes : List ℕ) → start + count ≤ length bytes
         → slice_range bytes result.start result.end ≡ lent_of (slice_range bytes start (start + count)) }
@@ -161,5 +161,5 @@ fn lent(start: usize, count: usize) -> Places
     } else {
         start
     };
-    Places { start, end }
+    Part { start, end }
 }

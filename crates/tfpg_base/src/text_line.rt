@@ -21,8 +21,8 @@ pub fn append_line(into: &mut Vec<u8>, words: &[&[u8]]) -> Result<(), NoMemory>
 pub fn append_words(into: &mut Vec<u8>, words: &[&[u8]]) -> Result<(), NoMemory>
     ensures { Appends result into.old.items into.new.items (line_of (map (λ word. word.now) words.now)) }
 {
-    for (place, word) in words.iter().enumerate() {
-        append_part(into, b' ', place == 0, word)?;
+    for (index, word) in words.iter().enumerate() {
+        append_part(into, b' ', index == 0, word)?;
     }
     Ok(())
 }

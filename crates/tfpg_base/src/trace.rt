@@ -2,7 +2,7 @@
 
 ghost use Rattle.std.specs.Prelude.{◌≡◌, [], IfOk, IfErr, OnOk, OnErr};
 ghost use Rattle.tfpg_base.specs.Trace.{IsRisingByNode, TimesAfter, time_of, with_time};
-ghost use Rattle.tfpg_base.specs.inside.TraceSearch.{IsPlaceFor, StandsAt};
+ghost use Rattle.tfpg_base.specs.inside.TraceSearch.{IsInsertedAt, StandsAt};
 
 use crate::{Activation, NoMemory};
 use std::alloc::Global;
@@ -46,8 +46,8 @@ impl Trace {
     {
         let activation = Activation { node, time };
         match search(&self.items, node) {
-            Ok(place) => self.items[place] = activation,
-            Err(place) => self.items.insert(place, activation)?,
+            Ok(index) => self.items[index] = activation,
+            Err(index) => self.items.insert(index, activation)?,
         }
         Ok(())
     }
@@ -57,7 +57,7 @@ impl Trace {
         ensures { result ≡ time_of self.now node }
     {
         match search(&self.items, node) {
-            Ok(place) => Some(self.items[place].time),
+            Ok(index) => Some(self.items[index].time),
             Err(_) => None,
         }
     }
@@ -75,7 +75,7 @@ impl Trace {
 fn search(items: &[Activation], node: u32) -> Result<usize, usize>
     requires { IsRisingByNode items.now }
     ensures found { IfOk result (StandsAt items.now node) }
-    ensures absent { IfErr result (IsPlaceFor items.now node) }
+    ensures absent { IfErr result (IsInsertedAt items.now node) }
 {
     items.binary_search_by_key(&node, |activation| activation.node)
 }

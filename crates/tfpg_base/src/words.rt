@@ -1,6 +1,6 @@
 //! The words of a line.
 
-ghost use Rattle.std.specs.Prelude.{◌≡◌, ◌<◌, ◌==◌, length, map, IfOk, MatchOption};
+ghost use Rattle.std.specs.Prelude.{◌≡◌, ◌<◌, ◌⊎◌, ◌==◌, false, length, map, IfOk, IsTrue, MatchOption};
 ghost use Rattle.std.specs.List.{list_any};
 ghost use Rattle.tfpg_base.specs.declared.limits.TheConstants.{MAX_WORDS};
 ghost use Rattle.tfpg_base.specs.Words.{comma_parts, has_empty_word, words_of};
@@ -44,6 +44,20 @@ impl<'a> Words<'a> {
             count += 1;
         }
         Some(Words { items, count })
+    }
+
+    /// The words of the line, or None where one of them is empty, or where it has more than [`MAX_WORDS`]. Takes no
+    /// memory, and time in the length of the line.
+    pub fn filled(line: &'a [u8]) -> Option<Words<'a>>
+        ensures { MatchOption result
+            (IsTrue (has_empty_word (words_of line.now)) ⊎ (MAX_WORDS < length (words_of line.now)))
+            (λ words. (words ≡ words_of line.now) × (has_empty_word (words_of line.now) ≡ false)) }
+    {
+        let words = Words::of(line)?;
+        if has_empty_word(words.as_slice()) {
+            return None;
+        }
+        Some(words)
     }
 
     /// The words, of which a line has at least one.

@@ -1,1 +1,1 @@
-mod Progressing
+pub mod Progressing

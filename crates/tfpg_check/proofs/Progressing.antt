@@ -11,7 +11,8 @@ use Rattle.tfpg_evidence.specs.declared.round.Round.{Round}
 use Rattle.tfpg_report.specs.Blocks.{Block}
 use Rattle.tfpg_check.specs.Report.{Progress, rounds_of, progress_after, progress_of}
 
-abbrev progress_with : List Round → Logbook → Progress
+-- rounds and log together
+abbrev pub progress_with : List Round → Logbook → Progress
 progress_with rounds log = record { rounds = rounds; log = log }
 
 -- The rounds and the log both grow by one step.

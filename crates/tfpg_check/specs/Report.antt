@@ -64,9 +64,9 @@ IsBlock graph k budget before number line block =
 -- These are the blocks of the lines, one for each line in order. Lines are numbered from 1, and indexes from 0.
 pub record AreBlocks (graph : Tfpg) (k budget : ℕ) (lines : List (List ℕ)) (blocks : List Block) : Type 0 where
   pub one_each : length blocks ≡ length lines
-  pub each : (place : ℕ) (line : List ℕ) (block : Block) → slice_get lines place ≡ Some line
-      → slice_get blocks place ≡ Some block
-      → IsBlock graph k budget (progress_of graph (take place lines) (take place blocks)) (place + 1) line block
+  pub each : (index : ℕ) (line : List ℕ) (block : Block) → slice_get lines index ≡ Some line
+      → slice_get blocks index ≡ Some block
+      → IsBlock graph k budget (progress_of graph (take index lines) (take index blocks)) (index + 1) line block
 
 -- the text of a report with these blocks
 abbrev pub report_text : Tfpg → ℕ → ℕ → List Block → List ℕ

@@ -51,31 +51,31 @@ none_before first now (number ∷ numbers) node before = by (leb number now) (no
     by false rest = rest
 
 -- a node has its number as its time, where that is up to the instant
-cut_early : (first now : ℕ) (numbers : List ℕ) (place node : ℕ) → node ≡ first + place → place < length numbers → get_or numbers place 0 ≤ now
-    → time_of (cut_from first now numbers) node ≡ Some (get_or numbers place 0)
-cut_early first now [] place node is within early = absurd (omega arith)
+cut_early : (first now : ℕ) (numbers : List ℕ) (index node : ℕ) → node ≡ first + index → index < length numbers → get_or numbers index 0 ≤ now
+    → time_of (cut_from first now numbers) node ≡ Some (get_or numbers index 0)
+cut_early first now [] index node is within early = absurd (omega arith)
 cut_early first now (number ∷ numbers) zero node is within early =
     let kept : leb number now ≡ true = le-leb number now early in
     let here : eqb first node ≡ true = eq-eqb first node (omega arith) in
     rw (kept, here) refl
-cut_early first now (number ∷ numbers) (suc place) node is within early = by (leb number now) (cut_early (first + 1) now numbers place node (omega arith) (omega arith) early)
+cut_early first now (number ∷ numbers) (suc index) node is within early = by (leb number now) (cut_early (first + 1) now numbers index node (omega arith) (omega arith) early)
   where
-    by : (b : Bool) → time_of (cut_from (first + 1) now numbers) node ≡ Some (get_or numbers place 0)
-        → time_of (cond b (record { node = first; time = number } ∷ cut_from (first + 1) now numbers) (cut_from (first + 1) now numbers)) node ≡ Some (get_or numbers place 0)
+    by : (b : Bool) → time_of (cut_from (first + 1) now numbers) node ≡ Some (get_or numbers index 0)
+        → time_of (cond b (record { node = first; time = number } ∷ cut_from (first + 1) now numbers) (cut_from (first + 1) now numbers)) node ≡ Some (get_or numbers index 0)
     by true rest = let other : eqb first node ≡ false = ne_eqb first node (λ same. omega (arith, same, is)) in rw other rest
     by false rest = rest
 
 -- and a time is the number of its node, up to the instant
 pub record IsCutTime (first now : ℕ) (numbers : List ℕ) (node time : ℕ) : Type 0 where
-  pub place : ℕ
-  pub is : node ≡ first + place
-  pub within : place < length numbers
-  pub number : get_or numbers place 0 ≡ time
+  pub index : ℕ
+  pub is : node ≡ first + index
+  pub within : index < length numbers
+  pub number : get_or numbers index 0 ≡ time
   pub early : time ≤ now
 
 next_cut : (first now number : ℕ) (numbers : List ℕ) (node time : ℕ) → IsCutTime (first + 1) now numbers node time → IsCutTime first now (number ∷ numbers) node time
 next_cut first now number numbers node time at = record {
-  place = suc at.place;
+  index = suc at.index;
   is = omega (arith, at.is);
   within = omega (arith, at.within);
   number = at.number;
@@ -91,7 +91,7 @@ cut_time first now (number ∷ numbers) node time at =
         → (time_of (cut_from (first + 1) now numbers) node ≡ Some time → IsCutTime first now (number ∷ numbers) node time) → IsCutTime first now (number ∷ numbers) node time
     own true kept same is rest =
         let here : number ≡ time = cc in
-        record { place = 0; is = omega (arith, eqb-true first node same); within = omega arith; number = here; early = omega (arith, leb-true number now kept, here) }
+        record { index = 0; is = omega (arith, eqb-true first node same); within = omega arith; number = here; early = omega (arith, leb-true number now kept, here) }
     own false kept other is rest = rest is
 
     by : (b : Bool) → leb number now ≡ b
@@ -104,8 +104,8 @@ cut_time first now (number ∷ numbers) node time at =
 pub time_of_cut : (now : ℕ) (numbers : List ℕ) (node time : ℕ) → time_of (cut now numbers) node ≡ Some time → (node < length numbers) × (get_or numbers node 0 ≡ time) × (time ≤ now)
 time_of_cut now numbers node time at =
     let is = cut_time 0 now numbers node time at in
-    let same : is.place ≡ node = omega (arith, is.is) in
-    (omega (arith, same, is.within), ap (λ place. get_or numbers place 0) (sym same) ∙ is.number, is.early)
+    let same : is.index ≡ node = omega (arith, is.is) in
+    (omega (arith, same, is.within), ap (λ index. get_or numbers index 0) (sym same) ∙ is.number, is.early)
 
 -- Numbers, one for each node, agree with their cut.
 pub of_cut : (count now : ℕ) (numbers : List ℕ) → length numbers ≡ count → Agree count now (cut now numbers) numbers

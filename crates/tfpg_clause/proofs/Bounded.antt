@@ -2,8 +2,27 @@
 use Rattle.std.proofs.Common.{◌≡◌, ℕ, suc, ◌+◌, ◌<◌, ◌≤◌, List, get_or, ap, arith, pos}
 use Rattle.std.specs.Prelude.{ℤ, ◌-ℤ◌, ◌≤ℤ◌, neg_ℤ}
 use Rattle.std.proofs.lemmas.Int.{ints}
+use Rattle.tfpg_base.specs.declared.constraint.Constraint.{Constraint}
 use Rattle.tfpg_base.specs.Bounds.{at_most, at_least, at_most_after, at_least_after}
 use Rattle.tfpg_base.specs.Constraint.{Meets, value_of}
+
+-- two lower bounds that are the same are of one node, at one time
+pub at_least-same : (u v a b : ℕ) → at_least u a ≡ at_least v b → (u ≡ v) × (a ≡ b)
+at_least-same u v a b same =
+    let right : u + 1 ≡ v + 1 = ap (λ (c : Constraint). c.right) same in
+    let bound : neg_ℤ (pos a) ≡ neg_ℤ (pos b) = ap (λ (c : Constraint). c.bound) same in
+    (omega arith, omega (arith, ints))
+
+-- and so are two upper bounds
+pub at_most-same : (u v a b : ℕ) → at_most u (pos a) ≡ at_most v (pos b) → (u ≡ v) × (a ≡ b)
+at_most-same u v a b same =
+    let left : u + 1 ≡ v + 1 = ap (λ (c : Constraint). c.left) same in
+    let bound : pos a ≡ pos b = ap (λ (c : Constraint). c.bound) same in
+    (omega arith, omega (arith, ints))
+
+-- an upper bound is no lower bound
+pub at_most-least : (u v b : ℕ) (bound : ℤ) → at_most u bound ≡ at_least v b → ⊥
+at_most-least u v b bound same = omega (arith, ap (λ (c : Constraint). c.left) same)
 
 up : (v : ℤ) (n m : ℕ) → v ≡ pos n → n ≤ m → (v -ℤ pos 0) ≤ℤ pos m
 up v n m is upto = omega (arith, ints)

@@ -9,13 +9,13 @@ use Rattle.tfpg_base.specs.ConstraintCycle.{IsChainTo, IsCycle, sum_of}
 
 -- the sum from a total on
 abbrev sum_from : ℤ → List Constraint → ℤ
-sum_from total constraints = fold (λ sum constraint. sum +ℤ constraint.most) total constraints
+sum_from total constraints = fold (λ sum constraint. sum +ℤ constraint.bound) total constraints
 
-one_step : (total left right end most sum : ℤ) → (left -ℤ right) ≤ℤ most → ((total +ℤ most) +ℤ (right -ℤ end)) ≤ℤ sum → (total +ℤ (left -ℤ end)) ≤ℤ sum
-one_step total left right end most sum met rest = omega (arith, ints)
+one_step : (total left right end bound sum : ℤ) → (left -ℤ right) ≤ℤ bound → ((total +ℤ bound) +ℤ (right -ℤ end)) ≤ℤ sum → (total +ℤ (left -ℤ end)) ≤ℤ sum
+one_step total left right end bound sum met rest = omega (arith, ints)
 
-last_step : (total left right end most : ℤ) → (left -ℤ right) ≤ℤ most → right ≡ end → (total +ℤ (left -ℤ end)) ≤ℤ (total +ℤ most)
-last_step total left right end most met same = omega (arith, ints)
+last_step : (total left right end bound : ℤ) → (left -ℤ right) ≤ℤ bound → right ≡ end → (total +ℤ (left -ℤ end)) ≤ℤ (total +ℤ bound)
+last_step total left right end bound met same = omega (arith, ints)
 
 around : (total left sum : ℤ) → (total +ℤ (left -ℤ left)) ≤ℤ sum → total ≤ℤ sum
 around total left sum upto = omega (arith, ints)
@@ -25,11 +25,11 @@ module _ (times : List ℕ) where
   along : (total : ℤ) (end : ℕ) (first : Constraint) (others : List Constraint) → IsChainTo end (first ∷ others) → All (Meets times) (first ∷ others)
       → (total +ℤ (value_of times first.left -ℤ value_of times end)) ≤ℤ sum_from total (first ∷ others)
   along total end first [] chain met =
-      last_step total (value_of times first.left) (value_of times first.right) (value_of times end) first.most (met 0 first (omega arith)) (ap (value_of times) chain)
+      last_step total (value_of times first.left) (value_of times first.right) (value_of times end) first.bound (met 0 first (omega arith)) (ap (value_of times) chain)
   along total end first (second ∷ others) chain met =
-      let rest = along (total +ℤ first.most) end second others chain.1 (All-tail (Meets times) first (second ∷ others) met) in
+      let rest = along (total +ℤ first.bound) end second others chain.1 (All-tail (Meets times) first (second ∷ others) met) in
       let same : value_of times first.right ≡ value_of times second.left = ap (value_of times) chain.0 in
-      one_step total (value_of times first.left) (value_of times first.right) (value_of times end) first.most (sum_from (total +ℤ first.most) (second ∷ others))
+      one_step total (value_of times first.left) (value_of times first.right) (value_of times end) first.bound (sum_from (total +ℤ first.bound) (second ∷ others))
       (met 0 first (omega arith)) (rw same rest)
 
   pub not_negative : (constraints : List Constraint) → IsCycle constraints → All (Meets times) constraints → pos 0 ≤ℤ sum_of constraints

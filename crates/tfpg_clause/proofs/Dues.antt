@@ -88,7 +88,7 @@ module _ (f : ℕ → Option Due) (edges : List ℕ) (i hi : ℕ) (within : i < 
 pub due_length : (f : ℕ → Option Due) (edges : List ℕ) (ds : List Due) → each_of (map f edges) ≡ Some ds → length ds ≡ length edges
 due_length f edges ds are = length-each_of (map f edges) ds are ∙ length-map edges f
 
--- ---- the alternatives of a must, in their places
+-- ---- the alternatives of a must, in their order
 
 module _ (node hi : ℕ) (ds : List Due) (alternative index : ℕ) where
   late : List (List Constraint)
@@ -106,16 +106,16 @@ module _ (node hi : ℕ) (ds : List Due) (alternative index : ℕ) where
       ∙ slice_get-map (starts_late hi) ds index ∙ ap (option_map (starts_late hi)) at
 
   -- one of the next is that the target follows in time
-  pub follows_at : (due : Due) (place : ℕ) → alternative ≡ index + 1 → index ≡ length ds + place → slice_get ds place ≡ Some due → place < length ds
+  pub follows_at : (due : Due) (due_index : ℕ) → alternative ≡ index + 1 → index ≡ length ds + due_index → slice_get ds due_index ≡ Some due → due_index < length ds
       → item_at (must_alternatives node hi ds) alternative ≡ Some (follows_in_time due)
-  follows_at due place is from at within =
-      let same : index ≡ length (map (starts_late hi) ds) + place = omega (arith, from, length-map ds (starts_late hi)) in
+  follows_at due due_index is from at within =
+      let same : index ≡ length (map (starts_late hi) ds) + due_index = omega (arith, from, length-map ds (starts_late hi)) in
       by_index is
       ∙ slice_get-append_left (map (starts_late hi) ds ++ map follows_in_time ds) _ index
       (omega (arith, length-append (map (starts_late hi) ds) (map follows_in_time ds), length-map ds (starts_late hi), length-map ds follows_in_time, within, from))
       ∙ ap (slice_get (map (starts_late hi) ds ++ map follows_in_time ds)) same
-      ∙ slice_get-append_right (map (starts_late hi) ds) (map follows_in_time ds) place
-      ∙ slice_get-map follows_in_time ds place ∙ ap (option_map follows_in_time) at
+      ∙ slice_get-append_right (map (starts_late hi) ds) (map follows_in_time ds) due_index
+      ∙ slice_get-map follows_in_time ds due_index ∙ ap (option_map follows_in_time) at
 
   both_lengths : length (map (starts_late hi) ds ++ map follows_in_time ds) ≡ 2 * length ds
   both_lengths = omega (arith, length-append (map (starts_late hi) ds) (map follows_in_time ds), length-map ds (starts_late hi), length-map ds follows_in_time)

@@ -1,7 +1,7 @@
 -- The facts and the events: numbers of a trace that explains a log from a set meet each fact, and where numbers meet each fact,
 -- their trace shows each event and activates failure modes of the set only.
-use Rattle.std.proofs.Common.{◌≡◌, ℕ, zero, suc, ◌+◌, ◌-◌, ◌<◌, ◌≤◌, Bool, true, false, not, ◌&&◌, cond, eqb, leb, ltb, List, [], ◌∷◌, length, get_or, take, Option, Some, None, refl, sym, ap, subst, ◌∙◌, inl, inr, arith, pos}
-use Rattle.std.specs.Prelude.{All, AllPairs, IsNone, is_none, slice_get, option_map, option_and_then, unwrap_or, fold}
+use Rattle.std.proofs.Common.{◌≡◌, ℕ, zero, suc, ◌+◌, ◌-◌, ◌<◌, ◌≤◌, Bool, true, false, not, ◌&&◌, cond, eqb, leb, ltb, List, length, get_or, take, Option, Some, None, refl, sym, ap, subst, ◌∙◌, inl, inr, arith, pos}
+use Rattle.std.specs.Prelude.{IsNone, is_none, slice_get, option_map, option_and_then, unwrap_or}
 use Rattle.std.specs.Bool.{then_some}
 use Rattle.std.proofs.lemmas.Bool.{cases_lt, leb-true, le-leb, lt-ltb, ltb-true, eqb-true, eq-eqb, false≢true, and_parts, and_from, not-true, both_ways}
 use Rattle.std.proofs.lemmas.List.Elements.{All-contains, All-get_or}
@@ -11,7 +11,7 @@ use Rattle.tfpg_base.specs.declared.activation.Activation.{Activation}
 use Rattle.tfpg_base.specs.declared.constraint.Constraint.{Constraint}
 use Rattle.tfpg_base.specs.Trace.{time_of}
 use Rattle.tfpg_base.proofs.TraceTimes.{activation_there}
-use Rattle.tfpg_base.proofs.lists.Elements.{AllPairs-head, AllPairs-tail, All-at}
+use Rattle.tfpg_base.proofs.lists.Elements.{All-at}
 use Rattle.tfpg_graph.specs.Graph.{Tfpg, lag_at, is_monitored}
 use Rattle.tfpg_graph.specs.Reach.{IsReach, Reaches, is_among}
 use Rattle.tfpg_graph.specs.ZeroCycle.{HasZeroOrder}
@@ -22,6 +22,7 @@ use Rattle.tfpg_log.specs.declared.event.Event.TheVariants.{Alarm, Silent, Sweep
 use Rattle.tfpg_log.specs.Log.{Logbook, now_of, time_of_event, alarm_among, quiet_time, quiet_at, IsOf, IsEventOf, IsOrdered}
 use Rattle.tfpg_log.specs.Explains.{Explains, Shows, ShowsAll, ShowsSilence}
 use Rattle.tfpg_log.proofs.InReach.{trace_in_reach}
+use Rattle.tfpg_log.proofs.Order.{event_by_now}
 use Rattle.tfpg_evidence.specs.declared.reason.Reason.{Reason}
 use Rattle.tfpg_evidence.specs.declared.reason.Reason.TheVariants.{Zero, Top, Unreached, From, Upto, Quiet, Pick}
 use Rattle.tfpg_base.specs.Bounds.{at_most, at_least}
@@ -32,43 +33,10 @@ use Rattle.tfpg_clause.specs.Cut.{AreNumbersOf}
 use Rattle.tfpg_clause.proofs.Bounded.{met_at_most, met_at_least, says_at_most, says_at_least}
 use Rattle.tfpg_clause.proofs.Agreed.{Agree, of_trace, active_from, active_only}
 
--- ---- the events of an ordered log
-
-abbrev IsRising : List Event → Type 0
-IsRising events = AllPairs (λ earlier later. time_of_event earlier ≤ time_of_event later) events
-
-last_rises : (time : ℕ) (events : List Event) → All (λ event. time ≤ time_of_event event) events → IsRising events → time ≤ fold (λ last event. time_of_event event) time events
-last_rises time [] from rising = omega arith
-last_rises time (event ∷ events) from rising =
-    omega (
-      arith,
-      from 0 event (omega arith),
-      last_rises (time_of_event event) events (AllPairs-head (λ earlier later. time_of_event earlier ≤ time_of_event later) event events rising)
-          (AllPairs-tail (λ earlier later. time_of_event earlier ≤ time_of_event later) event events rising),
-    )
-
-before_last : (start : ℕ) (events : List Event) (place : ℕ) (event : Event) → IsRising events → slice_get events place ≡ Some event
-    → time_of_event event ≤ fold (λ last e. time_of_event e) start events
-before_last start [] place event rising at = absurd cc
-before_last start (first ∷ events) zero event rising at =
-    let same : first ≡ event = cc in
-    omega (
-      arith,
-      ap time_of_event same,
-      last_rises (time_of_event first) events (AllPairs-head (λ earlier later. time_of_event earlier ≤ time_of_event later) first events rising)
-          (AllPairs-tail (λ earlier later. time_of_event earlier ≤ time_of_event later) first events rising),
-    )
-before_last start (first ∷ events) (suc place) event rising at =
-    before_last (time_of_event first) events place event (AllPairs-tail (λ earlier later. time_of_event earlier ≤ time_of_event later) first events rising) at
-
--- an event is not after now
-pub event_by_now : (log : Logbook) (place : ℕ) (event : Event) → IsOrdered log → slice_get log.events place ≡ Some event → time_of_event event ≤ now_of log
-event_by_now log place event ordered at = before_last 0 log.events place event ordered.in_order at
-
 -- ---- silences
 
 -- What an event that is a silence of a node says, where it is of the graph and shown.
-pub record IsQuiet (graph : Tfpg) (trace : List Activation) (node time : ℕ) (event : Event) : Type 0 where
+pub record IsShownSilence (graph : Tfpg) (trace : List Activation) (node time : ℕ) (event : Event) : Type 0 where
   pub within : node < length graph.nodes
   pub shown : ShowsSilence trace node time
   pub at : time_of_event event ≡ time
@@ -78,35 +46,35 @@ none_there None is = refl
 none_there (Some alarm) is = absurd (false≢true is)
 
 quiet_shown : (graph : Tfpg) (trace : List Activation) (before : List Event) (event : Event) (node time : ℕ) → IsEventOf graph event → Shows graph trace before event
-    → quiet_time graph before event node ≡ Some time → IsQuiet graph trace node time event
+    → quiet_time graph before event node ≡ Some time → IsShownSilence graph trace node time event
 quiet_shown graph trace before (Alarm own alarmed) node time of shows is = absurd cc
 quiet_shown graph trace before (Silent own silent) node time of shows is =
-    let told = cond_some (eqb silent node) own time is in
-    let same : silent ≡ node = eqb-true silent node told.0 in
+    let parts = cond_some (eqb silent node) own time is in
+    let same : silent ≡ node = eqb-true silent node parts.0 in
     record {
       within = subst (λ n. n < length graph.nodes) same (monitored_within graph silent of);
-      shown = subst (λ t. ShowsSilence trace node t) told.1 (subst (λ n. ShowsSilence trace n own) same shows);
-      at = told.1;
+      shown = subst (λ t. ShowsSilence trace node t) parts.1 (subst (λ n. ShowsSilence trace n own) same shows);
+      at = parts.1;
     }
 quiet_shown graph trace before (Sweep own) node time of shows is =
-    let told = cond_some (is_monitored graph node && is_none (alarm_among before node)) own time is in
-    let both = and_parts (is_monitored graph node) (is_none (alarm_among before node)) told.0 in
+    let parts = cond_some (is_monitored graph node && is_none (alarm_among before node)) own time is in
+    let both = and_parts (is_monitored graph node) (is_none (alarm_among before node)) parts.0 in
     record {
       within = monitored_within graph node both.0;
-      shown = subst (λ t. ShowsSilence trace node t) told.1 (shows node both.0 (none_there (alarm_among before node) both.1));
-      at = told.1;
+      shown = subst (λ t. ShowsSilence trace node t) parts.1 (shows node both.0 (none_there (alarm_among before node) both.1));
+      at = parts.1;
     }
 quiet_shown graph trace before (Tick own) node time of shows is = absurd cc
 quiet_shown graph trace before (Mode own mode) node time of shows is = absurd cc
 
-front : (events : List Event) (place : ℕ) → take (suc place - 1) events ≡ take place events
-front events place = let same : suc place - 1 ≡ place = omega arith in ap (λ n. take n events) same
+front : (events : List Event) (index : ℕ) → take (suc index - 1) events ≡ take index events
+front events index = let same : suc index - 1 ≡ index = omega arith in ap (λ n. take n events) same
 
 -- the silence of an event's number, by the event
-quiet_of : (graph : Tfpg) (log : Logbook) (place node : ℕ) (event : Event) → slice_get log.events place ≡ Some event
-    → quiet_at graph log (suc place) node ≡ quiet_time graph (take place log.events) event node
-quiet_of graph log place node event at =
-    ap (option_and_then (λ e. quiet_time graph (take (suc place - 1) log.events) e node)) at ∙ ap (λ before. quiet_time graph before event node) (front log.events place)
+quiet_of : (graph : Tfpg) (log : Logbook) (index node : ℕ) (event : Event) → slice_get log.events index ≡ Some event
+    → quiet_at graph log (suc index) node ≡ quiet_time graph (take index log.events) event node
+quiet_of graph log index node event at =
+    ap (option_and_then (λ e. quiet_time graph (take (suc index - 1) log.events) e node)) at ∙ ap (λ before. quiet_time graph before event node) (front log.events index)
 
 module _ (graph : Tfpg) (log : Logbook) (set reach : List ℕ) (is_reach : IsReach graph set reach) (of : IsOf graph log) (ordered : IsOrdered log) where
   -- ---- facts are met
@@ -129,39 +97,39 @@ module _ (graph : Tfpg) (log : Logbook) (set reach : List ℕ) (is_reach : IsRea
             All-contains (λ activation. Reaches graph set activation.node) trace (record { node = node; time = time }) (trace_in_reach graph log set trace order explains) (activation_there trace node time at) in
             absurd (both_ways (is_among reach node) outside (among-from_Contains reach node ((is_reach.exact node).1 reaches)))
 
-    from_met : (place : ℕ) (event : Event) (stated : Constraint) → slice_get log.events place ≡ Some event → from_alarm graph event ≡ Some stated → Meets numbers stated
-    from_met place (Alarm time node) stated at is =
-        let shows = explains.shows place (Alarm time node) at in
+    from_met : (index : ℕ) (event : Event) (stated : Constraint) → slice_get log.events index ≡ Some event → from_alarm graph event ≡ Some stated → Meets numbers stated
+    from_met index (Alarm time node) stated at is =
+        let shows = explains.shows index (Alarm time node) at in
         let same : at_least node (time - unwrap_or (lag_at graph node) 0) ≡ stated = cc in
         let lag : unwrap_or (lag_at graph node) 0 ≡ shows.0 = ap (λ l. unwrap_or l 0) shows.2 in
         subst (Meets numbers) same
         (met_at_least numbers node (time - unwrap_or (lag_at graph node) 0) (omega (arith, lag, agree.number_is node shows.1 shows.3, shows.4)))
-    from_met place (Silent time node) stated at is = absurd cc
-    from_met place (Sweep time) stated at is = absurd cc
-    from_met place (Tick time) stated at is = absurd cc
-    from_met place (Mode time mode) stated at is = absurd cc
+    from_met index (Silent time node) stated at is = absurd cc
+    from_met index (Sweep time) stated at is = absurd cc
+    from_met index (Tick time) stated at is = absurd cc
+    from_met index (Mode time mode) stated at is = absurd cc
 
-    upto_met : (place : ℕ) (event : Event) (stated : Constraint) → slice_get log.events place ≡ Some event → upto_alarm event ≡ Some stated → Meets numbers stated
-    upto_met place (Alarm time node) stated at is =
-        let shows = explains.shows place (Alarm time node) at in
+    upto_met : (index : ℕ) (event : Event) (stated : Constraint) → slice_get log.events index ≡ Some event → upto_alarm event ≡ Some stated → Meets numbers stated
+    upto_met index (Alarm time node) stated at is =
+        let shows = explains.shows index (Alarm time node) at in
         let same : at_most node (pos time) ≡ stated = cc in
         subst (Meets numbers) same (met_at_most numbers node time (omega (arith, agree.number_is node shows.1 shows.3, shows.5)))
-    upto_met place (Silent time node) stated at is = absurd cc
-    upto_met place (Sweep time) stated at is = absurd cc
-    upto_met place (Tick time) stated at is = absurd cc
-    upto_met place (Mode time mode) stated at is = absurd cc
+    upto_met index (Silent time node) stated at is = absurd cc
+    upto_met index (Sweep time) stated at is = absurd cc
+    upto_met index (Tick time) stated at is = absurd cc
+    upto_met index (Mode time mode) stated at is = absurd cc
 
-    quiet_met : (place : ℕ) (event : Event) (node time : ℕ) → slice_get log.events place ≡ Some event → quiet_time graph (take place log.events) event node ≡ Some time
+    quiet_met : (index : ℕ) (event : Event) (node time : ℕ) → slice_get log.events index ≡ Some event → quiet_time graph (take index log.events) event node ≡ Some time
         → Meets numbers (at_least node (time + 1))
-    quiet_met place event node time at is =
-        let quiet = quiet_shown graph trace (take place log.events) event node time (All-at (IsEventOf graph) log.events place event of.own at) (explains.shows place event at) is in
+    quiet_met index event node time at is =
+        let quiet = quiet_shown graph trace (take index log.events) event node time (All-at (IsEventOf graph) log.events index event of.own at) (explains.shows index event at) is in
         met_at_least numbers node (time + 1)
         (elim (cases_lt time (get_or numbers node 0)) [
           | inl later ↦ omega (arith, later)
           | inr early ↦
               absurd
               (quiet.shown
-              (active_from (length graph.nodes) (now_of log) trace numbers agree node time quiet.within (omega (arith, event_by_now log place event ordered at, quiet.at)) early))
+              (active_from (length graph.nodes) (now_of log) trace numbers agree node time quiet.within (omega (arith, event_by_now log index event ordered at, quiet.at)) early))
         ])
 
     -- The numbers meet each fact.
@@ -179,67 +147,67 @@ module _ (graph : Tfpg) (log : Logbook) (set reach : List ℕ) (is_reach : IsRea
         let late = unreached_late node (ltb-true node (length graph.nodes) both.0) (not-true (is_among reach node) rest.1) in
         subst (Meets numbers) parts.1 (met_at_least numbers node (horizon + 1) (omega (arith, late, leb-true horizon (now_of log) rest.0)))
     fact_is_met (From zero) stated is = absurd cc
-    fact_is_met (From (suc place)) stated is =
-        option_and_then_some (from_alarm graph) (slice_get log.events place) stated is (λ event at rest. from_met place event stated at rest)
+    fact_is_met (From (suc index)) stated is =
+        option_and_then_some (from_alarm graph) (slice_get log.events index) stated is (λ event at rest. from_met index event stated at rest)
     fact_is_met (Upto zero) stated is = absurd cc
-    fact_is_met (Upto (suc place)) stated is =
-        option_and_then_some upto_alarm (slice_get log.events place) stated is (λ event at rest. upto_met place event stated at rest)
+    fact_is_met (Upto (suc index)) stated is =
+        option_and_then_some upto_alarm (slice_get log.events index) stated is (λ event at rest. upto_met index event stated at rest)
     fact_is_met (Quiet zero node) stated is = absurd cc
-    fact_is_met (Quiet (suc place) node) stated is = by (slice_get log.events place) refl
+    fact_is_met (Quiet (suc index) node) stated is = by (slice_get log.events index) refl
       where
         given : (time : Option ℕ) → option_map (λ t. at_least node (t + 1)) time ≡ Some stated → (t : ℕ) × (time ≡ Some t) × (at_least node (t + 1) ≡ stated)
         given None is = absurd cc
         given (Some t) is = (t, refl, cc)
 
-        by : (found : Option Event) → slice_get log.events place ≡ found → Meets numbers stated
-        by None none = absurd (let gone : option_map (λ t. at_least node (t + 1)) (quiet_at graph log (suc place) node) ≡ None =
-            ap (λ (e : Option Event). option_map (λ t. at_least node (t + 1)) (option_and_then (λ x. quiet_time graph (take (suc place - 1) log.events) x node) e)) none in cc)
+        by : (found : Option Event) → slice_get log.events index ≡ found → Meets numbers stated
+        by None none = absurd (let gone : option_map (λ t. at_least node (t + 1)) (quiet_at graph log (suc index) node) ≡ None =
+            ap (λ (e : Option Event). option_map (λ t. at_least node (t + 1)) (option_and_then (λ x. quiet_time graph (take (suc index - 1) log.events) x node) e)) none in cc)
         by (Some event) at =
-            let time = given (quiet_at graph log (suc place) node) is in
-            subst (Meets numbers) time.2 (quiet_met place event node time.0 at (sym (quiet_of graph log place node event at) ∙ time.1))
-    fact_is_met (Pick split place) stated is = absurd cc
+            let time = given (quiet_at graph log (suc index) node) is in
+            subst (Meets numbers) time.2 (quiet_met index event node time.0 at (sym (quiet_of graph log index node event at) ∙ time.1))
+    fact_is_met (Pick split index) stated is = absurd cc
 
   -- ---- facts suffice
 
   module _ (trace : List Activation) (numbers : List ℕ) (agree : Agree (length graph.nodes) (now_of log) trace numbers)
       (met : (reason : Reason) (stated : Constraint) → fact graph log reach reason ≡ Some stated → Meets numbers stated) where
-    quiet_kept : (place : ℕ) (event : Event) (node time : ℕ) → slice_get log.events place ≡ Some event → quiet_time graph (take place log.events) event node ≡ Some time → ShowsSilence trace node time
-    quiet_kept place event node time at is active =
-        let stated : fact graph log reach (Quiet (suc place) node) ≡ Some (at_least node (time + 1)) =
-        ap (option_map (λ t. at_least node (t + 1))) (quiet_of graph log place node event at ∙ is) in
+    quiet_kept : (index : ℕ) (event : Event) (node time : ℕ) → slice_get log.events index ≡ Some event → quiet_time graph (take index log.events) event node ≡ Some time → ShowsSilence trace node time
+    quiet_kept index event node time at is active =
+        let stated : fact graph log reach (Quiet (suc index) node) ≡ Some (at_least node (time + 1)) =
+        ap (option_map (λ t. at_least node (t + 1))) (quiet_of graph log index node event at ∙ is) in
         omega (
           arith,
-          says_at_least numbers node (time + 1) (met (Quiet (suc place) node) (at_least node (time + 1)) stated),
+          says_at_least numbers node (time + 1) (met (Quiet (suc index) node) (at_least node (time + 1)) stated),
           active_only (length graph.nodes) (now_of log) trace numbers agree node time active,
         )
 
-    event_is_shown : (place : ℕ) (event : Event) → slice_get log.events place ≡ Some event → IsEventOf graph event → Shows graph trace (take place log.events) event
-    event_is_shown place (Alarm time node) at own =
+    event_is_shown : (index : ℕ) (event : Event) → slice_get log.events index ≡ Some event → IsEventOf graph event → Shows graph trace (take index log.events) event
+    event_is_shown index (Alarm time node) at own =
         let lag = is_some-there (lag_at graph node) own in
-        let from : fact graph log reach (From (suc place)) ≡ Some (at_least node (time - unwrap_or (lag_at graph node) 0)) = ap (option_and_then (from_alarm graph)) at in
-        let upto : fact graph log reach (Upto (suc place)) ≡ Some (at_most node (pos time)) = ap (option_and_then upto_alarm) at in
-        let since = says_at_least numbers node (time - unwrap_or (lag_at graph node) 0) (met (From (suc place)) (at_least node (time - unwrap_or (lag_at graph node) 0)) from) in
-        let till = says_at_most numbers node time (met (Upto (suc place)) (at_most node (pos time)) upto) in
+        let from : fact graph log reach (From (suc index)) ≡ Some (at_least node (time - unwrap_or (lag_at graph node) 0)) = ap (option_and_then (from_alarm graph)) at in
+        let upto : fact graph log reach (Upto (suc index)) ≡ Some (at_most node (pos time)) = ap (option_and_then upto_alarm) at in
+        let since = says_at_least numbers node (time - unwrap_or (lag_at graph node) 0) (met (From (suc index)) (at_least node (time - unwrap_or (lag_at graph node) 0)) from) in
+        let till = says_at_most numbers node time (met (Upto (suc index)) (at_most node (pos time)) upto) in
         let lag_is : unwrap_or (lag_at graph node) 0 ≡ lag.0 = ap (λ l. unwrap_or l 0) lag.1 in (
           lag.0,
           get_or numbers node 0,
           lag.1,
-          agree.early node (monitored_within graph node own) (omega (arith, till, event_by_now log place (Alarm time node) ordered at)),
+          agree.early node (monitored_within graph node own) (omega (arith, till, event_by_now log index (Alarm time node) ordered at)),
           omega (arith, since, lag_is),
           till,
         )
-    event_is_shown place (Silent time node) at own =
+    event_is_shown index (Silent time node) at own =
         let here : eqb node node ≡ true = eq-eqb node node refl in
-        quiet_kept place (Silent time node) node time at (ap (λ (b : Bool). cond b (Some time) None) here)
-    event_is_shown place (Sweep time) at own = λ node monitored none.
-        quiet_kept place (Sweep time) node time at
-        (ap (λ (b : Bool). cond b (Some time) None) (and_from (is_monitored graph node) (is_none (alarm_among (take place log.events) node)) monitored (ap not none)))
-    event_is_shown place (Tick time) at own = tt
-    event_is_shown place (Mode time mode) at own = tt
+        quiet_kept index (Silent time node) node time at (ap (λ (b : Bool). cond b (Some time) None) here)
+    event_is_shown index (Sweep time) at own = λ node monitored none.
+        quiet_kept index (Sweep time) node time at
+        (ap (λ (b : Bool). cond b (Some time) None) (and_from (is_monitored graph node) (is_none (alarm_among (take index log.events) node)) monitored (ap not none)))
+    event_is_shown index (Tick time) at own = tt
+    event_is_shown index (Mode time mode) at own = tt
 
     -- The trace shows each event.
     pub events_are_shown : ShowsAll graph trace log.events
-    events_are_shown place event at = event_is_shown place event at (All-at (IsEventOf graph) log.events place event of.own at)
+    events_are_shown index event at = event_is_shown index event at (All-at (IsEventOf graph) log.events index event of.own at)
 
     -- and each node that it activates is reached
     pub active_is_reached : (node time : ℕ) → node < length graph.nodes → time_of trace node ≡ Some time → Reaches graph set node

@@ -16,7 +16,7 @@ use Rattle.tfpg_log.specs.Spans.{span_at, window_of, joint_of}
 use Rattle.tfpg_evidence.specs.declared.clause_name.ClauseName.{ClauseName}
 use Rattle.tfpg_evidence.specs.declared.clause_name.ClauseName.TheVariants.{OrMay, AndMay, OrMust, AndMust}
 use Rattle.tfpg_clause.specs.declared.due.Due.{Due}
-use Rattle.tfpg_clause.specs.Clauses.{alternatives, outside_span, count_of, arrival, due_over, may_by, must_by, must_in, must_alternatives}
+use Rattle.tfpg_clause.specs.Clauses.{alternatives, outside_span, count_of, arrival, due_over, may_by, must_by, must_in, must_alternatives, alternatives_limit}
 use Rattle.tfpg_base.proofs.lists.Choices.{length-each_of}
 use Rattle.tfpg_base.proofs.lists.Passing.{length-filter_map}
 use Rattle.tfpg_clause.proofs.Dues.{must_length}
@@ -69,14 +69,14 @@ enters target (e ∷ edges) (suc number) edge at same = by (e.target == target) 
     by true some = omega arith
     by false some = some
 
-module _ (graph : Tfpg) (log : Logbook) (most : ℕ) (within : (node : ℕ) → length (edges_into graph node) ≤ most) where
+module _ (graph : Tfpg) (log : Logbook) (maximum : ℕ) (within : (node : ℕ) → length (edges_into graph node) ≤ maximum) where
   abbrev pub limit : ℕ
-  limit = 2 * most + 3
+  limit = alternatives_limit maximum
 
-  some_enter : (number : ℕ) (edge : Edge) → slice_get graph.edges number ≡ Some edge → 1 ≤ most
+  some_enter : (number : ℕ) (edge : Edge) → slice_get graph.edges number ≡ Some edge → 1 ≤ maximum
   some_enter number edge at = omega (arith, enters edge.target graph.edges number edge at refl, within edge.target)
 
-  of_edge : (f : Edge → Option (List (List Constraint))) → (1 ≤ most → (edge : Edge) → HasFewer limit (f edge)) → (number : ℕ) (found : Option Edge) → slice_get graph.edges number ≡ found
+  of_edge : (f : Edge → Option (List (List Constraint))) → (1 ≤ maximum → (edge : Edge) → HasFewer limit (f edge)) → (number : ℕ) (found : Option Edge) → slice_get graph.edges number ≡ found
       → HasFewer limit (option_and_then f found)
   of_edge f each number None at = tt
   of_edge f each number (Some edge) at = each (some_enter number edge at) edge

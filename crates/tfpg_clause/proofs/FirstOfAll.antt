@@ -17,7 +17,7 @@ use Rattle.tfpg_clause.specs.declared.clause_kind.ClauseKind.TheVariants as kind
 use Rattle.tfpg_clause.specs.Clauses.{alternatives, and_may, or_must}
 use Rattle.tfpg_clause.specs.Cut.{cut, AreNumbers}
 use Rattle.tfpg_clause.specs.Order.{horizon_of, subject_of, span_of, rank_of, ComesBefore, MeetsNamed, IsFirstViolated, MeetAllNow}
-use Rattle.tfpg_clause.specs.inside.FirstSpan.{MeetsIfAny, MeetsEach, IsFirstOfKind, MeetsKind, clauses_of, named, place_of, subject_count}
+use Rattle.tfpg_clause.specs.inside.FirstSpan.{MeetsIfAny, MeetsEach, IsFirstOfKind, MeetsKind, clauses_of, named, index_of_kind, subject_count}
 use Rattle.tfpg_clause.proofs.Agreed.{of_cut}
 use Rattle.tfpg_clause.proofs.RulesMet.{may_holds, must_holds, clause_is_met, rules_are_kept}
 
@@ -37,29 +37,29 @@ name_is (OrMust edge span horizon) = refl
 name_is (AndMust node span horizon) = refl
 
 -- and has the rank of its kind.
-rank_is : (name : ClauseName) → rank_of name ≡ place_of (kind_of name)
+rank_is : (name : ClauseName) → rank_of name ≡ index_of_kind (kind_of name)
 unfolding kind_of
 rank_is (OrMay node span horizon) = refl
 rank_is (AndMay edge span horizon) = refl
 rank_is (OrMust edge span horizon) = refl
 rank_is (AndMust node span horizon) = refl
 
--- the kind in a place
-abbrev of_place : ℕ → ClauseKind
-of_place zero = kind.OrMay
-of_place (suc zero) = kind.AndMay
-of_place (suc (suc zero)) = kind.OrMust
-of_place (suc (suc (suc more))) = kind.AndMust
+-- the kind at an index
+abbrev kind_of_index : ℕ → ClauseKind
+kind_of_index zero = kind.OrMay
+kind_of_index (suc zero) = kind.AndMay
+kind_of_index (suc (suc zero)) = kind.OrMust
+kind_of_index (suc (suc (suc more))) = kind.AndMust
 
-of_own_place : (own : ClauseKind) → of_place (place_of own) ≡ own
-of_own_place kind.OrMay = refl
-of_own_place kind.AndMay = refl
-of_own_place kind.OrMust = refl
-of_own_place kind.AndMust = refl
+of_own_index : (own : ClauseKind) → kind_of_index (index_of_kind own) ≡ own
+of_own_index kind.OrMay = refl
+of_own_index kind.AndMay = refl
+of_own_index kind.OrMust = refl
+of_own_index kind.AndMust = refl
 
--- kinds of one place are the same,
-same_kind : (one other : ClauseKind) → place_of one ≡ place_of other → one ≡ other
-same_kind one other is = sym (of_own_place one) ∙ ap of_place is ∙ of_own_place other
+-- kinds of one index are the same,
+same_kind : (one other : ClauseKind) → index_of_kind one ≡ index_of_kind other → one ≡ other
+same_kind one other is = sym (of_own_index one) ∙ ap kind_of_index is ∙ of_own_index other
 
 -- names of the same parts are the same,
 pub same_parts : (one other : ClauseName) → rank_of one ≡ rank_of other → subject_of one ≡ subject_of other → span_of one ≡ span_of other → horizon_of one ≡ horizon_of other → one ≡ other
@@ -68,7 +68,7 @@ same_parts one other rank subject span horizon =
     sym (name_is one) ∙ (λ i. named (alike i) (subject i) (span i) (horizon i)) ∙ name_is other
 
 -- and a name has the parts that it was made of
-named_parts : (own : ClauseKind) (subject span horizon : ℕ) → (rank_of (named own subject span horizon) ≡ place_of own)
+named_parts : (own : ClauseKind) (subject span horizon : ℕ) → (rank_of (named own subject span horizon) ≡ index_of_kind own)
     × (subject_of (named own subject span horizon) ≡ subject)
     × (span_of (named own subject span horizon) ≡ span)
     × (horizon_of (named own subject span horizon) ≡ horizon)
@@ -109,9 +109,9 @@ module _ (graph : Tfpg) (log : Logbook) (times : List ℕ) where
     | inr apart ↦ before other (omega (arith, below, apart))
   ]
 
-  kinds_more : (place : ℕ) (kind : ClauseKind) → place_of kind ≡ place → ((other : ClauseKind) → place_of other < place → MeetsKind graph log times other) → MeetsKind graph log times kind
-      → (other : ClauseKind) → place_of other < place + 1 → MeetsKind graph log times other
-  kinds_more place kind is before here other below = elim (cases_eq (place_of other) place) [
+  kinds_more : (index : ℕ) (kind : ClauseKind) → index_of_kind kind ≡ index → ((other : ClauseKind) → index_of_kind other < index → MeetsKind graph log times other) → MeetsKind graph log times kind
+      → (other : ClauseKind) → index_of_kind other < index + 1 → MeetsKind graph log times other
+  kinds_more index kind is before here other below = elim (cases_eq (index_of_kind other) index) [
     | inl same ↦ subst (MeetsKind graph log times) (sym (same_kind other kind (same ∙ sym is))) here
     | inr apart ↦ before other (omega (arith, below, apart))
   ]
@@ -130,7 +130,7 @@ module _ (graph : Tfpg) (log : Logbook) (times : List ℕ) where
       met_named (kind_of name) (subject_of name) (span_of name) name (own_name name at_now) (each (kind_of name) (subject_of name) (span_of name))
 
   -- The first of a kind is the first of all, where those of each kind before are met.
-  first_of_all : (kind : ClauseKind) (name : ClauseName) → ((other : ClauseKind) → place_of other < place_of kind → MeetsKind graph log times other)
+  first_of_all : (kind : ClauseKind) (name : ClauseName) → ((other : ClauseKind) → index_of_kind other < index_of_kind kind → MeetsKind graph log times other)
       → IsFirstOfKind graph log times kind name → IsFirstViolated graph log times name
   first_of_all kind name before is = record {
     at_now = ap horizon_of is.is ∙ (named_parts kind is.subject is.span (now_of log)).3;
@@ -143,7 +143,7 @@ module _ (graph : Tfpg) (log : Logbook) (times : List ℕ) where
         met_named (kind_of other) (subject_of other) (span_of other) other (own_name other at_now) (by other comes);
   }
     where
-      rank : rank_of name ≡ place_of kind
+      rank : rank_of name ≡ index_of_kind kind
       rank = ap rank_of is.is ∙ (named_parts kind is.subject is.span (now_of log)).0
 
       subject : subject_of name ≡ is.subject
@@ -179,32 +179,32 @@ module _ (graph : Tfpg) (log : Logbook) (times : List ℕ) where
         (clause_is_met graph log (cut (now_of log) times) times valid (of_cut (length graph.nodes) (now_of log) times are.one_each) kept name first.violated.clause first.violated.allowed)),
   )
 
-  -- ---- the kinds in their places
+  -- ---- the kinds in their order
 
-  -- as the kind in a place has that place,
-  in_place : (place : ℕ) → place < 4 → place_of (get_or all_kinds place kind.OrMay) ≡ place
-  in_place zero within = refl
-  in_place (suc zero) within = refl
-  in_place (suc (suc zero)) within = refl
-  in_place (suc (suc (suc zero))) within = refl
-  in_place (suc (suc (suc (suc more)))) within = absurd (omega arith)
+  -- the kind at an index has that index,
+  at_index : (index : ℕ) → index < 4 → index_of_kind (get_or all_kinds index kind.OrMay) ≡ index
+  at_index zero within = refl
+  at_index (suc zero) within = refl
+  at_index (suc (suc zero)) within = refl
+  at_index (suc (suc (suc zero))) within = refl
+  at_index (suc (suc (suc (suc more)))) within = absurd (omega arith)
 
-  -- the first of that kind is the first of all, where those in the places before are met;
-  pub first_in_place : (place : ℕ) (name : ClauseName) → place < 4 → ((other : ClauseKind) → place_of other < place → MeetsKind graph log times other)
-      → IsFirstOfKind graph log times (get_or all_kinds place kind.OrMay) name → IsFirstViolated graph log times name
-  first_in_place place name within before is =
-      first_of_all (get_or all_kinds place kind.OrMay) name (λ other earlier. before other (omega (arith, earlier, in_place place within))) is
+  -- the first of that kind is the first of all, where those before are met;
+  pub first_at_index : (index : ℕ) (name : ClauseName) → index < 4 → ((other : ClauseKind) → index_of_kind other < index → MeetsKind graph log times other)
+      → IsFirstOfKind graph log times (get_or all_kinds index kind.OrMay) name → IsFirstViolated graph log times name
+  first_at_index index name within before is =
+      first_of_all (get_or all_kinds index kind.OrMay) name (λ other earlier. before other (omega (arith, earlier, at_index index within))) is
 
   -- with that kind, one more is met;
-  pub kind_in_place : (place : ℕ) → place < 4 → ((other : ClauseKind) → place_of other < place → MeetsKind graph log times other)
-      → MeetsKind graph log times (get_or all_kinds place kind.OrMay) → (other : ClauseKind) → place_of other < place + 1 → MeetsKind graph log times other
-  kind_in_place place within before here = kinds_more place (get_or all_kinds place kind.OrMay) (in_place place within) before here
+  pub kind_at_index : (index : ℕ) → index < 4 → ((other : ClauseKind) → index_of_kind other < index → MeetsKind graph log times other)
+      → MeetsKind graph log times (get_or all_kinds index kind.OrMay) → (other : ClauseKind) → index_of_kind other < index + 1 → MeetsKind graph log times other
+  kind_at_index index within before here = kinds_more index (get_or all_kinds index kind.OrMay) (at_index index within) before here
 
   -- and after the last, all are.
-  pub met_in_places : (place : ℕ) → 4 ≤ place → ((other : ClauseKind) → place_of other < place → MeetsKind graph log times other) → MeetAllNow graph log times
-  met_in_places place past before = all_met (λ kind. before kind (omega (arith, four kind, past)))
+  pub met_at_indexes : (index : ℕ) → 4 ≤ index → ((other : ClauseKind) → index_of_kind other < index → MeetsKind graph log times other) → MeetAllNow graph log times
+  met_at_indexes index past before = all_met (λ kind. before kind (omega (arith, four kind, past)))
     where
-      four : (k : ClauseKind) → place_of k < 4
+      four : (k : ClauseKind) → index_of_kind k < 4
       four kind.OrMay = omega arith
       four kind.AndMay = omega arith
       four kind.OrMust = omega arith

@@ -1,5 +1,5 @@
 -- The frames that a program keeps are those of the path to the present leaf.
-use Rattle.std.proofs.Common.{◌≡◌, ◌⊎◌, ℕ, zero, suc, ◌+◌, ◌<◌, ◌≤◌, List, [], ◌∷◌, ◌++◌, length, take, get_or, Bool, true, false, Option, Some, None, refl, sym, ap, subst, ◌∙◌, inl, inr, arith}
+use Rattle.std.proofs.Common.{◌≡◌, ◌⊎◌, ℕ, zero, suc, ◌+◌, ◌<◌, ◌≤◌, List, [], ◌∷◌, length, take, get_or, Bool, true, false, Option, Some, None, refl, sym, ap, subst, ◌∙◌, inl, inr, arith}
 use Rattle.std.specs.Prelude.{nat_lt, slice_get, slice_set, option_map, option_and_then}
 use Rattle.std.specs.Option.{option_or}
 use Rattle.std.specs.Bool.{then_some}
@@ -62,13 +62,6 @@ module _ (graph : Tfpg) (log : Logbook) where
         | inl none ↦ inl none
         | inr both ↦ inr (record { split = both.split; frame = both.frame; split_at = both.split_at; frame_at = both.frame_at; same = both.same })
       ]
-
-  pub frames_push : (path : List PathSplit) (frames : List Frame) (split : PathSplit) (frame : Frame) → AreFramesOf graph log path frames → IsFrameOf graph log split frame
-      → AreFramesOf graph log (path ++ split ∷ []) (frames ++ frame ∷ [])
-  frames_push [] [] split frame are last = (last, tt)
-  frames_push [] (f ∷ frames) split frame are last = absurd are
-  frames_push (s ∷ path) [] split frame are last = absurd are
-  frames_push (s ∷ path) (f ∷ frames) split frame are last = (are.0, frames_push path frames split frame are.1 last)
 
   -- after a leaf is closed: neither has a path, or both have one
   pub record BothGo (path : List PathSplit) (frames : List Frame) : Type 0 where
@@ -149,26 +142,26 @@ module _ (graph : Tfpg) (log : Logbook) where
     allowed_now seen name count None is counted = cc
     allowed_now seen name count (Some clause) is counted = clause_stays graph (first_events log seen) log ordered (first_to_whole log seen) name clause is ∙ sym is
 
-    picked_at : (k place : ℕ)
-        → option_and_then (λ (frame : Frame). option_and_then (λ clause. constraint_at clause frame.alternative place) (alternatives graph log frame.name)) (slice_get frames k)
-        ≡ option_and_then (λ (taken : PathSplit). option_and_then (λ clause. constraint_at clause taken.alternative place) (alternatives graph (first_events log taken.seen) taken.name)) (slice_get path k)
-    picked_at k place =
+    picked_at : (k index : ℕ)
+        → option_and_then (λ (frame : Frame). option_and_then (λ clause. constraint_at clause frame.alternative index) (alternatives graph log frame.name)) (slice_get frames k)
+        ≡ option_and_then (λ (taken : PathSplit). option_and_then (λ clause. constraint_at clause taken.alternative index) (alternatives graph (first_events log taken.seen) taken.name)) (slice_get path k)
+    picked_at k index =
         elim (both_at path frames k are) [
           | inl none ↦
-              ap (option_and_then (λ (frame : Frame). option_and_then (λ clause. constraint_at clause frame.alternative place) (alternatives graph log frame.name))) none.1
-              ∙ sym (ap (option_and_then (λ (taken : PathSplit). option_and_then (λ clause. constraint_at clause taken.alternative place) (alternatives graph (first_events log taken.seen) taken.name))) none.0)
+              ap (option_and_then (λ (frame : Frame). option_and_then (λ clause. constraint_at clause frame.alternative index) (alternatives graph log frame.name))) none.1
+              ∙ sym (ap (option_and_then (λ (taken : PathSplit). option_and_then (λ clause. constraint_at clause taken.alternative index) (alternatives graph (first_events log taken.seen) taken.name))) none.0)
           | inr both ↦
-              ap (option_and_then (λ (frame : Frame). option_and_then (λ clause. constraint_at clause frame.alternative place) (alternatives graph log frame.name))) both.frame_at
-              ∙ ap (λ (n : ClauseName). option_and_then (λ clause. constraint_at clause both.frame.alternative place) (alternatives graph log n)) both.same.name
-              ∙ ap (λ (n : ℕ). option_and_then (λ clause. constraint_at clause n place) (alternatives graph log both.split.name)) both.same.alternative
-              ∙ ap (option_and_then (λ clause. constraint_at clause both.split.alternative place))
+              ap (option_and_then (λ (frame : Frame). option_and_then (λ clause. constraint_at clause frame.alternative index) (alternatives graph log frame.name))) both.frame_at
+              ∙ ap (λ (n : ClauseName). option_and_then (λ clause. constraint_at clause both.frame.alternative index) (alternatives graph log n)) both.same.name
+              ∙ ap (λ (n : ℕ). option_and_then (λ clause. constraint_at clause n index) (alternatives graph log both.split.name)) both.same.alternative
+              ∙ ap (option_and_then (λ clause. constraint_at clause both.split.alternative index))
               (allowed_now both.split.seen both.split.name both.frame.alternatives (alternatives graph (first_events log both.split.seen) both.split.name) refl both.same.alternatives)
-              ∙ sym (ap (option_and_then (λ (taken : PathSplit). option_and_then (λ clause. constraint_at clause taken.alternative place) (alternatives graph (first_events log taken.seen) taken.name))) both.split_at)
+              ∙ sym (ap (option_and_then (λ (taken : PathSplit). option_and_then (λ clause. constraint_at clause taken.alternative index) (alternatives graph (first_events log taken.seen) taken.name))) both.split_at)
         ]
 
-    picks : (split place : ℕ) → framed graph log frames split place ≡ picked graph log path split place
-    picks zero place = refl
-    picks (suc k) place = picked_at k place
+    picks : (split index : ℕ) → framed graph log frames split index ≡ picked graph log path split index
+    picks zero index = refl
+    picks (suc k) index = picked_at k index
 
     abbrev same_fact : Reason → Type 0
     same_fact reason = fact graph log reach reason ≡ fact graph (first_events log (length log.events)) reach reason
@@ -178,7 +171,7 @@ module _ (graph : Tfpg) (log : Logbook) where
 
     -- a reason states the same by the frames and by the path
     pub states_same : (reason : Reason) → stated_by graph log reach frames reason ≡ stated graph log reach path (length log.events) reason
-    states_same (Pick split place) = picks split place
+    states_same (Pick split index) = picks split index
     states_same (Zero node) = fact_same (Zero node)
     states_same (Top node) = fact_same (Top node)
     states_same (Unreached node horizon) = fact_same (Unreached node horizon)

@@ -66,11 +66,11 @@ is_node (Some other) node = eqb other node
 module _ (graph : Tfpg) (set : List ℕ) where
   -- the test that passes all but the failure modes outside the set
   abbrev is_own : ℕ → Bool
-  is_own node = not (is_kind_at is_failure graph node) || list_any (λ place. is_node (failure_at graph place) node) set
+  is_own node = not (is_kind_at is_failure graph node) || list_any (λ index. is_node (failure_at graph index) node) set
 
-  own_listed : (place node : ℕ) → Contains set place → failure_at graph place ≡ Some node → list_any (λ p. is_node (failure_at graph p) node) set ≡ true
-  own_listed place node member at =
-      list_any_at (λ p. is_node (failure_at graph p) node) set member.0 place member.1
+  own_listed : (index node : ℕ) → Contains set index → failure_at graph index ≡ Some node → list_any (λ p. is_node (failure_at graph p) node) set ≡ true
+  own_listed index node member at =
+      list_any_at (λ p. is_node (failure_at graph p) node) set member.0 index member.1
       (ap (λ p. is_node (failure_at graph p) node) member.2 ∙ ap (λ f. is_node f node) at ∙ eq-eqb node node refl)
 
   no_failure : (test : Kind → Bool) (node : ℕ) → ((kind : Kind) → test kind ≡ true → is_failure kind ≡ false) → is_kind_at test graph node ≡ true → not (is_kind_at is_failure graph node) ≡ true
@@ -93,16 +93,16 @@ module _ (graph : Tfpg) (set : List ℕ) where
   -- That test is closed for the set.
   own_is_closed : IsClosed graph set is_own
   own_is_closed = record {
-    members = All-from_members (λ place. IfSome (failure_at graph place) (λ node. IsTrue (is_own node))) set
-        (λ place member. by place member (failure_at graph place) refl);
+    members = All-from_members (λ index. IfSome (failure_at graph index) (λ node. IsTrue (is_own node))) set
+        (λ index member. by index member (failure_at graph index) refl);
     or_nodes = λ node or edge into passes. or_left (not (is_kind_at is_failure graph node)) _ (no_failure is_or node or_apart or);
     and_nodes = λ node and all. or_left (not (is_kind_at is_failure graph node)) _ (no_failure is_and node and_apart and);
   }
     where
-      by : (place : ℕ) → Contains set place → (failure : Option ℕ) → failure_at graph place ≡ failure → IfSome failure (λ node. IsTrue (is_own node))
-      by place member None none = tt
-      by place member (Some node) at =
-          or_right (not (is_kind_at is_failure graph node)) (list_any (λ p. is_node (failure_at graph p) node) set) (own_listed place node member at)
+      by : (index : ℕ) → Contains set index → (failure : Option ℕ) → failure_at graph index ≡ failure → IfSome failure (λ node. IsTrue (is_own node))
+      by index member None none = tt
+      by index member (Some node) at =
+          or_right (not (is_kind_at is_failure graph node)) (list_any (λ p. is_node (failure_at graph p) node) set) (own_listed index node member at)
 
   named : (failure : Option ℕ) (node : ℕ) → is_node failure node ≡ true → failure ≡ Some node
   named None node is = absurd (false≢true is)

@@ -7,7 +7,7 @@ use Rattle.std.proofs.lemmas.Bool.{leb-true, le-leb, eqb-true, and_parts}
 use Rattle.std.proofs.lemmas.Option.{option_and_then_some, slice_get_within}
 use Rattle.tfpg_base.specs.Choice.{each_of}
 use Rattle.tfpg_base.specs.declared.constraint.Constraint.{Constraint}
-use Rattle.tfpg_base.proofs.lists.Choices.{then_some-true}
+use Rattle.tfpg_base.proofs.lists.Choices.{then_some-true, cond-some_first}
 use Rattle.tfpg_graph.specs.declared.edge.Edge.{Edge}
 use Rattle.tfpg_graph.specs.Graph.{Tfpg, is_kind_at, is_or, is_and, edges_into}
 use Rattle.tfpg_log.specs.declared.span.Span.{Span}
@@ -57,24 +57,17 @@ must_from windows holds target edges window number =
     None
 
 module _ (graph : Tfpg) (earlier later : Logbook) (ordered : IsOrdered later) (goes_on : GoesOn earlier later) (number horizon : ℕ) (upto : horizon ≤ now_of earlier) where
-  windows_same : (edge : Edge) → window_of later edge number horizon ≡ window_of earlier edge number horizon
-  windows_same edge = windows_kept earlier later ordered goes_on number horizon upto edge
-
   may_kept : (holds : Bool) (target : ℕ) (edges : List Edge) → may_by later holds target edges number horizon ≡ may_by earlier holds target edges number horizon
   may_kept holds target edges = λ i.
-      may_from (λ edge. windows_same edge i) (spans_kept earlier later ordered goes_on number horizon upto i) holds target edges
+      may_from (λ edge. windows_kept earlier later ordered goes_on number horizon upto edge i) (spans_kept earlier later ordered goes_on number horizon upto i) holds target edges
 
   must_kept : (holds : Bool) (target : ℕ) (edges : List Edge) (before after : Option Window) → after ≡ before
       → must_by later holds target edges after number horizon ≡ must_by earlier holds target edges before number horizon
-  must_kept holds target edges before after same = λ i. must_from (λ edge. windows_same edge i) holds target edges (same i) number
+  must_kept holds target edges before after same = λ i. must_from (λ edge. windows_kept earlier later ordered goes_on number horizon upto edge i) holds target edges (same i) number
 
 -- Where something has a value up to now alone, a value says that the horizon is not after now.
 before_now : {X : Type 0} (horizon now : ℕ) (here : Option X) (x : X) → cond (leb horizon now) here None ≡ Some x → horizon ≤ now
-before_now horizon now here x at = leb-true horizon now (held (leb horizon now) here x at)
-  where
-    held : {X : Type 0} (b : Bool) (here : Option X) (x : X) → cond b here None ≡ Some x → b ≡ true
-    held true here x at = refl
-    held false here x at = absurd cc
+before_now horizon now here x at = leb-true horizon now (cond-some_first (leb horizon now) here x at).0
 
 -- Where there is a span, or a window, the horizon is not after now.
 pub span_by_now : (log : Logbook) (number horizon : ℕ) (span : Span) → span_at log number horizon ≡ Some span → horizon ≤ now_of log
@@ -132,10 +125,10 @@ unreached_stays true c horizon before after states stated rises at = by (leb hor
     by false after_ kept = absurd cc
 
 -- an event that is a silence is an event of the log
-pub quiet_within : (graph : Tfpg) (log : Logbook) (event node : ℕ) (stated : Constraint) → option_map (λ time. at_least node (time + 1)) (quiet_at graph log event node) ≡ Some stated
+pub silence_within : (graph : Tfpg) (log : Logbook) (event node : ℕ) (stated : Constraint) → option_map (λ time. at_least node (time + 1)) (quiet_at graph log event node) ≡ Some stated
     → event ≤ length log.events
-quiet_within graph log zero node stated at = absurd cc
-quiet_within graph log (suc before) node stated at = by (slice_get log.events before) refl at
+silence_within graph log zero node stated at = absurd cc
+silence_within graph log (suc before) node stated at = by (slice_get log.events before) refl at
   where
     by : (found : Option Event) → slice_get log.events before ≡ found
         → option_map (λ time. at_least node (time + 1)) (option_and_then (λ event. quiet_time graph (take (suc before - 1) log.events) event node) found) ≡ Some stated
@@ -177,8 +170,8 @@ module _ (graph : Tfpg) (earlier later : Logbook) (ordered : IsOrdered later) (g
         option_and_then_some upto_alarm (event_at earlier event) stated at
         (λ e there rest. ap (option_and_then upto_alarm) (events_kept earlier later goes_on event e there) ∙ rest)
     fact_stays (Quiet event node) stated at =
-        ap (option_map (λ time. at_least node (time + 1))) (silence_same event node (quiet_within graph earlier event node stated at)) ∙ at
+        ap (option_map (λ time. at_least node (time + 1))) (silence_same event node (silence_within graph earlier event node stated at)) ∙ at
       where
         silence_same : (event node : ℕ) → event ≤ length earlier.events → quiet_at graph later event node ≡ quiet_at graph earlier event node
         silence_same event node within = silences_kept graph earlier later goes_on event node within
-    fact_stays (Pick split place) stated at = at
+    fact_stays (Pick split index) stated at = at

@@ -42,22 +42,22 @@ module _ (graph : Tfpg) (log : Logbook) (edge number horizon : ℕ) where
 module _ (graph : Tfpg) (log : Logbook) (horizon : ℕ) where
   -- where nothing is known,
   pub none_known : (edges : List ℕ) (count : ℕ) → length edges ≤ count → AreKnown graph log horizon edges (replicate count None)
-  none_known edges count room place below =
-      subst (λ o. IfSome o (IsWindowOver graph log horizon (get_or edges place 0))) (sym (get_or-replicate {A = Option Window} count place None None (omega arith))) tt
+  none_known edges count room index below =
+      subst (λ o. IfSome o (IsWindowOver graph log horizon (get_or edges index 0))) (sym (get_or-replicate {A = Option Window} count index None None (omega arith))) tt
 
   -- one window,
   pub one_known : (edge : ℕ) (window : Window) → IsWindowOver graph log horizon edge window → AreKnown graph log horizon (edge ∷ []) (Some window ∷ [])
-  one_known edge window over place below =
-      let same : place ≡ 0 = omega arith in
+  one_known edge window over index below =
+      let same : index ≡ 0 = omega arith in
       subst (λ k. IfSome (slice_index_or (Some window ∷ []) k None) (IsWindowOver graph log horizon (slice_index_or (edge ∷ []) k 0))) (sym same) over
 
   -- and one more
   pub more_known : (edges : List ℕ) (known : List (Option Window)) (at : ℕ) (found : Option Window) → at < length known
       → IfSome found (IsWindowOver graph log horizon (get_or edges at 0)) → AreKnown graph log horizon edges known → AreKnown graph log horizon edges (set known at found)
-  more_known edges known at found within own others place below = elim (cases_eq place at) [
+  more_known edges known at found within own others index below = elim (cases_eq index at) [
     | inl same ↦ subst (λ k. IfSome (get_or (set known at found) k None) (IsWindowOver graph log horizon (get_or edges k 0))) (sym same)
         (subst (λ o. IfSome o (IsWindowOver graph log horizon (get_or edges at 0))) (sym (get_or-set_same known at found None within)) own)
-    | inr apart ↦ subst (λ o. IfSome o (IsWindowOver graph log horizon (get_or edges place 0))) (sym (get_or-set_other known at place found None apart)) (others place below)
+    | inr apart ↦ subst (λ o. IfSome o (IsWindowOver graph log horizon (get_or edges index 0))) (sym (get_or-set_other known at index found None apart)) (others index below)
   ]
 
 -- What is known stays so where horizon and edges are the same.
@@ -69,14 +69,14 @@ known_same graph log horizon other edges others same are known is =
 -- The windows round a span are known.
 pub windows_known : (graph : Tfpg) (log : Logbook) (number horizon : ℕ) (edges : List ℕ) (windows : List (Option Window)) → AreWindows graph log number horizon edges windows
     → AreKnown graph log horizon edges windows
-windows_known graph log number horizon edges windows are place below = is_over graph log (get_or edges place 0) number horizon (slice_index_or windows place None) (are place below)
+windows_known graph log number horizon edges windows are index below = is_over graph log (get_or edges index 0) number horizon (slice_index_or windows index None) (are index below)
 
 -- the windows of the first edges, and of one more
 pub more_windows : (graph : Tfpg) (log : Logbook) (number horizon : ℕ) (edges : List ℕ) (known : List (Option Window)) (at : ℕ) (found : Option Window) → at < length known
     → found ≡ window_over graph log number horizon (get_or edges at 0)
-    → ((place : ℕ) → place < at → slice_index_or known place None ≡ window_over graph log number horizon (get_or edges place 0))
-    → (place : ℕ) → place < at + 1 → slice_index_or (set known at found) place None ≡ window_over graph log number horizon (get_or edges place 0)
-more_windows graph log number horizon edges known at found within own others place below = elim (cases_eq place at) [
+    → ((index : ℕ) → index < at → slice_index_or known index None ≡ window_over graph log number horizon (get_or edges index 0))
+    → (index : ℕ) → index < at + 1 → slice_index_or (set known at found) index None ≡ window_over graph log number horizon (get_or edges index 0)
+more_windows graph log number horizon edges known at found within own others index below = elim (cases_eq index at) [
   | inl same ↦ subst (λ k. slice_index_or (set known at found) k None ≡ window_over graph log number horizon (get_or edges k 0)) (sym same) (get_or-set_same known at found None within ∙ own)
-  | inr apart ↦ get_or-set_other known at place found None apart ∙ others place (omega (arith, below, apart))
+  | inr apart ↦ get_or-set_other known at index found None apart ∙ others index (omega (arith, below, apart))
 ]

@@ -1,5 +1,6 @@
 -- What a right step does to the present leaf, and to the frames that are at it.
 use Rattle.std.proofs.Common.{◌≡◌, ℕ, List, [], ◌∷◌, ◌++◌, length, Option, Some, None, refl, ap, subst, ◌∙◌}
+use Rattle.tfpg_base.proofs.lists.Zipped.{AllZip-push}
 use Rattle.tfpg_base.specs.declared.constraint.Constraint.{Constraint}
 use Rattle.tfpg_graph.specs.Graph.{Tfpg}
 use Rattle.tfpg_log.specs.Log.{Logbook, GoesOn, IsOrdered, first_events}
@@ -9,11 +10,11 @@ use Rattle.tfpg_evidence.specs.declared.reason.Reason.{Reason}
 use Rattle.tfpg_evidence.specs.declared.step.Step.TheVariants.{Split, Cycle}
 use Rattle.tfpg_clause.specs.Clauses.{count_of}
 use Rattle.tfpg_clause.specs.Trees.{Judged, PathSplit, IsClosedBy, IsClosedLeaf, IsRefutation, IsPresentLeaf}
-use Rattle.tfpg_clause.specs.Paths.{with_step, IsAtLeaf, new_frame, path_after, stated_by, new_split, next_leaf}
+use Rattle.tfpg_clause.specs.Paths.{with_step, IsFrameOf, IsAtLeaf, new_frame, path_after, stated_by, new_split, next_leaf}
 use Rattle.tfpg_clause.specs.declared.path.Frame.{Frame}
 use Rattle.tfpg_clause.proofs.TreeSteps.{cut_of_leaf, leaf_of_cut, first_cut, split_step, last_cycle, cycle_step}
 use Rattle.tfpg_clause.proofs.TreesKept.{leaf_stays}
-use Rattle.tfpg_clause.proofs.FramePaths.{frames_push, goes_too, ends_too, states_same, frames_stay}
+use Rattle.tfpg_clause.proofs.FramePaths.{goes_too, ends_too, states_same, frames_stay}
 
 module _ (graph : Tfpg) (log : Logbook) (reach : List ℕ) where
   pub leaf_begins : IsPresentLeaf graph log reach [] []
@@ -49,7 +50,7 @@ module _ (graph : Tfpg) (log : Logbook) (reach : List ℕ) where
     path = at.path ++ new_split log name ∷ [];
     leaf = leaf_splits steps at.path name count at.leaf is;
     frames_are =
-        frames_push graph log at.path frames (new_split log name) (new_frame name count) at.frames_are
+        AllZip-push (IsFrameOf graph log) at.path frames (new_split log name) (new_frame name count) at.frames_are
         (record { name = refl; alternative = refl; alternatives = count_now name count is });
   }
 

@@ -15,7 +15,8 @@ use Rattle.tfpg_evidence.specs.declared.reason.Reason.{Reason}
 use Rattle.tfpg_evidence.specs.declared.reason.Reason.TheVariants.{Zero, Top, Unreached, From, Upto, Quiet, Pick}
 use Rattle.tfpg_base.specs.Bounds.{at_most, at_least}
 use Rattle.tfpg_clause.specs.Facts.{fact, from_alarm, upto_alarm, IsLow, IsHigh}
-use Rattle.tfpg_clause.proofs.Kept.{quiet_within}
+use Rattle.tfpg_clause.proofs.Bounded.{at_least-same, at_most-same, at_most-least}
+use Rattle.tfpg_clause.proofs.Kept.{silence_within}
 
 -- ---- the best of some bounds
 
@@ -84,10 +85,10 @@ most_of (negsuc number) = None
 
 -- the lower, and the upper bound that a constraint gives a node
 low_in : ℕ → Constraint → Option ℕ
-low_in node constraint = cond (eqb constraint.left 0 && eqb constraint.right (node + 1)) (least_of constraint.most) None
+low_in node constraint = cond (eqb constraint.left 0 && eqb constraint.right (node + 1)) (least_of constraint.bound) None
 
 high_in : ℕ → Constraint → Option ℕ
-high_in node constraint = cond (eqb constraint.left (node + 1) && eqb constraint.right 0) (most_of constraint.most) None
+high_in node constraint = cond (eqb constraint.left (node + 1) && eqb constraint.right 0) (most_of constraint.bound) None
 
 least_is : (bound : ℕ) → least_of (neg_ℤ (pos bound)) ≡ Some bound
 unfolding least_of
@@ -116,12 +117,12 @@ module _ (node : ℕ) where
   low_is : (constraint : Constraint) (bound : ℕ) → low_in node constraint ≡ Some bound → constraint ≡ at_least node bound
   unfolding low_in
   low_is constraint bound is =
-      let parts = cond-some_first (eqb constraint.left 0 && eqb constraint.right (node + 1)) (least_of constraint.most) bound is in
+      let parts = cond-some_first (eqb constraint.left 0 && eqb constraint.right (node + 1)) (least_of constraint.bound) bound is in
       let both = and_parts (eqb constraint.left 0) (eqb constraint.right (node + 1)) parts.0 in
       let left = eqb-true constraint.left 0 both.0 in
       let right = eqb-true constraint.right (node + 1) both.1 in
-      let most = of_least constraint.most bound parts.1 in
-      λ i. record { left = left i; right = right i; most = most i }
+      let most = of_least constraint.bound bound parts.1 in
+      λ i. record { left = left i; right = right i; bound = most i }
 
   high_read : (bound : ℕ) → high_in node (at_most node (pos bound)) ≡ Some bound
   unfolding high_in most_of
@@ -132,12 +133,12 @@ module _ (node : ℕ) where
   high_is : (constraint : Constraint) (bound : ℕ) → high_in node constraint ≡ Some bound → constraint ≡ at_most node (pos bound)
   unfolding high_in
   high_is constraint bound is =
-      let parts = cond-some_first (eqb constraint.left (node + 1) && eqb constraint.right 0) (most_of constraint.most) bound is in
+      let parts = cond-some_first (eqb constraint.left (node + 1) && eqb constraint.right 0) (most_of constraint.bound) bound is in
       let both = and_parts (eqb constraint.left (node + 1)) (eqb constraint.right 0) parts.0 in
       let left = eqb-true constraint.left (node + 1) both.0 in
       let right = eqb-true constraint.right 0 both.1 in
-      let most = of_most constraint.most bound parts.1 in
-      λ i. record { left = left i; right = right i; most = most i }
+      let most = of_most constraint.bound bound parts.1 in
+      λ i. record { left = left i; right = right i; bound = most i }
 
   -- ---- reasons enough
 
@@ -208,31 +209,17 @@ module _ (graph : Tfpg) (log : Logbook) (reach : List ℕ) (node : ℕ) where
   numbered f zero x at = absurd cc
   numbered f (suc before) x at = option_and_then_some f (slice_get log.events before) x at (λ e there rest. let within = slice_get_within log.events before e there in (omega arith, omega arith))
 
-  -- no bound is of another node, or of the other side
-  same_node : (other bound given : ℕ) → at_least other given ≡ at_least node bound → other ≡ node
-  same_node other bound given is = omega (arith, ap (λ (c : Constraint). c.right) is)
-
-  same_most : (other bound given : ℕ) → at_most other (pos given) ≡ at_most node (pos bound) → other ≡ node
-  same_most other bound given is = omega (arith, ap (λ (c : Constraint). c.left) is)
-
-  apart : (one other bound : ℕ) (given : ℤ) → at_most one given ≡ at_least other bound → ⊥
-  apart one other bound given is = omega (arith, ap (λ (c : Constraint). c.left) is)
-
-  bound_is : (other bound given : ℕ) → at_least other given ≡ at_least node bound → given ≡ bound
-  bound_is other bound given is =
-      let read : Some given ≡ Some bound = sym (least_is given) ∙ ap (λ (c : Constraint). least_of c.most) is ∙ least_is bound in cc
-
   -- each lower bound is at most 0, or at most that of one of these reasons
   low_covered : (reason : Reason) (bound : ℕ) → fact graph log reach reason ≡ Some (at_least node bound)
       → (bound ≡ 0) ⊎ ((other : Reason) × (more : ℕ) × Contains all_reasons other
       × (fact graph log reach other ≡ Some (at_least node more)) × (bound ≤ more))
-  low_covered (Zero other) bound at = inl (sym (bound_is other bound 0 (then_some-true (ltb other (length graph.nodes)) (at_least other 0) (at_least node bound) at).1))
-  low_covered (Top other) bound at = absurd (apart other node bound (pos NEVER) (then_some-true (ltb other (length graph.nodes)) (at_most other (pos NEVER)) (at_least node bound) at).1)
+  low_covered (Zero other) bound at = inl (sym (at_least-same other node 0 bound (then_some-true (ltb other (length graph.nodes)) (at_least other 0) (at_least node bound) at).1).1)
+  low_covered (Top other) bound at = absurd (at_most-least other node bound (pos NEVER) (then_some-true (ltb other (length graph.nodes)) (at_most other (pos NEVER)) (at_least node bound) at).1)
   low_covered (Unreached other horizon) bound at =
       let parts = then_some-true (ltb other (length graph.nodes) && (leb horizon (now_of log) && not (is_among reach other))) (at_least other (horizon + 1)) (at_least node bound) at in
       let both = and_parts (ltb other (length graph.nodes)) (leb horizon (now_of log) && not (is_among reach other)) parts.0 in
       let rest = and_parts (leb horizon (now_of log)) (not (is_among reach other)) both.1 in
-      let same : other ≡ node = same_node other bound (horizon + 1) parts.1 in
+      let same : other ≡ node = (at_least-same other node (horizon + 1) bound parts.1).0 in
       let test : (ltb node (length graph.nodes) && (leb (now_of log) (now_of log) && not (is_among reach node))) ≡ true =
       and_from (ltb node (length graph.nodes)) (leb (now_of log) (now_of log) && not (is_among reach node)) (ap (λ n. ltb n (length graph.nodes)) (sym same) ∙ both.0)
       (and_from (leb (now_of log) (now_of log)) (not (is_among reach node)) (le-leb (now_of log) (now_of log) (omega arith)) (ap (λ n. not (is_among reach n)) (sym same) ∙ rest.1)) in
@@ -241,7 +228,7 @@ module _ (graph : Tfpg) (log : Logbook) (reach : List ℕ) (node : ℕ) where
         now_of log + 1,
         Contains-tail (Top node) (Unreached node (now_of log) ∷ by_events node (length log.events)) (Unreached node (now_of log)) (Contains-head (Unreached node (now_of log)) (by_events node (length log.events))),
         ap (λ (b : Bool). then_some b (at_least node (now_of log + 1))) test,
-        omega (arith, bound_is other bound (horizon + 1) parts.1, leb-true horizon (now_of log) rest.0),
+        omega (arith, (at_least-same other node (horizon + 1) bound parts.1).1, leb-true horizon (now_of log) rest.0),
       )
   low_covered (From event) bound at =
       let there = numbered (from_alarm graph) event (at_least node bound) at in
@@ -258,24 +245,24 @@ module _ (graph : Tfpg) (log : Logbook) (reach : List ℕ) (node : ℕ) where
       by zero (Some time) is at = absurd cc
       by (suc before) (Some time) is at =
           let stated : at_least other (time + 1) ≡ at_least node bound = cc in
-          let same : other ≡ node = same_node other bound (time + 1) stated in
+          let same : other ≡ node = (at_least-same other node (time + 1) bound stated).0 in
           let whole : fact graph log reach (Quiet (suc before) other) ≡ Some (at_least node bound) = ap (option_map (λ t. at_least other (t + 1))) is ∙ at in
           let own : fact graph log reach (Quiet (suc before) node) ≡ Some (at_least node bound) = ap (λ n. fact graph log reach (Quiet (suc before) n)) (sym same) ∙ whole in
-          let within = quiet_within graph log (suc before) other (at_least node bound) whole in
+          let within = silence_within graph log (suc before) other (at_least node bound) whole in
           inr (Quiet (suc before) node, bound, by_event (Quiet (suc before) node) (event_there node (length log.events) (suc before) (omega arith) within).2, own, omega arith)
-  low_covered (Pick split place) bound at = absurd cc
+  low_covered (Pick split index) bound at = absurd cc
 
   -- each upper bound is that of one of these reasons
   high_covered : (reason : Reason) (bound : ℕ) → fact graph log reach reason ≡ Some (at_most node (pos bound))
       → (other : Reason) × Contains all_reasons other × (fact graph log reach other ≡ Some (at_most node (pos bound)))
   high_covered (Zero other) bound at =
-      absurd (apart node other 0 (pos bound) (sym (then_some-true (ltb other (length graph.nodes)) (at_least other 0) (at_most node (pos bound)) at).1))
+      absurd (at_most-least node other 0 (pos bound) (sym (then_some-true (ltb other (length graph.nodes)) (at_least other 0) (at_most node (pos bound)) at).1))
   high_covered (Top other) bound at =
-      let same : other ≡ node = same_most other bound NEVER (then_some-true (ltb other (length graph.nodes)) (at_most other (pos NEVER)) (at_most node (pos bound)) at).1 in
+      let same : other ≡ node = (at_most-same other node NEVER bound (then_some-true (ltb other (length graph.nodes)) (at_most other (pos NEVER)) (at_most node (pos bound)) at).1).0 in
       (Top node, Contains-head (Top node) (Unreached node (now_of log) ∷ by_events node (length log.events)), ap (λ n. fact graph log reach (Top n)) (sym same) ∙ at)
   high_covered (Unreached other horizon) bound at =
       absurd
-      (apart node other (horizon + 1) (pos bound)
+      (at_most-least node other (horizon + 1) (pos bound)
       (sym (then_some-true (ltb other (length graph.nodes) && (leb horizon (now_of log) && not (is_among reach other))) (at_least other (horizon + 1)) (at_most node (pos bound)) at).1))
   high_covered (From event) bound at =
       let there = numbered (from_alarm graph) event (at_most node (pos bound)) at in
@@ -288,8 +275,8 @@ module _ (graph : Tfpg) (log : Logbook) (reach : List ℕ) (node : ℕ) where
       by : (time : Option ℕ) → option_map (λ t. at_least other (t + 1)) time ≡ Some (at_most node (pos bound))
           → (other : Reason) × Contains all_reasons other × (fact graph log reach other ≡ Some (at_most node (pos bound)))
       by None at = absurd cc
-      by (Some time) at = absurd (let stated : at_least other (time + 1) ≡ at_most node (pos bound) = cc in apart node other (time + 1) (pos bound) (sym stated))
-  high_covered (Pick split place) bound at = absurd cc
+      by (Some time) at = absurd (let stated : at_least other (time + 1) ≡ at_most node (pos bound) = cc in at_most-least node other (time + 1) (pos bound) (sym stated))
+  high_covered (Pick split index) bound at = absurd cc
 
   -- The facts give the node a greatest lower bound,
   pub low_there : node < length graph.nodes → (low : ℕ) × IsLow graph log reach node low

@@ -35,10 +35,10 @@ module _ (graph : Tfpg) (log : Logbook) (times : List ℕ) (number horizon : ℕ
       → MeetsClause times (arrivals_over graph log number horizon span edges) → ⊥
   none_arrived none met =
       let one = Contains-filter_map_only (arrival_over graph log number horizon span) edges met.0 met.1 in
-      let place = one.1 in
-      let same : get_or edges place.0 0 ≡ one.0 = get_or_default edges place.0 0 one.0 place.1 ∙ place.2 in
-      none place.0 place.1
-      (IsSomeAnd-from (All (Meets times)) (arrival_over graph log number horizon span (get_or edges place.0 0)) met.0 (ap (arrival_over graph log number horizon span) same ∙ one.2) met.2)
+      let index = one.1 in
+      let same : get_or edges index.0 0 ≡ one.0 = get_or_default edges index.0 0 one.0 index.1 ∙ index.2 in
+      none index.0 index.1
+      (IsSomeAnd-from (All (Meets times)) (arrival_over graph log number horizon span (get_or edges index.0 0)) met.0 (ap (arrival_over graph log number horizon span) same ∙ one.2) met.2)
 
 module _ (graph : Tfpg) (log : Logbook) (times : List ℕ) (node : ℕ) (edges : List ℕ) where
   -- the clause of a span that does not hold the time is met

@@ -162,8 +162,8 @@ module _ (log : Logbook) (trace : List Activation) (numbers : List ℕ) (count :
             where
               begun : window.lo ≤ last
               begun = elim (cases_lt 0 window.lo) [
-                | inl behind ↦ (
-                    let first = common.begins behind in
+                | inl later ↦ (
+                    let first = common.begins later in
                     let due = due_at_edge first.0 first.1 in
                     let of = due_of log number horizon first.0 due.0 due.2 in
                     let same : first.2 ≡ of.window = cc (first.3, of.there) in

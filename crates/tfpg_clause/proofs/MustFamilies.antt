@@ -7,8 +7,8 @@ use Rattle.tfpg_base.specs.declared.constraint.Constraint.{Constraint}
 use Rattle.tfpg_graph.specs.declared.edge.Edge.{Edge}
 use Rattle.tfpg_graph.specs.Graph.{Tfpg, is_kind_at, is_or, is_and, incoming, edges_into}
 use Rattle.tfpg_log.specs.declared.span.Window.{Window}
-use Rattle.tfpg_log.specs.Log.{Logbook, now_of, is_allowed_at}
-use Rattle.tfpg_log.specs.Spans.{span_number, are_allowed_at, window_of, joint_of}
+use Rattle.tfpg_log.specs.Log.{Logbook, now_of, is_active_at}
+use Rattle.tfpg_log.specs.Spans.{span_number, are_active_at, window_of, joint_of}
 use Rattle.tfpg_log.specs.Runs.{IsWindowRound}
 use Rattle.tfpg_log.proofs.WindowRuns.{edge_window, node_window}
 use Rattle.tfpg_base.proofs.lists.Choices.{IsSomeAnd-there}
@@ -44,10 +44,10 @@ module _ (graph : Tfpg) (log : Logbook) (times : List ℕ) where
     module _ (own : IsSomeAnd (slice_get graph.edges edge) (λ e. e.target ≡ target)) where
       edge_found : (number : ℕ) (window : Window)
           → (option_and_then (λ e. window_of log e number (now_of log)) (slice_get graph.edges edge) ≡ Some window)
-          ↔ IsWindowRound log (is_allowed_at log (IsSomeAnd-there (λ (e : Edge). e.target ≡ target) (slice_get graph.edges edge) own).0) number (now_of log) window
+          ↔ IsWindowRound log (is_active_at log (IsSomeAnd-there (λ (e : Edge). e.target ≡ target) (slice_get graph.edges edge) own).0) number (now_of log) window
       edge_found number window =
           let one = IsSomeAnd-there (λ (e : Edge). e.target ≡ target) (slice_get graph.edges edge) own in
-          subst (λ (o : Option Edge). (option_and_then (λ e. window_of log e number (now_of log)) o ≡ Some window) ↔ IsWindowRound log (is_allowed_at log one.0) number (now_of log) window)
+          subst (λ (o : Option Edge). (option_and_then (λ e. window_of log e number (now_of log)) o ≡ Some window) ↔ IsWindowRound log (is_active_at log one.0) number (now_of log) window)
           (sym one.1) (edge_window log one.0 number (now_of log) window)
 
       edge_begins : (number : ℕ) (all : List (List Constraint)) → option_and_then (λ e. or_must graph log e number (now_of log)) (slice_get graph.edges edge) ≡ Some all
@@ -63,7 +63,7 @@ module _ (graph : Tfpg) (log : Logbook) (times : List ℕ) where
       pub or_met_without : (number horizon : ℕ) → horizon ≡ now_of log → None ≡ option_and_then (λ e. window_of log e number horizon) (slice_get graph.edges edge)
           → MeetsUpTo times (λ span. option_and_then (λ e. or_must graph log e span (now_of log)) (slice_get graph.edges edge)) number (Some number)
       or_met_without number horizon is none =
-          met_without log times (is_allowed_at log (IsSomeAnd-there (λ (e : Edge). e.target ≡ target) (slice_get graph.edges edge) own).0) (windows_of_edge) (of_edge) edge_found edge_begins number
+          met_without log times (is_active_at log (IsSomeAnd-there (λ (e : Edge). e.target ≡ target) (slice_get graph.edges edge) own).0) (windows_of_edge) (of_edge) edge_found edge_begins number
           (none ∙ ap (λ h. option_and_then (λ e. window_of log e number h) (slice_get graph.edges edge)) is)
 
       module _ (number horizon : ℕ) (is : horizon ≡ now_of log) (window : Window)
@@ -82,7 +82,7 @@ module _ (graph : Tfpg) (log : Logbook) (times : List ℕ) where
             → result ≡ cond (leb window.hi (now_of log)) (Some (span_number log window.hi)) None
             → MeetsUpTo times (λ span. option_and_then (λ e. or_must graph log e span (now_of log)) (slice_get graph.edges edge)) number result
         or_met_within result met end =
-            met_within log times (is_allowed_at log (IsSomeAnd-there (λ (e : Edge). e.target ≡ target) (slice_get graph.edges edge) own).0) windows_of_edge of_edge edge_found edge_begins number window result
+            met_within log times (is_active_at log (IsSomeAnd-there (λ (e : Edge). e.target ≡ target) (slice_get graph.edges edge) own).0) windows_of_edge of_edge edge_found edge_begins number window result
             (sym at_now) (subst (MeetsIfAny times) (sym or_clause) met) end
 
         -- and where it is not
@@ -98,7 +98,7 @@ module _ (graph : Tfpg) (log : Logbook) (times : List ℕ) where
           → ((other : ℕ) → number ≤ other → other ≤ until → MeetsIfAny times (option_and_then (λ e. or_must graph log e other (now_of log)) (slice_get graph.edges edge)))
           → MeetsEach times (λ other. option_and_then (λ e. or_must graph log e other (now_of log)) (slice_get graph.edges edge))
       or_met_all number until last before here =
-          met_all log times (is_allowed_at log (IsSomeAnd-there (λ (e : Edge). e.target ≡ target) (slice_get graph.edges edge) own).0) windows_of_edge of_edge edge_found edge_begins number until last before here
+          met_all log times (is_active_at log (IsSomeAnd-there (λ (e : Edge). e.target ≡ target) (slice_get graph.edges edge) own).0) windows_of_edge of_edge edge_found edge_begins number until last before here
 
   -- ---- an AND node
   module _ (node : ℕ) where
@@ -122,14 +122,14 @@ module _ (graph : Tfpg) (log : Logbook) (times : List ℕ) where
     node_begins number all at =
         must_has_window log (is_kind_at is_and graph node) node (edges_into graph node) (joint_of graph log node number (now_of log)) number (now_of log) all at
 
-    node_found : (number : ℕ) (window : Window) → (joint_of graph log node number (now_of log) ≡ Some window) ↔ IsWindowRound log (are_allowed_at graph log node) number (now_of log) window
+    node_found : (number : ℕ) (window : Window) → (joint_of graph log node number (now_of log) ≡ Some window) ↔ IsWindowRound log (are_active_at graph log node) number (now_of log) window
     node_found number window = node_window graph log node number (now_of log) window
 
     -- where there is no joint window,
     pub and_met_without : (number horizon : ℕ) → horizon ≡ now_of log → None ≡ joint_of graph log node number horizon
         → MeetsUpTo times (λ span. and_must graph log node span (now_of log)) number (Some number)
     and_met_without number horizon is none =
-        met_without log times (are_allowed_at graph log node) windows_of_node of_node node_found node_begins number (none ∙ ap (joint_of graph log node number) is)
+        met_without log times (are_active_at graph log node) windows_of_node of_node node_found node_begins number (none ∙ ap (joint_of graph log node number) is)
 
     module _ (number horizon : ℕ) (is : horizon ≡ now_of log) (window : Window) (there : Some window ≡ joint_of graph log node number horizon)
         (and : is_kind_at is_and graph node ≡ true) (edges : List ℕ) (are : edges ≡ incoming graph node) where
@@ -147,7 +147,7 @@ module _ (graph : Tfpg) (log : Logbook) (times : List ℕ) where
           → result ≡ cond (leb window.hi (now_of log)) (Some (span_number log window.hi)) None
           → MeetsUpTo times (λ span. and_must graph log node span (now_of log)) number result
       and_met_within result met end =
-          met_within log times (are_allowed_at graph log node) windows_of_node of_node node_found node_begins number window result
+          met_within log times (are_active_at graph log node) windows_of_node of_node node_found node_begins number window result
           (sym joint_now) (subst (MeetsIfAny times) (sym and_clause) met) end
 
       -- and where it is not
@@ -160,4 +160,4 @@ module _ (graph : Tfpg) (log : Logbook) (times : List ℕ) where
         → ((other : ℕ) → number ≤ other → other ≤ until → MeetsIfAny times (and_must graph log node other (now_of log)))
         → MeetsEach times (λ other. and_must graph log node other (now_of log))
     and_met_all number until last before here =
-        met_all log times (are_allowed_at graph log node) windows_of_node of_node node_found node_begins number until last before here
+        met_all log times (are_active_at graph log node) windows_of_node of_node node_found node_begins number until last before here

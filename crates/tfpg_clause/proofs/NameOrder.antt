@@ -1,16 +1,9 @@
 -- The order of the clauses of one horizon is strict and total.
-use Rattle.std.proofs.Common.{◌≡◌, ℕ, ◌<◌, sym, ◌∙◌, ◌⊎◌, inl, inr, arith}
-use Rattle.std.proofs.lemmas.Bool.{cases_lt}
+use Rattle.std.proofs.Common.{◌≡◌, ◌<◌, sym, ◌∙◌, ◌⊎◌, inl, inr, arith}
+use Rattle.std.proofs.lemmas.Bool.{cases_order}
 use Rattle.tfpg_evidence.specs.declared.clause_name.ClauseName.{ClauseName}
 use Rattle.tfpg_clause.specs.Order.{rank_of, subject_of, span_of, horizon_of, ComesBefore}
 use Rattle.tfpg_clause.proofs.FirstOfAll.{same_parts}
-
--- two numbers in order
-compared : (one other : ℕ) → (one < other) ⊎ ((one ≡ other) ⊎ (other < one))
-compared one other = elim (cases_lt one other) [
-  | inl less ↦ inl less
-  | inr more ↦ elim (cases_lt other one) [ inl greater ↦ inr (inr greater) | inr same ↦ inr (inl (omega arith)) ]
-]
 
 -- No name comes before itself.
 pub not_itself : (name : ClauseName) → ComesBefore name name → ⊥
@@ -35,16 +28,16 @@ goes_through one middle other (inr (same, one_rest)) (inr (equal, other_rest)) =
 
 -- Of two names of one horizon one comes before the other, or they are the same.
 pub one_comes_first : (one other : ClauseName) → horizon_of one ≡ horizon_of other → (one ≡ other) ⊎ (ComesBefore one other ⊎ ComesBefore other one)
-one_comes_first one other horizon = elim (compared (rank_of one) (rank_of other)) [
-  | inl less ↦ inr (inl (inl less))
+one_comes_first one other horizon = elim (cases_order (rank_of one) (rank_of other)) [
+  | inr (inl less) ↦ inr (inl (inl less))
   | inr (inr more) ↦ inr (inr (inl more))
-  | inr (inl rank) ↦ elim (compared (subject_of one) (subject_of other)) [
-    | inl less ↦ inr (inl (inr (rank, inl less)))
+  | inl rank ↦ elim (cases_order (subject_of one) (subject_of other)) [
+    | inr (inl less) ↦ inr (inl (inr (rank, inl less)))
     | inr (inr more) ↦ inr (inr (inr (sym rank, inl more)))
-    | inr (inl subject) ↦ elim (compared (span_of one) (span_of other)) [
-      | inl less ↦ inr (inl (inr (rank, inr (subject, less))))
+    | inl subject ↦ elim (cases_order (span_of one) (span_of other)) [
+      | inr (inl less) ↦ inr (inl (inr (rank, inr (subject, less))))
       | inr (inr more) ↦ inr (inr (inr (sym rank, inr (sym subject, more))))
-      | inr (inl span) ↦ inl (same_parts one other rank subject span horizon)
+      | inl span ↦ inl (same_parts one other rank subject span horizon)
     ]
   ]
 ]

@@ -37,13 +37,13 @@ module _ (graph : Tfpg) (log : Logbook) (reach : List ℕ) (ordered : IsOrdered 
     (facts : (reason : Reason) (constraint : Constraint) → fact graph log reach reason ≡ Some constraint → Meets numbers constraint) where
   -- the numbers meet each constraint that is picked on the path
   abbrev MeetsPath : List PathSplit → Type 0
-  MeetsPath path = (split place : ℕ) (constraint : Constraint) → picked graph log path split place ≡ Some constraint → Meets numbers constraint
+  MeetsPath path = (split number : ℕ) (constraint : Constraint) → picked graph log path split number ≡ Some constraint → Meets numbers constraint
 
   fact_met : (seen : ℕ) (reason : Reason) (constraint : Constraint) → fact graph (first_events log seen) reach reason ≡ Some constraint → Meets numbers constraint
   fact_met seen reason constraint is = facts reason constraint (fact_stays graph (first_events log seen) log ordered (first_to_whole log seen) reach reason constraint is)
 
   stated_met : (path : List PathSplit) → MeetsPath path → (seen : ℕ) (reason : Reason) (constraint : Constraint) → stated graph log reach path seen reason ≡ Some constraint → Meets numbers constraint
-  stated_met path met seen (Pick split place) constraint is = met split place constraint is
+  stated_met path met seen (Pick split number) constraint is = met split number constraint is
   stated_met path met seen (Zero node) constraint is = fact_met seen (Zero node) constraint is
   stated_met path met seen (Top node) constraint is = fact_met seen (Top node) constraint is
   stated_met path met seen (Unreached node horizon) constraint is = fact_met seen (Unreached node horizon) constraint is
@@ -68,31 +68,31 @@ module _ (graph : Tfpg) (log : Logbook) (reach : List ℕ) (ordered : IsOrdered 
     meets_more : (path : List PathSplit) (split : PathSplit) (clause : List (List Constraint)) (k : ℕ) (alternative : List Constraint) → MeetsPath path
         → alternatives graph (first_events log split.seen) split.name ≡ Some clause → split.alternative ≡ suc k → slice_get clause k ≡ Some alternative → All (Meets numbers) alternative
         → MeetsPath (path ++ split ∷ [])
-    meets_more path split clause k alternative met is number at all zero place constraint pick = cc
-    meets_more path split clause k alternative met is number at all (suc i) place constraint pick =
+    meets_more path split clause k alternative met is alternative_is at all zero number constraint pick = cc
+    meets_more path split clause k alternative met is alternative_is at all (suc i) number constraint pick =
         option_and_then_some
-        (λ (taken : PathSplit). option_and_then (λ c. constraint_at c taken.alternative place) (alternatives graph (first_events log taken.seen) taken.name))
+        (λ (taken : PathSplit). option_and_then (λ c. constraint_at c taken.alternative number) (alternatives graph (first_events log taken.seen) taken.name))
         (slice_get (path ++ split ∷ []) i) constraint pick
         (λ taken there rest.
         elim (slice_get-push_cases path split i taken there) [
           | inl before ↦
-              met (suc i) place constraint
-              (ap (option_and_then (λ (t : PathSplit). option_and_then (λ c. constraint_at c t.alternative place) (alternatives graph (first_events log t.seen) t.name))) before ∙ rest)
+              met (suc i) number constraint
+              (ap (option_and_then (λ (t : PathSplit). option_and_then (λ c. constraint_at c t.alternative number) (alternatives graph (first_events log t.seen) t.name))) before ∙ rest)
           | inr last ↦
-              own place constraint
-              (subst (λ (t : PathSplit). option_and_then (λ c. constraint_at c t.alternative place) (alternatives graph (first_events log t.seen) t.name) ≡ Some constraint) (sym last.1) rest)
+              own number constraint
+              (subst (λ (t : PathSplit). option_and_then (λ c. constraint_at c t.alternative number) (alternatives graph (first_events log t.seen) t.name) ≡ Some constraint) (sym last.1) rest)
         ])
       where
-        of_alternative : (place : ℕ) (constraint : Constraint) → item_at alternative place ≡ Some constraint → Meets numbers constraint
+        of_alternative : (number : ℕ) (constraint : Constraint) → item_at alternative number ≡ Some constraint → Meets numbers constraint
         of_alternative zero constraint here = cc
         of_alternative (suc j) constraint here = All-at (Meets numbers) alternative j constraint all here
 
-        own : (place : ℕ) (constraint : Constraint) → option_and_then (λ c. constraint_at c split.alternative place) (alternatives graph (first_events log split.seen) split.name) ≡ Some constraint → Meets numbers constraint
-        own place constraint pick =
-            let of_clause : constraint_at clause split.alternative place ≡ Some constraint = sym (ap (option_and_then (λ c. constraint_at c split.alternative place)) is) ∙ pick in
-            let in_alternative : item_at alternative place ≡ Some constraint =
-            sym (ap (λ (n : ℕ). constraint_at clause n place) number ∙ ap (option_and_then (λ a. item_at a place)) at) ∙ of_clause in
-            of_alternative place constraint in_alternative
+        own : (number : ℕ) (constraint : Constraint) → option_and_then (λ c. constraint_at c split.alternative number) (alternatives graph (first_events log split.seen) split.name) ≡ Some constraint → Meets numbers constraint
+        own number constraint pick =
+            let of_clause : constraint_at clause split.alternative number ≡ Some constraint = sym (ap (option_and_then (λ c. constraint_at c split.alternative number)) is) ∙ pick in
+            let in_alternative : item_at alternative number ≡ Some constraint =
+            sym (ap (λ (n : ℕ). constraint_at clause n number) alternative_is ∙ ap (option_and_then (λ a. item_at a number)) at) ∙ of_clause in
+            of_alternative number constraint in_alternative
 
     -- the alternative of a clause that they meet
     record MetAlternative (clause : List (List Constraint)) : Type 0 where
@@ -151,11 +151,11 @@ module _ (graph : Tfpg) (log : Logbook) (reach : List ℕ) (ordered : IsOrdered 
           (subst (λ (n : ℕ). MeetsPath (path ++ record { name = name; seen = seen; alternative = n } ∷ [])) same met)
 
     pub no_refutation : (steps : List Judged) → IsRefutation graph log reach steps → ⊥
-    no_refutation steps refutation = no_tree [] refutation.tree refutation.right (λ split place constraint pick. none place constraint split pick)
+    no_refutation steps refutation = no_tree [] refutation.tree refutation.right (λ split number constraint pick. none number constraint split pick)
       where
-        none : (place : ℕ) (constraint : Constraint) (split : ℕ) → picked graph log [] split place ≡ Some constraint → Meets numbers constraint
-        none place constraint zero pick = cc
-        none place constraint (suc k) pick = cc
+        none : (number : ℕ) (constraint : Constraint) (split : ℕ) → picked graph log [] split number ≡ Some constraint → Meets numbers constraint
+        none number constraint zero pick = cc
+        none number constraint (suc k) pick = cc
 
 -- Where steps are a refutation at a log, no trace explains a log that goes on from it.
 pub no_trace : (graph : Tfpg) (earlier log : Logbook) (set reach : List ℕ) (steps : List Judged) → IsValid graph → IsOf graph log → IsOrdered log → IsReach graph set reach

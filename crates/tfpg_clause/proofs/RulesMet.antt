@@ -20,7 +20,7 @@ use Rattle.tfpg_graph.specs.Valid.{IsValid, IsValidEdge}
 use Rattle.tfpg_graph.proofs.NodeAt.{kind_within}
 use Rattle.tfpg_log.specs.declared.span.Span.{Span}
 use Rattle.tfpg_log.specs.declared.span.Window.{Window}
-use Rattle.tfpg_log.specs.Log.{Logbook, now_of, is_allowed_at}
+use Rattle.tfpg_log.specs.Log.{Logbook, now_of, is_active_at}
 use Rattle.tfpg_log.specs.Rules.{HasAge, IsDue, IsActive, KeepsRules}
 use Rattle.tfpg_log.specs.Spans.{span_number, span_at, window_of, joint_of}
 use Rattle.tfpg_log.proofs.WindowAges.{only_there}
@@ -47,7 +47,7 @@ edge_common log edge number horizon window at =
       of_each = λ other member.
           let same : edge ≡ other = Contains-one edge other member in
           (window, ap (λ e. window_of log e number horizon) (sym same) ∙ at, omega arith, omega arith);
-      begins = λ behind. (edge, Contains-head edge [], window, at, refl);
+      begins = λ later. (edge, Contains-head edge [], window, at, refl);
     }
 
 -- the joint window of a node
@@ -59,7 +59,7 @@ joint_common graph log node number horizon window at =
       in_order = run.in_order;
       in_range = run.in_range;
       of_each = λ edge member. joint.of_each graph log node number horizon window at edge member;
-      begins = λ behind. joint.begins graph log node number horizon window at behind;
+      begins = λ later. joint.begins graph log node number horizon window at later;
     }
 
 -- ---- nodes and edges of a valid graph
@@ -212,9 +212,9 @@ module _ (graph : Tfpg) (log : Logbook) (trace : List Activation) (numbers : Lis
     and_must_kept : (node instant : ℕ) → instant ≤ now_of log → is_kind_at is_and graph node ≡ true → All (λ edge. IsDue log trace edge instant) (edges_into graph node)
         → IsActive trace node instant
     and_must_kept node instant upto and dues =
-        let allowed : list_all (λ edge. is_allowed_at log edge instant) (edges_into graph node) ≡ true =
-        list_all-from_AllPass (λ edge. is_allowed_at log edge instant) (edges_into graph node)
-        (All-weaker (λ edge. IsDue log trace edge instant) (λ edge. is_allowed_at log edge instant ≡ true) (λ edge due. (only_there log trace edge instant due.0 due.2).0) (edges_into graph node) dues) in
+        let allowed : list_all (λ edge. is_active_at log edge instant) (edges_into graph node) ≡ true =
+        list_all-from_AllPass (λ edge. is_active_at log edge instant) (edges_into graph node)
+        (All-weaker (λ edge. IsDue log trace edge instant) (λ edge. is_active_at log edge instant ≡ true) (λ edge due. (only_there log trace edge instant due.0 due.2).0) (edges_into graph node) dues) in
         let window = joint.joint_there graph log node instant (now_of log) upto (omega arith) allowed in
         let is = joint.is_joint graph log node (span_number log instant) (now_of log) window.0 window.1 in
         let first : ℕ = window.0.first in

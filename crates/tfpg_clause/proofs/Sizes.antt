@@ -37,14 +37,14 @@ module _ (nodes : ℕ) where
   small_one : (c : Constraint) → IsOver nodes c → IsSmall nodes (c ∷ [])
   small_one c over = record { few = omega arith; over = All-cons (IsOver nodes) c [] over (All-nil (IsOver nodes)) }
 
-  over_most : (node : ℕ) (most : ℤ) → node < nodes → IsOver nodes (at_most node most)
-  over_most node most within = record { left = omega arith; right = omega arith }
+  over_most : (node : ℕ) (bound : ℤ) → node < nodes → IsOver nodes (at_most node bound)
+  over_most node bound within = record { left = omega arith; right = omega arith }
 
   over_least : (node least : ℕ) → node < nodes → IsOver nodes (at_least node least)
   over_least node least within = record { left = omega arith; right = omega arith }
 
-  over_after : (node source most : ℕ) → node < nodes → source < nodes → IsOver nodes (at_most_after node source most)
-  over_after node source most target within = record { left = omega arith; right = omega arith }
+  over_after : (node source bound : ℕ) → node < nodes → source < nodes → IsOver nodes (at_most_after node source bound)
+  over_after node source bound target within = record { left = omega arith; right = omega arith }
 
   over_least_after : (node source least : ℕ) → node < nodes → source < nodes → IsOver nodes (at_least_after node source least)
   over_least_after node source least target within = record { left = omega arith; right = omega arith }

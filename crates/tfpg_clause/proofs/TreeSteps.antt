@@ -18,7 +18,7 @@ use Rattle.tfpg_clause.specs.Trees.{Judged, Tree, Leaf, Branch, Subtrees, NoMore
 use Rattle.tfpg_clause.specs.Paths.{IsRightNext, next_leaf}
 use Rattle.tfpg_clause.proofs.LeafPaths.{leaf_after, after_both}
 use Rattle.tfpg_clause.proofs.SomeAlternative.{some_alternative}
-use Rattle.tfpg_clause.proofs.TreeWalk.{steps_in, first_path, walk_tree}
+use Rattle.tfpg_clause.proofs.TreeWalk.{steps_of_places, first_path, walk_tree}
 use Rattle.tfpg_clause.proofs.Grafts.{graft}
 use Rattle.tfpg_clause.proofs.PresentLeaf.{more_places, leaf_there}
 
@@ -29,7 +29,7 @@ pub record Cut (graph : Tfpg) (log : Logbook) (reach : List ℕ) (steps : List J
   pub here : StepPlace
   pub back : List StepPlace
   pub places_are : places_of tree ≡ front ++ here ∷ back
-  pub steps_are : steps_in front ≡ steps
+  pub steps_are : steps_of_places front ≡ steps
   pub right : All (IsRight graph log reach) front
   pub path_is : here.path ≡ path
 
@@ -37,7 +37,7 @@ module _ (graph : Tfpg) (log : Logbook) (reach : List ℕ) where
   abbrev step_in : StepPlace → Judged
   step_in place = place.step
 
-  front_steps : (steps : List Judged) (partial : IsPartial graph log reach steps) → steps_in (take (length steps) (places_of partial.tree)) ≡ steps
+  front_steps : (steps : List Judged) (partial : IsPartial graph log reach steps) → steps_of_places (take (length steps) (places_of partial.tree)) ≡ steps
   front_steps steps partial =
       sym (take-map step_in (length steps) (places_of partial.tree)) ∙ ap (take (length steps)) (sym partial.steps_are) ∙ take-append_seam steps partial.more
 
@@ -64,17 +64,17 @@ module _ (graph : Tfpg) (log : Logbook) (reach : List ℕ) where
   cut_of_partial steps partial = let leaf = leaf_there graph log reach steps partial in (leaf.0, cut_of_leaf steps leaf.0 leaf.1)
 
   leaf_of_front : (tree : Tree) (front : List StepPlace) (here : StepPlace) (back : List StepPlace) → places_of tree ≡ front ++ here ∷ back → All (IsRight graph log reach) front
-      → IsPresentLeaf graph log reach (steps_in front) here.path
+      → IsPresentLeaf graph log reach (steps_of_places front) here.path
   leaf_of_front tree front here back are right =
-      let many : length (steps_in front) ≡ length front = length-map front step_in in
+      let many : length (steps_of_places front) ≡ length front = length-map front step_in in
       record {
         partial = record {
           tree = tree;
-          more = steps_in (here ∷ back);
+          more = steps_of_places (here ∷ back);
           unfinished = omega arith;
-          steps_are = sym (map-append step_in front (here ∷ back)) ∙ ap steps_in (sym are);
+          steps_are = sym (map-append step_in front (here ∷ back)) ∙ ap steps_of_places (sym are);
           right =
-              let first : take (length (steps_in front)) (places_of tree) ≡ front =
+              let first : take (length (steps_of_places front)) (places_of tree) ≡ front =
               ap (λ (n : ℕ). take n (places_of tree)) many ∙ ap (take (length front)) are ∙ take-append_seam front (here ∷ back) in
               subst (All (IsRight graph log reach)) (sym first) right;
         };
@@ -85,7 +85,7 @@ module _ (graph : Tfpg) (log : Logbook) (reach : List ℕ) where
 
   pub leaf_of_cut : (steps : List Judged) (path : List PathSplit) → Cut graph log reach steps path → IsPresentLeaf graph log reach steps path
   leaf_of_cut steps path cut =
-      let leaf : IsPresentLeaf graph log reach (steps_in cut.front) cut.here.path = leaf_of_front cut.tree cut.front cut.here cut.back cut.places_are cut.right in
+      let leaf : IsPresentLeaf graph log reach (steps_of_places cut.front) cut.here.path = leaf_of_front cut.tree cut.front cut.here cut.back cut.places_are cut.right in
       let of_steps : IsPresentLeaf graph log reach steps cut.here.path = subst (λ (s : List Judged). IsPresentLeaf graph log reach s cut.here.path) cut.steps_are leaf in
       subst (λ (p : List PathSplit). IsPresentLeaf graph log reach steps p) cut.path_is of_steps
 
@@ -165,7 +165,7 @@ module _ (graph : Tfpg) (log : Logbook) (reach : List ℕ) where
     tree : Tree
     front : List StepPlace
     places_are : places_of tree ≡ front ++ rest
-    steps_are : steps_in front ≡ steps
+    steps_are : steps_of_places front ≡ steps
     right : All (IsRight graph log reach) front
     path_is : next_leaf graph log path ≡ first_path None rest
 
@@ -178,7 +178,7 @@ module _ (graph : Tfpg) (log : Logbook) (reach : List ℕ) where
       let front : List StepPlace = cut.front ++ one ∷ [] in
       let right : All (IsRight graph log reach) front = All-append (IsRight graph log reach) cut.front (one ∷ []) cut.right (All-cons (IsRight graph log reach) one [] one_right (All-nil (IsRight graph log reach))) in
       let are : places_of grafted.tree ≡ front ++ grafted.rest = grafted.is ∙ sym (append_assoc cut.front (one ∷ []) grafted.rest) in
-      let steps_are : steps_in front ≡ steps ++ record { seen = seen; step = Cycle reasons } ∷ [] =
+      let steps_are : steps_of_places front ≡ steps ++ record { seen = seen; step = Cycle reasons } ∷ [] =
       map-append step_in cut.front (one ∷ []) ∙ ap (λ (s : List Judged). s ++ record { seen = seen; step = Cycle reasons } ∷ []) cut.steps_are in (
         grafted.rest,
         record {
@@ -200,7 +200,7 @@ module _ (graph : Tfpg) (log : Logbook) (reach : List ℕ) where
       let all : places_of closed.tree ≡ closed.front = closed.places_are ∙ append-nil closed.front in
       record {
         tree = closed.tree;
-        steps_are = sym closed.steps_are ∙ ap steps_in (sym all);
+        steps_are = sym closed.steps_are ∙ ap steps_of_places (sym all);
         right = subst (All (IsRight graph log reach)) (sym all) closed.right;
       }
   finished steps path (here ∷ back) closed none = let same : Some here.path ≡ None = sym closed.path_is ∙ none in cc
@@ -230,36 +230,36 @@ module _ (graph : Tfpg) (log : Logbook) (reach : List ℕ) where
     before : List StepPlace
     place : StepPlace
     front_is : front ≡ before ++ place ∷ []
-    steps_are : steps_in before ≡ steps
+    steps_are : steps_of_places before ≡ steps
     last_is : place.step ≡ last
 
-  last_place : (front : List StepPlace) (steps : List Judged) (last : Judged) → steps_in front ≡ steps ++ last ∷ [] → LastPlace front steps last
+  last_place : (front : List StepPlace) (steps : List Judged) (last : Judged) → steps_of_places front ≡ steps ++ last ∷ [] → LastPlace front steps last
   last_place [] [] last same = cc
   last_place [] (step ∷ steps) last same = cc
   last_place (place ∷ []) [] last same = let is : place.step ≡ last = cc in record { before = []; place = place; front_is = refl; steps_are = refl; last_is = is }
-  last_place (place ∷ other ∷ front) [] last same = let none : other.step ∷ steps_in front ≡ [] = cc in cc
+  last_place (place ∷ other ∷ front) [] last same = let none : other.step ∷ steps_of_places front ≡ [] = cc in cc
   last_place (place ∷ front) (step ∷ steps) last same =
       let head : place.step ≡ step = cc in
-      let tail : steps_in front ≡ steps ++ last ∷ [] = cc in
+      let tail : steps_of_places front ≡ steps ++ last ∷ [] = cc in
       let rest = last_place front steps last tail in
       record {
         before = place ∷ rest.before;
         place = rest.place;
         front_is = ap (λ (ps : List StepPlace). place ∷ ps) rest.front_is;
-        steps_are = ap (λ (s : Judged). s ∷ steps_in rest.before) head ∙ ap (λ (s : List Judged). step ∷ s) rest.steps_are;
+        steps_are = ap (λ (s : Judged). s ∷ steps_of_places rest.before) head ∙ ap (λ (s : List Judged). step ∷ s) rest.steps_are;
         last_is = rest.last_is;
       }
 
   -- the last of some right steps stands at the leaf of the steps before it
   last_of : (tree : Tree) (front rest : List StepPlace) (steps : List Judged) (last : Judged) → places_of tree ≡ front ++ rest → All (IsRight graph log reach) front
-      → steps_in front ≡ steps ++ last ∷ [] → IsRightNext graph log reach steps last
+      → steps_of_places front ≡ steps ++ last ∷ [] → IsRightNext graph log reach steps last
   last_of tree front rest steps last are right same =
       let at = last_place front steps last same in
       let place = at.place in
       let split_right : All (IsRight graph log reach) (at.before ++ place ∷ []) = subst (All (IsRight graph log reach)) at.front_is right in
       let place_right : IsRight graph log reach place = All-head (IsRight graph log reach) place [] (All-back (IsRight graph log reach) at.before (place ∷ []) split_right) in
       let split_are : places_of tree ≡ at.before ++ place ∷ rest = are ∙ ap (λ (f : List StepPlace). f ++ rest) at.front_is ∙ append_assoc at.before (place ∷ []) rest in
-      let leaf : IsPresentLeaf graph log reach (steps_in at.before) place.path =
+      let leaf : IsPresentLeaf graph log reach (steps_of_places at.before) place.path =
       leaf_of_front tree at.before place rest split_are (All-front (IsRight graph log reach) at.before (place ∷ []) split_right) in
       record {
         path = place.path;

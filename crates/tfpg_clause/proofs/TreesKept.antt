@@ -1,10 +1,10 @@
 -- Refutations and partial trees at a log are those at each log that goes on from it.
 use Rattle.std.proofs.Common.{◌≡◌, ℕ, zero, suc, ◌≤◌, List, [], ◌∷◌, ◌++◌, length, take, drop, get_or, Option, Some, None, refl, sym, ap, subst, ◌∙◌, arith}
-use Rattle.std.specs.Prelude.{All, AllPairs, map, option_map, option_and_then}
+use Rattle.std.specs.Prelude.{All, AllPairs, option_map, option_and_then}
 use Rattle.std.proofs.lemmas.List.{take-append-drop}
 use Rattle.std.proofs.lemmas.List.Elements.{All-take}
 use Rattle.std.proofs.lemmas.Option.{option_and_then_some}
-use Rattle.tfpg_base.specs.Choice.{each_of, item_at}
+use Rattle.tfpg_base.specs.Choice.{item_at}
 use Rattle.tfpg_base.specs.declared.constraint.Constraint.{Constraint}
 use Rattle.tfpg_base.specs.declared.limits.TheConstants.{MAX_TIME}
 use Rattle.tfpg_base.proofs.lists.Elements.{AllPairs-front}
@@ -77,14 +77,14 @@ module _ (graph : Tfpg) (earlier later : Logbook) (ordered : IsOrdered later) (g
   count_stays seen name count at = map_stays length (alternatives graph (first_events earlier seen) name) (alternatives graph (first_events later seen) name) count (clause_first seen name) at
 
   module _ (reach : List ℕ) where
-    picked_stays : (path : List PathSplit) (split place : ℕ) (constraint : Constraint) → picked graph earlier path split place ≡ Some constraint → picked graph later path split place ≡ Some constraint
-    picked_stays path split place constraint at =
+    picked_stays : (path : List PathSplit) (split number : ℕ) (constraint : Constraint) → picked graph earlier path split number ≡ Some constraint → picked graph later path split number ≡ Some constraint
+    picked_stays path split number constraint at =
         option_and_then_some
-        (λ (taken : PathSplit). option_and_then (λ clause. constraint_at clause taken.alternative place) (alternatives graph (first_events earlier taken.seen) taken.name))
+        (λ (taken : PathSplit). option_and_then (λ clause. constraint_at clause taken.alternative number) (alternatives graph (first_events earlier taken.seen) taken.name))
         (item_at path split) constraint at
         (λ taken there rest.
-        ap (option_and_then (λ (taken : PathSplit). option_and_then (λ clause. constraint_at clause taken.alternative place) (alternatives graph (first_events later taken.seen) taken.name))) there
-        ∙ of_clause_stays (λ clause. constraint_at clause taken.alternative place) taken.seen taken.name constraint rest)
+        ap (option_and_then (λ (taken : PathSplit). option_and_then (λ clause. constraint_at clause taken.alternative number) (alternatives graph (first_events later taken.seen) taken.name))) there
+        ∙ of_clause_stays (λ clause. constraint_at clause taken.alternative number) taken.seen taken.name constraint rest)
 
     fact_first : (seen : ℕ) (reason : Reason) (constraint : Constraint) → fact graph (first_events earlier seen) reach reason ≡ Some constraint
         → fact graph (first_events later seen) reach reason ≡ Some constraint
@@ -92,7 +92,7 @@ module _ (graph : Tfpg) (earlier later : Logbook) (ordered : IsOrdered later) (g
 
     stated_stays : (path : List PathSplit) (seen : ℕ) (reason : Reason) (constraint : Constraint) → stated graph earlier reach path seen reason ≡ Some constraint
         → stated graph later reach path seen reason ≡ Some constraint
-    stated_stays path seen (Pick split place) constraint at = picked_stays path split place constraint at
+    stated_stays path seen (Pick split number) constraint at = picked_stays path split number constraint at
     stated_stays path seen (Zero node) constraint at = at
     stated_stays path seen (Top node) constraint at = at
     stated_stays path seen (Unreached node horizon) constraint at = fact_first seen (Unreached node horizon) constraint at
@@ -109,7 +109,7 @@ module _ (graph : Tfpg) (earlier later : Logbook) (ordered : IsOrdered later) (g
     -- also where it is judged by more events
     pub stated_later : (path : List PathSplit) (seen more : ℕ) (reason : Reason) (constraint : Constraint) → seen ≤ more → stated graph earlier reach path seen reason ≡ Some constraint
         → stated graph later reach path more reason ≡ Some constraint
-    stated_later path seen more (Pick split place) constraint up at = picked_stays path split place constraint at
+    stated_later path seen more (Pick split number) constraint up at = picked_stays path split number constraint at
     stated_later path seen more (Zero node) constraint up at = at
     stated_later path seen more (Top node) constraint up at = at
     stated_later path seen more (Unreached node horizon) constraint up at = fact_later seen more (Unreached node horizon) constraint up at

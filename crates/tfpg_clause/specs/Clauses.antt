@@ -118,12 +118,13 @@ abbrev pub count_of : Tfpg → Logbook → ClauseName → Option ℕ
 count_of graph log name = option_map length (alternatives graph log name)
 
 -- the number below which the alternatives of each allowed clause stay, where at most so many edges enter any node
-abbrev pub alternatives_bound : ℕ → ℕ
-alternatives_bound most = 2 * most + 3
+abbrev pub alternatives_limit : ℕ → ℕ
+alternatives_limit maximum = 2 * maximum + 3
 
--- the constraint in a place of an alternative, both counted from 1
+-- the constraint with this number in the alternative with the first number, both numbered from 1
 abbrev pub constraint_at : List (List Constraint) → ℕ → ℕ → Option Constraint
-constraint_at clause number place = option_and_then (λ alternative. item_at alternative place) (item_at clause number)
+constraint_at clause alternative number =
+    option_and_then (λ constraints. item_at constraints number) (item_at clause alternative)
 
 -- The times meet a clause: they meet each constraint of some alternative.
 abbrev pub MeetsClause : List ℕ → List (List Constraint) → Type 0

@@ -38,7 +38,7 @@ fact graph log reach (Unreached node horizon) =
 fact graph log reach (From event) = option_and_then (from_alarm graph) (event_at log event)
 fact graph log reach (Upto event) = option_and_then upto_alarm (event_at log event)
 fact graph log reach (Quiet event node) = option_map (λ time. at_least node (time + 1)) (quiet_at graph log event node)
-fact graph log reach (Pick split place) = None
+fact graph log reach (Pick split number) = None
 
 -- This is the greatest lower bound that the facts give the node.
 pub record IsLow (graph : Tfpg) (log : Logbook) (reach : List ℕ) (node low : ℕ) : Type 0 where

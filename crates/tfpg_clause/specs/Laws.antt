@@ -10,19 +10,19 @@ use Rattle.tfpg_evidence.specs.declared.reason.Reason.{Reason}
 use Rattle.tfpg_evidence.specs.declared.step.Step.TheVariants.{Split, Cycle}
 use Rattle.tfpg_base.specs.Bounds.{at_least, at_most}
 use Rattle.tfpg_clause.specs.Facts.{fact}
-use Rattle.tfpg_clause.specs.Clauses.{alternatives, count_of, alternatives_bound, IsSmall}
+use Rattle.tfpg_clause.specs.Clauses.{alternatives, count_of, alternatives_limit, IsSmall}
 use Rattle.tfpg_clause.specs.Trees.{Judged, PathSplit, stated, IsClosedBy, IsRefutation, IsPartial, IsPresentLeaf}
 use Rattle.tfpg_clause.specs.Paths.{with_step, IsRightNext, AreFramesOf, IsAtLeaf, new_frame, path_after, stated_by}
 use Rattle.tfpg_clause.specs.declared.path.Frame.{Frame}
 
 -- Times meet the bound "at least so much" exactly where the time of its node is at least so much.
-abbrev pub LeastBoundsHold : Type 0
-LeastBoundsHold =
+abbrev pub LowerBoundsHold : Type 0
+LowerBoundsHold =
     (times : List ℕ) (node bound : ℕ) → Meets times (at_least node bound) ↔ (bound ≤ slice_index times node)
 
 -- Times meet the bound "at most so much" exactly where the time of its node is at most so much.
-abbrev pub MostBoundsHold : Type 0
-MostBoundsHold =
+abbrev pub UpperBoundsHold : Type 0
+UpperBoundsHold =
     (times : List ℕ) (node bound : ℕ) → Meets times (at_most node (pos bound)) ↔ (slice_index times node ≤ bound)
 
 -- An allowed clause has an alternative.
@@ -30,11 +30,11 @@ abbrev pub AllowedClausesHaveAlternatives : Type 0
 AllowedClausesHaveAlternatives =
     (graph : Tfpg) (log : Logbook) (name : ClauseName) (count : ℕ) → count_of graph log name ≡ Some count → 0 < count
 
--- Where at most `most` edges enter any node, an allowed clause has fewer than `alternatives_bound most` alternatives.
+-- Where at most `maximum` edges enter any node, an allowed clause has fewer than `alternatives_limit maximum` alternatives.
 abbrev pub AllowedClausesAreShort : Type 0
 AllowedClausesAreShort =
-    (graph : Tfpg) (log : Logbook) (most : ℕ) → ((node : ℕ) → length (edges_into graph node) ≤ most)
-    → (name : ClauseName) (count : ℕ) → count_of graph log name ≡ Some count → count < alternatives_bound most
+    (graph : Tfpg) (log : Logbook) (maximum : ℕ) → ((node : ℕ) → length (edges_into graph node) ≤ maximum)
+    → (name : ClauseName) (count : ℕ) → count_of graph log name ≡ Some count → count < alternatives_limit maximum
 
 -- Each alternative of an allowed clause has at most three constraints, and these are on nodes of the graph.
 abbrev pub AllowedClausesAreSmall : Type 0

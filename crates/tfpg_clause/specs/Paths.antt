@@ -1,5 +1,6 @@
 -- Paths to the present leaf of a partial tree, and how a program keeps and moves them.
 use Rattle.std.specs.Prelude.{◌≡◌, ℕ, ◌+◌, List, [], ◌∷◌, ◌++◌, length, map, nat_lt, Option, Some, None, option_map, option_and_then, Bool, false}
+use Rattle.std.specs.List.{AllZip}
 use Rattle.std.specs.Option.{option_or}
 use Rattle.std.specs.Bool.{then_some}
 use Rattle.tfpg_base.specs.declared.constraint.Constraint.{Constraint}
@@ -68,11 +69,7 @@ pub record IsFrameOf (graph : Tfpg) (log : Logbook) (split : PathSplit) (frame :
 
 -- The frames are those of the splits of the path.
 abbrev pub AreFramesOf : Tfpg → Logbook → List PathSplit → List Frame → Type 0
-AreFramesOf graph log [] [] = Unit {0}
-AreFramesOf graph log (split ∷ path) (frame ∷ frames) =
-    IsFrameOf graph log split frame × AreFramesOf graph log path frames
-AreFramesOf graph log [] (frame ∷ frames) = ⊥
-AreFramesOf graph log (split ∷ path) [] = ⊥
+AreFramesOf graph log path frames = AllZip (IsFrameOf graph log) path frames
 
 -- The frames are those of the path to the present leaf of these steps.
 pub record IsAtLeaf (graph : Tfpg) (log : Logbook) (reach : List ℕ) (frames : List Frame)
@@ -96,12 +93,12 @@ path_after (frame ∷ deeper) =
     option_or (option_map (λ frames. frame ∷ frames) (path_after deeper))
     (then_some (nat_lt frame.alternative frame.alternatives) (next_alternative frame ∷ []))
 
--- the constraint in a place of the alternative of a frame, both counted from 1
+-- the constraint with this number in the alternative of the frame of a split, both numbered from 1
 abbrev pub framed : Tfpg → Logbook → List Frame → ℕ → ℕ → Option Constraint
-framed graph log frames split place =
+framed graph log frames split number =
     option_and_then
     (λ (frame : Frame).
-    option_and_then (λ clause. constraint_at clause frame.alternative place) (alternatives graph log frame.name))
+    option_and_then (λ clause. constraint_at clause frame.alternative number) (alternatives graph log frame.name))
     (item_at frames split)
 
 -- the constraint that a reason states with these frames, judged by the whole log

@@ -81,18 +81,18 @@ places_of tree = places [] tree
 abbrev pub steps_of : Tree → List Judged
 steps_of tree = map (λ place. place.step) (places_of tree)
 
--- the constraint in a place of the alternative that was taken at a split, both counted from 1
+-- the constraint with this number in the alternative that was taken at a split, both numbered from 1
 abbrev pub picked : Tfpg → Logbook → List PathSplit → ℕ → ℕ → Option Constraint
-picked graph log path split place =
+picked graph log path split number =
     option_and_then
     (λ (taken : PathSplit).
-    option_and_then (λ clause. constraint_at clause taken.alternative place)
+    option_and_then (λ clause. constraint_at clause taken.alternative number)
     (alternatives graph (first_events log taken.seen) taken.name))
     (item_at path split)
 
--- The constraint that a reason states, where one function gives the pick in each place, and another each fact.
+-- The constraint that a reason states, where one function gives each pick, and another each fact.
 abbrev pub stated_with : (ℕ → ℕ → Option Constraint) → (Reason → Option Constraint) → Reason → Option Constraint
-stated_with pick_at fact_of (Pick split place) = pick_at split place
+stated_with pick_at fact_of (Pick split number) = pick_at split number
 stated_with pick_at fact_of (Zero node) = fact_of (Zero node)
 stated_with pick_at fact_of (Top node) = fact_of (Top node)
 stated_with pick_at fact_of (Unreached node horizon) = fact_of (Unreached node horizon)

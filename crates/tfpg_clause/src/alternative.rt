@@ -15,11 +15,11 @@ pub(crate) enum Alternative {
     Arrival([Constraint; 3]),
 }
 
-/// The constraint in a place of the alternative, counted from 1, where there is one.
-pub(crate) fn constraint_in(alternative: Alternative, place: u32) -> Option<Constraint>
-    ensures { result ≡ item_at (constraints_in alternative) place }
+/// The constraint with this number in the alternative, numbered from 1, where there is one.
+pub(crate) fn constraint_in(alternative: Alternative, number: u32) -> Option<Constraint>
+    ensures { result ≡ item_at (constraints_in alternative) number }
 {
-    let index = place.checked_sub(1)? as usize;
+    let index = number.checked_sub(1)? as usize;
     match alternative {
         Alternative::One(constraint) => [constraint].get(index).copied(),
         Alternative::Arrival(constraints) => constraints.get(index).copied(),

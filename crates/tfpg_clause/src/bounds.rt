@@ -15,34 +15,34 @@ pub(crate) fn at_least(node: u32, least: u64) -> Constraint
     Constraint {
         left: 0,
         right: node + 1,
-        most: -(least as i64),
+        bound: -(least as i64),
     }
 }
 
 /// The time of the node is at most this.
-pub(crate) fn at_most(node: u32, most: u64) -> Constraint
+pub(crate) fn at_most(node: u32, bound: u64) -> Constraint
     requires node { node < MAX_NODES }
-    requires most { most < 2 ^ 63 }
-    ensures { result ≡ at_most node (pos most) }
+    requires bound { bound < 2 ^ 63 }
+    ensures { result ≡ at_most node (pos bound) }
 {
     Constraint {
         left: node + 1,
         right: 0,
-        most: most as i64,
+        bound: bound as i64,
     }
 }
 
 /// The one node's time is at most so much after the other's.
-pub(crate) fn at_most_after(node: u32, source: u32, most: u64) -> Constraint
+pub(crate) fn at_most_after(node: u32, source: u32, bound: u64) -> Constraint
     requires node { node < MAX_NODES }
     requires source { source < MAX_NODES }
-    requires most { most < 2 ^ 63 }
-    ensures { result ≡ at_most_after node source most }
+    requires bound { bound < 2 ^ 63 }
+    ensures { result ≡ at_most_after node source bound }
 {
     Constraint {
         left: node + 1,
         right: source + 1,
-        most: most as i64,
+        bound: bound as i64,
     }
 }
 
@@ -56,7 +56,7 @@ pub(crate) fn at_least_after(node: u32, source: u32, least: u64) -> Constraint
     Constraint {
         left: source + 1,
         right: node + 1,
-        most: -(least as i64),
+        bound: -(least as i64),
     }
 }
 
@@ -69,6 +69,6 @@ pub(crate) fn before(node: u32, time: u64) -> Constraint
     Constraint {
         left: node + 1,
         right: 0,
-        most: time as i64 - 1,
+        bound: time as i64 - 1,
     }
 }

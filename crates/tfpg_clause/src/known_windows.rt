@@ -46,16 +46,16 @@ pub(crate) fn take_windows(
     requires known { AreKnown graph.now log.now horizon edges.now known.old }
     ensures { AreWindows graph.now log.now number horizon edges.now known.new }
 {
-    for place in 0..edges.len() {
-        known[place] = window_over(graph, log, edges[place], number, horizon, known[place]);
+    for index in 0..edges.len() {
+        known[index] = window_over(graph, log, edges[index], number, horizon, known[index]);
     }
 }
 
-/// What is known at the place.
-pub(crate) fn known_at(known: &[Option<Window>], place: usize) -> Option<Window>
-    ensures { result ≡ slice_index_or known.now place None }
+/// What is known at the index.
+pub(crate) fn known_at(known: &[Option<Window>], index: usize) -> Option<Window>
+    ensures { result ≡ slice_index_or known.now index None }
 {
-    match known.get(place) {
+    match known.get(index) {
         Some(window) => *window,
         None => None,
     }

@@ -12,7 +12,7 @@ ghost use Rattle.tfpg_log.specs.Explains.{Explains, Fits, ShowsAll, IsMember};
 ghost use Rattle.tfpg_evidence.specs.declared.clause_name.ClauseName.{ClauseName};
 ghost use Rattle.tfpg_evidence.specs.declared.reason.Reason.{Reason};
 ghost use Rattle.tfpg_base.specs.Constraint.{Meets};
-ghost use Rattle.tfpg_clause.specs.Laws.{LeastBoundsHold, MostBoundsHold, AllowedClausesHaveAlternatives, AllowedClausesAreShort, AllowedClausesAreSmall, LogsGoOnFromTheirFirstEvents, AllowedClausesStay, FactsStay, PartialTreesHaveAPresentLeaf, PresentLeavesAreAlone};
+ghost use Rattle.tfpg_clause.specs.Laws.{LowerBoundsHold, UpperBoundsHold, AllowedClausesHaveAlternatives, AllowedClausesAreShort, AllowedClausesAreSmall, LogsGoOnFromTheirFirstEvents, AllowedClausesStay, FactsStay, PartialTreesHaveAPresentLeaf, PresentLeavesAreAlone};
 ghost use Rattle.tfpg_base.specs.Bounds.{at_least_after, at_most_after};
 ghost use Rattle.tfpg_clause.specs.Facts.{fact, IsLow, IsHigh};
 ghost use Rattle.tfpg_clause.specs.Clauses.{alternatives, MeetsClause};
@@ -39,7 +39,7 @@ pub fn what_is_allowed_stays_allowed()
 /// A clause that is allowed has an alternative, and not many, and each is small.
 ///
 /// - `some`: it has an alternative.
-/// - `few`: it has fewer than `alternatives_bound most` alternatives, where at most `most` edges enter any node.
+/// - `few`: it has fewer than `alternatives_limit maximum` alternatives, where at most `maximum` edges enter any node.
 /// - `small`: each has at most three constraints, and these are on nodes of the graph.
 pub fn a_clause_has_few_small_alternatives()
     ensures some { AllowedClausesHaveAlternatives }
@@ -78,13 +78,13 @@ pub fn facts_give_a_node_one_low_and_one_high()
 
 /// The constraints of facts and clauses bound the times of nodes as their names say.
 ///
-/// - `least`: the node's time is at least this.
-/// - `most`: it is at most this.
+/// - `lower`: the node's time is at least this.
+/// - `upper`: it is at most this.
 /// - `least_after`: it is at least so much after the other's.
 /// - `most_after`: it is at most so much after the other's.
 pub fn bounds_hold_of_the_times_of_nodes()
-    ensures least { LeastBoundsHold }
-    ensures most { MostBoundsHold }
+    ensures lower { LowerBoundsHold }
+    ensures upper { UpperBoundsHold }
     ensures least_after { (times : List ℕ) (node source bound : ℕ) →
         Meets times (at_least_after node source bound)
         ↔ (slice_index times source + bound ≤ slice_index times node) }
@@ -166,8 +166,8 @@ pub fn a_closed_leaf_leaves_no_numbers()
         IsOrdered log → IsClosedLeaf graph log reach path seen reasons →
         ((reason : Reason) (stated : Constraint) →
         fact graph log reach reason ≡ Some stated → Meets numbers stated) →
-        ((split place : ℕ) (stated : Constraint) →
-        picked graph log path split place ≡ Some stated → Meets numbers stated) → ⊥ }
+        ((split number : ℕ) (stated : Constraint) →
+        picked graph log path split number ≡ Some stated → Meets numbers stated) → ⊥ }
 {}
 
 /// A refutation is sound and final: where steps are one at a log, for the reach of a set, no trace explains that log from the

@@ -76,7 +76,7 @@ fn has_arrived(
         ↔ MeetsClause times.now (arrivals_over graph.now log.now number horizon span edges.now) }
 {
     for edge in edges {
-        if arrives(graph, log, times, *edge, number, horizon, span) {
+        if has_arrived_by(graph, log, times, *edge, number, horizon, span) {
             return true;
         }
     }
@@ -84,7 +84,7 @@ fn has_arrived(
 }
 
 /// Whether the failure arrives by the edge within the span, at the times.
-fn arrives(
+fn has_arrived_by(
     graph: &Graph,
     log: &Log,
     times: &[u64],

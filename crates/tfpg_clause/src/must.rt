@@ -88,7 +88,7 @@ pub(crate) fn must_alternative(
 }
 
 /// The latest time at which a failure is due over these edges, where it is due over each of them, in a window that ends here
-/// and has room for all. At the place of an edge its window may be known.
+/// and has room for all. At the index of an edge its window may be known.
 pub(crate) fn latest_due(
     graph: &Graph,
     log: &Log,
@@ -104,14 +104,14 @@ pub(crate) fn latest_due(
     ensures within { IfSome result (λ latest. latest ≤ hi) }
 {
     let mut latest: u64 = 0;
-    for place in 0..edges.len() {
+    for index in 0..edges.len() {
         let due = due_by_number(
             graph,
             log,
-            edges[place],
+            edges[index],
             number,
             horizon,
-            known_at(known, place),
+            known_at(known, index),
         )?;
         if due.by > hi {
             return None;

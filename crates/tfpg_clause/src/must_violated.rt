@@ -138,7 +138,7 @@ fn and_must_met_up_to(
 }
 
 /// Whether the times meet the clause that the node is active once the failure is due by all these edges, in this window,
-/// where the span of this number has that clause. At the place of an edge its window may be known.
+/// where the span of this number has that clause. At the index of an edge its window may be known.
 fn is_must_met(
     graph: &Graph,
     log: &Log,
@@ -171,7 +171,7 @@ fn is_must_met(
 }
 
 /// Whether by one of these edges the failure starts too late to be due in a window that ends here, or the target follows
-/// the source in time. At the place of an edge its window may be known.
+/// the source in time. At the index of an edge its window may be known.
 fn is_excused(
     graph: &Graph,
     log: &Log,
@@ -190,9 +190,9 @@ fn is_excused(
         ↔ ((edge : ℕ) × Contains edges.now edge
         × IsSomeAnd (due_by_number graph.now log.now number horizon edge) (IsExcused times.now hi)) }
 {
-    for place in 0..edges.len() {
-        let own = known_at(known, place);
-        if is_excused_by(graph, log, times, edges[place], hi, number, horizon, own) {
+    for index in 0..edges.len() {
+        let own = known_at(known, index);
+        if is_excused_by(graph, log, times, edges[index], hi, number, horizon, own) {
             return true;
         }
     }

@@ -68,27 +68,28 @@ pub fn stated_by(
     ensures { result ≡ stated_by graph.now log.now reach.now path.now reason }
 {
     match reason {
-        Reason::Pick { split, place } => framed(graph, log, path, split, place),
+        Reason::Pick { split, constraint } => framed(graph, log, path, split, constraint),
         _ => fact(graph, log, reach, reason).ok(),
     }
 }
 
-/// The constraint in this place of the alternative taken at this split of the path, both counted from 1, where there is one.
+/// The constraint with this number in the alternative taken at this split of the path, both numbered from 1, or None where
+/// there is none.
 /// The cost is that of [`constraint`].
 pub fn framed(
     graph: &Graph,
     log: &Log,
     path: &[Frame],
     split: u64,
-    place: u32,
+    number: u32,
 ) -> Option<Constraint>
-    ensures { result ≡ framed graph.now log.now path.now split place }
+    ensures { result ≡ framed graph.now log.now path.now split number }
 {
     if split == 0 {
         return None;
     }
     let frame = path.get((split - 1) as usize).copied()?;
-    match constraint(graph, log, frame.name, frame.alternative, place) {
+    match constraint(graph, log, frame.name, frame.alternative, number) {
         Ok(found) => found,
         Err(_) => None,
     }

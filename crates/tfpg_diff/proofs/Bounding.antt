@@ -16,7 +16,7 @@ use Rattle.tfpg_base.specs.Bounds.{at_most}
 use Rattle.tfpg_diff.specs.Demands.{Demands, Demanded, Bounded, floor_of, ceiling_of, demand_of_pick, demands_of}
 use Rattle.tfpg_diff.specs.Solution.{IsBetween, IsSolution}
 use Rattle.tfpg_diff.specs.Cycle.{NamesNegativeCycle}
-use Rattle.tfpg_diff.specs.inside.Kept.{IsMetBy, IsRooted, Walked, IsLink, IsKept, IsStart}
+use Rattle.tfpg_diff.specs.inside.Kept.{IsMetBy, IsRooted, Walked, IsLink, IsKept, AreAtCeilings}
 use Rattle.tfpg_base.proofs.lists.Elements.{AllPairs-cons}
 use Rattle.tfpg_diff.proofs.Totals.{NamesNegativeCycle-chain}
 use Rattle.tfpg_diff.proofs.Solutions.{IsMetBy-solution, Meets-IsMetBy}
@@ -26,7 +26,7 @@ use Rattle.tfpg_diff.proofs.Changes.{IsKept-moved, Demanded-pick_cases, Bounded-
 
 -- the bounds with this ceiling
 abbrev pub under : Bounds → ℕ → ℕ → Bounds
-under old most tag = record { floor = old.floor; floor_why = old.floor_why; ceiling = most; ceiling_why = Given tag }
+under old ceiling tag = record { floor = old.floor; floor_why = old.floor_why; ceiling = ceiling; ceiling_why = Given tag }
 
 -- the bounds with this floor
 abbrev pub over : Bounds → ℕ → ℕ → Bounds
@@ -34,7 +34,7 @@ over old least tag = record { floor = least; floor_why = Given tag; ceiling = ol
 
 -- the ceiling as a pick
 abbrev pub ceiling_pick : ℕ → ℕ → ℕ → Pick
-ceiling_pick v most tag = record { constraint = at_most v (pos most); tag = tag }
+ceiling_pick v ceiling tag = record { constraint = at_most v (pos ceiling); tag = tag }
 
 module _ (bounds : List Bounds) (picks : List Pick) (v : ℕ) (old new : Bounds) (at_v : Bounded (demands_of bounds picks) v old) where
   -- a solution stays one where the bounds of the variable get looser
@@ -92,17 +92,17 @@ module _ (bounds : List Bounds) (picks : List Pick) (v : ℕ) (old new : Bounds)
 
 module _ (bounds : List Bounds) (picks : List Pick) (v : ℕ) (old : Bounds) (at_v : Bounded (demands_of bounds picks) v old) where
   -- a solution under a lower ceiling meets the higher one, and the lower one as a pick
-  IsSolution-ceiling : (most tag : ℕ) → most < old.ceiling → (times : List ℕ) → IsSolution (demands_of (set bounds v (under old most tag)) picks) times →
-      IsSolution (demands_of bounds (picks ++ ceiling_pick v most tag ∷ [])) times
-  IsSolution-ceiling most tag tighter times solution =
-      let low : Bounds = under old most tag in
+  IsSolution-ceiling : (ceiling tag : ℕ) → ceiling < old.ceiling → (times : List ℕ) → IsSolution (demands_of (set bounds v (under old ceiling tag)) picks) times →
+      IsSolution (demands_of bounds (picks ++ ceiling_pick v ceiling tag ∷ [])) times
+  IsSolution-ceiling ceiling tag tighter times solution =
+      let low : Bounds = under old ceiling tag in
       let looser : (time : ℕ) → IsBetween low time → IsBetween old time =
       λ time b. (let a = b.above in let c = b.below in record { above = omega arith; below = omega arith }) in
       let without : IsSolution (demands_of bounds picks) times = IsSolution-looser bounds picks v old low at_v looser times solution in
       record {
         complete = without.complete;
         between = without.between;
-        met = All-push (λ (pick : Pick). Meets times pick.constraint) picks (ceiling_pick v most tag) solution.met
+        met = All-push (λ (pick : Pick). Meets times pick.constraint) picks (ceiling_pick v ceiling tag) solution.met
             (Meets-IsMetBy times (ceiling_of v low)
             (IsMetBy-solution (demands_of (set bounds v low) picks) times solution (ceiling_of v low)
             (inl (v, low, Bounded-set_same bounds picks v old low at_v, refl))));
@@ -110,41 +110,41 @@ module _ (bounds : List Bounds) (picks : List Pick) (v : ℕ) (old : Bounds) (at
 
   -- What is kept with the ceiling as a pick is kept with it as a ceiling, where the value is not above it: the old ceiling is no
   -- link then.
-  pub IsKept-ceiling : (most tag : ℕ) (values : List ℕ) (links : List Demand) → most < old.ceiling → old.floor ≤ slice_index values (v + 1) →
-      slice_index values (v + 1) ≤ most →
-      IsKept (demands_of bounds (picks ++ ceiling_pick v most tag ∷ [])) values links →
-      IsKept (demands_of (set bounds v (under old most tag)) picks) values links
-  IsKept-ceiling most tag values links tighter above low kept =
-      let lower : Bounds = under old most tag in
+  pub IsKept-ceiling : (ceiling tag : ℕ) (values : List ℕ) (links : List Demand) → ceiling < old.ceiling → old.floor ≤ slice_index values (v + 1) →
+      slice_index values (v + 1) ≤ ceiling →
+      IsKept (demands_of bounds (picks ++ ceiling_pick v ceiling tag ∷ [])) values links →
+      IsKept (demands_of (set bounds v (under old ceiling tag)) picks) values links
+  IsKept-ceiling ceiling tag values links tighter above low kept =
+      let lower : Bounds = under old ceiling tag in
       let new : Demands = demands_of (set bounds v lower) picks in
-      IsKept-moved (demands_of bounds (picks ++ ceiling_pick v most tag ∷ [])) new values links kept (length-set bounds v lower)
-      (IsSolution-ceiling most tag tighter)
+      IsKept-moved (demands_of bounds (picks ++ ceiling_pick v ceiling tag ∷ [])) new values links kept (length-set bounds v lower)
+      (IsSolution-ceiling ceiling tag tighter)
       (λ x e up at link. ⊎_elim
       (λ (demanded : Demanded (demands_of bounds picks) e). Demanded-changed bounds picks v old lower at_v e demanded
       (λ (is : e ≡ ceiling_of v old).
       let left : x ≡ v + 1 = sym link.left ∙ ap (λ (f : Demand). f.constraint.left) is in
-      let ceiling : e.constraint.most ≡ pos old.ceiling = ap (λ (f : Demand). f.constraint.most) is in
+      let ceiling : e.constraint.bound ≡ pos old.ceiling = ap (λ (f : Demand). f.constraint.bound) is in
       let tight = link.tight in
       let value : slice_index values x ≡ slice_index values (v + 1) = ap (slice_index values) left in
       absurd (omega (arith, ints)))
       (λ (is : e ≡ floor_of v old).
       let left : x ≡ 0 = sym link.left ∙ ap (λ (f : Demand). f.constraint.left) is in
       absurd (omega arith)))
-      (λ (is : e ≡ demand_of_pick (ceiling_pick v most tag)). inl (v, lower, Bounded-set_same bounds picks v old lower at_v, is))
-      (Demanded-pick_cases bounds picks (ceiling_pick v most tag) e link.demanded))
+      (λ (is : e ≡ demand_of_pick (ceiling_pick v ceiling tag)). inl (v, lower, Bounded-set_same bounds picks v old lower at_v, is))
+      (Demanded-pick_cases bounds picks (ceiling_pick v ceiling tag) e link.demanded))
       (IsBetween-changed bounds picks v old lower at_v values (λ u b at. kept.within u b at) (record { above = above; below = low }))
 
   -- a ceiling below the floor is a negative cycle
-  pub cycle_from_ceiling : (most tag : ℕ) → most < old.floor →
-      NamesNegativeCycle (demands_of (set bounds v (under old most tag)) picks) (Given tag ∷ old.floor_why ∷ [])
-  cycle_from_ceiling most tag low =
-      let new : Demands = demands_of (set bounds v (under old most tag)) picks in
-      let at_new = Bounded-set_same bounds picks v old (under old most tag) at_v in
-      let one : Demand = ceiling_of v (under old most tag) in
-      let two : Demand = floor_of v (under old most tag) in
+  pub cycle_from_ceiling : (ceiling tag : ℕ) → ceiling < old.floor →
+      NamesNegativeCycle (demands_of (set bounds v (under old ceiling tag)) picks) (Given tag ∷ old.floor_why ∷ [])
+  cycle_from_ceiling ceiling tag low =
+      let new : Demands = demands_of (set bounds v (under old ceiling tag)) picks in
+      let at_new = Bounded-set_same bounds picks v old (under old ceiling tag) at_v in
+      let one : Demand = ceiling_of v (under old ceiling tag) in
+      let two : Demand = floor_of v (under old ceiling tag) in
       NamesNegativeCycle-chain new (Given tag ∷ old.floor_why ∷ []) (v + 1) one (two ∷ []) refl
-      (All-cons (Demanded new) one (two ∷ []) (inl (v, under old most tag, at_new, refl))
-      (All-cons (Demanded new) two [] (inr (inl (v, under old most tag, at_new, refl))) (All-nil (Demanded new))))
+      (All-cons (Demanded new) one (two ∷ []) (inl (v, under old ceiling tag, at_new, refl))
+      (All-cons (Demanded new) two [] (inr (inl (v, under old ceiling tag, at_new, refl))) (All-nil (Demanded new))))
       (refl, (refl, refl))
       (AllPairs-cons (λ (a b : Demand). a.constraint.left ≢ b.constraint.left) one (two ∷ [])
       (All-cons (λ (b : Demand). one.constraint.left ≢ b.constraint.left) two [] (omega arith) (All-nil (λ (b : Demand). one.constraint.left ≢ b.constraint.left)))
@@ -202,7 +202,7 @@ start_way bounds links len are (suc v) inside =
     (ceiling_of v b ∷ [], (omega arith, at, refl))
 
 -- every solution is at most the ceilings
-start_greatest : (bounds : List Bounds) (picks : List Pick) (values : List ℕ) (links : List Demand) → IsStart bounds values links (length bounds) →
+start_greatest : (bounds : List Bounds) (picks : List Pick) (values : List ℕ) (links : List Demand) → AreAtCeilings bounds values links (length bounds) →
     (times : List ℕ) → IsSolution (demands_of bounds picks) times → (x : ℕ) → slice_index (0 ∷ times) x ≤ slice_index values x
 start_greatest bounds picks values links start times solution zero = omega arith
 start_greatest bounds picks values links start times solution (suc v) = ⊎_elim
@@ -221,7 +221,7 @@ start_greatest bounds picks values links start times solution (suc v) = ⊎_elim
     (cases_lt v (length bounds))
 
 -- Values that are the ceilings are kept, where no floor is above its ceiling.
-pub IsKept-start : (bounds : List Bounds) (picks : List Pick) (values : List ℕ) (links : List Demand) → IsStart bounds values links (length bounds) →
+pub IsKept-start : (bounds : List Bounds) (picks : List Pick) (values : List ℕ) (links : List Demand) → AreAtCeilings bounds values links (length bounds) →
     ((v : ℕ) (b : Bounds) → slice_get bounds v ≡ Some b → b.floor ≤ b.ceiling) → IsKept (demands_of bounds picks) values links
 IsKept-start bounds picks values links start ordered =
     let read : (v : ℕ) → v < length bounds → slice_get bounds v ≡ Some (get_or bounds v no_bounds) = λ v inside. slice_get-get_or bounds v no_bounds inside in

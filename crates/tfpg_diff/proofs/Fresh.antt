@@ -12,7 +12,7 @@ use Rattle.tfpg_diff.specs.Cycle.{NamesNegativeCycle}
 use Rattle.tfpg_base.specs.declared.limits.TheConstants.{NEVER}
 use Rattle.tfpg_diff.specs.State.{widest, unbounded_from}
 use Rattle.tfpg_diff.specs.Solution.{IsBetween}
-use Rattle.tfpg_diff.specs.inside.Kept.{IsMetBy, IsKept, IsStart, IsReady}
+use Rattle.tfpg_diff.specs.inside.Kept.{IsMetBy, IsKept, AreAtCeilings, IsReady}
 use Rattle.tfpg_diff.proofs.Totals.{HasNoSolution-cycle}
 use Rattle.tfpg_diff.proofs.Changes.{IsSolution-take}
 use Rattle.tfpg_diff.proofs.Bounding.{IsKept-start}
@@ -40,7 +40,7 @@ widest_from first (suc count) (suc v) b at =
 
 -- a new system is ready
 pub IsReady-new : (bounds now : List Bounds) (picks : List Pick) (count : ℕ) (values : List ℕ) (links : List Demand) (backup_values : List ℕ) (backup_links : List Demand)
-    (capacity : ℕ) → now ≡ bounds → bounds ≡ unbounded_from 0 count → picks ≡ [] → count < 2 ^ 32 → IsStart now values links (length now) →
+    (capacity : ℕ) → now ≡ bounds → bounds ≡ unbounded_from 0 count → picks ≡ [] → count < 2 ^ 32 → AreAtCeilings now values links (length now) →
     length backup_values ≡ count + 1 → length backup_links ≡ count + 1 → count + 3 ≤ capacity →
     IsReady bounds picks values links backup_values backup_links capacity
 IsReady-new bounds now picks count values links backup_values backup_links capacity same is none few start bv bl room =
@@ -48,7 +48,7 @@ IsReady-new bounds now picks count values links backup_values backup_links capac
     let widths : (v : ℕ) (b : Bounds) → slice_get bounds v ≡ Some b → (b.floor ≡ 0) × (b.ceiling ≡ NEVER) =
     λ v b at. (let same = (widest_from 0 count v b (sym (ap (λ (bs : List Bounds). slice_get bs v) is) ∙ at)).0 in
     (ap (λ (c : Bounds). c.floor) same, ap (λ (c : Bounds). c.ceiling) same)) in
-    let begun : IsStart bounds values links (length bounds) = subst (λ (bs : List Bounds). IsStart bs values links (length bs)) same start in
+    let begun : AreAtCeilings bounds values links (length bounds) = subst (λ (bs : List Bounds). AreAtCeilings bs values links (length bs)) same start in
     subst (λ (ps : List Pick). IsReady bounds ps values links backup_values backup_links capacity) (sym none)
     (record {
       sound = record {
@@ -67,7 +67,7 @@ IsReady-new bounds now picks count values links backup_values backup_links capac
 module _ (bounds : List Bounds) (picks : List Pick) (values : List ℕ) (links : List Demand) (backup_values : List ℕ) (backup_links : List Demand) (capacity : ℕ)
     (settled : IsReady bounds picks values links backup_values backup_links capacity) where
   -- a fresh start with other picks
-  pub IsKept-fresh : (others : List Pick) (values' : List ℕ) (links' : List Demand) → IsStart bounds values' links' (length bounds) →
+  pub IsKept-fresh : (others : List Pick) (values' : List ℕ) (links' : List Demand) → AreAtCeilings bounds values' links' (length bounds) →
       IsKept (demands_of bounds others) values' links'
   IsKept-fresh others values' links' start =
       IsKept-start bounds others values' links' start

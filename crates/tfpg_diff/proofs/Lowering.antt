@@ -22,11 +22,11 @@ use Rattle.tfpg_diff.proofs.Climb.{Climbs-append, Climbs-simple, Climbs-at, IsOw
 use Rattle.tfpg_diff.proofs.Totals.{NamesNegativeCycle-chain, total_of-append, total_of-Climbs, IsTight, Chains-Climbs, Chains-append}
 
 -- a constraint that the values break
-pub record IsBroken (demands : Demands) (values : List ℕ) (demand : Demand) : Type 0 where
+pub record IsBrokenDemand (demands : Demands) (values : List ℕ) (demand : Demand) : Type 0 where
   pub demanded : Demanded demands demand
   pub left : demand.constraint.left ≤ length demands.bounds
   pub right : demand.constraint.right ≤ length demands.bounds
-  pub broken : (pos (slice_index values demand.constraint.right) +ℤ demand.constraint.most) <ℤ pos (slice_index values demand.constraint.left)
+  pub broken : (pos (slice_index values demand.constraint.right) +ℤ demand.constraint.bound) <ℤ pos (slice_index values demand.constraint.left)
 
 module _ (demands : Demands) (values : List ℕ) (links : List Demand) (kept : IsKept demands values links) where
   -- each link has its number on its left
@@ -55,7 +55,7 @@ module _ (demands : Demands) (values : List ℕ) (links : List Demand) (kept : I
   -- the links.
   pub cycle_from_links : (new : Demands) (demand : Demand) (tags : List Why) → Demanded new demand →
       ((x : ℕ) (e : Demand) → 0 < x → slice_get links x ≡ Some e → Demanded new e) → demand.constraint.left < length links →
-      (pos (slice_index values demand.constraint.right) +ℤ demand.constraint.most) <ℤ pos (slice_index values demand.constraint.left) →
+      (pos (slice_index values demand.constraint.right) +ℤ demand.constraint.bound) <ℤ pos (slice_index values demand.constraint.left) →
       Walked links demand.constraint.right demand.constraint.left demand.constraint.left (demand.why ∷ []) tags → NamesNegativeCycle new tags
   cycle_from_links new demand tags demanded demands_links inside broken walked =
       let es : List Demand = walked.0 in
@@ -72,16 +72,16 @@ module _ (demands : Demands) (values : List ℕ) (links : List Demand) (kept : I
       (omega (arith, ints))
 
   -- a walk that meets the left side closes a negative cycle
-  pub cycle_from_met : (demand : Demand) (tags : List Why) → IsBroken demands values demand →
+  pub cycle_from_met : (demand : Demand) (tags : List Why) → IsBrokenDemand demands values demand →
       Walked links demand.constraint.right demand.constraint.left demand.constraint.left (demand.why ∷ []) tags → NamesNegativeCycle demands tags
   cycle_from_met demand tags broken walked =
       cycle_from_links demands demand tags broken.demanded (λ x e up at. (kept.linked x e up at).demanded)
       (let l = broken.left in let k = kept.links_len in omega arith) broken.broken walked
 
   -- a walk to zero from a constraint that would lower its left side below its floor closes a negative cycle
-  pub cycle_from_floor : (demand : Demand) (tags : List Why) (variable : ℕ) (bounds : Bounds) → IsBroken demands values demand →
+  pub cycle_from_floor : (demand : Demand) (tags : List Why) (variable : ℕ) (bounds : Bounds) → IsBrokenDemand demands values demand →
       Walked links demand.constraint.right demand.constraint.left 0 (demand.why ∷ []) tags → Bounded demands variable bounds → demand.constraint.left ≡ variable + 1 →
-      (pos (slice_index values demand.constraint.right) +ℤ demand.constraint.most) <ℤ pos bounds.floor →
+      (pos (slice_index values demand.constraint.right) +ℤ demand.constraint.bound) <ℤ pos bounds.floor →
       NamesNegativeCycle demands (tags ++ bounds.floor_why ∷ [])
   cycle_from_floor demand tags variable bounds broken walked bounded number low =
       let es : List Demand = walked.0 in
@@ -119,9 +119,9 @@ module _ (demands : Demands) (values : List ℕ) (links : List Demand) (kept : I
       (cases_eq x a)
 
   -- a lowering keeps what is kept
-  pub IsKept-lowered : (demand : Demand) (value variable : ℕ) (bounds : Bounds) (before after : List Why) → IsBroken demands values demand →
+  pub IsKept-lowered : (demand : Demand) (value variable : ℕ) (bounds : Bounds) (before after : List Why) → IsBrokenDemand demands values demand →
       Walked links demand.constraint.right demand.constraint.left 0 before after → Bounded demands variable bounds → demand.constraint.left ≡ variable + 1 →
-      pos value ≡ (pos (slice_index values demand.constraint.right) +ℤ demand.constraint.most) → bounds.floor ≤ value →
+      pos value ≡ (pos (slice_index values demand.constraint.right) +ℤ demand.constraint.bound) → bounds.floor ≤ value →
       IsKept demands (set values demand.constraint.left value) (set links demand.constraint.left demand)
   IsKept-lowered demand value variable bounds before after broken walked bounded number is high =
       let walk : IsWalk links demand.constraint.right demand.constraint.left 0 before after walked.0 = walked.1 in

@@ -1,5 +1,5 @@
 -- What tags name: after a change of the demands, and of a negative cycle.
-use Rattle.std.proofs.Common.{◌≡◌, ℕ, zero, suc, ◌+◌, ◌<◌, Bool, true, false, cond, ltb, List, [], ◌∷◌, map, Option, Some, refl, sym, ◌∙◌, ap, subst, inl, inr, ⊎_elim, arith}
+use Rattle.std.proofs.Common.{◌≡◌, ℕ, zero, suc, ◌<◌, Bool, true, false, cond, ltb, List, [], ◌∷◌, map, Option, Some, refl, sym, ◌∙◌, ap, subst, inl, inr, ⊎_elim, arith}
 use Rattle.std.specs.Prelude.{slice_get, pos, All, Contains, option_map}
 use Rattle.std.proofs.lemmas.Option.{same_Some, none-some}
 use Rattle.std.proofs.lemmas.List.Elements.{All-head, All-tail, Contains-push_cases}
@@ -20,22 +20,22 @@ use Rattle.tfpg_base.specs.declared.limits.TheConstants.{NEVER}
 use Rattle.tfpg_diff.specs.State.{widest, unbounded_from, raised, lowered, changed_at, with_floor, with_ceiling, with_pick, popped_to}
 
 -- The tag names the constraint.
-abbrev pub IsNamed : (Why → Option Constraint) → Demand → Type 0
-IsNamed named e = named e.why ≡ Some e.constraint
+abbrev pub IsNamedBy : (Why → Option Constraint) → Demand → Type 0
+IsNamedBy named e = named e.why ≡ Some e.constraint
 
 -- The tags of a variable's bounds name them.
 abbrev pub AreBoundsNamed : (Why → Option Constraint) → ℕ → Bounds → Type 0
-AreBoundsNamed named variable bounds = IsNamed named (ceiling_of variable bounds) × IsNamed named (floor_of variable bounds)
+AreBoundsNamed named variable bounds = IsNamedBy named (ceiling_of variable bounds) × IsNamedBy named (floor_of variable bounds)
 
 -- where all bounds and all picks are named, all demands are
 pub AreDemandsNamed-parts : (demands : Demands) (named : Why → Option Constraint) →
     ((v : ℕ) (b : Bounds) → Bounded demands v b → AreBoundsNamed named v b) →
-    ((pick : Pick) → Contains demands.picks pick → IsNamed named (demand_of_pick pick)) → AreDemandsNamed demands named
+    ((pick : Pick) → Contains demands.picks pick → IsNamedBy named (demand_of_pick pick)) → AreDemandsNamed demands named
 AreDemandsNamed-parts demands named bounds picks e demanded = elim demanded [
-  | inl is ↦ subst (λ (f : Demand). IsNamed named f) (sym is.3) (bounds is.0 is.1 is.2).0
+  | inl is ↦ subst (λ (f : Demand). IsNamedBy named f) (sym is.3) (bounds is.0 is.1 is.2).0
   | inr others ↦ elim others [
-    | inl is ↦ subst (λ (f : Demand). IsNamed named f) (sym is.3) (bounds is.0 is.1 is.2).1
-    | inr is ↦ subst (λ (f : Demand). IsNamed named f) (sym is.2) (picks is.0 is.1)
+    | inl is ↦ subst (λ (f : Demand). IsNamedBy named f) (sym is.3) (bounds is.0 is.1 is.2).1
+    | inr is ↦ subst (λ (f : Demand). IsNamedBy named f) (sym is.2) (picks is.0 is.1)
   ]
 ]
 
@@ -46,9 +46,9 @@ AreBoundsNamed-demands demands named names v b at =
     (names (ceiling_of v b) (inl (v, b, at, refl)), names (floor_of v b) (inr (inl (v, b, at, refl))))
 
 -- and back
-pub IsNamed-pick : (demands : Demands) (named : Why → Option Constraint) → AreDemandsNamed demands named →
-    (pick : Pick) → Contains demands.picks pick → IsNamed named (demand_of_pick pick)
-IsNamed-pick demands named names pick among = names (demand_of_pick pick) (inr (inr (pick, among, refl)))
+pub IsNamedBy-pick : (demands : Demands) (named : Why → Option Constraint) → AreDemandsNamed demands named →
+    (pick : Pick) → Contains demands.picks pick → IsNamedBy named (demand_of_pick pick)
+IsNamedBy-pick demands named names pick among = names (demand_of_pick pick) (inr (inr (pick, among, refl)))
 
 -- a new system's tags name its demands, where those of its variables do
 pub AreDemandsNamed-new : (named : Why → Option Constraint) (count : ℕ) →
@@ -84,12 +84,12 @@ raised-named named v least tag new b names = by (ltb b.floor least)
     by false = names
 
 -- a lowered bound is named
-lowered-named : (named : Why → Option Constraint) (v most tag : ℕ) →
-    named (Given tag) ≡ Some (at_most v (pos most)) →
-    (b : Bounds) → AreBoundsNamed named v b → AreBoundsNamed named v (lowered most tag b)
-lowered-named named v most tag new b names = by (ltb most b.ceiling)
+lowered-named : (named : Why → Option Constraint) (v ceiling tag : ℕ) →
+    named (Given tag) ≡ Some (at_most v (pos ceiling)) →
+    (b : Bounds) → AreBoundsNamed named v b → AreBoundsNamed named v (lowered ceiling tag b)
+lowered-named named v ceiling tag new b names = by (ltb ceiling b.ceiling)
   where
-    by : (c : Bool) → AreBoundsNamed named v (cond c (record b { ceiling = most; ceiling_why = Given tag }) b)
+    by : (c : Bool) → AreBoundsNamed named v (cond c (record b { ceiling = ceiling; ceiling_why = Given tag }) b)
     by true = (new, names.1)
     by false = names
 
@@ -101,17 +101,17 @@ AreDemandsNamed-floor demands named variable least tag names new =
     AreDemandsNamed-parts (with_floor demands variable least tag) named
     (changed_at-all (AreBoundsNamed named) (raised least tag) demands.bounds variable (raised-named named variable least tag new)
     (AreBoundsNamed-demands demands named names))
-    (IsNamed-pick demands named names)
+    (IsNamedBy-pick demands named names)
 
 -- an upper bound was added
-pub AreDemandsNamed-ceiling : (demands : Demands) (named : Why → Option Constraint) (variable most tag : ℕ) → AreDemandsNamed demands named →
-    named (Given tag) ≡ Some (at_most variable (pos most)) →
-    AreDemandsNamed (with_ceiling demands variable most tag) named
-AreDemandsNamed-ceiling demands named variable most tag names new =
-    AreDemandsNamed-parts (with_ceiling demands variable most tag) named
-    (changed_at-all (AreBoundsNamed named) (lowered most tag) demands.bounds variable (lowered-named named variable most tag new)
+pub AreDemandsNamed-ceiling : (demands : Demands) (named : Why → Option Constraint) (variable ceiling tag : ℕ) → AreDemandsNamed demands named →
+    named (Given tag) ≡ Some (at_most variable (pos ceiling)) →
+    AreDemandsNamed (with_ceiling demands variable ceiling tag) named
+AreDemandsNamed-ceiling demands named variable ceiling tag names new =
+    AreDemandsNamed-parts (with_ceiling demands variable ceiling tag) named
+    (changed_at-all (AreBoundsNamed named) (lowered ceiling tag) demands.bounds variable (lowered-named named variable ceiling tag new)
     (AreBoundsNamed-demands demands named names))
-    (IsNamed-pick demands named names)
+    (IsNamedBy-pick demands named names)
 
 -- a pick was added
 pub AreDemandsNamed-demand_of_pick : (demands : Demands) (named : Why → Option Constraint) (constraint : Constraint) (tag : ℕ) →
@@ -121,8 +121,8 @@ AreDemandsNamed-demand_of_pick demands named constraint tag names new =
     AreDemandsNamed-parts (with_pick demands constraint tag) named
     (AreBoundsNamed-demands demands named names)
     (λ p among. ⊎_elim
-    (λ (old : Contains demands.picks p). IsNamed-pick demands named names p old)
-    (λ (last : pick ≡ p). subst (λ (q : Pick). IsNamed named (demand_of_pick q)) last new)
+    (λ (old : Contains demands.picks p). IsNamedBy-pick demands named names p old)
+    (λ (last : pick ≡ p). subst (λ (q : Pick). IsNamedBy named (demand_of_pick q)) last new)
     (Contains-push_cases demands.picks pick p among))
 
 -- picks were popped
@@ -131,15 +131,15 @@ pub AreDemandsNamed-popped : (demands : Demands) (named : Why → Option Constra
 AreDemandsNamed-popped demands named len names =
     AreDemandsNamed-parts (popped_to demands len) named
     (AreBoundsNamed-demands demands named names)
-    (λ p among. IsNamed-pick demands named names p (Contains-take demands.picks len p among))
+    (λ p among. IsNamedBy-pick demands named names p (Contains-take demands.picks len p among))
 
 -- the constraints of a list of demands are those that their tags name
-each_of-named : (named : Why → Option Constraint) (es : List Demand) → All (IsNamed named) es →
+each_of-named : (named : Why → Option Constraint) (es : List Demand) → All (IsNamedBy named) es →
     each_of (map named (map (λ (e : Demand). e.why) es)) ≡ Some (constraints_of es)
 each_of-named named [] all = refl
 each_of-named named (e ∷ es) all =
-    let rest = each_of-named named es (All-tail (IsNamed named) e es all) in
-    ap (λ (o : Option Constraint). each_of (o ∷ map named (map (λ (f : Demand). f.why) es))) (All-head (IsNamed named) e es all)
+    let rest = each_of-named named es (All-tail (IsNamedBy named) e es all) in
+    ap (λ (o : Option Constraint). each_of (o ∷ map named (map (λ (f : Demand). f.why) es))) (All-head (IsNamedBy named) e es all)
     ∙ ap (option_map (λ (cs : List Constraint). e.constraint ∷ cs)) rest
 
 -- a negative cycle is one of constraints that the tags name

@@ -19,7 +19,7 @@ use Rattle.tfpg_diff.proofs.Latest.{IsLatest-kept}
 use Rattle.tfpg_diff.proofs.Totals.{HasNoSolution-cycle}
 use Rattle.tfpg_diff.proofs.Bounding.{under, over, ceiling_pick, IsKept-floor, IsKept-ceiling, cycle_from_raised, cycle_from_ceiling}
 use Rattle.tfpg_diff.proofs.Changes.{IsSound-set, IsSound-pick, IsKept-pick}
-use Rattle.tfpg_diff.proofs.Lowering.{IsBroken, IsKept-lowered}
+use Rattle.tfpg_diff.proofs.Lowering.{IsBrokenDemand, IsKept-lowered}
 use Rattle.tfpg_diff.proofs.Walks.{Walked-none}
 use Rattle.tfpg_diff.proofs.Updates.{with_floor-tighter, with_floor-looser, with_ceiling-tighter, with_ceiling-looser}
 
@@ -85,17 +85,17 @@ module _ (bounds : List Bounds) (picks : List Pick) (values : List ℕ) (links :
       sym (with_floor-tighter bounds picks v old at least tag tighter) ∙ ap (λ (d : Demands). with_floor d v least tag) seen
 
   -- a ceiling that is not tighter changes nothing
-  pub adds_ceiling_same : (v : ℕ) (old : Bounds) (most tag : ℕ) → slice_get bounds v ≡ Some old → old.ceiling ≤ most →
-      (demands ≡ with_ceiling demands v most tag) × HasSolution (with_ceiling demands v most tag)
-  adds_ceiling_same v old most tag at looser =
-      adds_nothing (with_ceiling demands v most tag)
-      (subst (λ (d : Demands). d ≡ with_ceiling d v most tag) seen (sym (with_ceiling-looser bounds picks v old at most tag looser)))
+  pub adds_ceiling_same : (v : ℕ) (old : Bounds) (ceiling tag : ℕ) → slice_get bounds v ≡ Some old → old.ceiling ≤ ceiling →
+      (demands ≡ with_ceiling demands v ceiling tag) × HasSolution (with_ceiling demands v ceiling tag)
+  adds_ceiling_same v old ceiling tag at looser =
+      adds_nothing (with_ceiling demands v ceiling tag)
+      (subst (λ (d : Demands). d ≡ with_ceiling d v ceiling tag) seen (sym (with_ceiling-looser bounds picks v old at ceiling tag looser)))
 
   -- a tighter ceiling is written
-  pub with_ceiling-set : (v : ℕ) (old : Bounds) (most tag : ℕ) → slice_get bounds v ≡ Some old → most < old.ceiling →
-      demands_of (set bounds v (under old most tag)) picks ≡ with_ceiling demands v most tag
-  with_ceiling-set v old most tag at tighter =
-      sym (with_ceiling-tighter bounds picks v old at most tag tighter) ∙ ap (λ (d : Demands). with_ceiling d v most tag) seen
+  pub with_ceiling-set : (v : ℕ) (old : Bounds) (ceiling tag : ℕ) → slice_get bounds v ≡ Some old → ceiling < old.ceiling →
+      demands_of (set bounds v (under old ceiling tag)) picks ≡ with_ceiling demands v ceiling tag
+  with_ceiling-set v old ceiling tag at tighter =
+      sym (with_ceiling-tighter bounds picks v old at ceiling tag tighter) ∙ ap (λ (d : Demands). with_ceiling d v ceiling tag) seen
 
   -- a system stays ready above a higher floor that the value is not below
   pub IsReady-floor : (v : ℕ) (old : Bounds) (least tag : ℕ) → slice_get bounds v ≡ Some old → old.floor < least → least ≤ slice_index values (v + 1) →
@@ -133,30 +133,30 @@ module _ (bounds : List Bounds) (picks : List Pick) (values : List ℕ) (links :
       (cycle_from_raised bounds picks v old at least tag values links tags high settled.kept walked))
 
   -- demands stay sound under a lower ceiling
-  pub IsSound-ceiling : (v : ℕ) (old : Bounds) (most tag : ℕ) → slice_get bounds v ≡ Some old → most < old.ceiling →
-      IsSound (demands_of (set bounds v (under old most tag)) picks)
-  IsSound-ceiling v old most tag at tighter =
-      IsSound-set bounds picks v (under old most tag) settled.sound (let low = settled.sound.ceilings v old at in omega arith)
+  pub IsSound-ceiling : (v : ℕ) (old : Bounds) (ceiling tag : ℕ) → slice_get bounds v ≡ Some old → ceiling < old.ceiling →
+      IsSound (demands_of (set bounds v (under old ceiling tag)) picks)
+  IsSound-ceiling v old ceiling tag at tighter =
+      IsSound-set bounds picks v (under old ceiling tag) settled.sound (let low = settled.sound.ceilings v old at in omega arith)
 
   -- what is kept is kept under a lower ceiling that the value is not above
-  IsKept-ceiling_high : (v : ℕ) (old : Bounds) (most tag : ℕ) → slice_get bounds v ≡ Some old → most < old.ceiling → slice_index values (v + 1) ≤ most →
-      IsKept (demands_of (set bounds v (under old most tag)) picks) values links
-  IsKept-ceiling_high v old most tag at tighter high =
+  IsKept-ceiling_high : (v : ℕ) (old : Bounds) (ceiling tag : ℕ) → slice_get bounds v ≡ Some old → ceiling < old.ceiling → slice_index values (v + 1) ≤ ceiling →
+      IsKept (demands_of (set bounds v (under old ceiling tag)) picks) values links
+  IsKept-ceiling_high v old ceiling tag at tighter high =
       let was : IsBetween old (slice_index values (v + 1)) = settled.kept.within v old at in
-      IsKept-ceiling bounds picks v old at most tag values links tighter was.above high
-      (IsKept-pick bounds picks (ceiling_pick v most tag) values links settled.kept)
+      IsKept-ceiling bounds picks v old at ceiling tag values links tighter was.above high
+      (IsKept-pick bounds picks (ceiling_pick v ceiling tag) values links settled.kept)
 
   -- a system stays ready under a lower ceiling that the value is not above
-  pub IsReady-ceiling : (v : ℕ) (old : Bounds) (most tag : ℕ) → slice_get bounds v ≡ Some old → most < old.ceiling → slice_index values (v + 1) ≤ most →
-      IsReady (set bounds v (under old most tag)) picks values links backup_values backup_links capacity
-  IsReady-ceiling v old most tag at tighter high =
-      let same : length (set bounds v (under old most tag)) ≡ length bounds = length-set bounds v (under old most tag) in
+  pub IsReady-ceiling : (v : ℕ) (old : Bounds) (ceiling tag : ℕ) → slice_get bounds v ≡ Some old → ceiling < old.ceiling → slice_index values (v + 1) ≤ ceiling →
+      IsReady (set bounds v (under old ceiling tag)) picks values links backup_values backup_links capacity
+  IsReady-ceiling v old ceiling tag at tighter high =
+      let same : length (set bounds v (under old ceiling tag)) ≡ length bounds = length-set bounds v (under old ceiling tag) in
       let b = settled.backup_values_len in
       let l = settled.backup_links_len in
       let r = settled.room in
       record {
-        sound = IsSound-ceiling v old most tag at tighter;
-        kept = IsKept-ceiling_high v old most tag at tighter high;
+        sound = IsSound-ceiling v old ceiling tag at tighter;
+        kept = IsKept-ceiling_high v old ceiling tag at tighter high;
         met = settled.met;
         backup_values_len = omega arith;
         backup_links_len = omega arith;
@@ -164,43 +164,43 @@ module _ (bounds : List Bounds) (picks : List Pick) (values : List ℕ) (links :
       }
 
   -- and has the lengthened demands
-  pub adds_ceiling : (v : ℕ) (old : Bounds) (most tag : ℕ) → slice_get bounds v ≡ Some old → most < old.ceiling → slice_index values (v + 1) ≤ most →
-      (demands_of (set bounds v (under old most tag)) picks ≡ with_ceiling demands v most tag) × HasSolution (with_ceiling demands v most tag)
-  adds_ceiling v old most tag at tighter high =
-      let is = with_ceiling-set v old most tag at tighter in
-      let s = IsReady-ceiling v old most tag at tighter high in
-      (is, subst HasSolution is (HasSolution-kept (demands_of (set bounds v (under old most tag)) picks) values links s.kept s.met))
+  pub adds_ceiling : (v : ℕ) (old : Bounds) (ceiling tag : ℕ) → slice_get bounds v ≡ Some old → ceiling < old.ceiling → slice_index values (v + 1) ≤ ceiling →
+      (demands_of (set bounds v (under old ceiling tag)) picks ≡ with_ceiling demands v ceiling tag) × HasSolution (with_ceiling demands v ceiling tag)
+  adds_ceiling v old ceiling tag at tighter high =
+      let is = with_ceiling-set v old ceiling tag at tighter in
+      let s = IsReady-ceiling v old ceiling tag at tighter high in
+      (is, subst HasSolution is (HasSolution-kept (demands_of (set bounds v (under old ceiling tag)) picks) values links s.kept s.met))
 
   -- a ceiling below the floor is a negative cycle
-  pub adds_ceiling_below_floor : (v : ℕ) (old : Bounds) (most tag : ℕ) → slice_get bounds v ≡ Some old → most < old.ceiling → most < old.floor →
-      (demands_of bounds picks ≡ demands) × HasNoSolution (with_ceiling demands v most tag)
-      × NamesNegativeCycle (with_ceiling demands v most tag) (Given tag ∷ old.floor_why ∷ [])
-  adds_ceiling_below_floor v old most tag at tighter low =
-      adds_conflict (with_ceiling demands v most tag) (Given tag ∷ old.floor_why ∷ [])
-      (subst (λ (d : Demands). NamesNegativeCycle d (Given tag ∷ old.floor_why ∷ [])) (with_ceiling-set v old most tag at tighter)
-      (cycle_from_ceiling bounds picks v old at most tag low))
+  pub adds_ceiling_below_floor : (v : ℕ) (old : Bounds) (ceiling tag : ℕ) → slice_get bounds v ≡ Some old → ceiling < old.ceiling → ceiling < old.floor →
+      (demands_of bounds picks ≡ demands) × HasNoSolution (with_ceiling demands v ceiling tag)
+      × NamesNegativeCycle (with_ceiling demands v ceiling tag) (Given tag ∷ old.floor_why ∷ [])
+  adds_ceiling_below_floor v old ceiling tag at tighter low =
+      adds_conflict (with_ceiling demands v ceiling tag) (Given tag ∷ old.floor_why ∷ [])
+      (subst (λ (d : Demands). NamesNegativeCycle d (Given tag ∷ old.floor_why ∷ [])) (with_ceiling-set v old ceiling tag at tighter)
+      (cycle_from_ceiling bounds picks v old at ceiling tag low))
 
   -- the value of the variable becomes the lower ceiling, and the ceiling its link
-  pub IsKept-ceiling_low : (v : ℕ) (old : Bounds) (most tag : ℕ) → slice_get bounds v ≡ Some old → most < old.ceiling → old.floor ≤ most →
-      most < slice_index values (v + 1) →
-      IsKept (demands_of (set bounds v (under old most tag)) picks) (set values (v + 1) most) (set links (v + 1) (ceiling_of v (under old most tag)))
-  IsKept-ceiling_low v old most tag at tighter above low =
-      let pick : Pick = ceiling_pick v most tag in
-      let demand : Demand = ceiling_of v (under old most tag) in
+  pub IsKept-ceiling_low : (v : ℕ) (old : Bounds) (ceiling tag : ℕ) → slice_get bounds v ≡ Some old → ceiling < old.ceiling → old.floor ≤ ceiling →
+      ceiling < slice_index values (v + 1) →
+      IsKept (demands_of (set bounds v (under old ceiling tag)) picks) (set values (v + 1) ceiling) (set links (v + 1) (ceiling_of v (under old ceiling tag)))
+  IsKept-ceiling_low v old ceiling tag at tighter above low =
+      let pick : Pick = ceiling_pick v ceiling tag in
+      let demand : Demand = ceiling_of v (under old ceiling tag) in
       let more : Demands = demands_of bounds (picks ++ pick ∷ []) in
       let kept : IsKept more values links = IsKept-pick bounds picks pick values links settled.kept in
       let inside : v < length bounds = slice_get_within bounds v old at in
       let zero_stays = settled.kept.zero_stays in
-      let broken : IsBroken more values demand = record {
+      let broken : IsBrokenDemand more values demand = record {
         demanded = inr (inr (pick, Contains-push picks pick, refl));
         left = omega arith;
         right = omega arith;
         broken = omega (arith, ints);
       } in
-      let here : slice_index (set values (v + 1) most) (v + 1) ≡ most =
-      get_or-set_same values (v + 1) most 0 (let k = settled.kept.values_len in omega arith) in
-      IsKept-ceiling bounds picks v old at most tag (set values (v + 1) most) (set links (v + 1) demand) tighter (omega arith) (omega arith)
-      (IsKept-lowered more values links kept demand most v old [] [] broken (Walked-none links 0 (v + 1) []) at refl (omega (arith, ints)) above)
+      let here : slice_index (set values (v + 1) ceiling) (v + 1) ≡ ceiling =
+      get_or-set_same values (v + 1) ceiling 0 (let k = settled.kept.values_len in omega arith) in
+      IsKept-ceiling bounds picks v old at ceiling tag (set values (v + 1) ceiling) (set links (v + 1) demand) tighter (omega arith) (omega arith)
+      (IsKept-lowered more values links kept demand ceiling v old [] [] broken (Walked-none links 0 (v + 1) []) at refl (omega (arith, ints)) above)
 
   -- a system whose parts were restored is ready, like the old one
   pub IsReady-restored : (bounds' : List Bounds) (picks' : List Pick) (values' : List ℕ) (links' : List Demand) (backup_values' : List ℕ)

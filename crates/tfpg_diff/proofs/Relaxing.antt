@@ -14,7 +14,7 @@ use Rattle.std.specs.List.{HoldsAt}
 use Rattle.tfpg_base.specs.declared.limits.TheConstants.{NEVER}
 use Rattle.tfpg_diff.specs.Solution.{IsBetween}
 use Rattle.tfpg_diff.specs.inside.Kept.{IsMetBy, IsSound, IsKept, Walked, IsWalk}
-use Rattle.tfpg_diff.proofs.Lowering.{IsBroken, Labelled-kept}
+use Rattle.tfpg_diff.proofs.Lowering.{IsBrokenDemand, Labelled-kept}
 use Rattle.tfpg_diff.proofs.Climb.{length-Climbs}
 
 -- what the code reads past the end of the bounds
@@ -38,28 +38,28 @@ small-kept demands sound values links kept (suc v) d inside =
     omega arith
 
 -- a pick that the values break, as the code reads both
-pub IsBroken-pick : (demands : Demands) (sound : IsSound demands) (values : List ℕ) (place : ℕ) (d : Pick) (demand : Demand) (now : List ℕ) →
-    place < length demands.picks → demand ≡ demand_of_pick (get_or demands.picks place d) → now ≡ values →
-    (pos (slice_index now demand.constraint.right) +ℤ demand.constraint.most) <ℤ pos (slice_index now demand.constraint.left) → IsBroken demands values demand
-IsBroken-pick demands sound values place d demand now inside is same broken =
-    let left : demand.constraint.left ≡ (get_or demands.picks place d).constraint.left = ap (λ (e : Demand). e.constraint.left) is in
-    let right : demand.constraint.right ≡ (get_or demands.picks place d).constraint.right = ap (λ (e : Demand). e.constraint.right) is in
-    let low = sound.lefts place d inside in
-    let high = sound.rights place d inside in
+pub IsBrokenDemand-pick : (demands : Demands) (sound : IsSound demands) (values : List ℕ) (index : ℕ) (d : Pick) (demand : Demand) (now : List ℕ) →
+    index < length demands.picks → demand ≡ demand_of_pick (get_or demands.picks index d) → now ≡ values →
+    (pos (slice_index now demand.constraint.right) +ℤ demand.constraint.bound) <ℤ pos (slice_index now demand.constraint.left) → IsBrokenDemand demands values demand
+IsBrokenDemand-pick demands sound values index d demand now inside is same broken =
+    let left : demand.constraint.left ≡ (get_or demands.picks index d).constraint.left = ap (λ (e : Demand). e.constraint.left) is in
+    let right : demand.constraint.right ≡ (get_or demands.picks index d).constraint.right = ap (λ (e : Demand). e.constraint.right) is in
+    let low = sound.lefts index d inside in
+    let high = sound.rights index d inside in
     record {
-      demanded = inr (inr (get_or demands.picks place d, Contains-get_or demands.picks place d inside, is));
+      demanded = inr (inr (get_or demands.picks index d, Contains-get_or demands.picks index d inside, is));
       left = omega arith;
       right = omega arith;
-      broken = subst (λ (xs : List ℕ). (pos (slice_index xs demand.constraint.right) +ℤ demand.constraint.most) <ℤ pos (slice_index xs demand.constraint.left)) same broken;
+      broken = subst (λ (xs : List ℕ). (pos (slice_index xs demand.constraint.right) +ℤ demand.constraint.bound) <ℤ pos (slice_index xs demand.constraint.left)) same broken;
     }
 
 -- a pick that the values meet, as the code reads both
-pub IsMetBy-pick : (picks : List Pick) (values : List ℕ) (place : ℕ) (d : Pick) (demand : Demand) (now : List ℕ) →
-    place < length picks → demand ≡ demand_of_pick (get_or picks place d) → now ≡ values → IsMetBy now demand →
-    HoldsAt (λ (pick : Pick). IsMetBy values (demand_of_pick pick)) picks place
-IsMetBy-pick picks values place d demand now inside is same met e =
+pub IsMetBy-pick : (picks : List Pick) (values : List ℕ) (index : ℕ) (d : Pick) (demand : Demand) (now : List ℕ) →
+    index < length picks → demand ≡ demand_of_pick (get_or picks index d) → now ≡ values → IsMetBy now demand →
+    HoldsAt (λ (pick : Pick). IsMetBy values (demand_of_pick pick)) picks index
+IsMetBy-pick picks values index d demand now inside is same met e =
     let here : IsMetBy values demand = subst (λ (xs : List ℕ). IsMetBy xs demand) same met in
-    subst (λ (pick : Pick). IsMetBy values (demand_of_pick pick)) (get_or_default picks place d e inside) (subst (λ (x : Demand). IsMetBy values x) is here)
+    subst (λ (pick : Pick). IsMetBy values (demand_of_pick pick)) (get_or_default picks index d e inside) (subst (λ (x : Demand). IsMetBy values x) is here)
 
 -- the bounds of the left side, as the code reads them
 pub Bounded-read : (demands : Demands) (left : ℕ) → 0 < left → left ≤ length demands.bounds →
@@ -77,7 +77,7 @@ length-cycle demands values links kept from sought first tags walked =
 
 -- what the code reads past the end of the picks
 abbrev pub no_pick : Pick
-no_pick = record { constraint = record { left = 0; right = 0; most = pos 0 }; tag = 0 }
+no_pick = record { constraint = record { left = 0; right = 0; bound = pos 0 }; tag = 0 }
 
 -- no floor is past the latest value
 pub floor-kept : (demands : Demands) (sound : IsSound demands) (values : List ℕ) (links : List Demand) (kept : IsKept demands values links)

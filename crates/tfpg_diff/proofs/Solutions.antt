@@ -60,7 +60,7 @@ IsSolution-met demands times complete met = record {
       let high : IsMetBy (0 ∷ times) (ceiling_of variable bounds) = met (ceiling_of variable bounds) (inl (variable, bounds, at, refl)) in
       let low : IsMetBy (0 ∷ times) (floor_of variable bounds) = met (floor_of variable bounds) (inr (inl (variable, bounds, at, refl))) in
       record { above = omega (arith, ints); below = omega (arith, ints) };
-  met = λ place none inside.
-      let pick = get_or demands.picks place none in
-      Meets-IsMetBy times (demand_of_pick pick) (met (demand_of_pick pick) (inr (inr (pick, Contains-get_or demands.picks place none inside, refl))));
+  met = λ index none inside.
+      let pick = get_or demands.picks index none in
+      Meets-IsMetBy times (demand_of_pick pick) (met (demand_of_pick pick) (inr (inr (pick, Contains-get_or demands.picks index none inside, refl))));
 }

@@ -22,12 +22,12 @@ set_same (b ∷ bs) zero old at = ap (λ (c : Bounds). c ∷ bs) (sym (same_Some
 set_same (b ∷ bs) (suc v) old at = ap (λ (cs : List Bounds). b ∷ cs) (set_same bs v old at)
 
 -- a tighter ceiling
-lowered_tighter : (most tag : ℕ) (old : Bounds) → most < old.ceiling → lowered most tag old ≡ under old most tag
-lowered_tighter most tag old tighter = rw (lt-ltb most old.ceiling tighter)
+lowered_tighter : (ceiling tag : ℕ) (old : Bounds) → ceiling < old.ceiling → lowered ceiling tag old ≡ under old ceiling tag
+lowered_tighter ceiling tag old tighter = rw (lt-ltb ceiling old.ceiling tighter)
 
 -- a ceiling that is not tighter
-lowered_looser : (most tag : ℕ) (old : Bounds) → old.ceiling ≤ most → lowered most tag old ≡ old
-lowered_looser most tag old looser = rw (le-ltb most old.ceiling looser)
+lowered_looser : (ceiling tag : ℕ) (old : Bounds) → old.ceiling ≤ ceiling → lowered ceiling tag old ≡ old
+lowered_looser ceiling tag old looser = rw (le-ltb ceiling old.ceiling looser)
 
 -- a tighter floor
 raised_tighter : (least tag : ℕ) (old : Bounds) → old.floor < least → raised least tag old ≡ over old least tag
@@ -39,17 +39,17 @@ raised_looser least tag old looser = rw (le-ltb old.floor least looser)
 
 module _ (bounds : List Bounds) (picks : List Pick) (v : ℕ) (old : Bounds) (at_v : slice_get bounds v ≡ Some old) where
   -- the demands with a tighter ceiling
-  pub with_ceiling-tighter : (most tag : ℕ) → most < old.ceiling →
-      with_ceiling (demands_of bounds picks) v most tag ≡ demands_of (set bounds v (under old most tag)) picks
-  with_ceiling-tighter most tag tighter =
+  pub with_ceiling-tighter : (ceiling tag : ℕ) → ceiling < old.ceiling →
+      with_ceiling (demands_of bounds picks) v ceiling tag ≡ demands_of (set bounds v (under old ceiling tag)) picks
+  with_ceiling-tighter ceiling tag tighter =
       ap (λ (bs : List Bounds). demands_of bs picks)
-      (changed_at-set (lowered most tag) bounds v old at_v ∙ ap (set bounds v) (lowered_tighter most tag old tighter))
+      (changed_at-set (lowered ceiling tag) bounds v old at_v ∙ ap (set bounds v) (lowered_tighter ceiling tag old tighter))
 
   -- the demands with a ceiling that is not tighter
-  pub with_ceiling-looser : (most tag : ℕ) → old.ceiling ≤ most → with_ceiling (demands_of bounds picks) v most tag ≡ demands_of bounds picks
-  with_ceiling-looser most tag looser =
+  pub with_ceiling-looser : (ceiling tag : ℕ) → old.ceiling ≤ ceiling → with_ceiling (demands_of bounds picks) v ceiling tag ≡ demands_of bounds picks
+  with_ceiling-looser ceiling tag looser =
       ap (λ (bs : List Bounds). demands_of bs picks)
-      (changed_at-set (lowered most tag) bounds v old at_v ∙ ap (set bounds v) (lowered_looser most tag old looser) ∙ set_same bounds v old at_v)
+      (changed_at-set (lowered ceiling tag) bounds v old at_v ∙ ap (set bounds v) (lowered_looser ceiling tag old looser) ∙ set_same bounds v old at_v)
 
   -- the demands with a tighter floor
   pub with_floor-tighter : (least tag : ℕ) → old.floor < least →

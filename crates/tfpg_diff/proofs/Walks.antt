@@ -59,7 +59,7 @@ link_right links rooted stands link up at =
 
 -- what the code reads past the end of the links
 abbrev pub no_link : Demand
-no_link = record { constraint = record { left = 0; right = 0; most = pos 0 }; why = Floor 0 }
+no_link = record { constraint = record { left = 0; right = 0; bound = pos 0 }; why = Floor 0 }
 
 -- what the code reads is the link
 pub link_read : (links : List Demand) (stands : ℕ) → stands < length links → slice_get links stands ≡ Some (get_or links stands no_link)

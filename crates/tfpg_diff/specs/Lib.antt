@@ -1,8 +1,8 @@
--- What the contracts say.
+-- What the public contracts say.
 pub mod Demands
 pub mod Solution
 pub mod Cycle
 pub mod State
 pub mod Named
--- What the code and its proofs need besides. Nothing above reaches it.
+-- What the code and its proofs need besides. No public clause reaches it.
 pub mod inside

@@ -34,14 +34,14 @@ raised least tag bounds =
 
 -- the bounds with this upper bound, where it is tighter
 abbrev pub lowered : ℕ → ℕ → Bounds → Bounds
-lowered most tag bounds =
-    if nat_lt most bounds.ceiling then record bounds { ceiling = most; ceiling_why = Given tag } else bounds
+lowered ceiling tag bounds =
+    if nat_lt ceiling bounds.ceiling then record bounds { ceiling = ceiling; ceiling_why = Given tag } else bounds
 
 -- the list with a change of one item
 abbrev pub changed_at : (Bounds → Bounds) → List Bounds → ℕ → List Bounds
-changed_at change [] place = []
+changed_at change [] index = []
 changed_at change (first ∷ others) zero = change first ∷ others
-changed_at change (first ∷ others) (suc place) = first ∷ changed_at change others place
+changed_at change (first ∷ others) (suc index) = first ∷ changed_at change others index
 
 -- the demands with a lower bound of a variable
 abbrev pub with_floor : Demands → ℕ → ℕ → ℕ → Demands
@@ -50,8 +50,8 @@ with_floor demands variable least tag =
 
 -- the demands with an upper bound of a variable
 abbrev pub with_ceiling : Demands → ℕ → ℕ → ℕ → Demands
-with_ceiling demands variable most tag =
-    demands_of (changed_at (lowered most tag) demands.bounds variable) demands.picks
+with_ceiling demands variable ceiling tag =
+    demands_of (changed_at (lowered ceiling tag) demands.bounds variable) demands.picks
 
 -- the demands with one more pick
 abbrev pub with_pick : Demands → Constraint → ℕ → Demands

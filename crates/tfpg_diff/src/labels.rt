@@ -21,7 +21,7 @@ const NO_LINK: Demand = Demand {
     constraint: Constraint {
         left: 0,
         right: 0,
-        most: 0,
+        bound: 0,
     },
     why: Why::Floor(0),
 };

@@ -29,10 +29,10 @@ pub fn tags_name_what_is_added()
         AreDemandsNamed demands named →
         named (Given tag) ≡ Some (at_least variable least) →
         AreDemandsNamed (with_floor demands variable least tag) named }
-    ensures ceiling { (demands : Demands) (named : Why → Option Constraint) (variable most tag : ℕ) →
+    ensures ceiling { (demands : Demands) (named : Why → Option Constraint) (variable ceiling tag : ℕ) →
         AreDemandsNamed demands named →
-        named (Given tag) ≡ Some (at_most variable (pos most)) →
-        AreDemandsNamed (with_ceiling demands variable most tag) named }
+        named (Given tag) ≡ Some (at_most variable (pos ceiling)) →
+        AreDemandsNamed (with_ceiling demands variable ceiling tag) named }
     ensures pick { (demands : Demands) (named : Why → Option Constraint) (constraint : Constraint) (tag : ℕ) →
         AreDemandsNamed demands named → named (Given tag) ≡ Some constraint →
         AreDemandsNamed (with_pick demands constraint tag) named }

@@ -10,7 +10,7 @@ use crate::bounds::Bounds;
 use crate::demand::Demand;
 use crate::labels::Labels;
 use crate::pick::Pick;
-use crate::walk::{note, walk};
+use crate::walk::{push_tag, walk};
 use crate::why::{Conflict, Why};
 
 /// The pick in the form that it shares with bounds.
@@ -33,7 +33,7 @@ pub(crate) fn is_broken(values: &[u64], demand: Demand) -> bool
 {
     let left = values[demand.constraint.left as usize] as i64;
     let right = values[demand.constraint.right as usize] as i64;
-    left - right > demand.constraint.most
+    left - right > demand.constraint.bound
 }
 
 /// The greatest value that a broken constraint allows its left side, where that is not below a floor.
@@ -47,7 +47,7 @@ pub(crate) fn allowed(values: &[u64], demand: Demand, floor: u64) -> Option<u64>
     ensures value { IfSome result (λ value. pos value ≡ allowed_by values.now demand) }
     ensures above { IfSome result (λ value. floor ≤ value) }
 {
-    let value = values[demand.constraint.right as usize] as i64 + demand.constraint.most;
+    let value = values[demand.constraint.right as usize] as i64 + demand.constraint.bound;
     if value < floor as i64 {
         return None;
     }
@@ -72,7 +72,7 @@ pub(crate) fn begin_cycle(
     ensures capacity { vec_capacity cycle.old ≤ vec_capacity cycle.new }
 {
     cycle.clear();
-    note(cycle, why);
+    push_tag(cycle, why);
     walk(links, right, left, cycle)
 }
 
@@ -83,21 +83,21 @@ pub(crate) fn begin_cycle(
 pub(crate) fn relax(
     bounds: &[Bounds],
     picks: &[Pick],
-    place: usize,
+    index: usize,
     labels: &mut Labels,
     cycle: &mut Vec<Why>,
 ) -> Result<bool, Conflict>
-    requires place { place < length picks.now }
+    requires index { index < length picks.now }
     requires sound { IsSound (demands_of bounds.now picks.now) }
     requires kept { IsKept (demands_of bounds.now picks.now) labels.old.values.items labels.old.links.items }
     requires room { length bounds.now + 3 ≤ vec_capacity cycle.old }
     ensures kept { IsKept (demands_of bounds.now picks.now) labels.new.values.items labels.new.links.items }
     ensures relaxes { IfOk result
-        (λ lowered. Relaxes picks.now place labels.old.values.items lowered labels.new.values.items) }
+        (λ lowered. Relaxes picks.now index labels.old.values.items lowered labels.new.values.items) }
     ensures cycle { OnErr result (NamesNegativeCycle (demands_of bounds.now picks.now) cycle.new.items) }
     ensures capacity { vec_capacity cycle.old ≤ vec_capacity cycle.new }
 {
-    let demand = demand_of_pick(&picks[place]);
+    let demand = demand_of_pick(&picks[index]);
     if !is_broken(&labels.values, demand) {
         return Ok(false);
     }
@@ -112,7 +112,7 @@ pub(crate) fn relax(
     }
     let bounds = bounds[demand.constraint.left as usize - 1];
     let Some(value) = allowed(&labels.values, demand, bounds.floor) else {
-        note(cycle, bounds.floor_why);
+        push_tag(cycle, bounds.floor_why);
         return Err(Conflict);
     };
     labels.values[demand.constraint.left as usize] = value;

@@ -5,7 +5,7 @@ ghost use Rattle.tfpg_diff.specs.declared.bounds.Bounds.{Bounds as BoundsOf};
 ghost use Rattle.tfpg_diff.specs.Demands.{ceiling_of, demands_of};
 ghost use Rattle.tfpg_diff.specs.Cycle.{NamesNegativeCycle};
 ghost use Rattle.tfpg_base.specs.declared.limits.TheConstants.{NEVER};
-ghost use Rattle.tfpg_diff.specs.inside.Kept.{IsSound, IsKept, IsStart, MeetsPicks, Passes};
+ghost use Rattle.tfpg_diff.specs.inside.Kept.{IsSound, IsKept, AreAtCeilings, MeetsPicks, Passes};
 
 use crate::bounds::Bounds;
 use crate::demand::Demand;
@@ -35,8 +35,8 @@ fn pass(
     ensures capacity { vec_capacity cycle.old ≤ vec_capacity cycle.new }
 {
     let mut lowered = false;
-    for place in 0..picks.len() {
-        if relax(bounds, picks, place, labels, cycle)? {
+    for index in 0..picks.len() {
+        if relax(bounds, picks, index, labels, cycle)? {
             lowered = true;
         }
     }
@@ -78,7 +78,7 @@ pub(crate) fn ceiling_of(variable: u32, bounds: Bounds) -> Demand
         constraint: Constraint {
             left: variable + 1,
             right: 0,
-            most: bounds.ceiling as i64,
+            bound: bounds.ceiling as i64,
         },
         why: bounds.ceiling_why,
     }
@@ -92,7 +92,7 @@ pub(crate) fn start(bounds: &[Bounds], labels: &mut Labels)
     requires values { vec_len labels.old.values ≡ length bounds.now + 1 }
     requires links { vec_len labels.old.links ≡ length bounds.now + 1 }
     requires zero { slice_index labels.old.values.items 0 ≡ 0 }
-    ensures { IsStart bounds.now labels.new.values.items labels.new.links.items (length bounds.now) }
+    ensures { AreAtCeilings bounds.now labels.new.values.items labels.new.links.items (length bounds.now) }
 {
     for variable in 0..bounds.len() {
         let limits = bounds[variable];

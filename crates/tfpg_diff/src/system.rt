@@ -12,7 +12,7 @@ use crate::labels::Labels;
 use crate::pick::Pick;
 use crate::relax::{begin_cycle, demand_of_pick, is_broken};
 use crate::settle::{ceiling_of, save, settle, settle_or_restore, start};
-use crate::walk::note;
+use crate::walk::push_tag;
 use crate::why::{Conflict, Why};
 use std::alloc::Global;
 use std::marker::Model;
@@ -121,7 +121,7 @@ impl System {
         self.cycle.as_slice()
     }
 
-    /// The variable is at least that. A bound that is not tighter than the present one changes nothing. The call
+    /// The variable is at least `least`. A bound that is not tighter than the present one changes nothing. The call
     /// counts as one step.
     ///
     /// Conflict comes exactly where there would be no solution. The system is then unchanged, and [`System::cycle`]
@@ -143,27 +143,27 @@ impl System {
         self.add_floor(variable, least, tag)
     }
 
-    /// The variable is at most that. A bound that is not tighter than the present one changes nothing. The call
+    /// The variable is at most `ceiling`. A bound that is not tighter than the present one changes nothing. The call
     /// counts as one step.
     ///
     /// Conflict comes exactly where there would be no solution. The system is then unchanged, and [`System::cycle`]
-    /// lends the tags of a negative cycle. Where the value of the variable is above the bound it costs at most one pass
+    /// lends the tags of a negative cycle. Where the value of the variable is above the ceiling it costs at most one pass
     /// over the picks for each number.
     pub fn lower<L: Ledger>(
         &mut self,
         variable: u32,
-        most: u64,
+        ceiling: u64,
         tag: u64,
         work: &mut Steps<L>,
     ) -> Result<(), Conflict>
         requires { variable < length self.old.demands.bounds }
-        ensures adds { Adds self.old (with_ceiling self.old.demands variable most tag) result self.new }
+        ensures adds { Adds self.old (with_ceiling self.old.demands variable ceiling tag) result self.new }
         ensures variables { length self.new.demands.bounds ≡ length self.old.demands.bounds }
         ensures spare { self.old.spare ≤ self.new.spare }
         ensures step { work.new ≡ work.old + 1 }
     {
         work.tick();
-        self.add_ceiling(variable, most, tag)
+        self.add_ceiling(variable, ceiling, tag)
     }
 
     /// Pushes a constraint on the stack. Its bound may be any number. The call counts as one step.
@@ -214,12 +214,12 @@ impl System {
         ensures variables { length self.new.demands.bounds ≡ length self.old.demands.bounds }
         ensures spare { self.new.spare ≡ self.old.spare }
     {
-        let place = variable as usize;
-        let old = self.bounds[place];
+        let index = variable as usize;
+        let old = self.bounds[index];
         if least <= old.floor {
             return Ok(());
         }
-        if self.labels.values[place + 1] < least {
+        if self.labels.values[index + 1] < least {
             begin_cycle(
                 &self.labels.links,
                 variable + 1,
@@ -229,7 +229,7 @@ impl System {
             );
             return Err(Conflict);
         }
-        self.bounds[place] = Bounds {
+        self.bounds[index] = Bounds {
             floor: least,
             floor_why: Why::Given(tag),
             ..old
@@ -238,35 +238,35 @@ impl System {
     }
 
     /// Lowers an upper bound.
-    fn add_ceiling(&mut self, variable: u32, most: u64, tag: u64) -> Result<(), Conflict>
+    fn add_ceiling(&mut self, variable: u32, ceiling: u64, tag: u64) -> Result<(), Conflict>
         requires { variable < length self.old.demands.bounds }
-        ensures adds { Adds self.old (with_ceiling self.old.demands variable most tag) result self.new }
+        ensures adds { Adds self.old (with_ceiling self.old.demands variable ceiling tag) result self.new }
         ensures variables { length self.new.demands.bounds ≡ length self.old.demands.bounds }
         ensures spare { self.new.spare ≡ self.old.spare }
     {
-        let place = variable as usize;
-        let old = self.bounds[place];
-        if old.ceiling <= most {
+        let index = variable as usize;
+        let old = self.bounds[index];
+        if old.ceiling <= ceiling {
             return Ok(());
         }
-        if most < old.floor {
+        if ceiling < old.floor {
             self.cycle.clear();
-            note(&mut self.cycle, Why::Given(tag));
-            note(&mut self.cycle, old.floor_why);
+            push_tag(&mut self.cycle, Why::Given(tag));
+            push_tag(&mut self.cycle, old.floor_why);
             return Err(Conflict);
         }
         let tighter = Bounds {
-            ceiling: most,
+            ceiling,
             ceiling_why: Why::Given(tag),
             ..old
         };
-        self.bounds[place] = tighter;
-        if self.labels.values[place + 1] <= most {
+        self.bounds[index] = tighter;
+        if self.labels.values[index + 1] <= ceiling {
             return Ok(());
         }
         save(&self.labels, &mut self.backup);
-        self.labels.values[place + 1] = most;
-        self.labels.links[place + 1] = ceiling_of(variable, tighter);
+        self.labels.values[index + 1] = ceiling;
+        self.labels.links[index + 1] = ceiling_of(variable, tighter);
         match settle_or_restore(
             &self.bounds,
             &self.picks,
@@ -276,7 +276,7 @@ impl System {
         ) {
             Ok(()) => Ok(()),
             Err(Conflict) => {
-                self.bounds[place] = old;
+                self.bounds[index] = old;
                 Err(Conflict)
             }
         }

@@ -7,7 +7,7 @@ use crate::demand::Demand;
 use crate::why::Why;
 
 /// Appends a tag, for which there is room.
-pub(crate) fn note(cycle: &mut Vec<Why>, why: Why)
+pub(crate) fn push_tag(cycle: &mut Vec<Why>, why: Why)
     requires { vec_len cycle.old < vec_capacity cycle.old }
     ensures items { cycle.new.items ≡ cycle.old.items ++ why ∷ [] }
     ensures capacity { vec_capacity cycle.old ≤ vec_capacity cycle.new }
@@ -33,7 +33,7 @@ pub(crate) fn walk(links: &[Demand], from: u32, sought: u32, cycle: &mut Vec<Why
             return false;
         }
         let link = links[stands as usize];
-        note(cycle, link.why);
+        push_tag(cycle, link.why);
         stands = link.constraint.right;
     }
     true

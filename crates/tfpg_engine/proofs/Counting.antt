@@ -7,7 +7,7 @@ use Rattle.tfpg_evidence.specs.declared.finding.Finding.{Finding}
 use Rattle.tfpg_evidence.specs.declared.round.Counts.{Counts}
 use Rattle.tfpg_evidence.specs.RoundOf.{is_ranked, is_covered, is_rejected, is_open}
 use Rattle.tfpg_hyp.specs.Rounds.{counts_of}
-use Rattle.tfpg_engine.specs.inside.Placed.{counts_with}
+use Rattle.tfpg_engine.specs.inside.StatusCounts.{counts_with}
 
 module _ (findings : List Finding) (index : ℕ) (finding : Finding) (within : index < length findings) (is : get_or findings index finding ≡ finding) where
   one_more : (p : Finding → Bool) → count_by p (take (index + 1) findings) ≡ count_by p (take index findings) + cond (p finding) 1 0
@@ -21,7 +21,7 @@ module _ (findings : List Finding) (index : ℕ) (finding : Finding) (within : i
         ranked = sym (one_more (λ (f : Finding). is_ranked f.status)) i;
         covered = sym (one_more (λ (f : Finding). is_covered f.status)) i;
         rejected = sym (one_more (λ (f : Finding). is_rejected f.status)) i;
-        unsettled = sym (one_more (λ (f : Finding). is_open f.status)) i;
+        left_open = sym (one_more (λ (f : Finding). is_open f.status)) i;
       })
 
 -- no more findings of a kind than findings

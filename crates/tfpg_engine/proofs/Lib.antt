@@ -1,5 +1,5 @@
 mod Counting
-mod Placing
+mod InsertedKeys
 mod Going
 mod Turning
 mod Rounding

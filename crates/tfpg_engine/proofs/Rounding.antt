@@ -6,7 +6,7 @@ use Rattle.std.proofs.lemmas.List.Concat.{flat_map-append}
 use Rattle.std.proofs.lemmas.List.Folds.{list_any_none}
 use Rattle.std.proofs.lemmas.Option.{same_Some}
 use Rattle.tfpg_base.proofs.lists.Cuts.{slice_get-take, slice_get-taken}
-use Rattle.tfpg_base.proofs.lists.Elements.{All-from_places}
+use Rattle.tfpg_base.proofs.lists.Elements.{All-from_indexes}
 use Rattle.tfpg_base.specs.Set.{IsProperSubset}
 use Rattle.tfpg_graph.specs.Graph.{Tfpg}
 use Rattle.tfpg_graph.specs.Reach.{IsReach}
@@ -20,16 +20,16 @@ use Rattle.tfpg_evidence.specs.RoundOf.{is_open}
 use Rattle.tfpg_clause.specs.Trees.{Judged}
 use Rattle.tfpg_hyp.specs.Table.{IsTable}
 use Rattle.tfpg_hyp.specs.Hypotheses.{Hypotheses, IsTableOf}
-use Rattle.tfpg_hyp.specs.declared.place.Place.{Place}
-use Rattle.tfpg_hyp.specs.Rounds.{IsRound, IsFinding, IsOrder, HasNoneOpen, counts_of, HasEvidence, IsRankedSubset, steps_in, steps_so_far, place_at, place_of_status}
-use Rattle.tfpg_hyp.proofs.FindingsOfRound.{at_place}
+use Rattle.tfpg_hyp.specs.declared.ranking_key.RankingKey.{RankingKey}
+use Rattle.tfpg_hyp.specs.Rounds.{IsRound, IsFinding, IsOrder, HasNoneOpen, counts_of, HasEvidence, IsRankedSubset, steps_in, steps_so_far, key_at, key_of_status}
+use Rattle.tfpg_hyp.proofs.FindingsOfRound.{at_same_index}
 use Rattle.tfpg_search.specs.Enough.{IsEnough}
 use Rattle.tfpg_clause.specs.Paths.{with_steps}
 use Rattle.tfpg_engine.specs.declared.slot.Slot.{Slot}
 use Rattle.tfpg_engine.specs.Earned.{AreEarned}
 use Rattle.tfpg_engine.specs.Engining.{SlotRepresents}
 use Rattle.tfpg_engine.specs.inside.Slots.{AllCanGoOn}
-use Rattle.tfpg_engine.specs.inside.Placed.{HasFraction}
+use Rattle.tfpg_engine.specs.inside.RankedKeys.{HasFraction}
 use Rattle.tfpg_engine.specs.inside.TreeLaws.{TreeLaws}
 use Rattle.tfpg_engine.specs.inside.Turns.{GoesOnFrom, IsTurn, AreTurns, MakesRound}
 use Rattle.tfpg_engine.proofs.Going.{slot_stays}
@@ -52,10 +52,10 @@ module _ (graph : Tfpg) (log : Logbook) (budget : ℕ) (table : Hypotheses) (old
 
   turn_at : (number : ℕ) (finding : Finding) → slice_get findings number ≡ Some finding → TurnAt number finding
   turn_at number finding at =
-      let set = at_place table.sets findings number finding complete at in
-      let reach = at_place table.reaches findings number finding (complete ∙ sym reached) at in
-      let before = at_place old findings number finding (complete ∙ sym old_each) at in
-      let now = at_place new findings number finding (complete ∙ sym old_each ∙ sym new_each) at in
+      let set = at_same_index table.sets findings number finding complete at in
+      let reach = at_same_index table.reaches findings number finding (complete ∙ sym reached) at in
+      let before = at_same_index old findings number finding (complete ∙ sym old_each) at in
+      let now = at_same_index new findings number finding (complete ∙ sym old_each ∙ sym new_each) at in
       record {
         set = set.0;
         reach = reach.0;
@@ -68,19 +68,19 @@ module _ (graph : Tfpg) (log : Logbook) (budget : ℕ) (table : Hypotheses) (old
         turn = turns number set.0 reach.0 before.0 now.0 finding set.1 reach.1 before.1 now.1 at;
       }
 
-  fraction_by : (number : ℕ) (place : Place) (at : Option Finding) → slice_get findings number ≡ at → option_and_then (λ (f : Finding). place_of_status number f.status) at ≡ Some place → HasFraction place
-  fraction_by number place None is placed = cc
-  fraction_by number place (Some finding) is placed = (turn_at number finding is).turn.whole place placed
+  fraction_by : (number : ℕ) (key : RankingKey) (at : Option Finding) → slice_get findings number ≡ at → option_and_then (λ (f : Finding). key_of_status number f.status) at ≡ Some key → HasFraction key
+  fraction_by number key None is key_is = cc
+  fraction_by number key (Some finding) is key_is = (turn_at number finding is).turn.whole key key_is
 
-  -- the robustness of each place is a fraction
-  pub fractions_of : (number : ℕ) (place : Place) → place_at findings number ≡ Some place → HasFraction place
-  fractions_of number place placed = fraction_by number place (slice_get findings number) refl placed
+  -- the robustness of each key is a fraction
+  pub fractions_of : (number : ℕ) (key : RankingKey) → key_at findings number ≡ Some key → HasFraction key
+  fractions_of number key key_is = fraction_by number key (slice_get findings number) refl key_is
 
   -- what is kept now can go on
   pub still_go_on : AllCanGoOn graph log table old → AllCanGoOn graph log table new
   still_go_on can number set reach slot at_set at_reach at_slot =
-      let finding = at_place findings new number slot (new_each ∙ old_each ∙ sym complete) at_slot in
-      let before = at_place old new number slot new_each at_slot in
+      let finding = at_same_index findings new number slot (new_each ∙ old_each ∙ sym complete) at_slot in
+      let before = at_same_index old new number slot new_each at_slot in
       let earlier = can number set reach before.0 at_set at_reach before.1 in
       let goes = (turns number set reach before.0 slot finding.0 at_set at_reach before.1 at_slot finding.1).goes_on earlier.0 earlier.1 in
       (with_steps earlier.0 log finding.0.steps, goes.represents)
@@ -184,7 +184,7 @@ module _ (laws : TreeLaws) (stand_before : StandBefore) (graph : Tfpg) (k : ℕ)
 
   -- with a budget that is enough no set is open
   pub settled : IsEnough graph log budget → HasNoneOpen round
-  settled enough = list_any_none (λ (f : Finding). is_open f.status) findings (All-from_places (λ (f : Finding). is_open f.status ≡ false) findings (λ number finding at. (Turn number finding at).turn.settled enough))
+  settled enough = list_any_none (λ (f : Finding). is_open f.status) findings (All-from_indexes (λ (f : Finding). is_open f.status ≡ false) findings (λ number finding at. (Turn number finding at).turn.settled enough))
 
   pub earned : AreEarned graph log budget rounds round
   earned number finding at =
@@ -195,8 +195,8 @@ module _ (laws : TreeLaws) (stand_before : StandBefore) (graph : Tfpg) (k : ℕ)
   pub represents : (number : ℕ) (set reach : List ℕ) (slot : Slot) → slice_get table.sets number ≡ Some set → slice_get table.reaches number ≡ Some reach → slice_get new number ≡ Some slot
       → SlotRepresents graph log set reach slot (steps_so_far number (rounds ++ round ∷ []))
   represents number set reach slot at_set at_reach at_slot =
-      let finding = at_place findings new number slot (new_each ∙ old_each ∙ sym made.complete) at_slot in
-      let before = at_place old new number slot new_each at_slot in
+      let finding = at_same_index findings new number slot (new_each ∙ old_each ∙ sym made.complete) at_slot in
+      let before = at_same_index old new number slot new_each at_slot in
       subst (SlotRepresents graph log set reach slot) (sym (steps_more number rounds round log finding.0 made.number finding.1))
       (goes_at number set reach before.0 slot finding.0 at_set at_reach before.1 at_slot finding.1).represents
 

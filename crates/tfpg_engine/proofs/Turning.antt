@@ -1,5 +1,6 @@
 -- What a round finds of one hypothesis.
 use Rattle.std.proofs.Common.{◌≡◌, ℕ, ◌+◌, ◌<◌, ◌≤◌, ◌⊎◌, inl, inr, ◌↔◌, Bool, true, false, cond, List, [], ◌∷◌, ◌++◌, length, get_or, take, set as set_at, refl, sym, ap, subst, ◌∙◌, arith}
+use Rattle.std.proofs.Math.Arith.{lt_of_le-ne}
 use Rattle.std.specs.Prelude.{IsTrue, ◌==◌, Ok, Some, slice_get}
 use Rattle.std.proofs.lemmas.List.{append-nil, length-append, length-set, take-append-le, take_at}
 use Rattle.std.proofs.lemmas.Option.{slice_get-get_or, slice_get_within, get_or_from_slice_get, same_Some}
@@ -18,7 +19,7 @@ use Rattle.tfpg_evidence.specs.declared.step.Step.{Step}
 use Rattle.tfpg_evidence.specs.RoundOf.{is_ranked, is_open}
 use Rattle.tfpg_clause.specs.Trees.{Judged, IsPartial, IsRefutation, split_count}
 use Rattle.tfpg_hyp.specs.Hypotheses.{Hypotheses}
-use Rattle.tfpg_hyp.specs.declared.place.Fraction.{Fraction}
+use Rattle.tfpg_hyp.specs.declared.ranking_key.Fraction.{Fraction}
 use Rattle.tfpg_hyp.specs.Ranking.{cost_of, robustness_of, monitored_in, alarmed_in}
 use Rattle.tfpg_hyp.specs.Rounds.{IsRankedSubset, HasRankedSubset, IsLeastSubset}
 use Rattle.tfpg_log.specs.Explains.{Explains}
@@ -77,14 +78,14 @@ module _ (graph : Tfpg) (log : Logbook) (budget : ℕ) (set reach : List ℕ) (n
 
   -- A rejected hypothesis is passed over.
   pub turn_rejected : (slot : Slot) → is_rejected_slot slot ≡ true → IsTurn graph log budget set reach number findings slot slot (passed status.Rejected)
-  turn_rejected slot is = record { number_is = refl; set_is = refl; whole = λ place placed. cc; settled = λ enough. refl; goes_on = rejected_goes slot is }
+  turn_rejected slot is = record { number_is = refl; set_is = refl; whole = λ key key_is. cc; settled = λ enough. refl; goes_on = rejected_goes slot is }
 
   -- So is one with a ranked proper subset.
   pub turn_covered : TreeLaws → (slot : Slot) (by : ℕ) → is_rejected_slot slot ≡ false → IsLeastSubset findings set by → IsTurn graph log budget set reach number findings slot slot (passed (status.Covered by))
   turn_covered laws slot by open_yet least = record {
     number_is = refl;
     set_is = refl;
-    whole = λ place placed. cc;
+    whole = λ key key_is. cc;
     settled = λ enough. refl;
     goes_on = λ earlier represents.
         let good = slot_partial laws graph log ordered set reach slot earlier open_yet represents in
@@ -107,11 +108,11 @@ module _ (graph : Tfpg) (log : Logbook) (budget : ℕ) (set reach : List ℕ) (n
     status_of found = status_by (cost_of graph set) (robustness_of graph log reach) found
 
     whole_of : (found : Found) → RanksByFraction number (status_of found)
-    whole_of (Shown trace) place is =
-        let robust : (robustness_of graph log reach).monitored ≡ place.robust.monitored = cc in
+    whole_of (Shown trace) key is =
+        let robust : (robustness_of graph log reach).monitored ≡ key.robust.monitored = cc in
         subst (λ (n : ℕ). 1 ≤ n) robust (fraction_of graph log reach)
-    whole_of Closed place is = cc
-    whole_of Spent place is = cc
+    whole_of Closed key is = cc
+    whole_of Spent key is = cc
 
     module _ (earlier : List Judged) (is_set : new.set ≡ set) (is_reach : new.reach ≡ reach) (within : split_count steps ≤ budget) (right : AreSearchSteps graph log reach earlier steps) where
       abbrev all : List Judged
@@ -174,14 +175,11 @@ is_by read is = sym read ∙ is
 -- ---- which ranked hypothesis covers a set
 
 module _ (findings : List Finding) (set : List ℕ) (number : ℕ) where
-  -- the finding of this number is not a ranked part
+  -- the finding of this number does not rank a proper subset of the set
   pub not_yet : (read : Finding) (covers : Bool) → read ≡ get_or findings number read → ((other : ℕ) → IsRankedSubset findings set other → number ≤ other)
       → IsTrue covers ↔ (IsTrue (is_ranked read.status) × IsProperSubset read.set set) → covers ≡ false → (other : ℕ) → IsRankedSubset findings set other → number + 1 ≤ other
-  not_yet read covers is so_far test not_covering other part = later other (so_far other part) (differs other part)
+  not_yet read covers is so_far test not_covering other part = omega (arith, lt_of_le-ne (so_far other part) (differs other part))
     where
-      later : (other : ℕ) → number ≤ other → (number ≡ other → ⊥) → number + 1 ≤ other
-      later other least differ = grind arith
-
       differs : (other : ℕ) → IsRankedSubset findings set other → number ≡ other → ⊥
       differs other part same =
           let here : read ≡ part.finding = is ∙ get_or_from_slice_get findings number part.finding read (ap (slice_get findings) same ∙ part.numbered) in

@@ -1,6 +1,6 @@
 pub use Rattle.tfpg_hyp.specs.Rounds
 pub use Rattle.tfpg_search.specs.Searched
--- What the contracts say.
+-- What the public contracts say.
 pub mod Earned
 pub mod Engining
 -- What the code and its proofs need besides. No public clause reaches it.

@@ -1,5 +1,6 @@
 pub mod Slots
 pub mod Turns
-pub mod Placed
+pub mod RankedKeys
+pub mod StatusCounts
 pub mod TreeLaws
 pub mod Asking

@@ -9,7 +9,7 @@ use crate::asked::Asked;
 use crate::counts::counts_of;
 use crate::order::order;
 use crate::slot::Slot;
-use crate::turns::find_all;
+use crate::turns::new_findings;
 use std::alloc::Global;
 use std::sync::ledger::Ledger;
 use tfpg_base::{NoMemory, Steps};
@@ -36,7 +36,7 @@ pub(crate) fn make<L: Ledger>(
 {
     // So many hypotheses that their numbers fit.
     let _few = table.len();
-    let findings = find_all(alloc, asked, table, slots, work)?;
+    let findings = new_findings(alloc, asked, table, slots, work)?;
     let order = order(alloc, &findings)?;
     let counts = counts_of(&findings);
     Ok(Round {

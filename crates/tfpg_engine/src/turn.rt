@@ -23,7 +23,7 @@ use tfpg_search::{Found, Search};
 
 /// The finding on a hypothesis, after those on the ones before it. A rejected one is passed over. So is one with a
 /// ranked proper subset. For every other one the search continues.
-pub(crate) fn find<L: Ledger>(
+pub(crate) fn new_finding<L: Ledger>(
     alloc: Global,
     asked: &Asked<'_>,
     hypothesis: &Hypothesis<'_>,

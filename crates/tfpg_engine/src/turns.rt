@@ -8,7 +8,7 @@ ghost use Rattle.tfpg_engine.specs.inside.Turns.{AreTurns, IsOfGraph};
 use crate::asked::Asked;
 use crate::hypothesis::Hypothesis;
 use crate::slot::Slot;
-use crate::turn::find;
+use crate::turn::new_finding;
 use std::alloc::Global;
 use std::sync::ledger::Ledger;
 use tfpg_base::{NoMemory, Steps};
@@ -17,7 +17,7 @@ use tfpg_hyp::Table;
 
 /// A finding on each hypothesis of the table, in the order of their numbers. It costs the searches, and for each hypothesis a
 /// look at the findings before it.
-pub(crate) fn find_all<L: Ledger>(
+pub(crate) fn new_findings<L: Ledger>(
     alloc: Global,
     asked: &Asked<'_>,
     table: &Table,
@@ -41,7 +41,7 @@ pub(crate) fn find_all<L: Ledger>(
             reach: table.reach(number),
         };
         let slot = &mut slots[number as usize];
-        let finding = find(alloc, asked, &hypothesis, &findings, slot, work)?;
+        let finding = new_finding(alloc, asked, &hypothesis, &findings, slot, work)?;
         findings.push(finding)?;
     }
     Ok(findings)

@@ -20,7 +20,7 @@ IsReasonOf sizes (Unreached node horizon) = node < sizes.nodes
 IsReasonOf sizes (From event) = Unit {0}
 IsReasonOf sizes (Upto event) = Unit {0}
 IsReasonOf sizes (Quiet event node) = node < sizes.nodes
-IsReasonOf sizes (Pick split place) = Unit {0}
+IsReasonOf sizes (Pick split constraint) = Unit {0}
 
 -- The clause names a node or an edge of the graph.
 abbrev pub IsClauseOf : Sizes → ClauseName → Type 0
@@ -43,7 +43,7 @@ IsStatusOf sizes Open = Unit {0}
 
 -- a finding that names only what the graph has
 pub record IsFindingOf (sizes : Sizes) (finding : Finding) : Type 0 where
-  pub set : All (λ place. place < sizes.failures) finding.set
+  pub set : All (λ position. position < sizes.failures) finding.set
   pub steps : All (IsStepOf sizes) finding.steps
   pub status : IsStatusOf sizes finding.status
 

@@ -3,13 +3,13 @@
 use crate::Findings;
 use tfpg_base::NumberList;
 
-/// How many hypotheses have each status. `unsettled` counts the open ones.
+/// How many hypotheses have each status. A hypothesis is open where its budget was spent.
 #[derive(Clone, Copy, Debug, PartialEq, Eq)]
 pub struct Counts {
     pub ranked: u32,
     pub covered: u32,
     pub rejected: u32,
-    pub unsettled: u32,
+    pub left_open: u32,
 }
 
 /// What one accepted line brings: a finding for each hypothesis.

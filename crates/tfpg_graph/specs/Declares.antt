@@ -1,5 +1,6 @@
 -- Which graph the lines of a text declare. What has no value, as a word that is no number, declares nothing.
-use Rattle.std.specs.Prelude.{ℕ, ◌^◌, List, [], ◌||◌, if◌then◌else◌, Option, Some, None, option_map, option_and_then, filter_map, codes, bytes_eq, sum_by}
+use Rattle.std.specs.Prelude.{ℕ, List, [], ◌||◌, if◌then◌else◌, Option, Some, None, option_map, option_and_then, filter_map, codes, bytes_eq}
+use Rattle.tfpg_base.specs.SetBits.{bits_of}
 use Rattle.tfpg_base.specs.Words.{comma_parts, number_of}
 use Rattle.tfpg_graph.specs.declared.kind.Kind.{Kind}
 use Rattle.tfpg_graph.specs.declared.kind.Kind.TheVariants.{Failure, Or, And}
@@ -43,11 +44,11 @@ modes_listed word = if bytes_eq word (codes "*") || bytes_eq word (codes "-") th
 
 -- the bits of the modes that a word says
 abbrev pub modes_of_word : Tfpg → List ℕ → ℕ
-modes_of_word graph word = if bytes_eq word (codes "*") then all_modes graph else sum_by (λ mode. 2 ^ mode) (filter_map (mode_named graph) (modes_listed word))
+modes_of_word graph word = if bytes_eq word (codes "*") then all_modes graph else bits_of (filter_map (mode_named graph) (modes_listed word))
 
 -- the delays that two words say
 abbrev pub delays_of_words : List ℕ → List ℕ → Option (ℕ × Option ℕ)
-delays_of_words tmin tmax = option_and_then (λ least. option_map (λ most. (least, most)) (tmax_of_word tmax)) (number_of tmin)
+delays_of_words tmin tmax = option_and_then (λ least. option_map (λ greatest. (least, greatest)) (tmax_of_word tmax)) (number_of tmin)
 
 -- the nodes of two names
 abbrev pub ends_named : Tfpg → List ℕ → List ℕ → Option (ℕ × ℕ)

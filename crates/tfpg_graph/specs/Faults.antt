@@ -89,13 +89,9 @@ IsRefusalOf text (Fault fault) = IsFirstFault text fault
 IsRefusalOf text NoMemory = Unit {0}
 
 -- The result for a text that has this first fault: the fault, unless memory ran out.
-abbrev pub IsFaultAnswer : GraphFault → Result Tfpg GraphRefusal → Type 0
-IsFaultAnswer fault (Ok answer) = ⊥
-IsFaultAnswer fault (Err (Fault reported)) = reported ≡ fault
-IsFaultAnswer fault (Err NoMemory) = Unit {0}
+abbrev pub IsFaultResult : GraphFault → Result Tfpg GraphRefusal → Type 0
+IsFaultResult fault result = (result ≡ Err (Fault fault)) ⊎ (result ≡ Err NoMemory)
 
 -- The result for a text that spells this graph: the graph, unless memory ran out.
-abbrev pub IsAnswerOf : Tfpg → Result Tfpg GraphRefusal → Type 0
-IsAnswerOf graph (Ok answer) = answer ≡ graph
-IsAnswerOf graph (Err (Fault fault)) = ⊥
-IsAnswerOf graph (Err NoMemory) = Unit {0}
+abbrev pub IsGraphResult : Tfpg → Result Tfpg GraphRefusal → Type 0
+IsGraphResult graph result = (result ≡ Ok graph) ⊎ (result ≡ Err NoMemory)

@@ -64,7 +64,7 @@ lag_at graph node = option_and_then lag_of (kind_at graph node)
 abbrev pub is_monitored : Tfpg → ℕ → Bool
 is_monitored graph node = is_some (lag_at graph node)
 
--- The nodes that are failure modes. The place of one in this list is its position.
+-- The nodes that are failure modes. The index of one in this list is its position.
 abbrev pub failures : Tfpg → List ℕ
 failures graph = numbers_from 0 (λ node. is_failure node.kind) graph.nodes
 
@@ -100,8 +100,8 @@ abbrev pub edges_into : Tfpg → ℕ → List Edge
 edges_into graph node = filter (λ edge. edge.target == node) graph.edges
 
 -- An edge is active in a mode where the bit of the mode is set.
-abbrev pub is_allowed : Edge → ℕ → Bool
-is_allowed edge mode = bit_at edge.modes mode == 1
+abbrev pub is_active_in : Edge → ℕ → Bool
+is_active_in edge mode = bit_at edge.modes mode == 1
 
 -- the number of the node of this name
 abbrev pub node_named : Tfpg → List ℕ → Option ℕ

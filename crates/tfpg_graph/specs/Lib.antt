@@ -12,5 +12,5 @@ pub mod Statements
 pub mod Declares
 pub mod Causes
 pub mod Faults
--- What the code and its proofs need besides. No public contract reaches it.
+-- What the code and its proofs need besides. No public clause reaches it.
 pub mod inside

@@ -1,7 +1,8 @@
 -- The text of a graph: what each line spells.
-use Rattle.std.specs.Prelude.{◌≡◌, ℕ, ◌-◌, ◌≤◌, ◌^◌, List, [], ◌∷◌, ◌++◌, length, map, filter, All, Bool, true, not, ◌==◌, if◌then◌else◌, Option, Some, None, slice_get, codes, decimal, sum_by, filter_map, flat_map, ◌⊎◌, ◌≢◌, ◌<◌, AllPairs}
+use Rattle.std.specs.Prelude.{◌≡◌, ℕ, ◌-◌, ◌≤◌, ◌^◌, List, [], ◌∷◌, ◌++◌, length, map, filter, All, Bool, true, not, ◌==◌, if◌then◌else◌, Option, Some, None, slice_get, codes, decimal, filter_map, flat_map, ◌⊎◌, ◌≢◌, ◌<◌, AllPairs}
 use Rattle.std.specs.Int.{bit_at}
 use Rattle.std.specs.List.{range_with_len, AllZip}
+use Rattle.tfpg_base.specs.SetBits.{bits_of}
 use Rattle.tfpg_base.specs.Words.{joined_by_commas, line_of}
 use Rattle.tfpg_base.specs.Lines.{lines_of, with_line_end}
 use Rattle.tfpg_base.specs.declared.limits.TheConstants.{LONGEST_LINE}
@@ -53,7 +54,7 @@ abbrev pub SpellsModes : Tfpg → ℕ → List ℕ → Type 0
 SpellsModes graph bits word =
     ((word ≡ codes "*") × (bits ≡ all_modes graph))
     ⊎ ((modes : List ℕ) × (modes ≢ []) × AllPairs (λ a b. a ≢ b) modes × All (λ mode. mode < length graph.modes) modes
-    × (word ≡ joined_by_commas (filter_map (slice_get graph.modes) modes)) × (bits ≡ sum_by (λ mode. 2 ^ mode) modes))
+    × (word ≡ joined_by_commas (filter_map (slice_get graph.modes) modes)) × (bits ≡ bits_of modes))
 
 -- The line spells this edge.
 abbrev pub SpellsEdge : Tfpg → Edge → List ℕ → Type 0
@@ -63,6 +64,10 @@ SpellsEdge graph edge line = (word : List ℕ) × SpellsModes graph edge.modes w
 abbrev pub is_empty_or_comment : List ℕ → Bool
 is_empty_or_comment [] = true
 is_empty_or_comment (first ∷ others) = first == 35
+
+-- the lines that are neither empty nor begin with `#`
+abbrev pub content_lines : List (List ℕ) → List (List ℕ)
+content_lines lines = filter (λ line. not (is_empty_or_comment line)) lines
 
 -- The lines after the header that are not skipped: the modes, the nodes, the edges and the end.
 pub record SpellsLines (graph : Tfpg) (lines : List (List ℕ)) : Type 0 where
@@ -74,7 +79,7 @@ pub record SpellsLines (graph : Tfpg) (lines : List (List ℕ)) : Type 0 where
 pub record Spells (text : List ℕ) (graph : Tfpg) : Type 0 where
   pub after : List (List ℕ)
   pub lines : lines_of text ≡ header ∷ after
-  pub said : SpellsLines graph (filter (λ line. not (is_empty_or_comment line)) after)
+  pub said : SpellsLines graph (content_lines after)
   pub short : All (λ line. length line ≤ LONGEST_LINE) (lines_of text)
 
 -- the word for an edge's modes in the canonical text: a star for all, else the names in the order of the modes

@@ -22,7 +22,7 @@ pub record IsValidEdge (graph : Tfpg) (edge : Edge) : Type 0 where
   pub into_discrepancy : IsTrue (is_discrepancy graph edge.target)
   pub no_self_edge : edge.source ≢ edge.target
   pub least : edge.tmin ≤ MAX_TIME
-  pub most : IfSome edge.tmax (λ tmax. (edge.tmin ≤ tmax) × (tmax ≤ MAX_TIME))
+  pub greatest : IfSome edge.tmax (λ tmax. (edge.tmin ≤ tmax) × (tmax ≤ MAX_TIME))
   pub some_mode : 0 < edge.modes
   pub own_modes : edge.modes < 2 ^ length graph.modes
 

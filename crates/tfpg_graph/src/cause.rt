@@ -33,15 +33,15 @@ pub enum GraphCause {
     NoIncoming,
     /// Edges that may take no time make a cycle.
     ZeroCycle,
-    /// The line declares a 513th node.
+    /// The line declares a node beyond [`MAX_NODES`](crate::MAX_NODES).
     TooManyNodes,
-    /// The line declares a 65th failure mode.
+    /// The line declares a failure mode beyond [`MAX_FAILURES`](crate::MAX_FAILURES).
     TooManyFailures,
-    /// The line declares a 2,049th edge.
+    /// The line declares an edge beyond [`MAX_EDGES`](crate::MAX_EDGES).
     TooManyEdges,
-    /// The line declares a 65th mode.
+    /// The line declares a mode beyond [`MAX_MODES`](crate::MAX_MODES).
     TooManyModes,
-    /// The line declares a 33rd edge into a node.
+    /// The line declares an edge into a node beyond [`MAX_INCOMING`](crate::MAX_INCOMING).
     TooManyIncoming,
     /// No line is `end`.
     MissingEnd,

@@ -11,21 +11,21 @@ pub struct Edge {
     pub source: u32,
     /// The number of the discrepancy that it enters.
     pub target: u32,
-    /// The least delay in milliseconds, from 0 to 10^12.
+    /// The least delay in milliseconds, from 0 to [`MAX_TIME`](tfpg_base::MAX_TIME).
     pub tmin: u64,
-    /// The greatest delay in milliseconds, from `tmin` to 10^12. With none the edge may carry the failure, and is never
-    /// forced to.
+    /// The greatest delay in milliseconds, from `tmin` to [`MAX_TIME`](tfpg_base::MAX_TIME). With none the edge may carry
+    /// the failure, and is never forced to.
     pub tmax: Option<u64>,
     /// The system modes in which it is active: bit `m` is that of mode `m`.
     pub modes: u64,
 }
 
 impl Edge {
-    ghost use Rattle.tfpg_graph.specs.Graph.{is_allowed};
+    ghost use Rattle.tfpg_graph.specs.Graph.{is_active_in};
 
-    /// Whether it is active in the mode of this number. It is active in none from 64 on.
-    pub fn is_allowed(&self, mode: u32) -> bool
-        ensures { result ≡ is_allowed self.now mode }
+    /// Whether it is active in the mode of this number. It is active in none from [`MAX_MODES`](crate::MAX_MODES) on.
+    pub fn is_active_in(&self, mode: u32) -> bool
+        ensures { result ≡ is_active_in self.now mode }
     {
         let modes = self.modes;
         mode < u64::BITS && modes >> mode & 1 == 1
@@ -33,8 +33,8 @@ impl Edge {
 
     /// The edge, active only in the modes in which the other is active too.
     pub fn active_with(&self, other: &Edge) -> Edge
-        ensures { (mode : ℕ) → is_allowed result mode ≡
-            (is_allowed self.now mode && is_allowed other.now mode) }
+        ensures { (mode : ℕ) → is_active_in result mode ≡
+            (is_active_in self.now mode && is_active_in other.now mode) }
     {
         Edge {
             modes: self.modes & other.modes,

@@ -6,9 +6,10 @@ ghost use Rattle.std.specs.Prelude.{◌≡◌, is_some};
 /// most `lag` milliseconds before. One without is hidden.
 #[derive(Clone, Copy, Debug, PartialEq, Eq)]
 pub enum Kind {
-    /// A failure mode, with its rarity from 0 to 1,000,000: the rarer, the greater.
+    /// A failure mode, with its rarity from 0 to [`MAX_RARITY`](crate::MAX_RARITY): the rarer, the greater.
     Failure { rarity: u64 },
-    /// A discrepancy that is activated when the failure reaches it from any source. Lags go from 0 to 10^12 ms.
+    /// A discrepancy that is activated when the failure reaches it from any source. Lags go from 0 to
+    /// [`MAX_TIME`](tfpg_base::MAX_TIME), in milliseconds.
     Or { lag: Option<u64> },
     /// A discrepancy that is activated when the failure reaches it from all its sources.
     And { lag: Option<u64> },

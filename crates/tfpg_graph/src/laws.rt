@@ -22,7 +22,7 @@ pub fn reach_is_the_least_closed_set()
         IsReach graph set nodes → IsReach graph set others → nodes ≡ others }
 {}
 
-/// A node is among those that the list of what is reached contains.
+/// A node is among the nodes of a list exactly where the list contains it.
 pub fn being_among_nodes_is_being_contained()
     ensures { (nodes : List ℕ) (node : ℕ) → IsTrue (is_among nodes node) ↔ Contains nodes node }
 {}

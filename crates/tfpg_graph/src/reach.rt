@@ -54,7 +54,7 @@ impl Graph {
     {
         let mut added = false;
         for node in 0..self.node_count() {
-            if self.settle(reached, node) {
+            if self.add_if_fed(reached, node) {
                 added = true;
             }
         }
@@ -66,12 +66,12 @@ impl Graph {
         ensures { Widens self.now reached.old reached.new }
     {
         for node in (0..self.node_count()).rev() {
-            self.settle(reached, node);
+            self.add_if_fed(reached, node);
         }
     }
 
     /// Adds the node where the set feeds it. Says whether it added it.
-    fn settle(&self, reached: &mut NodeSet, node: u32) -> bool
+    fn add_if_fed(&self, reached: &mut NodeSet, node: u32) -> bool
         requires within { node < length self.now.nodes }
         requires small { node < MAX_NODES }
         ensures widens { Widens self.now reached.old reached.new }

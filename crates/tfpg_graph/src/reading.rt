@@ -4,7 +4,7 @@ ghost use Rattle.std.specs.Prelude.{IfOk, IfErr};
 ghost use Rattle.tfpg_graph.specs.Graph.{Tfpg};
 ghost use Rattle.tfpg_graph.specs.Text.{Spells};
 ghost use Rattle.tfpg_graph.specs.Valid.{IsValid};
-ghost use Rattle.tfpg_graph.specs.Faults.{IsFirstFault, IsRefusalOf, IsAnswerOf, IsFaultAnswer};
+ghost use Rattle.tfpg_graph.specs.Faults.{IsFirstFault, IsRefusalOf, IsGraphResult, IsFaultResult};
 ghost use Rattle.tfpg_graph.specs.declared.cause.GraphFault.{GraphFault};
 
 mod check_edge;
@@ -27,14 +27,14 @@ use tfpg_base::without_last_line_end;
 /// Returns the graph that the text spells, where it spells a valid one, and else the first fault of the text: the first
 /// line that has a cause, with the first of its causes; or, where no line has one, what is wrong with the whole text. In
 /// place of either it may run out of memory. Takes time linear in the text, but for look-ups by name, and for each edge
-/// the square of the number of modes that it lists, which is at most 64, except in a line with a fault. Takes memory
-/// for the graph and one line.
+/// the square of the number of modes that it lists, which is at most [`MAX_MODES`](crate::MAX_MODES), except in a line
+/// with a fault. Takes memory for the graph and one line.
 pub fn read(alloc: Global, text: &[u8]) -> Result<Graph, GraphRefusal>
     ensures spelled { IfOk result (λ graph. Spells text.now graph) }
     ensures valid { IfOk result IsValid }
     ensures refused { IfErr result (IsRefusalOf text.now) }
-    ensures exact { (graph : Tfpg) → Spells text.now graph → IsValid graph → IsAnswerOf graph result }
-    ensures faulty { (fault : GraphFault) → IsFirstFault text.now fault → IsFaultAnswer fault result }
+    ensures exact { (graph : Tfpg) → Spells text.now graph → IsValid graph → IsGraphResult graph result }
+    ensures faulty { (fault : GraphFault) → IsFirstFault text.now fault → IsFaultResult fault result }
 {
     let body = without_last_line_end(text);
     let mut reader = Reader::new(alloc);

@@ -20,8 +20,8 @@ use tfpg_base::NoMemory;
 ///
 /// An edge lies on such a cycle exactly where it may take no time and its ends lie in one group of nodes that reach
 /// each other in no time. The groups are the strongly connected components of the edges that may take no time. Two
-/// depth-first searches find them, the first along the reversed edges (Kosaraju; Sharir 1981), and then it goes through the
-/// edges once. Takes time and memory in the numbers of nodes and edges, and calls as deep as there are
+/// depth-first searches find them, the first along the reversed edges (the algorithm of Kosaraju), and then it goes
+/// through the edges once. Takes time and memory in the numbers of nodes and edges, and calls as deep as there are
 /// nodes.
 pub(crate) fn first_on_zero_cycle(
     alloc: Global,

@@ -13,15 +13,15 @@ use Rattle.tfpg_hyp.specs.inside.Choices.{chosen}
 -- a rising list of this length of so many positions, from the least on
 pub record IsChoice (count size least : ℕ) (set : List ℕ) : Type 0 where
   pub rising : Rises set
-  pub low : All (λ place. least ≤ place) set
-  pub high : All (λ place. place < least + count) set
+  pub low : All (λ index. least ≤ index) set
+  pub high : All (λ index. index < least + count) set
   pub size_is : length set ≡ size
 
 -- ---- what is chosen
 
 -- the empty set is one of size 0
 IsChoice-nil : (count least : ℕ) (set : List ℕ) → [] ≡ set → IsChoice count 0 least set
-IsChoice-nil count least set is = subst (IsChoice count 0 least) is (record { rising = AllPairs-nil ◌<◌; low = All-nil (λ place. least ≤ place); high = All-nil (λ place. place < least + count); size_is = refl })
+IsChoice-nil count least set is = subst (IsChoice count 0 least) is (record { rising = AllPairs-nil ◌<◌; low = All-nil (λ index. least ≤ index); high = All-nil (λ index. index < least + count); size_is = refl })
 
 -- the least position before a set of greater ones
 IsChoice-cons : (count size least : ℕ) (set : List ℕ) → IsChoice count size (least + 1) set → IsChoice (suc count) (suc size) least (least ∷ set)
@@ -32,11 +32,11 @@ IsChoice-cons count size least set is = record {
   size_is = ap suc is.size_is;
 }
   where
-    by_low : All (λ place. least ≤ place) (least ∷ set)
+    by_low : All (λ index. least ≤ index) (least ∷ set)
     by_low zero d within = omega arith
     by_low (suc k) d within = omega (arith, is.low k d (omega arith))
 
-    by_high : All (λ place. place < least + suc count) (least ∷ set)
+    by_high : All (λ index. index < least + suc count) (least ∷ set)
     by_high zero d within = omega arith
     by_high (suc k) d within = omega (arith, is.high k d (omega arith))
 
@@ -67,36 +67,36 @@ IsChoice-chosen (suc count) (suc size) least set member =
 pub Contains-chosen : (count size least : ℕ) (set : List ℕ) → IsChoice count size least set → Contains (chosen count size least) set
 Contains-chosen zero zero least set is = subst (λ (s : List ℕ). Contains ([] ∷ []) s) (sym (nil_from_length set is.size_is)) (Contains-head [] [])
 Contains-chosen zero (suc size) least [] is = absurd (omega (arith, is.size_is))
-Contains-chosen zero (suc size) least (place ∷ others) is = absurd (omega (arith, is.low 0 0 (omega arith), is.high 0 0 (omega arith)))
+Contains-chosen zero (suc size) least (index ∷ others) is = absurd (omega (arith, is.low 0 0 (omega arith), is.high 0 0 (omega arith)))
 Contains-chosen (suc count) zero least set is = subst (λ (s : List ℕ). Contains ([] ∷ []) s) (sym (nil_from_length set is.size_is)) (Contains-head [] [])
 Contains-chosen (suc count) (suc size) least [] is = absurd (omega (arith, is.size_is))
-Contains-chosen (suc count) (suc size) least (place ∷ others) is =
-    let later = AllPairs-head ◌<◌ place others is.rising in
+Contains-chosen (suc count) (suc size) least (index ∷ others) is =
+    let later = AllPairs-head ◌<◌ index others is.rising in
     ⊎_elim
     (λ same.
     let rest : IsChoice count size (least + 1) others = record {
-      rising = AllPairs-tail ◌<◌ place others is.rising;
+      rising = AllPairs-tail ◌<◌ index others is.rising;
       low = λ k d within. omega (arith, same, later k d within);
       high = λ k d within. omega (arith, is.high (suc k) d (omega arith));
       size_is = omega (arith, is.size_is);
     } in
-    Contains-append_left (map (λ rest. least ∷ rest) (chosen count size (least + 1))) (chosen count (suc size) (least + 1)) (place ∷ others)
+    Contains-append_left (map (λ rest. least ∷ rest) (chosen count size (least + 1))) (chosen count (suc size) (least + 1)) (index ∷ others)
     (subst (λ (p : ℕ). Contains (map (λ rest. least ∷ rest) (chosen count size (least + 1))) (p ∷ others)) same
     (Contains-map (λ rest. least ∷ rest) (chosen count size (least + 1)) others (Contains-chosen count size (least + 1) others rest))))
     (λ greater.
-    let wide : IsChoice count (suc size) (least + 1) (place ∷ others) = record {
+    let wide : IsChoice count (suc size) (least + 1) (index ∷ others) = record {
       rising = is.rising;
-      low = all_above least place others greater later;
+      low = all_above least index others greater later;
       high = λ k d within. omega (arith, is.high k d within);
       size_is = is.size_is;
     } in
-    Contains-append_right (map (λ rest. least ∷ rest) (chosen count size (least + 1))) (chosen count (suc size) (least + 1)) (place ∷ others)
-    (Contains-chosen count (suc size) (least + 1) (place ∷ others) wide))
+    Contains-append_right (map (λ rest. least ∷ rest) (chosen count size (least + 1))) (chosen count (suc size) (least + 1)) (index ∷ others)
+    (Contains-chosen count (suc size) (least + 1) (index ∷ others) wide))
     (eq-or-lt_of_le (is.low 0 0 (omega arith)))
   where
-    all_above : (least place : ℕ) (others : List ℕ) → least < place → All (λ p. place < p) others → All (λ p. least + 1 ≤ p) (place ∷ others)
-    all_above least place others greater later zero d within = omega arith
-    all_above least place others greater later (suc k) d within = omega (arith, later k d (omega arith))
+    all_above : (least index : ℕ) (others : List ℕ) → least < index → All (λ p. index < p) others → All (λ p. least + 1 ≤ p) (index ∷ others)
+    all_above least index others greater later zero d within = omega arith
+    all_above least index others greater later (suc k) d within = omega (arith, later k d (omega arith))
 
 -- ---- in order
 
@@ -113,7 +113,7 @@ in_order-cons least (set ∷ sets) ordered =
 -- a set with the least position comes before one of the others
 least_comes_first : (count size least : ℕ) (rest other : List ℕ) → IsChoice count (suc size) (least + 1) other → ComesFirst (least ∷ rest) other
 least_comes_first count size least rest [] is = absurd (omega (arith, is.size_is))
-least_comes_first count size least rest (place ∷ others) is = inl (omega (arith, is.low 0 0 (omega arith)))
+least_comes_first count size least rest (index ∷ others) is = inl (omega (arith, is.low 0 0 (omega arith)))
 
 -- The chosen sets stand in order.
 pub in_order-chosen : (count size least : ℕ) → AllPairs ComesFirst (chosen count size least)

@@ -21,13 +21,13 @@ use Rattle.tfpg_clause.specs.Trees.{Judged, IsRefutation}
 use Rattle.tfpg_hyp.specs.Table.{IsHypothesis}
 use Rattle.tfpg_hyp.specs.Rounds.{IsRound, HasEvidence, IsRankedSubset, HasRankedSubset, HasNoneOpen, steps_so_far}
 use Rattle.tfpg_hyp.specs.Fitting.{HasFittingSubset, AreNoneOpenBelow}
-use Rattle.tfpg_hyp.proofs.FindingsOfRound.{Found, at_place, evidence}
+use Rattle.tfpg_hyp.proofs.FindingsOfRound.{HasFindingAt, at_same_index, evidence}
 use Rattle.tfpg_hyp.proofs.Parts.{part_first, once}
 
 -- ---- sets and their supersets
 
-in_whole : (part whole : List ℕ) → IsSubset part whole → (place : ℕ) → Contains part place → Contains whole place
-in_whole part whole is place has = All-contains (Contains whole) part place is has
+in_whole : (part whole : List ℕ) → IsSubset part whole → (key : ℕ) → Contains part key → Contains whole key
+in_whole part whole is key has = All-contains (Contains whole) part key is has
 
 -- A trace that explains a log from a set explains it from each set that has its members.
 explains_more : (graph : Tfpg) (log : Logbook) (part whole : List ℕ) (trace : List Activation) → IsSubset part whole → Explains graph log part trace → Explains graph log whole trace
@@ -53,7 +53,7 @@ module _ (leaves_none : LeavesNoTrace) (graph : Tfpg) (k budget line : ℕ) (rou
     (is_round : IsRound graph k budget rounds log line round) where
   -- ---- what each status says of the set
 
-  module _ (number : ℕ) (finding : Finding) (at : Found round number finding) where
+  module _ (number : ℕ) (finding : Finding) (at : HasFindingAt round number finding) where
     -- its set stands in the table
     set_at : slice_get is_round.sets number ≡ Some finding.set
     set_at = (evidence is_round number finding at).1 ∙ ap Some (sym (evidence is_round number finding at).2.set_is)
@@ -113,28 +113,28 @@ module _ (leaves_none : LeavesNoTrace) (graph : Tfpg) (k budget line : ℕ) (rou
   whole_fits : (set : List ℕ) → HasFittingSubset graph log k set → Fits graph log set
   whole_fits set part = (part.fits.0, explains_more graph log part.part set part.fits.0 part.proper.0 part.fits.1)
 
-  covered_part : (number : ℕ) (finding : Finding) (at : Found round number finding) (status : Status) → Evidence number finding at status → IsTrue (is_covered status)
+  covered_part : (number : ℕ) (finding : Finding) (at : HasFindingAt round number finding) (status : Status) → Evidence number finding at status → IsTrue (is_covered status)
       → (by : ℕ) × IsRankedSubset round.findings finding.set by
   covered_part number finding at (Covered by) own holds = (by, own.2.part)
   covered_part number finding at (Ranked trace cost alarmed monitored) own holds = cc
   covered_part number finding at Rejected own holds = cc
   covered_part number finding at Open own holds = cc
 
-  covered_has : (number : ℕ) (finding : Finding) → Found round number finding → IsTrue (is_covered finding.status) → HasFittingSubset graph log k finding.set
+  covered_has : (number : ℕ) (finding : Finding) → HasFindingAt round number finding → IsTrue (is_covered finding.status) → HasFittingSubset graph log k finding.set
   covered_has number finding at holds =
       let part = covered_part number finding at finding.status (evidence_of number finding at) holds in
       part_fits finding.set part.0 part.1
 
   -- ---- a set that is not open is rejected exactly where it does not fit
 
-  rejected_where : (number : ℕ) (finding : Finding) (at : Found round number finding) (status : Status) → finding.status ≡ status → is_open status ≡ false → (Fits graph log finding.set → ⊥) → IsTrue (is_rejected status)
+  rejected_where : (number : ℕ) (finding : Finding) (at : HasFindingAt round number finding) (status : Status) → finding.status ≡ status → is_open status ≡ false → (Fits graph log finding.set → ⊥) → IsTrue (is_rejected status)
   rejected_where number finding at (Ranked trace cost alarmed monitored) is not_open none = absurd (none (ranked_fits number finding at (subst (λ (s : Status). IsTrue (is_ranked s)) (sym is) refl)))
   rejected_where number finding at (Covered by) is not_open none =
       absurd (none (whole_fits finding.set (covered_has number finding at (subst (λ (s : Status). IsTrue (is_covered s)) (sym is) refl))))
   rejected_where number finding at Rejected is not_open none = refl
   rejected_where number finding at Open is not_open none = cc
 
-  pub rejected_exactly : (number : ℕ) (finding : Finding) → Found round number finding → is_open finding.status ≡ false → IsTrue (is_rejected finding.status) ↔ (Fits graph log finding.set → ⊥)
+  pub rejected_exactly : (number : ℕ) (finding : Finding) → HasFindingAt round number finding → is_open finding.status ≡ false → IsTrue (is_rejected finding.status) ↔ (Fits graph log finding.set → ⊥)
   rejected_exactly number finding at not_open = (
     λ holds fits. rejected_not number finding at holds fits,
     λ none. rejected_where number finding at finding.status refl not_open none,
@@ -143,20 +143,20 @@ module _ (leaves_none : LeavesNoTrace) (graph : Tfpg) (k budget line : ℕ) (rou
   -- ---- a ranked set is minimal
 
   -- a subset of a proper subset is a proper subset, since the sets stand in the table in order
-  deeper : (least middle most : ℕ) (a b c : List ℕ) → slice_get is_round.sets least ≡ Some a → slice_get is_round.sets middle ≡ Some b → slice_get is_round.sets most ≡ Some c
+  deeper : (least middle greatest : ℕ) (a b c : List ℕ) → slice_get is_round.sets least ≡ Some a → slice_get is_round.sets middle ≡ Some b → slice_get is_round.sets greatest ≡ Some c
       → IsProperSubset a b → IsProperSubset b c → IsProperSubset a c
-  deeper least middle most a b c at_a at_b at_c first second = (
-    All-weaker (Contains b) (Contains c) (λ place has. in_whole b c second.0 place has) a first.0,
+  deeper least middle greatest a b c at_a at_b at_c first second = (
+    All-weaker (Contains b) (Contains c) (λ key has. in_whole b c second.0 key has) a first.0,
     λ same. (
         let lower : least < middle = part_first graph k is_round.sets is_round.table least middle a b at_a at_b first in
-        let upper : middle < most = part_first graph k is_round.sets is_round.table middle most b c at_b at_c second in
-        let one : least ≡ most = once graph k is_round.sets is_round.table least most c (at_a ∙ ap Some same) at_c in
+        let upper : middle < greatest = part_first graph k is_round.sets is_round.table middle greatest b c at_b at_c second in
+        let one : least ≡ greatest = once graph k is_round.sets is_round.table least greatest c (at_a ∙ ap Some same) at_c in
         omega (arith, lower, upper, one)
         ),
   )
 
-  module _ (number : ℕ) (finding : Finding) (at : Found round number finding) (ranked : IsTrue (is_ranked finding.status)) (none_open : AreNoneOpenBelow round.findings finding.set) where
-    no_part_by : (other : ℕ) (f : Finding) (there : Found round other f) → IsProperSubset f.set finding.set → Fits graph log f.set → (status : Status) → f.status ≡ status → ⊥
+  module _ (number : ℕ) (finding : Finding) (at : HasFindingAt round number finding) (ranked : IsTrue (is_ranked finding.status)) (none_open : AreNoneOpenBelow round.findings finding.set) where
+    no_part_by : (other : ℕ) (f : Finding) (there : HasFindingAt round other f) → IsProperSubset f.set finding.set → Fits graph log f.set → (status : Status) → f.status ≡ status → ⊥
     no_part_by other f there proper fits (Ranked trace cost alarmed monitored) is =
         alone number finding at ranked (other, record { finding = f; numbered = there; ranked = subst (λ (s : Status). IsTrue (is_ranked s)) (sym is) refl; part = proper })
     no_part_by other f there proper fits (Covered by_number) is =
@@ -179,48 +179,48 @@ module _ (leaves_none : LeavesNoTrace) (graph : Tfpg) (k budget line : ℕ) (rou
 
     pub no_fitting_part : HasFittingSubset graph log k finding.set → ⊥
     no_fitting_part part =
-        let place = (is_round.table.exact part.part).1 part.hypothesis in
-        let there = at_place round.findings is_round.sets place.0 part.part (sym is_round.complete) (slice_get-contains is_round.sets part.part place) in
-        let both : Some there.0.set ≡ Some part.part = sym (set_at place.0 there.0 there.1) ∙ slice_get-contains is_round.sets part.part place in
+        let key = (is_round.table.exact part.part).1 part.hypothesis in
+        let there = at_same_index round.findings is_round.sets key.0 part.part (sym is_round.complete) (slice_get-contains is_round.sets part.part key) in
+        let both : Some there.0.set ≡ Some part.part = sym (set_at key.0 there.0 there.1) ∙ slice_get-contains is_round.sets part.part key in
         let same : there.0.set ≡ part.part = cc in
-        no_part_by place.0 there.0 there.1 (subst (λ (set : List ℕ). IsProperSubset set finding.set) (sym same) part.proper)
+        no_part_by key.0 there.0 there.1 (subst (λ (set : List ℕ). IsProperSubset set finding.set) (sym same) part.proper)
         (subst (λ (set : List ℕ). Fits graph log set) (sym same) part.fits) there.0.status refl
 
   -- ---- a round without an open set
 
   module _ (none_open : HasNoneOpen round) where
-    not_open : (number : ℕ) (finding : Finding) → Found round number finding → is_open finding.status ≡ false
+    not_open : (number : ℕ) (finding : Finding) → HasFindingAt round number finding → is_open finding.status ≡ false
     not_open number finding at =
         All-at (λ (f : Finding). is_open f.status ≡ false) round.findings number finding (All-list_any_none (λ (f : Finding). is_open f.status) round.findings none_open) at
 
-    pub rejected_of : (number : ℕ) (finding : Finding) → Found round number finding → IsTrue (is_rejected finding.status) ↔ (Fits graph log finding.set → ⊥)
+    pub rejected_of : (number : ℕ) (finding : Finding) → HasFindingAt round number finding → IsTrue (is_rejected finding.status) ↔ (Fits graph log finding.set → ⊥)
     rejected_of number finding at = rejected_exactly number finding at (not_open number finding at)
 
-    minimal : (number : ℕ) (finding : Finding) → Found round number finding → IsTrue (is_ranked finding.status) → HasFittingSubset graph log k finding.set → ⊥
+    minimal : (number : ℕ) (finding : Finding) → HasFindingAt round number finding → IsTrue (is_ranked finding.status) → HasFittingSubset graph log k finding.set → ⊥
     minimal number finding at ranked part = no_fitting_part number finding at ranked (λ other f there proper. not_open other f there) part
 
-    ranked_where : (number : ℕ) (finding : Finding) (at : Found round number finding) (status : Status) → finding.status ≡ status → Fits graph log finding.set → (HasFittingSubset graph log k finding.set → ⊥)
+    ranked_where : (number : ℕ) (finding : Finding) (at : HasFindingAt round number finding) (status : Status) → finding.status ≡ status → Fits graph log finding.set → (HasFittingSubset graph log k finding.set → ⊥)
         → IsTrue (is_ranked status)
     ranked_where number finding at (Ranked trace cost alarmed monitored) is fits none = refl
     ranked_where number finding at (Covered by) is fits none = absurd (none (covered_has number finding at (subst (λ (s : Status). IsTrue (is_covered s)) (sym is) refl)))
     ranked_where number finding at Rejected is fits none = absurd (rejected_not number finding at (subst (λ (s : Status). IsTrue (is_rejected s)) (sym is) refl) fits)
     ranked_where number finding at Open is fits none = (let is_not : is_open Open ≡ false = sym (ap is_open is) ∙ not_open number finding at in cc)
 
-    pub ranked_of : (number : ℕ) (finding : Finding) → Found round number finding
+    pub ranked_of : (number : ℕ) (finding : Finding) → HasFindingAt round number finding
         → IsTrue (is_ranked finding.status) ↔ (Fits graph log finding.set × (HasFittingSubset graph log k finding.set → ⊥))
     ranked_of number finding at = (
       λ ranked. (ranked_fits number finding at ranked, λ part. minimal number finding at ranked part),
       λ both. ranked_where number finding at finding.status refl both.0 both.1,
     )
 
-    covered_where : (number : ℕ) (finding : Finding) (at : Found round number finding) (status : Status) → finding.status ≡ status → Fits graph log finding.set → HasFittingSubset graph log k finding.set
+    covered_where : (number : ℕ) (finding : Finding) (at : HasFindingAt round number finding) (status : Status) → finding.status ≡ status → Fits graph log finding.set → HasFittingSubset graph log k finding.set
         → IsTrue (is_covered status)
     covered_where number finding at (Ranked trace cost alarmed monitored) is fits part = absurd (minimal number finding at (subst (λ (s : Status). IsTrue (is_ranked s)) (sym is) refl) part)
     covered_where number finding at (Covered by) is fits part = refl
     covered_where number finding at Rejected is fits part = absurd (rejected_not number finding at (subst (λ (s : Status). IsTrue (is_rejected s)) (sym is) refl) fits)
     covered_where number finding at Open is fits part = (let is_not : is_open Open ≡ false = sym (ap is_open is) ∙ not_open number finding at in cc)
 
-    pub covered_of : (number : ℕ) (finding : Finding) → Found round number finding → IsTrue (is_covered finding.status) ↔ (Fits graph log finding.set × HasFittingSubset graph log k finding.set)
+    pub covered_of : (number : ℕ) (finding : Finding) → HasFindingAt round number finding → IsTrue (is_covered finding.status) ↔ (Fits graph log finding.set × HasFittingSubset graph log k finding.set)
     covered_of number finding at = (
       λ covered. (whole_fits finding.set (covered_has number finding at covered), covered_has number finding at covered),
       λ both. covered_where number finding at finding.status refl both.0 both.1,

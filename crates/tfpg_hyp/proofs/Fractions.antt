@@ -1,7 +1,7 @@
 -- The order of fractions, and that the ranking order is transitive.
 use Rattle.std.proofs.Common.{ℕ, ◌*◌, ◌<◌, ◌≤◌, ◌⊎◌, inl, inr, ⊎_elim, arith, ◌∙◌}
 use Rattle.std.proofs.Math.Nat.{mul-le-mul_right, mul-lt-mul_of_pos_right, le_of_mul-le-mul_right, lt_of_mul-lt-mul_right}
-use Rattle.tfpg_hyp.specs.declared.place.Place.{Place}
+use Rattle.tfpg_hyp.specs.declared.ranking_key.RankingKey.{RankingKey}
 use Rattle.tfpg_hyp.specs.Ranking.{IsMoreRobust, IsAsRobust, IsRankedBefore}
 
 -- Three fractions, each as what is above and what is below.
@@ -29,7 +29,7 @@ module _ (above_a below_a above_b below_b above_c below_c : ℕ) where
       let products : above_c * below_a * below_b < above_a * below_c * below_b = omega (arith, left, right) in
       lt_of_mul-lt-mul_right below_b products
 
-module _ (a b c : Place) (whole_a : 1 ≤ a.robust.monitored) (whole_b : 1 ≤ b.robust.monitored) (whole_c : 1 ≤ c.robust.monitored) where
+module _ (a b c : RankingKey) (whole_a : 1 ≤ a.robust.monitored) (whole_b : 1 ≤ b.robust.monitored) (whole_c : 1 ≤ c.robust.monitored) where
   as_robust : IsAsRobust a.robust b.robust → IsAsRobust b.robust c.robust → IsAsRobust a.robust c.robust
   as_robust first second =
       let low = fractions-le a.robust.alarmed a.robust.monitored b.robust.alarmed b.robust.monitored c.robust.alarmed c.robust.monitored whole_b (omega (arith, first)) (omega (arith, second)) in

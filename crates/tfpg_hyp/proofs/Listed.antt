@@ -8,7 +8,7 @@ use Rattle.tfpg_base.specs.Set.{with_member}
 use Rattle.tfpg_base.proofs.lists.Elements.{All-from_members, Contains-nil, Contains-cons_cases}
 use Rattle.tfpg_base.proofs.lists.Ordered.{AllPairs-nil, AllPairs-append}
 use Rattle.tfpg_graph.specs.Graph.{Tfpg, failures}
-use Rattle.tfpg_hyp.specs.Table.{IsHypothesis, ComesFirst, IsBefore, IsTable}
+use Rattle.tfpg_hyp.specs.Table.{IsHypothesis, ComesFirst, IsListedBefore, IsTable}
 use Rattle.tfpg_hyp.specs.inside.Choices.{chosen, chosen_below, choices_below}
 use Rattle.tfpg_hyp.proofs.Chosen.{IsChoice, IsChoice-chosen, Contains-chosen, in_order-chosen}
 use Rattle.tfpg_hyp.proofs.Counted.{choices-past, chosen-past}
@@ -36,7 +36,7 @@ Contains-listed count (suc size) set small is =
 -- ---- in which order
 
 -- sets of one size that stand in order by their lists stand in order
-in_order-size : (size : ℕ) (sets : List (List ℕ)) → ((set : List ℕ) → Contains sets set → length set ≡ size) → AllPairs ComesFirst sets → AllPairs IsBefore sets
+in_order-size : (size : ℕ) (sets : List (List ℕ)) → ((set : List ℕ) → Contains sets set → length set ≡ size) → AllPairs ComesFirst sets → AllPairs IsListedBefore sets
 in_order-size size sets sized ordered i j d before within =
     inr (
       sized _ (Contains-get_or sets i d (omega (arith, before, within)))
@@ -44,10 +44,10 @@ in_order-size size sets sized ordered i j d before within =
       ordered i j d before within,
     )
 
-pub in_order-listed : (count size : ℕ) → AllPairs IsBefore (chosen_below count size)
-in_order-listed count zero = AllPairs-nil IsBefore
+pub in_order-listed : (count size : ℕ) → AllPairs IsListedBefore (chosen_below count size)
+in_order-listed count zero = AllPairs-nil IsListedBefore
 in_order-listed count (suc size) =
-    AllPairs-append IsBefore (chosen_below count size) (chosen count size 0) (in_order-listed count size)
+    AllPairs-append IsListedBefore (chosen_below count size) (chosen count size 0) (in_order-listed count size)
     (in_order-size size (chosen count size 0) (λ set member. (IsChoice-chosen count size 0 set member).size_is) (in_order-chosen count size 0))
     (λ set other in_first in_second.
     inl (omega (arith, (IsChoice-listed count size set in_first).0, (IsChoice-chosen count size 0 other in_second).size_is)))
@@ -113,22 +113,22 @@ counted-least k count =
 -- ---- how they are appended
 
 -- a greater member is appended to a set
-pub with_member-last : (place : ℕ) (members : List ℕ) → All (λ member. member < place) members → with_member place members ≡ members ++ place ∷ []
-with_member-last place [] below = refl
-with_member-last place (first ∷ others) below =
-    let less : first < place = below 0 0 (omega arith) in
-    cond-false (ltb place first) _ _ (le-ltb place first (omega (arith, less)))
-    ∙ cond-false (eqb place first) _ _ (ne_eqb place first (λ is. omega (arith, is, less)))
-    ∙ ap (λ rest. first ∷ rest) (with_member-last place others (λ k d within. below (suc k) d (omega arith)))
+pub with_member-last : (index : ℕ) (members : List ℕ) → All (λ member. member < index) members → with_member index members ≡ members ++ index ∷ []
+with_member-last index [] below = refl
+with_member-last index (first ∷ others) below =
+    let less : first < index = below 0 0 (omega arith) in
+    cond-false (ltb index first) _ _ (le-ltb index first (omega (arith, less)))
+    ∙ cond-false (eqb index first) _ _ (ne_eqb index first (λ is. omega (arith, is, less)))
+    ∙ ap (λ rest. first ∷ rest) (with_member-last index others (λ k d within. below (suc k) d (omega arith)))
 
 -- and it is then the greatest
-pub All-with_member : (place : ℕ) (members : List ℕ) → All (λ member. member < place) members → All (λ member. member < place + 1) (with_member place members)
-All-with_member place members below =
-    subst (All (λ member. member < place + 1)) (sym (with_member-last place members below))
-    (All-from_members (λ member. member < place + 1) (members ++ place ∷ [])
-    (λ member is_one. ⊎_elim (λ own. omega (arith, All-contains (λ m. m < place) members member below own))
-    (λ last. ⊎_elim (λ is. omega (arith, is)) (λ none. absurd (Contains-nil member none)) (Contains-cons_cases place [] member last))
-    (Contains-append_cases members (place ∷ []) member is_one)))
+pub All-with_member : (index : ℕ) (members : List ℕ) → All (λ member. member < index) members → All (λ member. member < index + 1) (with_member index members)
+All-with_member index members below =
+    subst (All (λ member. member < index + 1)) (sym (with_member-last index members below))
+    (All-from_members (λ member. member < index + 1) (members ++ index ∷ [])
+    (λ member is_one. ⊎_elim (λ own. omega (arith, All-contains (λ m. m < index) members member below own))
+    (λ last. ⊎_elim (λ is. omega (arith, is)) (λ none. absurd (Contains-nil member none)) (Contains-cons_cases index [] member last))
+    (Contains-append_cases members (index ∷ []) member is_one)))
 
 -- with these members before each
 abbrev pub after : List ℕ → List (List ℕ) → List (List ℕ)
@@ -140,9 +140,9 @@ after-none members zero least = ap (λ set. set ∷ []) (append-nil members)
 after-none members (suc count) least = ap (λ set. set ∷ []) (append-nil members)
 
 -- one member first
-after-first : (members : List ℕ) (place : ℕ) (sets : List (List ℕ)) → after (members ++ place ∷ []) sets ≡ after members (map (λ set. place ∷ set) sets)
-after-first members place [] = refl
-after-first members place (set ∷ sets) = λ i. append_assoc members (place ∷ []) set i ∷ after-first members place sets i
+after-first : (members : List ℕ) (index : ℕ) (sets : List (List ℕ)) → after (members ++ index ∷ []) sets ≡ after members (map (λ set. index ∷ set) sets)
+after-first members index [] = refl
+after-first members index (set ∷ sets) = λ i. append_assoc members (index ∷ []) set i ∷ after-first members index sets i
 
 -- the sets with the least position, and then those without
 pub after-next : (members : List ℕ) (count size least : ℕ) → 0 < count → 0 < size → All (λ member. member < least) members

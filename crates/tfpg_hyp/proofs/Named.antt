@@ -1,19 +1,18 @@
 -- What is right at a log of a graph names only nodes and edges of the graph.
-use Rattle.std.proofs.Common.{◌≡◌, ℕ, zero, suc, ◌-◌, ◌<◌, ltb, eqb, List, [], ◌∷◌, length, take, Option, Some, None, refl, subst}
-use Rattle.std.specs.Prelude.{IsTrue, slice_get}
-use Rattle.std.proofs.lemmas.Bool.{ltb-true, eqb-true, and_parts}
-use Rattle.std.proofs.lemmas.Option.{slice_get_within, option_and_then_some, cond_some}
+use Rattle.std.proofs.Common.{◌≡◌, ℕ, ltb, List, length, Some}
+use Rattle.std.specs.Prelude.{slice_get}
+use Rattle.std.proofs.lemmas.Bool.{ltb-true, and_parts}
+use Rattle.std.proofs.lemmas.Option.{slice_get_within, option_and_then_some}
 use Rattle.std.proofs.lemmas.List.Elements.{All-take}
 use Rattle.tfpg_base.proofs.lists.Choices.{Contains-each_of, option_map-some, then_some-true}
-use Rattle.tfpg_base.proofs.lists.Elements.{All-at, All-from_members}
+use Rattle.tfpg_base.proofs.lists.Elements.{All-from_members}
 use Rattle.tfpg_base.specs.declared.constraint.Constraint.{Constraint}
 use Rattle.tfpg_graph.specs.declared.edge.Edge.{Edge}
-use Rattle.tfpg_graph.specs.Graph.{Tfpg, sizes_of, is_kind_at, is_monitored, is_or, is_and, edges_into}
-use Rattle.tfpg_graph.proofs.NodeAt.{kind_within, monitored_within}
-use Rattle.tfpg_log.specs.declared.event.Event.{Event}
-use Rattle.tfpg_log.specs.declared.event.Event.TheVariants.{Alarm, Silent, Sweep, Tick, Mode}
-use Rattle.tfpg_log.specs.Log.{Logbook, IsOf, IsEventOf, first_events, event_at, quiet_at, quiet_time}
+use Rattle.tfpg_graph.specs.Graph.{Tfpg, sizes_of, is_kind_at, is_or, is_and, edges_into}
+use Rattle.tfpg_graph.proofs.NodeAt.{kind_within}
+use Rattle.tfpg_log.specs.Log.{Logbook, IsOf, IsEventOf, first_events, quiet_at}
 use Rattle.tfpg_log.specs.Spans.{joint_of}
+use Rattle.tfpg_log.proofs.SilentNodes.{quiet_within}
 use Rattle.tfpg_evidence.specs.declared.clause_name.ClauseName.{ClauseName}
 use Rattle.tfpg_evidence.specs.declared.clause_name.ClauseName.TheVariants.{OrMay, AndMay, OrMust, AndMust}
 use Rattle.tfpg_evidence.specs.declared.reason.Reason.{Reason}
@@ -44,24 +43,6 @@ allowed_named graph log (AndMust node number horizon) clause is =
 first_events_of : (graph : Tfpg) (log : Logbook) (seen : ℕ) → IsOf graph log → IsOf graph (first_events log seen)
 first_events_of graph log seen of = record { own = All-take (IsEventOf graph) seen log.events of.own }
 
-event_own : (graph : Tfpg) (log : Logbook) (number : ℕ) (event : Event) → IsOf graph log → event_at log number ≡ Some event → IsEventOf graph event
-event_own graph log zero event of at = absurd cc
-event_own graph log (suc before) event of at = All-at (IsEventOf graph) log.events before event of.own at
-
-silence_monitored : (graph : Tfpg) (before : List Event) (event : Event) (node time : ℕ) → IsEventOf graph event → quiet_time graph before event node ≡ Some time → IsTrue (is_monitored graph node)
-silence_monitored graph before (Alarm at alarmed) node time own is = absurd cc
-silence_monitored graph before (Silent at silent) node time own is =
-    subst (λ (n : ℕ). IsTrue (is_monitored graph n)) (eqb-true silent node (cond_some (eqb silent node) at time is).0) own
-silence_monitored graph before (Sweep at) node time own is = (and_parts _ _ (cond_some _ at time is).0).0
-silence_monitored graph before (Tick at) node time own is = absurd cc
-silence_monitored graph before (Mode at mode) node time own is = absurd cc
-
--- a node that is silent is in the graph
-quiet_within : (graph : Tfpg) (log : Logbook) (number node time : ℕ) → IsOf graph log → quiet_at graph log number node ≡ Some time → node < length graph.nodes
-quiet_within graph log number node time of is =
-    option_and_then_some (λ (event : Event). quiet_time graph (take (number - 1) log.events) event node) (event_at log number) time is
-    (λ event at rest. monitored_within graph node (silence_monitored graph (take (number - 1) log.events) event node time (event_own graph log number event of at) rest))
-
 -- ---- steps
 
 -- a reason that states a constraint names no node but those of the graph
@@ -75,7 +56,7 @@ stated_named graph log reach path seen of (Upto event) constraint is = tt
 stated_named graph log reach path seen of (Quiet event node) constraint is =
     let silence = option_map-some _ (quiet_at graph (first_events log seen) event node) constraint is in
     quiet_within graph (first_events log seen) event node silence.0 (first_events_of graph log seen of) silence.1
-stated_named graph log reach path seen of (Pick split place) constraint is = tt
+stated_named graph log reach path seen of (Pick split index) constraint is = tt
 
 -- a right step names only what the graph has
 pub right_named : (graph : Tfpg) (log : Logbook) (reach : List ℕ) (path : List PathSplit) (seen subtrees : ℕ) → IsOf graph log → (step : Step) → IsRightStep graph log reach path seen subtrees step

@@ -1,5 +1,5 @@
 -- The steps of a tree whose places are right name only what the graph has.
-use Rattle.std.proofs.Common.{◌≡◌, ℕ, List, [], ◌∷◌, length, take, sym, ap, ◌∙◌}
+use Rattle.std.proofs.Common.{◌≡◌, ℕ, List, length, take, sym, ap, ◌∙◌}
 use Rattle.std.specs.Prelude.{All, map}
 use Rattle.std.proofs.Math.Seq.{take-append_seam}
 use Rattle.std.proofs.lemmas.List.{take-map}
@@ -15,22 +15,22 @@ use Rattle.tfpg_hyp.specs.Rounds.{HasEvidence}
 use Rattle.tfpg_hyp.proofs.Named.{right_named}
 
 -- The judged steps name only what the graph has.
-abbrev pub AreNamed : Tfpg → List Judged → Type 0
-AreNamed graph steps = All (λ (judged : Judged). IsStepOf (sizes_of graph) judged.step) steps
+abbrev pub AreStepsOfGraph : Tfpg → List Judged → Type 0
+AreStepsOfGraph graph steps = All (λ (judged : Judged). IsStepOf (sizes_of graph) judged.step) steps
 
 module _ (graph : Tfpg) (log : Logbook) (reach : List ℕ) (of : IsOf graph log) where
-  places_named : (places : List StepPlace) → All (IsRight graph log reach) places → AreNamed graph (map (λ (place : StepPlace). place.step) places)
+  places_named : (places : List StepPlace) → All (IsRight graph log reach) places → AreStepsOfGraph graph (map (λ (place : StepPlace). place.step) places)
   places_named places right =
       All-map (λ (judged : Judged). IsStepOf (sizes_of graph) judged.step) (λ (place : StepPlace). place.step) places
       (All-weaker (IsRight graph log reach) (λ (place : StepPlace). IsStepOf (sizes_of graph) place.step.step)
       (λ place is. right_named graph log reach place.path place.step.seen place.subtrees of place.step.step is) places right)
 
-  refutation_named : (steps : List Judged) → IsRefutation graph log reach steps → AreNamed graph steps
+  refutation_named : (steps : List Judged) → IsRefutation graph log reach steps → AreStepsOfGraph graph steps
   refutation_named steps is =
       All-same (λ (judged : Judged). IsStepOf (sizes_of graph) judged.step) steps (map (λ (place : StepPlace). place.step) (places_of is.tree)) is.steps_are
       (places_named (places_of is.tree) is.right)
 
-  partial_named : (steps : List Judged) → IsPartial graph log reach steps → AreNamed graph steps
+  partial_named : (steps : List Judged) → IsPartial graph log reach steps → AreStepsOfGraph graph steps
   partial_named steps is =
       let front : steps ≡ take (length steps) (map (λ (place : StepPlace). place.step) (places_of is.tree)) =
       sym (take-append_seam steps is.more) ∙ ap (take (length steps)) is.steps_are
@@ -40,7 +40,7 @@ module _ (graph : Tfpg) (log : Logbook) (reach : List ℕ) (of : IsOf graph log)
 
   -- so do the steps of a finding, whatever its status
   pub evidence_named : (budget : ℕ) (findings : List Finding) (steps : List Judged) (finding : Finding) (status : Status)
-      → HasEvidence graph log budget findings reach steps finding status → AreNamed graph steps
+      → HasEvidence graph log budget findings reach steps finding status → AreStepsOfGraph graph steps
   evidence_named budget findings steps finding (Ranked trace cost alarmed monitored) own = partial_named steps own.0
   evidence_named budget findings steps finding (Covered by) own = partial_named steps own.0
   evidence_named budget findings steps finding Rejected own = refutation_named steps own

@@ -8,8 +8,8 @@ use Rattle.tfpg_base.specs.Set.{IsSubset, IsProperSubset, IsSet}
 use Rattle.tfpg_base.proofs.lists.Elements.{AllPairs-at, AllPairs-head, AllPairs-tail, All-from_members, Contains-at, Contains-head, Contains-cons_cases, Contains-nil}
 use Rattle.tfpg_base.proofs.lists.Ordered.{Rises}
 use Rattle.tfpg_graph.specs.Graph.{Tfpg, failures}
-use Rattle.tfpg_hyp.specs.Table.{IsHypothesis, IsBefore, IsTable}
-use Rattle.tfpg_hyp.proofs.Tables.{IsBefore-asymmetric}
+use Rattle.tfpg_hyp.specs.Table.{IsHypothesis, IsListedBefore, IsTable}
+use Rattle.tfpg_hyp.proofs.Tables.{IsListedBefore-asymmetric}
 
 -- ---- how long a subset is
 
@@ -61,12 +61,12 @@ module _ (graph : Tfpg) (k : ℕ) (sets : List (List ℕ)) (table : IsTable grap
   pub once : (set : List ℕ) → slice_get sets number ≡ Some set → slice_get sets other ≡ Some set → number ≡ other
   once set at also =
       ⊎_elim (λ same. same)
-      (λ differ. ⊎_elim (λ less. absurd (twice (AllPairs-at IsBefore sets number other set set table.in_order at also less)))
-      (λ greater. absurd (twice (AllPairs-at IsBefore sets other number set set table.in_order also at greater))) differ)
+      (λ differ. ⊎_elim (λ less. absurd (twice (AllPairs-at IsListedBefore sets number other set set table.in_order at also less)))
+      (λ greater. absurd (twice (AllPairs-at IsListedBefore sets other number set set table.in_order also at greater))) differ)
       (cases_order number other)
     where
-      twice : IsBefore set set → ⊥
-      twice before = IsBefore-asymmetric set set before before
+      twice : IsListedBefore set set → ⊥
+      twice before = IsListedBefore-asymmetric set set before before
 
   -- a proper subset has the lesser number
   pub part_first : (part whole : List ℕ) → slice_get sets number ≡ Some part → slice_get sets other ≡ Some whole → IsProperSubset part whole → number < other
@@ -78,5 +78,5 @@ module _ (graph : Tfpg) (k : ℕ) (sets : List (List ℕ)) (table : IsTable grap
       ⊎_elim
       (λ same. absurd (proper.1 (same_Some part whole (sym at ∙ ap (slice_get sets) same ∙ at_whole))))
       (λ differ. ⊎_elim (λ less. less)
-      (λ greater. absurd (⊎_elim (λ less. omega (arith, less, shorter)) (λ equal. omega (arith, equal.0, shorter)) (AllPairs-at IsBefore sets other number whole part table.in_order at_whole at greater))) differ)
+      (λ greater. absurd (⊎_elim (λ less. omega (arith, less, shorter)) (λ equal. omega (arith, equal.0, shorter)) (AllPairs-at IsListedBefore sets other number whole part table.in_order at_whole at greater))) differ)
       (cases_order number other)

@@ -1,30 +1,31 @@
 -- What the loops over failure modes and nodes have counted so far.
-use Rattle.std.proofs.Common.{◌≡◌, ℕ, ◌+◌, ◌<◌, ◌≤◌, Bool, true, false, cond, eqb, ltb, List, [], ◌∷◌, ◌++◌, length, Option, Some, None, refl, arith, sym, ◌∙◌, ap, subst}
+use Rattle.std.proofs.Common.{◌≡◌, ℕ, ◌+◌, ◌<◌, ◌≤◌, true, false, cond, eqb, ltb, List, [], ◌∷◌, ◌++◌, length, Option, Some, None, refl, arith, sym, ◌∙◌, ap, subst}
 use Rattle.std.specs.List.{All, Contains, count_by, filter, slice_get}
 use Rattle.tfpg_base.specs.Set.{Rises}
 use Rattle.std.specs.Option.{option_map, option_and_then, is_some}
 use Rattle.std.proofs.lemmas.Bool.{cond-true, cond-false, cond_both, ltb-false, ne_eqb, eq-eqb}
-use Rattle.std.proofs.lemmas.List.{length-append, append-nil}
 use Rattle.std.proofs.lemmas.List.Sums.{sum_by_push, length-filter}
-use Rattle.std.proofs.lemmas.List.Elements.{All-contains, filter-append}
+use Rattle.std.proofs.lemmas.List.Elements.{All-contains}
 use Rattle.std.proofs.lemmas.Option.{slice_get_past, same_Some}
 use Rattle.tfpg_graph.specs.declared.kind.Kind.TheVariants.{Failure}
+use Rattle.tfpg_graph.specs.declared.limits.TheConstants.{MAX_RARITY}
 use Rattle.tfpg_graph.specs.Graph.{Tfpg, Node, is_monitored, kind_at, lag_of}
 use Rattle.tfpg_graph.specs.Valid.{IsValid, HasValidNumber}
 use Rattle.tfpg_base.proofs.lists.Elements.{All-at}
 use Rattle.tfpg_log.specs.Log.{Logbook, alarm_of}
 use Rattle.tfpg_base.specs.Set.{IsSet}
-use Rattle.tfpg_hyp.specs.declared.place.Fraction.{Fraction}
+use Rattle.tfpg_hyp.specs.declared.ranking_key.Fraction.{Fraction}
 use Rattle.tfpg_hyp.specs.Ranking.{rarity_at, cost_of, robustness_of, monitored_in, alarmed_in}
+use Rattle.tfpg_base.proofs.lists.Filtered.{filter-push_yes, filter-push_no, count_by-push}
 use Rattle.tfpg_base.proofs.lists.Below.{below, below-zero, below-member, below-absent, below-all}
 
 -- ---- failure modes
 
 -- the rarity of a node is within the limit
-pub rarity_small : (graph : Tfpg) (node rarity : ℕ) → IsValid graph → kind_at graph node ≡ Some (Failure rarity) → rarity ≤ 1000000
+pub rarity_small : (graph : Tfpg) (node rarity : ℕ) → IsValid graph → kind_at graph node ≡ Some (Failure rarity) → rarity ≤ MAX_RARITY
 rarity_small graph node rarity valid is = by (slice_get graph.nodes node) refl is
   where
-    by : (found : Option Node) → slice_get graph.nodes node ≡ found → option_map (λ n. n.kind) found ≡ Some (Failure rarity) → rarity ≤ 1000000
+    by : (found : Option Node) → slice_get graph.nodes node ≡ found → option_map (λ n. n.kind) found ≡ Some (Failure rarity) → rarity ≤ MAX_RARITY
     by None at kind = cc
     by (Some found) at kind =
         subst HasValidNumber (same_Some found.kind (Failure rarity) kind) (All-at (λ n. HasValidNumber n.kind) graph.nodes node found valid.so_far.node_numbers at)
@@ -49,22 +50,6 @@ module _ (graph : Tfpg) (set : List ℕ) where
   cost-all end cost within so_far = so_far ∙ ap (cost_of graph) (below-all end set (λ position member. All-contains (λ p. p < end) set position within member))
 
 -- ---- nodes
-
--- one item more that passes
-filter-push_yes : (p : ℕ → Bool) (xs : List ℕ) (x : ℕ) → p x ≡ true → filter p (xs ++ x ∷ []) ≡ filter p xs ++ x ∷ []
-filter-push_yes p xs x passes = filter-append p xs (x ∷ []) ∙ ap (λ ys. filter p xs ++ ys) (cond-true (p x) (x ∷ []) [] passes)
-
--- one item more that fails
-filter-push_no : (p : ℕ → Bool) (xs : List ℕ) (x : ℕ) → p x ≡ false → filter p (xs ++ x ∷ []) ≡ filter p xs
-filter-push_no p xs x fails = filter-append p xs (x ∷ []) ∙ ap (λ ys. filter p xs ++ ys) (cond-false (p x) (x ∷ []) [] fails) ∙ append-nil (filter p xs)
-
--- how many pass, with one item more
-count_by-push : (p : ℕ → Bool) (xs : List ℕ) (x : ℕ) → count_by p (xs ++ x ∷ []) ≡ count_by p xs + (cond (p x) 1 0)
-count_by-push p xs x = by (p x) refl
-  where
-    by : (b : Bool) → p x ≡ b → count_by p (xs ++ x ∷ []) ≡ count_by p xs + (cond b 1 0)
-    by true is = sym (length-filter p (xs ++ x ∷ [])) ∙ ap length (filter-push_yes p xs x is) ∙ length-append (filter p xs) (x ∷ []) ∙ ap (λ n. n + 1) (length-filter p xs)
-    by false is = sym (length-filter p (xs ++ x ∷ [])) ∙ ap length (filter-push_no p xs x is) ∙ length-filter p xs ∙ omega arith
 
 -- These were counted among the nodes so far: those that are monitored, and those of them with an alarm.
 pub record AreCounted (graph : Tfpg) (log : Logbook) (nodes : List ℕ) (alarmed monitored : ℕ) : Type 0 where

@@ -1,6 +1,6 @@
 -- A round is of its graph.
-use Rattle.std.proofs.Common.{◌≡◌, ℕ, zero, suc, ◌<◌, Bool, true, false, cond, eqb, List, [], ◌∷◌, ◌++◌, length, get_or, map, Option, Some, refl, ap, subst, ◌∙◌, arith}
-use Rattle.std.specs.Prelude.{All, IsTrue, find, slice_get, option_map, unwrap_or}
+use Rattle.std.proofs.Common.{◌≡◌, ℕ, ◌<◌, eqb, List, [], ◌∷◌, ◌++◌, length, get_or, map, Option, Some, refl, ap, subst, ◌∙◌, arith}
+use Rattle.std.specs.Prelude.{All, IsTrue, slice_get, option_map, unwrap_or}
 use Rattle.std.proofs.lemmas.Bool.{eq-eqb, ne_eqb}
 use Rattle.std.proofs.lemmas.Option.{slice_get-get_or, option_and_then_some}
 use Rattle.std.proofs.lemmas.List.{append-nil}
@@ -17,25 +17,13 @@ use Rattle.tfpg_evidence.specs.RoundOf.{IsStepOf, IsStatusOf, IsFindingOf, IsRan
 use Rattle.tfpg_base.specs.Choice.{each_of}
 use Rattle.tfpg_clause.specs.Trees.{Judged}
 use Rattle.tfpg_base.proofs.lists.Choices.{Contains-each_of, each_of-some}
+use Rattle.tfpg_base.proofs.lists.FirstFound.{find_first}
 use Rattle.tfpg_base.proofs.lists.Images.{All-unmap}
 use Rattle.tfpg_base.proofs.lists.Elements.{All-back, All-from_members, Contains-at}
-use Rattle.tfpg_hyp.specs.Rounds.{IsRound, HasEvidence, place_at, place_of_status, steps_in, steps_so_far}
-use Rattle.tfpg_hyp.specs.declared.place.Place.{Place}
-use Rattle.tfpg_hyp.proofs.FindingsOfRound.{Found, evidence}
-use Rattle.tfpg_hyp.proofs.NamedSteps.{AreNamed, evidence_named}
-
--- ---- lists
-
--- the first item that passes the test
-find_first : {X : Type 0} (test : X → Bool) (xs : List X) (k : ℕ) (x : X) → slice_get xs k ≡ Some x → test x ≡ true
-    → ((j : ℕ) (y : X) → j < k → slice_get xs j ≡ Some y → test y ≡ false) → find test xs ≡ Some x
-find_first test [] k x at passes before = absurd cc
-find_first test (y ∷ ys) zero x at passes before =
-    let same : y ≡ x = cc in
-    ap (λ (b : Bool). cond b (Some y) (find test ys)) (ap test same ∙ passes) ∙ ap Some same
-find_first test (y ∷ ys) (suc k) x at passes before =
-    ap (λ (b : Bool). cond b (Some y) (find test ys)) (before 0 y (omega arith) refl)
-    ∙ find_first test ys k x at passes (λ j z lt there. before (suc j) z (omega (arith, lt)) there)
+use Rattle.tfpg_hyp.specs.Rounds.{IsRound, HasEvidence, key_at, key_of_status, steps_in, steps_so_far}
+use Rattle.tfpg_hyp.specs.declared.ranking_key.RankingKey.{RankingKey}
+use Rattle.tfpg_hyp.proofs.FindingsOfRound.{HasFindingAt, evidence}
+use Rattle.tfpg_hyp.proofs.NamedSteps.{AreStepsOfGraph, evidence_named}
 
 -- ---- the steps of this round
 
@@ -49,11 +37,11 @@ steps_end number rounds round finding at =
     ∙ ap (λ (found : Option Finding). map (λ (step : Step). record { seen = round.number; step = step }) (unwrap_or (option_map (λ (f : Finding). f.steps) found) [])) at)
 
 last_named : (graph : Tfpg) (number : ℕ) (rounds : List Round) (round : Round) (finding : Finding) → slice_get round.findings number ≡ Some finding
-    → AreNamed graph (steps_so_far number (rounds ++ round ∷ [])) → All (IsStepOf (sizes_of graph)) finding.steps
+    → AreStepsOfGraph graph (steps_so_far number (rounds ++ round ∷ [])) → All (IsStepOf (sizes_of graph)) finding.steps
 last_named graph number rounds round finding at named =
     All-unmap (λ (judged : Judged). IsStepOf (sizes_of graph) judged.step) (λ (step : Step). record { seen = round.number; step = step }) finding.steps
     (All-back (λ (judged : Judged). IsStepOf (sizes_of graph) judged.step) (steps_so_far number rounds) (map (λ (step : Step). record { seen = round.number; step = step }) finding.steps)
-    (subst (AreNamed graph) (steps_end number rounds round finding at) named))
+    (subst (AreStepsOfGraph graph) (steps_end number rounds round finding at) named))
 
 -- ---- statuses
 
@@ -64,23 +52,23 @@ status_named graph log budget findings reach steps finding (Covered by) own = tt
 status_named graph log budget findings reach steps finding Rejected own = tt
 status_named graph log budget findings reach steps finding Open own = tt
 
-place_ranked : (number : ℕ) (status : Status) (place : Place) → place_of_status number status ≡ Some place → IsTrue (is_ranked status)
-place_ranked number (Ranked trace cost alarmed monitored) place at = refl
-place_ranked number (Covered by) place at = absurd cc
-place_ranked number Rejected place at = absurd cc
-place_ranked number Open place at = absurd cc
+key_ranked : (number : ℕ) (status : Status) (key : RankingKey) → key_of_status number status ≡ Some key → IsTrue (is_ranked status)
+key_ranked number (Ranked trace cost alarmed monitored) key at = refl
+key_ranked number (Covered by) key at = absurd cc
+key_ranked number Rejected key at = absurd cc
+key_ranked number Open key at = absurd cc
 
 -- ---- the round
 
 module _ (graph : Tfpg) (k budget line : ℕ) (rounds : List Round) (log : Logbook) (round : Round) (of : IsOf graph log) (is_round : IsRound graph k budget rounds log line round) where
-  -- the number of a finding is its place
-  number_at : (number : ℕ) (finding : Finding) → Found round number finding → finding.number ≡ number
+  -- the number of a finding is its index
+  number_at : (number : ℕ) (finding : Finding) → HasFindingAt round number finding → finding.number ≡ number
   number_at number finding at = (evidence is_round number finding at).2.number_is
 
   members_at : (number : ℕ) (set : List ℕ) → slice_get is_round.sets number ≡ Some set → AreFailures graph set
   members_at number set at = ((is_round.table.exact set).0 (Contains-at is_round.sets number set at)).of_graph.members
 
-  finding_named : (number : ℕ) (finding : Finding) → Found round number finding → IsFindingOf (sizes_of graph) finding
+  finding_named : (number : ℕ) (finding : Finding) → HasFindingAt round number finding → IsFindingOf (sizes_of graph) finding
   finding_named number finding at =
       let own = evidence is_round number finding at in
       record {
@@ -91,15 +79,15 @@ module _ (graph : Tfpg) (k budget line : ℕ) (rounds : List Round) (log : Logbo
       }
 
   -- the finding of a number is found by it
-  found_by_number : (number : ℕ) (finding : Finding) → Found round number finding → finding_numbered round.findings number ≡ Some finding
+  found_by_number : (number : ℕ) (finding : Finding) → HasFindingAt round number finding → finding_numbered round.findings number ≡ Some finding
   found_by_number number finding at =
       find_first (λ (f : Finding). eqb f.number number) round.findings number finding at (eq-eqb finding.number number (number_at number finding at))
       (λ other f lt there. (let own : f.number ≡ other = number_at other f there in ne_eqb f.number number (λ same. absurd (omega (arith, own, same, lt)))))
 
-  ranked_in : (number : ℕ) (place : Place) → place_at round.findings number ≡ Some place → IsRankedIn round.findings number
-  ranked_in number place at =
-      option_and_then_some (λ (finding : Finding). place_of_status number finding.status) (slice_get round.findings number) place at
-      (λ finding there rest. (finding, found_by_number number finding there, place_ranked number finding.status place rest))
+  ranked_in : (number : ℕ) (key : RankingKey) → key_at round.findings number ≡ Some key → IsRankedIn round.findings number
+  ranked_in number key at =
+      option_and_then_some (λ (finding : Finding). key_of_status number finding.status) (slice_get round.findings number) key at
+      (λ finding there rest. (finding, found_by_number number finding there, key_ranked number finding.status key rest))
 
   pub round_of : IsRoundOf (sizes_of graph) round
   round_of = record {
@@ -111,8 +99,8 @@ module _ (graph : Tfpg) (k budget line : ℕ) (rounds : List Round) (log : Logbo
         );
     order = All-from_members (IsRankedIn round.findings) round.order
         (λ number has.
-        let all : each_of (map (place_at round.findings) round.order) ≡ Some is_round.order.places =
-        ap (λ (places : List (Option Place)). each_of places) is_round.order.all_ranked ∙ each_of-some is_round.order.places in
-        let own = Contains-each_of (place_at round.findings) round.order is_round.order.places number all has in
+        let all : each_of (map (key_at round.findings) round.order) ≡ Some is_round.order.keys =
+        ap (λ (keys : List (Option RankingKey)). each_of keys) is_round.order.all_ranked ∙ each_of-some is_round.order.keys in
+        let own = Contains-each_of (key_at round.findings) round.order is_round.order.keys number all has in
         ranked_in number own.0 own.2);
   }

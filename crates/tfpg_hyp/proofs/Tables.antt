@@ -7,7 +7,8 @@ use Rattle.std.proofs.lemmas.Option.{slice_get_within, get_or_from_slice_get, sa
 use Rattle.tfpg_graph.specs.Graph.{Tfpg, failures}
 use Rattle.tfpg_graph.specs.Reach.{IsReach}
 use Rattle.tfpg_base.proofs.lists.Written.{slice_get-push_before, slice_get-push_at}
-use Rattle.tfpg_hyp.specs.Table.{ComesFirst, IsBefore, IsTable}
+use Rattle.tfpg_hyp.specs.Table.{ComesFirst, IsListedBefore, IsTable}
+use Rattle.tfpg_hyp.specs.declared.limits.TheConstants.{MAX_HYPOTHESES}
 use Rattle.tfpg_base.proofs.lists.Elements.{All-from_members}
 use Rattle.tfpg_hyp.specs.declared.table.TableFault.{TableFault}
 use Rattle.tfpg_hyp.specs.declared.table.TableFault.TheVariants.{TooMany}
@@ -47,8 +48,8 @@ ComesFirst-asymmetric (x ∷ xs) (y ∷ ys) before after =
     (λ same. ⊎_elim (λ greater. omega (arith, greater, same.0)) (λ also. ComesFirst-asymmetric xs ys same.1 also.1) after)
     before
 
-pub IsBefore-asymmetric : (a b : List ℕ) → IsBefore a b → IsBefore b a → ⊥
-IsBefore-asymmetric a b before after =
+pub IsListedBefore-asymmetric : (a b : List ℕ) → IsListedBefore a b → IsListedBefore b a → ⊥
+IsListedBefore-asymmetric a b before after =
     ⊎_elim
     (λ less. ⊎_elim (λ greater. omega (arith, less, greater)) (λ same. omega (arith, less, same.0)) after)
     (λ same. ⊎_elim (λ greater. omega (arith, greater, same.0)) (λ also. ComesFirst-asymmetric a b same.1 also.1) after)
@@ -57,7 +58,7 @@ IsBefore-asymmetric a b before after =
 -- The table of a graph and k is one.
 pub one_table : (graph : Tfpg) (k : ℕ) (sets others : List (List ℕ)) → IsTable graph k sets → IsTable graph k others → sets ≡ others
 one_table graph k sets others first second =
-    same_in_order IsBefore IsBefore-asymmetric sets others first.in_order second.in_order
+    same_in_order IsListedBefore IsListedBefore-asymmetric sets others first.in_order second.in_order
     (λ set member. (second.exact set).1 ((first.exact set).0 member))
     (λ set member. (first.exact set).1 ((second.exact set).0 member))
 
@@ -81,11 +82,11 @@ module _ (graph : Tfpg) (k count : ℕ) (sets : List (List ℕ)) (failing : coun
   IsTable-sets = subst (IsTable graph k) (sym listed) (IsTable-listed graph k count failing)
 
   -- its members are failure modes of the graph
-  pub members_failing : All (λ set. All (λ place. place < length (failures graph)) set) sets
-  members_failing = All-from_members (λ set. All (λ place. place < length (failures graph)) set) sets (λ set member. ((IsTable-sets.exact set).0 member).of_graph.members)
+  pub members_failing : All (λ set. All (λ index. index < length (failures graph)) set) sets
+  members_failing = All-from_members (λ set. All (λ index. index < length (failures graph)) set) sets (λ set member. ((IsTable-sets.exact set).0 member).of_graph.members)
 
   -- and it is no longer than was counted
-  pub few_sets : choices_below (length (failures graph)) (k + 1) ≤ 4096 → length sets ≤ 4096
+  pub few_sets : choices_below (length (failures graph)) (k + 1) ≤ MAX_HYPOTHESES → length sets ≤ MAX_HYPOTHESES
   few_sets few = omega (arith, few, ap length listed, length-chosen_below count (k + 1), ap (λ n. choices_below n (k + 1)) failing)
 
 -- ---- too many
@@ -96,17 +97,17 @@ too_many_of X count = Err (TooMany count)
 
 module _ (graph : Tfpg) (k total : ℕ) (has : HasHypotheses graph k total) where
   -- where there are more than 4,096, the fault has exactly their number
-  pub too_many-exactly : {X : Type 0} → 4096 < total → (count : ℕ) → (too_many_of X total ≡ too_many_of X count) ↔ ((4096 < count) × HasHypotheses graph k count)
+  pub too_many-exactly : {X : Type 0} → MAX_HYPOTHESES < total → (count : ℕ) → (too_many_of X total ≡ too_many_of X count) ↔ ((MAX_HYPOTHESES < count) × HasHypotheses graph k count)
   too_many-exactly {X} many count = (to, from)
     where
-      to : too_many_of X total ≡ too_many_of X count → (4096 < count) × HasHypotheses graph k count
-      to same = let equal : total ≡ count = cc in subst (λ n. (4096 < n) × HasHypotheses graph k n) equal (many, has)
+      to : too_many_of X total ≡ too_many_of X count → (MAX_HYPOTHESES < count) × HasHypotheses graph k count
+      to same = let equal : total ≡ count = cc in subst (λ n. (MAX_HYPOTHESES < n) × HasHypotheses graph k n) equal (many, has)
 
-      from : (4096 < count) × HasHypotheses graph k count → too_many_of X total ≡ too_many_of X count
+      from : (MAX_HYPOTHESES < count) × HasHypotheses graph k count → too_many_of X total ≡ too_many_of X count
       from other = ap (too_many_of X) (one_count graph k total count has other.1)
 
   -- else there is no number of them above 4,096, and no such fault
-  pub not_too_many : {X : Type 0} (result : Result X TableFault) → total ≤ 4096 → ((count : ℕ) → result ≡ Err (TooMany count) → ⊥) → (count : ℕ)
-      → (result ≡ Err (TooMany count)) ↔ ((4096 < count) × HasHypotheses graph k count)
+  pub not_too_many : {X : Type 0} (result : Result X TableFault) → total ≤ MAX_HYPOTHESES → ((count : ℕ) → result ≡ Err (TooMany count) → ⊥) → (count : ℕ)
+      → (result ≡ Err (TooMany count)) ↔ ((MAX_HYPOTHESES < count) × HasHypotheses graph k count)
   not_too_many result few none count =
       (λ same. absurd (none count same), λ other. absurd (omega (arith, few, other.0, one_count graph k total count has other.1)))

@@ -9,5 +9,5 @@ pub mod Hypotheses
 pub mod Ranking
 pub mod Rounds
 pub mod Fitting
--- What the code and its proofs need besides. No public contract reaches it.
+-- What the code and its proofs need besides. No public clause reaches it.
 pub mod inside

@@ -1,5 +1,5 @@
 -- What a round is: a finding for each hypothesis, each with its evidence, in order and counted.
-use Rattle.std.specs.Prelude.{◌≡◌, ℕ, ◌≤◌, List, [], ◌∷◌, ◌++◌, length, map, count_by, flat_map, AllPairs, Contains, Bool, true, false, IsTrue, Option, Some, None, slice_get, option_map, option_and_then, unwrap_or}
+use Rattle.std.specs.Prelude.{◌≡◌, ℕ, ◌≤◌, List, [], ◌∷◌, ◌++◌, length, map, count_by, flat_map, AllPairs, Contains, false, IsTrue, Option, Some, None, slice_get, option_map, option_and_then, unwrap_or}
 use Rattle.std.specs.List.{list_any}
 use Rattle.tfpg_base.specs.Set.{IsProperSubset}
 use Rattle.tfpg_graph.specs.Graph.{Tfpg}
@@ -14,7 +14,7 @@ use Rattle.tfpg_evidence.specs.declared.round.Counts.{Counts}
 use Rattle.tfpg_evidence.specs.RoundOf.{is_ranked, is_covered, is_rejected, is_open}
 use Rattle.tfpg_clause.specs.Trees.{Judged, IsRefutation, IsPartial, split_count}
 use Rattle.tfpg_hyp.specs.Table.{IsTable}
-use Rattle.tfpg_hyp.specs.declared.place.Place.{Place}
+use Rattle.tfpg_hyp.specs.declared.ranking_key.RankingKey.{RankingKey}
 use Rattle.tfpg_hyp.specs.Ranking.{cost_of, robustness_of, IsRankedBefore}
 
 -- the steps of one hypothesis in a round, judged by the log of that round, which has as many events as the round's
@@ -68,25 +68,25 @@ pub record IsFinding (graph : Tfpg) (log : Logbook) (budget : ℕ) (rounds : Lis
   pub reach_is : IsReach graph set reach
   pub evidence : HasEvidence graph log budget findings reach (steps_so_far number rounds) finding finding.status
 
--- where a ranked finding stands
-abbrev pub place_of_status : ℕ → Status → Option Place
-place_of_status number (Ranked trace cost alarmed monitored) =
+-- the key of a ranked finding
+abbrev pub key_of_status : ℕ → Status → Option RankingKey
+key_of_status number (Ranked trace cost alarmed monitored) =
     Some (record { cost = cost; robust = record { alarmed = alarmed; monitored = monitored }; number = number })
-place_of_status number (Covered by) = None
-place_of_status number Rejected = None
-place_of_status number Open = None
+key_of_status number (Covered by) = None
+key_of_status number Rejected = None
+key_of_status number Open = None
 
--- where the hypothesis of a number stands, if it is ranked
-abbrev pub place_at : List Finding → ℕ → Option Place
-place_at findings number =
-    option_and_then (λ finding. place_of_status number finding.status) (slice_get findings number)
+-- the key of the hypothesis of a number, if it is ranked
+abbrev pub key_at : List Finding → ℕ → Option RankingKey
+key_at findings number =
+    option_and_then (λ finding. key_of_status number finding.status) (slice_get findings number)
 
 -- The numbers of the ranked hypotheses, best first.
 pub record IsOrder (findings : List Finding) (order : List ℕ) : Type 0 where
-  pub places : List Place
-  pub all_ranked : map (place_at findings) order ≡ map Some places
-  pub each_ranked : (number : ℕ) (place : Place) → place_at findings number ≡ Some place → Contains order number
-  pub in_order : AllPairs IsRankedBefore places
+  pub keys : List RankingKey
+  pub all_ranked : map (key_at findings) order ≡ map Some keys
+  pub each_ranked : (number : ℕ) (key : RankingKey) → key_at findings number ≡ Some key → Contains order number
+  pub in_order : AllPairs IsRankedBefore keys
 
 -- No finding of the round is open.
 abbrev pub HasNoneOpen : Round → Type 0
@@ -99,7 +99,7 @@ counts_of findings =
       ranked = count_by (λ finding. is_ranked finding.status) findings;
       covered = count_by (λ finding. is_covered finding.status) findings;
       rejected = count_by (λ finding. is_rejected finding.status) findings;
-      unsettled = count_by (λ finding. is_open finding.status) findings;
+      left_open = count_by (λ finding. is_open finding.status) findings;
     }
 
 -- The round of an accepted line after these rounds: a finding for each hypothesis of the table.

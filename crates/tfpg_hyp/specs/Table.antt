@@ -15,10 +15,10 @@ ComesFirst (a ∷ as_) [] = ⊥
 ComesFirst (a ∷ as_) (b ∷ bs) = (a < b) ⊎ ((a ≡ b) × ComesFirst as_ bs)
 
 -- Smaller sets come first, and sets of one size by their lists of positions.
-abbrev pub IsBefore : List ℕ → List ℕ → Type 0
-IsBefore a b = (length a < length b) ⊎ ((length a ≡ length b) × ComesFirst a b)
+abbrev pub IsListedBefore : List ℕ → List ℕ → Type 0
+IsListedBefore a b = (length a < length b) ⊎ ((length a ≡ length b) × ComesFirst a b)
 
 -- These are all hypotheses, in order. The number of one is its index.
 pub record IsTable (graph : Tfpg) (k : ℕ) (sets : List (List ℕ)) : Type 0 where
   pub exact : (set : List ℕ) → Contains sets set ↔ IsHypothesis graph k set
-  pub in_order : AllPairs IsBefore sets
+  pub in_order : AllPairs IsListedBefore sets

@@ -6,7 +6,7 @@ ghost use Rattle.tfpg_graph.specs.Graph.{Tfpg};
 ghost use Rattle.tfpg_hyp.specs.Hypotheses.{HasHypotheses};
 ghost use Rattle.tfpg_hyp.specs.Ranking.{IsRankedBefore};
 ghost use Rattle.tfpg_hyp.specs.Table.{IsHypothesis, IsTable};
-ghost use Rattle.tfpg_hyp.specs.declared.place.Place.{Place};
+ghost use Rattle.tfpg_hyp.specs.declared.ranking_key.RankingKey.{RankingKey};
 
 mod names;
 mod round_laws;
@@ -34,11 +34,11 @@ pub fn subsets_stand_before_their_supersets()
         slice_get sets other ≡ Some whole → IsProperSubset part whole → number < other }
 {}
 
-/// The ranking order is a strict total order of places with different numbers whose robustness is a fraction.
+/// The ranking order is a strict total order of keys with different numbers whose robustness is a fraction.
 pub fn the_ranking_order_is_total()
-    ensures irreflexive { (a : Place) → IsRankedBefore a a → ⊥ }
-    ensures transitive { (a b c : Place) →
+    ensures irreflexive { (a : RankingKey) → IsRankedBefore a a → ⊥ }
+    ensures transitive { (a b c : RankingKey) →
         1 ≤ a.robust.monitored → 1 ≤ b.robust.monitored → 1 ≤ c.robust.monitored →
         IsRankedBefore a b → IsRankedBefore b c → IsRankedBefore a c }
-    ensures total { (a b : Place) → a.number ≢ b.number → IsRankedBefore a b ⊎ IsRankedBefore b a }
+    ensures total { (a b : RankingKey) → a.number ≢ b.number → IsRankedBefore a b ⊎ IsRankedBefore b a }
 {}

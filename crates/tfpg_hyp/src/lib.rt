@@ -4,7 +4,7 @@
 //!
 //! - [`Table`] lists all hypotheses of a graph in order, with what each reaches. Where there are more than
 //!   [`MAX_HYPOTHESES`], [`TableFault`] says how many.
-//! - [`cost`] and [`robust`] find what ranks a hypothesis, its [`Place`], and [`is_ranked_before`] compares two places.
+//! - [`cost`] and [`robust`] find what ranks a hypothesis, its [`RankingKey`], and [`is_ranked_before`] compares two keys.
 //! - [`laws`] says what follows from the definitions of the table, of the ranking order and of a round.
 //!
 //! In this crate a round is a definition alone (`specs/Rounds.antt`). `tfpg_engine` makes rounds.
@@ -12,7 +12,7 @@
 //! ```
 //! let table = Table::new(alloc, &graph, 1)?;
 //! for number in 0..table.len() {
-//!     let place = Place {
+//!     let key = RankingKey {
 //!         cost: cost(&graph, table.set(number)),
 //!         robust: robust(&graph, &log, table.reach(number)),
 //!         number,
@@ -24,11 +24,11 @@
 pub mod laws;
 mod limits;
 mod listing;
-mod place;
 mod ranking;
+mod ranking_key;
 mod table;
 
 pub use limits::MAX_HYPOTHESES;
-pub use place::{Fraction, Place};
 pub use ranking::{cost, is_ranked_before, robust};
+pub use ranking_key::{Fraction, RankingKey};
 pub use table::{Table, TableFault};

@@ -1,6 +1,7 @@
 //! How the sets of at most `k` failure modes are counted, and listed in order.
 
 ghost use Rattle.std.specs.Prelude.{◌≡◌, ◌+◌, ◌<◌, ◌≤◌, ◌++◌, map, All, IfOk, OnOk};
+ghost use Rattle.tfpg_graph.specs.declared.limits.TheConstants.{MAX_FAILURES};
 ghost use Rattle.tfpg_hyp.specs.inside.Choices.{chosen, chosen_below, choices_below};
 
 use std::alloc::Global;
@@ -9,7 +10,7 @@ use tfpg_base::{NoMemory, Set};
 /// How many sets of at most `k` of so many failure modes there are: a sum of binomials, size by size, with at most 64
 /// multiplications and divisions.
 pub(crate) fn count_sets(count: u32, k: u32) -> u128
-    requires { count ≤ 64 }
+    requires { count ≤ MAX_FAILURES }
     ensures { result ≡ choices_below count (k + 1) }
 {
     let mut of_size = 1;
@@ -23,7 +24,7 @@ pub(crate) fn count_sets(count: u32, k: u32) -> u128
 
 /// These sets: the smaller first, and those of one size by their rising lists.
 pub(crate) fn list_sets(alloc: Global, count: u32, k: u32) -> Result<Vec<Set>, NoMemory>
-    requires { count ≤ 64 }
+    requires { count ≤ MAX_FAILURES }
     ensures { IfOk result (λ sets. sets.items ≡ chosen_below count (k + 1)) }
 {
     let mut sets = Vec::new(alloc);
@@ -43,7 +44,7 @@ fn append_sets(
     count: u32,
     size: u32,
 ) -> Result<(), NoMemory>
-    requires room { least + count ≤ 64 }
+    requires room { least + count ≤ MAX_FAILURES }
     requires below { All (λ position. position < least) members }
     ensures { OnOk result
         (sets.new.items ≡ sets.old.items ++ map (λ more. members ++ more) (chosen count size least)) }

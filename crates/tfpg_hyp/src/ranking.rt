@@ -5,7 +5,7 @@ ghost use Rattle.tfpg_graph.specs.Graph.{failures, AreFailures};
 ghost use Rattle.tfpg_graph.specs.declared.limits.TheConstants.{MAX_RARITY};
 ghost use Rattle.tfpg_hyp.specs.Ranking.{rarity_at, cost_of, robustness_of, IsRankedBefore};
 
-use crate::place::{Fraction, Place};
+use crate::ranking_key::{Fraction, RankingKey};
 use tfpg_base::Set;
 use tfpg_graph::{Graph, Kind, NodeSet};
 use tfpg_log::Log;
@@ -50,9 +50,9 @@ pub fn robust(graph: &Graph, log: &Log, reach: &NodeSet) -> Fraction
     Fraction { alarmed, monitored }
 }
 
-/// Whether the one place comes before the other: where it costs less, or costs the same and is more robust, or is as
+/// Whether the one key comes before the other: where it costs less, or costs the same and is more robust, or is as
 /// robust too and has the lesser number. Robustness is compared as the fraction that it is.
-pub fn is_ranked_before(a: &Place, b: &Place) -> bool
+pub fn is_ranked_before(a: &RankingKey, b: &RankingKey) -> bool
     requires first { 1 ≤ a.now.robust.monitored }
     requires second { 1 ≤ b.now.robust.monitored }
     ensures { IsTrue result ↔ IsRankedBefore a.now b.now }

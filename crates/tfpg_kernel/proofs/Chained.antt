@@ -15,7 +15,7 @@ use Rattle.tfpg_kernel.specs.declared.chain.Chain.{Chain}
 use Rattle.tfpg_kernel.specs.declared.chain.ClosingFault.{ClosingFault}
 use Rattle.tfpg_kernel.specs.declared.chain.ClosingFault.TheVariants.{Unchained, NotNegative}
 use Rattle.tfpg_kernel.specs.Breaks.{fault_of, reasons_fault, ClosingBreaks}
-use Rattle.tfpg_kernel.specs.inside.Chains.{IsWithin, new_chain, with_constraint, chain_of, is_round, is_negative, closing_fault, bad_of}
+use Rattle.tfpg_kernel.specs.inside.Chains.{HasMagnitudeUpTo, new_chain, with_constraint, chain_of, is_round, is_negative, closing_fault, bad_of}
 
 -- the chain from a state on
 abbrev chain_from : Chain → List Constraint → Chain
@@ -28,7 +28,7 @@ fold_push chain (c ∷ constraints) last = fold_push (with_constraint chain c) c
 pub chain_push : (constraints : List Constraint) (last : Constraint) → chain_of (constraints ++ last ∷ []) ≡ with_constraint (chain_of constraints) last
 chain_push constraints last = fold_push new_chain constraints last
 
-sum_from : (chain : Chain) (constraints : List Constraint) → (chain_from chain constraints).sum ≡ fold (λ total constraint. total +ℤ constraint.most) chain.sum constraints
+sum_from : (chain : Chain) (constraints : List Constraint) → (chain_from chain constraints).sum ≡ fold (λ total constraint. total +ℤ constraint.bound) chain.sum constraints
 sum_from chain [] = refl
 sum_from chain (c ∷ constraints) = sum_from (with_constraint chain c) constraints
 
@@ -47,7 +47,7 @@ round_from : (first last : ℕ) (unbroken : Bool) (sum : ℤ) (constraints : Lis
     → round_test (chain_from (record { ends = Some (record { first = first; last = last }); unbroken = unbroken; sum = sum }) constraints) ≡ (unbroken && chains last first constraints)
 round_from first last unbroken sum [] = refl
 round_from first last unbroken sum (c ∷ constraints) =
-    round_from first c.right (unbroken && (last == c.left)) (sum +ℤ c.most) constraints ∙ and_assoc unbroken (last == c.left) (chains c.right first constraints)
+    round_from first c.right (unbroken && (last == c.left)) (sum +ℤ c.bound) constraints ∙ and_assoc unbroken (last == c.left) (chains c.right first constraints)
 
 chained : (end : ℕ) (c : Constraint) (constraints : List Constraint) → chains c.right end constraints ≡ true → IsChainTo end (c ∷ constraints)
 chained end c [] test = sym (eqb-true end c.right test)
@@ -62,11 +62,11 @@ unchained end c (d ∷ constraints) chain =
 
 cycle_of : (constraints : List Constraint) → round_test (chain_of constraints) ≡ true → IsCycle constraints
 cycle_of [] test = cc
-cycle_of (c ∷ constraints) test = chained c.left c constraints (sym (round_from c.left c.right true (pos 0 +ℤ c.most) constraints) ∙ test)
+cycle_of (c ∷ constraints) test = chained c.left c constraints (sym (round_from c.left c.right true (pos 0 +ℤ c.bound) constraints) ∙ test)
 
 round_of : (constraints : List Constraint) → IsCycle constraints → round_test (chain_of constraints) ≡ true
 round_of [] cycle = absurd cycle
-round_of (c ∷ constraints) cycle = round_from c.left c.right true (pos 0 +ℤ c.most) constraints ∙ unchained c.left c constraints cycle
+round_of (c ∷ constraints) cycle = round_from c.left c.right true (pos 0 +ℤ c.bound) constraints ∙ unchained c.left c constraints cycle
 
 below_zero : (sum : ℤ) → is_negative sum ≡ true → sum <ℤ pos 0
 below_zero (pos n) test = cc
@@ -101,13 +101,13 @@ breaks constraints fault some = by (round_test (chain_of constraints)) refl (is_
         subst (λ (f : ClosingFault). ClosingBreaks constraints (bad_of f)) same (inl (refl, λ (cycle : IsCycle constraints). let both : true ≡ false = sym (round_of constraints cycle) ∙ round in cc))
 
 -- One more bound of 64 bits.
-pub within_more : (n : ℕ) (sum most : ℤ) → IsWithin (n * 2 ^ 63) sum → neg_ℤ (pos (2 ^ 63)) ≤ℤ most → most <ℤ pos (2 ^ 63) → IsWithin ((n + 1) * 2 ^ 63) (sum +ℤ most)
-within_more n sum most within low high =
+pub within_more : (n : ℕ) (sum bound : ℤ) → HasMagnitudeUpTo (n * 2 ^ 63) sum → neg_ℤ (pos (2 ^ 63)) ≤ℤ bound → bound <ℤ pos (2 ^ 63) → HasMagnitudeUpTo ((n + 1) * 2 ^ 63) (sum +ℤ bound)
+within_more n sum bound within low high =
     let under = within.low in
     let over = within.high in
     record { low = omega (arith, ints); high = omega (arith, ints) }
 
-pub within_room : (n : ℕ) (sum : ℤ) → n + 1 < 2 ^ 64 → IsWithin (n * 2 ^ 63) sum → IsWithin (2 ^ 127 - 2 ^ 63) sum
+pub within_room : (n : ℕ) (sum : ℤ) → n + 1 < 2 ^ 64 → HasMagnitudeUpTo (n * 2 ^ 63) sum → HasMagnitudeUpTo (2 ^ 127 - 2 ^ 63) sum
 within_room n sum few within =
     let under = within.low in
     let over = within.high in

@@ -1,3 +1,3 @@
 pub mod Chained
 pub mod FirstBroken
-pub mod Answering
+pub mod StepResults

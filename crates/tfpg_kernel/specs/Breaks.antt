@@ -17,7 +17,7 @@ use Rattle.tfpg_kernel.specs.declared.taken.BadStep.TheVariants.{AfterClosed, No
 
 -- what is wrong with a reason that states no constraint
 abbrev pub fault_of : Reason → BadStep
-fault_of (Pick split place) = NotOnPath
+fault_of (Pick split number) = NotOnPath
 fault_of (Zero node) = NotAFact
 fault_of (Top node) = NotAFact
 fault_of (Unreached node horizon) = NotAFact

@@ -1,6 +1,7 @@
 pub use Rattle.tfpg_clause.specs.Trees
+-- What the public contracts say.
 pub mod Checking
 pub mod Breaks
 pub mod Represents
--- what proofs alone need
+-- What the code and its proofs need besides. No public clause reaches it.
 pub mod inside

@@ -1,3 +1,3 @@
 pub mod Chains
 pub mod Paths
-pub mod Answers
+pub mod StepResults

@@ -1,7 +1,7 @@
 //! The constraints of a cycle, as far as its reasons were looked at.
 
 ghost use Rattle.std.specs.Prelude.{◌≡◌, ℕ, ◌+◌, ◌-◌, ◌*◌, ◌^◌};
-ghost use Rattle.tfpg_kernel.specs.inside.Chains.{IsWithin, with_constraint, closing_fault};
+ghost use Rattle.tfpg_kernel.specs.inside.Chains.{HasMagnitudeUpTo, with_constraint, closing_fault};
 
 use crate::taken::BadStep;
 use tfpg_base::Constraint;
@@ -57,12 +57,12 @@ impl Chain {
 
     /// The chain with one more constraint at its end.
     pub(crate) fn with(self, constraint: Constraint) -> Chain
-        requires { IsWithin (2 ^ 127 - 2 ^ 63) self.sum }
+        requires { HasMagnitudeUpTo (2 ^ 127 - 2 ^ 63) self.sum }
         ensures chain { result ≡ with_constraint self constraint }
         ensures small { (count : ℕ) →
-            IsWithin (count * 2 ^ 63) self.sum → IsWithin ((count + 1) * 2 ^ 63) result.sum }
+            HasMagnitudeUpTo (count * 2 ^ 63) self.sum → HasMagnitudeUpTo ((count + 1) * 2 ^ 63) result.sum }
     {
-        let sum = self.sum + i128::from(constraint.most);
+        let sum = self.sum + i128::from(constraint.bound);
         match self.ends {
             None => Chain {
                 ends: Some(ChainEnds {

@@ -7,16 +7,16 @@ ghost use Rattle.tfpg_log.specs.Log.{Logbook, GoesOn, IsOf, IsOrdered};
 ghost use Rattle.tfpg_log.specs.Explains.{Fits};
 ghost use Rattle.tfpg_evidence.specs.declared.step.Step.TheVariants.{Split, Cycle};
 ghost use Rattle.tfpg_clause.specs.Trees.{Judged, IsRefutation, IsPartial};
-ghost use Rattle.tfpg_kernel.specs.declared.taken.Taken.TheVariants.{Open, Closed, Bad};
+ghost use Rattle.tfpg_kernel.specs.declared.taken.Taken.TheVariants.{Partial, Closed, Bad};
 ghost use Rattle.tfpg_kernel.specs.declared.taken.BadStep.{BadStep};
 ghost use Rattle.tfpg_kernel.specs.Breaks.{IsFirstBroken};
 ghost use Rattle.tfpg_clause.specs.Paths.{judged_by, with_step};
 ghost use Rattle.tfpg_kernel.specs.Represents.{CheckerRepresents, steps_after};
-ghost use Rattle.tfpg_kernel.specs.inside.Answers.{IsAnswer};
+ghost use Rattle.tfpg_kernel.specs.inside.StepResults.{IsStepResult};
 ghost use Rattle.tfpg_kernel.specs.inside.Paths.{Moves};
 
-use crate::answers::moves_are_answers;
 use crate::cycle::check_cycle;
+use crate::step_results::moves_are_results;
 use crate::taken::{BadStep, Taken};
 use std::alloc::Global;
 use std::marker::Model;
@@ -79,7 +79,7 @@ impl Checker {
     /// reasons cost, and the splits that it finishes.
     ///
     /// The steps that were taken before are any that the checker represents, each judged by a log from which this one goes
-    /// on. Closed comes exactly where they are a refutation with this step, Open exactly where they are a partial tree with
+    /// on. Closed comes exactly where they are a refutation with this step, Partial exactly where they are a partial tree with
     /// it, and Bad exactly where the step breaks a condition, with the first that it breaks. Then nothing is changed. After
     /// Closed no trace explains the log, or one that goes on from it, from a set that reaches the checker's nodes.
     pub fn take(&mut self, graph: &Graph, log: &Log, step: &Step) -> Taken
@@ -89,9 +89,10 @@ impl Checker {
             CheckerRepresents graph.now earlier self.old steps →
             (result ≡ Closed)
             ↔ IsRefutation graph.now log.now self.old.reach (with_step steps log.now step.now) }
-        ensures open { (earlier : Logbook) (steps : List Judged) → GoesOn earlier log.now →
+        ensures partial { (earlier : Logbook) (steps : List Judged) → GoesOn earlier log.now →
             CheckerRepresents graph.now earlier self.old steps →
-            (result ≡ Open) ↔ IsPartial graph.now log.now self.old.reach (with_step steps log.now step.now) }
+            (result ≡ Partial)
+            ↔ IsPartial graph.now log.now self.old.reach (with_step steps log.now step.now) }
         ensures bad { (earlier : Logbook) (steps : List Judged) → GoesOn earlier log.now →
             CheckerRepresents graph.now earlier self.old steps → (bad : BadStep) →
             (result ≡ Bad bad)
@@ -110,22 +111,22 @@ impl Checker {
         let _valid = graph.node_count();
         // A law: what a closed tree is worth.
         a_refutation_leaves_no_trace();
-        self.answer(graph, log, step)
+        self.take_step(graph, log, step)
     }
 
     /// Takes the step, or returns the first condition that it breaks.
-    fn answer(&mut self, graph: &Graph, log: &Log, step: &Step) -> Taken
+    fn take_step(&mut self, graph: &Graph, log: &Log, step: &Step) -> Taken
         requires of { IsOf graph.now log.now }
         requires spare { 1 ≤ self.old.spare }
-        ensures answer { (earlier : Logbook) (steps : List Judged) → GoesOn earlier log.now →
+        ensures result { (earlier : Logbook) (steps : List Judged) → GoesOn earlier log.now →
             CheckerRepresents graph.now earlier self.old steps →
-            IsAnswer graph.now log.now self.old.reach steps step.now result self.new }
+            IsStepResult graph.now log.now self.old.reach steps step.now result self.new }
         ensures unchanged { (bad : BadStep) → result ≡ Bad bad → self.new ≡ self.old }
         ensures reach { self.new.reach ≡ self.old.reach }
         ensures spare { self.old.spare ≤ self.new.spare + 1 }
     {
         let _ordered = log.len();
-        moves_are_answers();
+        moves_are_results();
         if self.closed {
             return Taken::Bad(BadStep::AfterClosed);
         }
@@ -138,7 +139,7 @@ impl Checker {
     /// Splits the present leaf, where the name is allowed: the first alternative is the present leaf then.
     fn split(&mut self, graph: &Graph, log: &Log, name: ClauseName) -> Taken
         requires spare { 1 ≤ self.old.spare }
-        requires open { self.old.closed ≡ false }
+        requires not_closed { self.old.closed ≡ false }
         ensures moves { Moves graph.now log.now self.old (Split name) result self.new }
         ensures reach { self.new.reach ≡ self.old.reach }
         ensures spare { self.old.spare ≤ self.new.spare + 1 }
@@ -150,7 +151,7 @@ impl Checker {
                     alternative: 1,
                     alternatives,
                 });
-                Taken::Open
+                Taken::Partial
             }
             Err(_) => Taken::Bad(BadStep::NotAClause),
         }
@@ -171,7 +172,7 @@ impl Checker {
     /// present leaf then.
     fn close(&mut self, graph: &Graph, log: &Log, reasons: &[Reason]) -> Taken
         requires of { IsOf graph.now log.now }
-        requires open { self.old.closed ≡ false }
+        requires not_closed { self.old.closed ≡ false }
         ensures moves { Moves graph.now log.now self.old (Cycle reasons.now) result self.new }
         ensures reach { self.new.reach ≡ self.old.reach }
         ensures spare { self.old.spare ≤ self.new.spare }
@@ -180,7 +181,7 @@ impl Checker {
             return Taken::Bad(bad);
         }
         if advance(&mut self.path) {
-            Taken::Open
+            Taken::Partial
         } else {
             self.closed = true;
             Taken::Closed

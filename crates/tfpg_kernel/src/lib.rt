@@ -1,10 +1,10 @@
 //! The checker of refutations.
 //!
 //! It stands apart from all that finds evidence, and is small, so that a reviewer can read it whole: what it calls of other
-//! crates is `count`, `stated` and `advance`, and laws, which do nothing.
+//! crates is `count`, `stated_by` and `advance`, and laws, which do nothing.
 //!
 //! - [`Checker`] takes the steps of a refutation one by one. It keeps the path to the present leaf and no step.
-//! - [`Taken`] is what it returns: the tree is open, the tree is closed, or the step is bad, with the first cause,
+//! - [`Taken`] is what it returns: the tree is partial, the tree is closed, or the step is bad, with the first cause,
 //!   [`BadStep`].
 //! - [`Frame`] is what contracts see of a split on the path.
 //!
@@ -15,7 +15,7 @@
 //! for step in &steps {
 //!     checker.reserve()?;
 //!     match checker.take(&graph, &log, step) {
-//!         Taken::Open => {}
+//!         Taken::Partial => {}
 //!         Taken::Closed => {} // the steps are a refutation
 //!         Taken::Bad(cause) => {} // the checker is unchanged
 //!     }
@@ -23,10 +23,10 @@
 //! ```
 #![tactic(auto)]
 
-mod answers;
 mod chain;
 mod checker;
 mod cycle;
+mod step_results;
 mod taken;
 
 pub use checker::Checker;

@@ -4,7 +4,7 @@
 #[derive(Clone, Copy, Debug, PartialEq, Eq)]
 pub enum Taken {
     /// It is right, and the tree is not finished.
-    Open,
+    Partial,
     /// It is right, and closed the last leaf.
     Closed,
     /// It is not right, and the checker is unchanged.
@@ -20,7 +20,7 @@ pub enum BadStep {
     NotAClause,
     /// A reason is neither a pick nor a fact of the log.
     NotAFact,
-    /// A reason picks from a split that is not on the path, or a place that the alternative taken there does not have.
+    /// A reason picks from a split that is not on the path, or a constraint that the alternative taken there does not have.
     NotOnPath,
     /// The reasons do not chain into a cycle, or there are none.
     Unchained,

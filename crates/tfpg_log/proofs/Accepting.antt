@@ -33,8 +33,8 @@ pub record MayCome (graph : Tfpg) (log : Logbook) (event : Event) : Type 0 where
 
 -- ---- what the tests say, where none refuses
 
--- none of the tests refuses
-abbrev AreNone : List (Option Refusal) → Type 0
+-- no test refuses
+abbrev pub AreNone : List (Option Refusal) → Type 0
 AreNone tests = AllByRecursion (λ test. test ≡ None) tests
 
 -- ---- the names in a statement that nothing refuses

@@ -1,6 +1,7 @@
 -- The number of a node's first alarm: what event has it, that none before is an alarm of the node, and where there is none.
 use Rattle.std.proofs.Common.{◌≡◌, ℕ, zero, suc, ◌≤◌, true, ltb, length, take, Option, Some, None, refl, sym, ap, ◌∙◌, arith}
 use Rattle.std.specs.Prelude.{option_map, option_and_then, is_none, slice_get}
+use Rattle.std.proofs.lemmas.Bool.{eq-eqb}
 use Rattle.std.proofs.lemmas.Option.{slice_get_within}
 use Rattle.tfpg_base.proofs.lists.Choices.{option_map-some}
 use Rattle.tfpg_log.specs.declared.event.Event.{Event}
@@ -8,7 +9,7 @@ use Rattle.tfpg_log.specs.declared.event.Event.TheVariants.{Alarm}
 use Rattle.tfpg_log.specs.Log.{Logbook, event_at, is_alarm_of, alarm_among, alarm_index, alarm_of, alarm_event, time_of_event}
 use Rattle.tfpg_base.proofs.lists.Choices.{option_map-none}
 use Rattle.tfpg_base.proofs.lists.FirstFound.{is_from, leb-suc, find-position, position-passes, position-upto}
-use Rattle.tfpg_log.proofs.AlarmPlaces.{same_node, alarm_is, none_before}
+use Rattle.tfpg_log.proofs.AlarmIndexes.{alarm_is, none_before}
 
 -- The event of the number is an alarm of the node, at the time of its first alarm.
 pub alarm_event_is : (log : Logbook) (node number : ℕ) → alarm_event log node ≡ Some number → (time : ℕ) × (event_at log number ≡ Some (Alarm time node)) × (alarm_of log node ≡ Some time)
@@ -52,8 +53,8 @@ alarm_event_of log node time there = there_is log node time (alarm_event log nod
 -- The first alarm of a node has no greater number than any alarm of it.
 pub alarm_event_first : (log : Logbook) (node number time : ℕ) → event_at log number ≡ Some (Alarm time node) → (first : ℕ) × (alarm_event log node ≡ Some first) × (first ≤ number)
 alarm_event_first log node zero time e = absurd cc
-alarm_event_first log node (suc place) time e =
-    let first = position-upto (is_alarm_of node) log.events place (Alarm time node) e (same_node node) in
+alarm_event_first log node (suc index) time e =
+    let first = position-upto (is_alarm_of node) log.events index (Alarm time node) e (eq-eqb node node refl) in
     (suc first.0, ap (option_map suc) first.1, omega (arith, first.2))
 
 -- ---- the events before one

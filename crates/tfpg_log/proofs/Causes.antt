@@ -14,23 +14,23 @@ use Rattle.tfpg_log.specs.Explains.{IsMember, Explains}
 
 -- ---- where a trace has a node
 
--- the trace has the node with this time at a place
+-- the trace has the node with this time at an index
 record IsActivation (trace : List Activation) (node time : ℕ) : Type 0 where
-  place : ℕ
-  in_range : place < length trace
-  node_is : (d : Activation) → (get_or trace place d).node ≡ node
-  time_is : (d : Activation) → (get_or trace place d).time ≡ time
+  index : ℕ
+  in_range : index < length trace
+  node_is : (d : Activation) → (get_or trace index d).node ≡ node
+  time_is : (d : Activation) → (get_or trace index d).time ≡ time
 
 first_or : (first : Activation) (others : List Activation) (node time : ℕ) (b : Bool) → eqb first.node node ≡ b → cond b (Some first.time) (time_of others node) ≡ Some time
     → (time_of others node ≡ Some time → IsActivation others node time) → IsActivation (first ∷ others) node time
 first_or first others node time true here at later = record {
-  place = 0;
+  index = 0;
   in_range = omega arith;
   node_is = λ d. (Decides-eqb first.node node).0 here;
   time_is = λ d. cc;
 }
 first_or first others node time false here at later = let found = later at in record {
-  place = suc found.place;
+  index = suc found.index;
   in_range = omega (arith, found.in_range);
   node_is = found.node_is;
   time_is = found.time_is;
@@ -71,11 +71,11 @@ caused graph log set trace node time explains at =
     let active = activation_of trace node time at in
     let d : Activation = record { node = node; time = time } in
     let node_is = active.node_is d in
-    let in_graph : node < length graph.nodes = omega (arith, explains.trace_of.1 active.place d active.in_range, node_is) in
-    let may = (explains.rules node in_graph).may time (omega (arith, explains.by_now active.place d active.in_range, active.time_is d)) in
+    let in_graph : node < length graph.nodes = omega (arith, explains.trace_of.1 active.index d active.in_range, node_is) in
+    let may = (explains.rules node in_graph).may time (omega (arith, explains.by_now active.index d active.in_range, active.time_is d)) in
     elim (kinds (kind_at graph node) (has_kind (λ n. n.kind) graph.nodes node in_graph)) [
       | inl failure ↦ inl (subst (IsMember graph set) node_is
-          (explains.from_set active.place d active.in_range (subst (λ n. IsTrue (is_kind_at is_failure graph n)) (sym node_is) failure)))
+          (explains.from_set active.index d active.in_range (subst (λ n. IsTrue (is_kind_at is_failure graph n)) (sym node_is) failure)))
       | inr (inl or) ↦ inr (inl (or, may.or_node or at))
       | inr (inr and) ↦ inr (inr (and, may.and_node and at))
     ]

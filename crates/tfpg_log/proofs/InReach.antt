@@ -20,7 +20,7 @@ use Rattle.tfpg_log.proofs.WalkBack.{traced_back}
 -- a closed test passes the failure modes of the set
 passes_member : (graph : Tfpg) (set : List ℕ) (test : ℕ → Bool) (node : ℕ) → IsClosed graph set test → IsMember graph set node → IsTrue (test node)
 passes_member graph set test node closed member =
-    rw member.2 at (All-contains (λ place. IfSome (failure_at graph place) (λ n. IsTrue (test n))) set member.0 closed.members member.1)
+    rw member.2 at (All-contains (λ index. IfSome (failure_at graph index) (λ n. IsTrue (test n))) set member.0 closed.members member.1)
 
 -- it passes each active node
 passes : (graph : Tfpg) (log : Logbook) (set : List ℕ) (trace : List Activation) (test : ℕ → Bool) → HasZeroOrder graph → Explains graph log set trace → IsClosed graph set test
@@ -31,22 +31,22 @@ passes graph log set trace test order explains closed =
       | inl member ↦ passes_member graph set test node closed member
       | inr (inl or) ↦ closed.or_nodes node or.0 or.1.0 or.1.1 (sources or.1.0 or.1.1 or.1.2)
       | inr (inr and) ↦ closed.and_nodes node and.0
-          (λ place d within. sources (get_or (edges_into graph node) place d) (Contains-get_or (edges_into graph node) place d within) (and.1 place d within))
+          (λ index d within. sources (get_or (edges_into graph node) index d) (Contains-get_or (edges_into graph node) index d within) (and.1 index d within))
     ])
 
 -- an activation of a trace says the time of its node
-time_of-get_or : (trace : List Activation) (place : ℕ) (d : Activation) → IsRisingByNode trace → place < length trace
-    → time_of trace (get_or trace place d).node ≡ Some (get_or trace place d).time
-time_of-get_or trace place d rising within =
-    time_of-stands trace (get_or trace place d).node place d (record {
+time_of-get_or : (trace : List Activation) (index : ℕ) (d : Activation) → IsRisingByNode trace → index < length trace
+    → time_of trace (get_or trace index d).node ≡ Some (get_or trace index d).time
+time_of-get_or trace index d rising within =
+    time_of-stands trace (get_or trace index d).node index d (record {
       in_range = within;
-      before = λ k other from upto. omega (arith, rising k place d upto within, ap (λ (a : Activation). a.node) (get_or_default trace k other d (omega arith)));
-      here = λ other. ap (λ (a : Activation). a.node) (get_or_default trace place other d within);
+      before = λ k other from upto. omega (arith, rising k index d upto within, ap (λ (a : Activation). a.node) (get_or_default trace k other d (omega arith)));
+      here = λ other. ap (λ (a : Activation). a.node) (get_or_default trace index other d within);
     })
 
 -- The set reaches each node that the trace activates.
 pub trace_in_reach : (graph : Tfpg) (log : Logbook) (set : List ℕ) (trace : List Activation) → HasZeroOrder graph → Explains graph log set trace
     → All (λ activation. Reaches graph set activation.node) trace
-trace_in_reach graph log set trace order explains place d within test closed =
-    passes graph log set trace test order explains closed (get_or trace place d).node (get_or trace place d).time
-    (time_of-get_or trace place d explains.trace_of.0 within)
+trace_in_reach graph log set trace order explains index d within test closed =
+    passes graph log set trace test order explains closed (get_or trace index d).node (get_or trace index d).time
+    (time_of-get_or trace index d explains.trace_of.0 within)

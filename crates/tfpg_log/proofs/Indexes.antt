@@ -63,17 +63,17 @@ own_kept : (events : List Event) (nodes : List NodeEvents) (event : Event) → (
 own_kept events nodes event own quiet other node = node_kept (log_of events) event node (events_of nodes node) (quiet node) (other node) (own node)
 
 -- an event of one node leaves what is kept of the others
-own_set : (events : List Event) (nodes longer : List NodeEvents) (event : Event) (place : ℕ) (entry : NodeEvents)
-    → ((node : ℕ) → IsNodeEvents (log_of events) node (events_of nodes node)) → AreSameOfNodes longer nodes → place < length longer
-    → IsNodeEvents (with_event (log_of events) event) place entry
-    → ((node : ℕ) → (node ≡ place → ⊥) → (is_alarm_of node event ≡ false) × ((time : ℕ) → event ≡ Silent time node → ⊥))
-    → AreNodesEvents events event (set longer place entry)
-own_set events nodes longer event place entry own same lt is others node = elim (eqb_tells place node) [
-  | inl it ↦ subst (λ n. IsNodeEvents (with_event (log_of events) event) n (events_of (set longer place entry) n)) it.1
-      (subst (IsNodeEvents (with_event (log_of events) event) place) (sym (get_or-set_at longer place place entry no_events refl lt)) is)
+own_set : (events : List Event) (nodes longer : List NodeEvents) (event : Event) (index : ℕ) (entry : NodeEvents)
+    → ((node : ℕ) → IsNodeEvents (log_of events) node (events_of nodes node)) → AreSameOfNodes longer nodes → index < length longer
+    → IsNodeEvents (with_event (log_of events) event) index entry
+    → ((node : ℕ) → (node ≡ index → ⊥) → (is_alarm_of node event ≡ false) × ((time : ℕ) → event ≡ Silent time node → ⊥))
+    → AreNodesEvents events event (set longer index entry)
+own_set events nodes longer event index entry own same lt is others node = elim (eqb_tells index node) [
+  | inl it ↦ subst (λ n. IsNodeEvents (with_event (log_of events) event) n (events_of (set longer index entry) n)) it.1
+      (subst (IsNodeEvents (with_event (log_of events) event) index) (sym (get_or-set_at longer index index entry no_events refl lt)) is)
   | inr other ↦ (
-      let apart : node ≡ place → ⊥ = λ e. other.1 (sym e) in
-      subst (IsNodeEvents (with_event (log_of events) event) node) (sym (get_or-set_other longer place node entry no_events apart ∙ same node))
+      let apart : node ≡ index → ⊥ = λ e. other.1 (sym e) in
+      subst (IsNodeEvents (with_event (log_of events) event) node) (sym (get_or-set_other longer index node entry no_events apart ∙ same node))
       (node_kept (log_of events) event node (events_of nodes node) (others node apart).0 (others node apart).1 (own node)))
 ]
 

@@ -1,7 +1,7 @@
 -- The last event that silences a node is the later of its own last silence and of the last sweep that silences it.
 use Rattle.std.proofs.Common.{◌≡◌, ℕ, ◌-◌, ◌<◌, max, true, cond, eqb, take, Option, Some, None, ◌⊎◌, inl, inr, refl, sym, ap, subst, ◌∙◌, arith}
 use Rattle.std.specs.Prelude.{◌&&◌, is_none, option_and_then}
-use Rattle.std.proofs.lemmas.Bool.{eqb-true, lt-ltb, ltb-true, cases_lt, and_from, and_parts}
+use Rattle.std.proofs.lemmas.Bool.{eqb-true, eq-eqb, lt-ltb, ltb-true, cases_lt, and_from, and_parts}
 use Rattle.std.proofs.lemmas.Option.{cond_some}
 use Rattle.tfpg_base.proofs.lists.Choices.{none-from_never}
 use Rattle.tfpg_graph.specs.Graph.{Tfpg, is_monitored}
@@ -10,7 +10,6 @@ use Rattle.tfpg_log.specs.declared.event.Event.TheVariants.{Alarm, Silent, Sweep
 use Rattle.tfpg_log.specs.Log.{Logbook, event_at, alarm_among, alarm_event, quiet_time, quiet_at}
 use Rattle.tfpg_log.specs.Quiet.{IsLastQuiet}
 use Rattle.tfpg_log.specs.inside.NodeEvents.{IsLast, IsOwnSilence, IsSweep, IsSweepBefore, IsSwept, later_of}
-use Rattle.tfpg_log.proofs.AlarmPlaces.{same_node}
 use Rattle.tfpg_log.proofs.AlarmEvents.{alarm_event_is, none_before_alarm, none_before_none}
 use Rattle.tfpg_log.proofs.NodesEvents.{last_carried}
 
@@ -100,7 +99,7 @@ module _ (graph : Tfpg) (log : Logbook) (node : ℕ) where
   own_silences number silence = (
     silence.0,
     ap (option_and_then (λ event. quiet_time graph (take (number - 1) log.events) event node)) silence.1
-        ∙ ap (λ b. cond b (Some silence.0) None) (same_node node),
+        ∙ ap (λ b. cond b (Some silence.0) None) (eq-eqb node node refl),
   )
 
   swept_silences : (number : ℕ) → IsSwept graph log node number → Silences graph log node number

@@ -1,5 +1,5 @@
 pub mod Events
-pub mod AlarmPlaces
+pub mod AlarmIndexes
 pub mod AlarmEvents
 pub mod NodesEvents
 pub mod LastQuiets
@@ -28,6 +28,7 @@ pub mod JointAges
 pub mod SameModes
 pub mod PastKept
 pub mod SilenceTimes
+pub mod SilentNodes
 pub mod SpanChanges
 pub mod SpanStarts
 pub mod WindowStarts

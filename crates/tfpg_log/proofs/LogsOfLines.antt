@@ -17,28 +17,28 @@ pub log_of_lines-push : (graph : Tfpg) (lines : List (List ℕ)) (line : List �
 log_of_lines-push graph lines line = fold_push (log_after graph) new_log lines line
 
 -- the log is in order, and of the graph
-record IsRight (graph : Tfpg) (log : Logbook) : Type 0 where
+record IsRightLog (graph : Tfpg) (log : Logbook) : Type 0 where
   of_graph : IsOf graph log
   ordered : IsOrdered log
 
 module _ (graph : Tfpg) where
-  by_reply : (log : Logbook) (line : List ℕ) (reply : Offered) → reply_to graph log line ≡ reply → IsRight graph log → IsRight graph (log_after_reply log reply)
+  by_reply : (log : Logbook) (line : List ℕ) (reply : Offered) → reply_to graph log line ≡ reply → IsRightLog graph log → IsRightLog graph (log_after_reply log reply)
   by_reply log line (Accepted event) is right =
       let may = accepted_may_come graph log line event is in
       record { of_graph = of-with_event graph log event right.of_graph may; ordered = ordered-with_event log event right.ordered may.not_back may.in_range }
   by_reply log line (Refused refusal) is right = right
 
-  by_length : (long : Bool) (log after : Logbook) → IsRight graph log → IsRight graph after → IsRight graph (cond long log after)
+  by_length : (long : Bool) (log after : Logbook) → IsRightLog graph log → IsRightLog graph after → IsRightLog graph (cond long log after)
   by_length true log after right then = right
   by_length false log after right then = then
 
-  still_right : (log : Logbook) (lines : List (List ℕ)) → IsRight graph log → IsRight graph (fold (log_after graph) log lines)
+  still_right : (log : Logbook) (lines : List (List ℕ)) → IsRightLog graph log → IsRightLog graph (fold (log_after graph) log lines)
   still_right log [] right = right
   still_right log (line ∷ lines) right =
       still_right (log_after graph log line) lines
       (by_length (is_too_long line) log (log_after_reply log (reply_to graph log line)) right (by_reply log line (reply_to graph log line) refl right))
 
-  right_from_new : (lines : List (List ℕ)) → IsRight graph (log_of_lines graph lines)
+  right_from_new : (lines : List (List ℕ)) → IsRightLog graph (log_of_lines graph lines)
   right_from_new lines =
       still_right new_log lines
       (record {

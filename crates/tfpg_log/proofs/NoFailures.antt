@@ -15,7 +15,7 @@ use Rattle.tfpg_log.proofs.InReach.{trace_in_reach}
 -- the test that passes no node is closed for the empty set
 closed_without : (graph : Tfpg) → IsValid graph → IsClosed graph [] (λ node. false)
 closed_without graph valid = record {
-  members = λ place d within. absurd (omega arith);
+  members = λ index d within. absurd (omega arith);
   or_nodes = λ node or edge into passes. passes;
   and_nodes = λ node and each. let first = and_node_has_edge graph node valid and in each 0 first.0 (rw first.2 (omega arith));
 }

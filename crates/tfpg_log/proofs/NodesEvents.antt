@@ -10,7 +10,7 @@ use Rattle.tfpg_log.specs.declared.node_events.NodeEvents.{NodeEvents}
 use Rattle.tfpg_log.specs.Log.{Logbook, event_at, with_event, is_alarm_of, alarm_among, alarm_event}
 use Rattle.tfpg_log.specs.inside.NodeEvents.{IsLast, IsOwnSilence, IsSweep, IsSweepBefore, IsNodeEvents}
 use Rattle.tfpg_log.proofs.Events.{event_at-with_event, event_at-last}
-use Rattle.tfpg_log.proofs.AlarmPlaces.{alarm_index_new}
+use Rattle.tfpg_log.proofs.AlarmIndexes.{alarm_index_new}
 use Rattle.tfpg_log.proofs.AlarmEvents.{alarm_event_within}
 
 -- ---- the last number of which something holds

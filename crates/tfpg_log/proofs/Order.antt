@@ -1,36 +1,55 @@
--- The times of a log do not fall, and one more event that is not before now leaves it so.
-use Rattle.std.proofs.Common.{◌≡◌, ℕ, zero, suc, ◌<◌, ◌≤◌, List, [], ◌∷◌, length, get_or, refl, sym, ap, ◌∙◌, inl, inr, arith}
-use Rattle.std.specs.Prelude.{AllPairs, fold}
-use Rattle.std.proofs.lemmas.Bool.{cases_lt}
+-- The times of a log do not fall, so no event is later than now, and one more event that is not before now leaves it so.
+use Rattle.std.proofs.Common.{◌≡◌, ℕ, zero, suc, ◌≤◌, List, [], ◌∷◌, get_or, Some, ap, arith}
+use Rattle.std.specs.Prelude.{All, AllPairs, fold, slice_get}
 use Rattle.std.proofs.lemmas.List.Elements.{All-push}
 use Rattle.std.proofs.lemmas.List.Quantifiers.{all_pairs_push}
+use Rattle.std.proofs.lemmas.Option.{slice_get-get_or}
+use Rattle.tfpg_base.proofs.lists.Elements.{AllPairs-head, AllPairs-tail}
 use Rattle.tfpg_base.specs.declared.limits.TheConstants.{MAX_TIME}
 use Rattle.tfpg_log.specs.declared.event.Event.{Event}
 use Rattle.tfpg_log.specs.Log.{Logbook, now_of, time_of_event, with_event, IsOrdered}
 
-last_time : (events : List Event) (start k : ℕ) (d : Event) → length events ≡ suc k → fold (λ last event. time_of_event event) start events ≡ time_of_event (get_or events k d)
-last_time [] start k d e = absurd (omega arith)
-last_time (event ∷ []) start zero d e = refl
-last_time (event ∷ []) start (suc k) d e = absurd (omega arith)
-last_time (event ∷ next ∷ events) start zero d e = absurd (omega arith)
-last_time (event ∷ next ∷ events) start (suc k) d e = last_time (next ∷ events) (time_of_event event) k d (omega arith)
+-- the times of the events never fall
+abbrev pub AreEventsInOrder : List Event → Type 0
+AreEventsInOrder events = AllPairs (λ earlier later. time_of_event earlier ≤ time_of_event later) events
 
--- no event is later than now
-before_now : (events : List Event) → AllPairs (λ earlier later. time_of_event earlier ≤ time_of_event later) events → (k last : ℕ) (d : Event) → length events ≡ suc last → k < suc last
-    → time_of_event (get_or events k d) ≤ fold (λ last event. time_of_event event) 0 events
-before_now events in_order k last d e lt = elim (cases_lt k last) [
-  | inl below ↦ omega (arith, in_order k last d below (omega arith), last_time events 0 last d e)
-  | inr above ↦ (let same : k ≡ last = omega arith in omega (arith, last_time events 0 k d (e ∙ ap suc (sym same))))
-]
+-- the events are not before an instant
+abbrev pub AreFrom : ℕ → List Event → Type 0
+AreFrom instant events = All (λ event. instant ≤ time_of_event event) events
 
-some_length : (events : List Event) (k : ℕ) → k < length events → (last : ℕ) × (length events ≡ suc last)
-some_length [] k lt = absurd (omega arith)
-some_length (event ∷ events) k lt = (length events, refl)
+-- the time of the last event, or this one where there is none
+abbrev pub last_time : ℕ → List Event → ℕ
+last_time time events = fold (λ last event. time_of_event event) time events
+
+pub order_after : (event : Event) (events : List Event) → AreEventsInOrder (event ∷ events) → AreEventsInOrder events
+order_after event events order = AllPairs-tail (λ earlier later. time_of_event earlier ≤ time_of_event later) event events order
+
+pub from_first : (event : Event) (events : List Event) → AreEventsInOrder (event ∷ events) → AreFrom (time_of_event event) events
+from_first event events order = AllPairs-head (λ earlier later. time_of_event earlier ≤ time_of_event later) event events order
+
+-- the last time is not before the first
+pub last_rises : (time : ℕ) (events : List Event) → AreEventsInOrder events → AreFrom time events → time ≤ last_time time events
+last_rises time [] order from = omega arith
+last_rises time (event ∷ events) order from =
+    omega (arith, from 0 event (omega arith), last_rises (time_of_event event) events (order_after event events order) (from_first event events order))
+
+before_last : (start : ℕ) (events : List Event) (index : ℕ) (event : Event) → AreEventsInOrder events → slice_get events index ≡ Some event
+    → time_of_event event ≤ last_time start events
+before_last start [] index event order at = absurd cc
+before_last start (first ∷ events) zero event order at =
+    let same : first ≡ event = cc in
+    omega (arith, ap time_of_event same, last_rises (time_of_event first) events (order_after first events order) (from_first first events order))
+before_last start (first ∷ events) (suc index) event order at =
+    before_last (time_of_event first) events index event (order_after first events order) at
+
+-- No event is later than now.
+pub event_by_now : (log : Logbook) (index : ℕ) (event : Event) → IsOrdered log → slice_get log.events index ≡ Some event → time_of_event event ≤ now_of log
+event_by_now log index event ordered at = before_last 0 log.events index event ordered.in_order at
 
 -- A log with one more event, at now or later and not too late, is in order.
 pub ordered-with_event : (log : Logbook) (event : Event) → IsOrdered log → now_of log ≤ time_of_event event → time_of_event event ≤ MAX_TIME → IsOrdered (with_event log event)
 ordered-with_event log event ordered not_back in_range = record {
   in_order = all_pairs_push (λ earlier later. time_of_event earlier ≤ time_of_event later) log.events event ordered.in_order
-      (λ k d lt. let last = some_length log.events k lt in omega (arith, before_now log.events ordered.in_order k last.0 d last.1 (omega (arith, lt, last.1)), not_back));
+      (λ k d within. omega (arith, event_by_now log k (get_or log.events k d) ordered (slice_get-get_or log.events k d within), not_back));
   in_range = All-push (λ e. time_of_event e ≤ MAX_TIME) log.events event ordered.in_range in_range;
 }

@@ -1,6 +1,6 @@
 -- A log that goes on keeps its past.
 use Rattle.std.proofs.Common.{◌≡◌, ℕ, zero, suc, ◌-◌, ◌≤◌, Bool, cond, ltb, List, [], ◌∷◌, ◌++◌, length, take, Some, refl, sym, ap, subst, ◌∙◌, arith}
-use Rattle.std.specs.Prelude.{◌↔◌, fold, All, AllPairs, IsTrue, slice_get, find, option_map, option_and_then}
+use Rattle.std.specs.Prelude.{◌↔◌, IsTrue, slice_get, find, option_map, option_and_then}
 use Rattle.std.specs.Option.{option_or}
 use Rattle.std.proofs.lemmas.Bool.{le-ltb}
 use Rattle.std.proofs.lemmas.List.{take-append-le}
@@ -8,52 +8,29 @@ use Rattle.std.proofs.lemmas.List.Elements.{All-tail}
 use Rattle.tfpg_base.specs.declared.activation.Activation.{Activation}
 use Rattle.std.proofs.lemmas.List.Folds.{find-append}
 use Rattle.tfpg_base.proofs.lists.Choices.{option_map-some}
-use Rattle.tfpg_base.proofs.lists.Elements.{AllPairs-head, AllPairs-tail}
 use Rattle.tfpg_base.proofs.lists.Written.{slice_get-append_left, slice_get-append_some}
 use Rattle.tfpg_graph.specs.declared.edge.Edge.{Edge}
-use Rattle.tfpg_graph.specs.Graph.{Tfpg, is_allowed}
+use Rattle.tfpg_graph.specs.Graph.{Tfpg, is_active_in}
 use Rattle.tfpg_log.specs.declared.event.Event.{Event}
 use Rattle.tfpg_log.specs.declared.event.Event.TheVariants.{Alarm, Silent, Sweep, Tick, Mode}
 use Rattle.tfpg_log.specs.Log.{Logbook, GoesOn, IsOrdered, now_of, event_at, is_alarm_of, alarm_among, alarm_of, alarm_index, alarm_event, quiet_time, quiet_at, time_of_event, mode_after, mode_at}
 use Rattle.tfpg_log.specs.Rules.{HasAge}
 use Rattle.tfpg_log.specs.Spans.{span_number, span_at, window_of, joint_of}
 use Rattle.tfpg_base.proofs.lists.FirstFound.{position-append}
+use Rattle.tfpg_log.proofs.Order.{AreEventsInOrder, AreFrom, last_time, order_after, from_first, last_rises}
 use Rattle.tfpg_log.proofs.SameModes.{same_number, same_span, same_window, same_joint}
-
--- the times of the events never fall
-abbrev AreInOrder : List Event → Type 0
-AreInOrder events = AllPairs (λ earlier later. time_of_event earlier ≤ time_of_event later) events
-
--- the events are not before an instant
-abbrev AreFrom : ℕ → List Event → Type 0
-AreFrom instant events = All (λ event. instant ≤ time_of_event event) events
-
--- the time of the last event, or this one where there is none
-abbrev last_time : ℕ → List Event → ℕ
-last_time time events = fold (λ last event. time_of_event event) time events
-
-order_after : (event : Event) (events : List Event) → AreInOrder (event ∷ events) → AreInOrder events
-order_after event events order = AllPairs-tail (λ earlier later. time_of_event earlier ≤ time_of_event later) event events order
-
-from_first : (event : Event) (events : List Event) → AreInOrder (event ∷ events) → AreFrom (time_of_event event) events
-from_first event events order = AllPairs-head (λ earlier later. time_of_event earlier ≤ time_of_event later) event events order
 
 from_after : (instant : ℕ) (event : Event) (events : List Event) → AreFrom instant (event ∷ events) → AreFrom instant events
 from_after instant event events from = All-tail (λ e. instant ≤ time_of_event e) event events from
 
 -- what is added comes at the last time or later
-added_later : (time : ℕ) (events more : List Event) → AreInOrder (events ++ more) → AreFrom time (events ++ more) → AreFrom (last_time time events) more
+added_later : (time : ℕ) (events more : List Event) → AreEventsInOrder (events ++ more) → AreFrom time (events ++ more) → AreFrom (last_time time events) more
 added_later time [] more order from = from
 added_later time (event ∷ events) more order from =
     added_later (time_of_event event) events more (order_after event (events ++ more) order) (from_first event (events ++ more) order)
 
 -- and the last time does not fall
-last_rises : (time : ℕ) (events : List Event) → AreInOrder events → AreFrom time events → time ≤ last_time time events
-last_rises time [] order from = omega arith
-last_rises time (event ∷ events) order from =
-    omega (arith, from 0 event (omega arith), last_rises (time_of_event event) events (order_after event events order) (from_first event events order))
-
-now_rises : (time : ℕ) (events more : List Event) → AreInOrder (events ++ more) → AreFrom time (events ++ more) → last_time time events ≤ last_time time (events ++ more)
+now_rises : (time : ℕ) (events more : List Event) → AreEventsInOrder (events ++ more) → AreFrom time (events ++ more) → last_time time events ≤ last_time time (events ++ more)
 now_rises time [] more order from = last_rises time more order from
 now_rises time (event ∷ events) more order from =
     now_rises (time_of_event event) events more (order_after event (events ++ more) order) (from_first event (events ++ more) order)
@@ -84,12 +61,12 @@ age_carried log other trace edge instant age alike has = record {
   start = has.start;
   source = has.source;
   since = has.since;
-  allowed = λ x after before. subst (λ mode. IsTrue (is_allowed edge mode)) (alike x before) (has.allowed x after before);
+  active_since = λ x after before. subst (λ mode. IsTrue (is_active_in edge mode)) (alike x before) (has.active_since x after before);
 }
 
 module _ (earlier later : Logbook) (is : IsOrdered later) (goes_on : GoesOn earlier later) where
-  order : AreInOrder (earlier.events ++ goes_on.0)
-  order = subst AreInOrder goes_on.1 is.in_order
+  order : AreEventsInOrder (earlier.events ++ goes_on.0)
+  order = subst AreEventsInOrder goes_on.1 is.in_order
 
   from_zero : AreFrom 0 (earlier.events ++ goes_on.0)
   from_zero k d within = omega arith

@@ -4,12 +4,12 @@ use Rattle.std.specs.Prelude.{MatchOption, ◌&&◌, nat_le, option_and_then}
 use Rattle.std.specs.List.{list_all}
 use Rattle.std.proofs.lemmas.Bool.{le-leb, cond-true}
 use Rattle.tfpg_graph.specs.declared.edge.Edge.{Edge}
-use Rattle.tfpg_graph.specs.Graph.{Tfpg, is_allowed, edges_into}
+use Rattle.tfpg_graph.specs.Graph.{Tfpg, is_active_in, edges_into}
 use Rattle.tfpg_log.specs.declared.span.Span.{Span}
 use Rattle.tfpg_log.specs.declared.span.Window.{Window}
-use Rattle.tfpg_log.specs.Log.{Logbook, now_of, mode_at, is_allowed_at}
+use Rattle.tfpg_log.specs.Log.{Logbook, now_of, mode_at, is_active_at}
 use Rattle.std.specs.Option.{option_or}
-use Rattle.tfpg_log.specs.Spans.{least, greatest, span_number, span_between, span_at, run_start, run_end, window_between, window_round, are_allowed_at, window_of, joint_of}
+use Rattle.tfpg_log.specs.Spans.{least, greatest, span_number, span_between, span_at, run_start, run_end, window_between, window_round, are_active_at, window_of, joint_of}
 use Rattle.tfpg_log.proofs.Trials.{NonePassesUpTo, IsLeast, least_found}
 use Rattle.tfpg_log.proofs.SpanRuns.{found_span}
 
@@ -117,9 +117,9 @@ module _ (log other : Logbook) (limit : ℕ) (alike : (instant : ℕ) → instan
       same_round = by_span (span_at log number horizon) refl ∙ ap (option_and_then (λ s. window_round other tests s horizon)) same_span
 
     pub same_window : (edge : Edge) → window_of log edge number horizon ≡ window_of other edge number horizon
-    same_window edge = same_round (is_allowed_at log edge) (is_allowed_at other edge) (λ instant upto. ap (is_allowed edge) (alike instant upto))
+    same_window edge = same_round (is_active_at log edge) (is_active_at other edge) (λ instant upto. ap (is_active_in edge) (alike instant upto))
 
     pub same_joint : (graph : Tfpg) (node : ℕ) → joint_of graph log node number horizon ≡ joint_of graph other node number horizon
     same_joint graph node =
-        same_round (are_allowed_at graph log node) (are_allowed_at graph other node)
-        (λ instant upto. ap (λ mode. list_all (λ edge. is_allowed edge mode) (edges_into graph node)) (alike instant upto))
+        same_round (are_active_at graph log node) (are_active_at graph other node)
+        (λ instant upto. ap (λ mode. list_all (λ edge. is_active_in edge mode) (edges_into graph node)) (alike instant upto))

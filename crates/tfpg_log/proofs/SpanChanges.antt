@@ -49,13 +49,13 @@ record BeginSpansUpTo (modes : ℕ → ℕ) (time : ℕ) (changes : List ModeCha
 
 begin_of_span-take : (changes : List ModeChange) (count number : ℕ) → number ≤ count → begin_of_span (take count changes) number ≡ begin_of_span changes number
 begin_of_span-take changes count zero within = refl
-begin_of_span-take changes count (suc place) within =
-    ap (λ (change : ModeChange). change.time + 1) (get_or-take count changes place (record { time = 0; mode = 0 }) (omega arith))
+begin_of_span-take changes count (suc index) within =
+    ap (λ (change : ModeChange). change.time + 1) (get_or-take count changes index (record { time = 0; mode = 0 }) (omega arith))
 
 mode_of_span-take : (changes : List ModeChange) (count number : ℕ) → number ≤ count → mode_of_span (take count changes) number ≡ mode_of_span changes number
 mode_of_span-take changes count zero within = refl
-mode_of_span-take changes count (suc place) within =
-    ap (λ (change : ModeChange). change.mode) (get_or-take count changes place (record { time = 0; mode = 0 }) (omega arith))
+mode_of_span-take changes count (suc index) within =
+    ap (λ (change : ModeChange). change.mode) (get_or-take count changes index (record { time = 0; mode = 0 }) (omega arith))
 
 module _ (modes : ℕ → ℕ) (changes : List ModeChange) (spans : BeginSpans modes changes) (time : ℕ) where
   -- without a change of the same time they are unchanged
@@ -107,13 +107,13 @@ module _ (modes : ℕ → ℕ) (changes : List ModeChange) (spans : BeginSpans m
 
 begin_of_span-push : (changes : List ModeChange) (change : ModeChange) (number : ℕ) → number ≤ length changes → begin_of_span (changes ++ change ∷ []) number ≡ begin_of_span changes number
 begin_of_span-push changes change zero within = refl
-begin_of_span-push changes change (suc place) within =
-    ap (λ (c : ModeChange). c.time + 1) (get_or_append_left changes (change ∷ []) (record { time = 0; mode = 0 }) place (omega arith))
+begin_of_span-push changes change (suc index) within =
+    ap (λ (c : ModeChange). c.time + 1) (get_or_append_left changes (change ∷ []) (record { time = 0; mode = 0 }) index (omega arith))
 
 mode_of_span-push : (changes : List ModeChange) (change : ModeChange) (number : ℕ) → number ≤ length changes → mode_of_span (changes ++ change ∷ []) number ≡ mode_of_span changes number
 mode_of_span-push changes change zero within = refl
-mode_of_span-push changes change (suc place) within =
-    ap (λ (c : ModeChange). c.mode) (get_or_append_left changes (change ∷ []) (record { time = 0; mode = 0 }) place (omega arith))
+mode_of_span-push changes change (suc index) within =
+    ap (λ (c : ModeChange). c.mode) (get_or_append_left changes (change ∷ []) (record { time = 0; mode = 0 }) index (omega arith))
 
 module _ (modes : ℕ → ℕ) (time mode : ℕ) (changes : List ModeChange) (spans : BeginSpansUpTo modes time changes) (newer : ℕ → ℕ)
     (before : (instant : ℕ) → instant ≤ time → newer instant ≡ modes instant) (behind : (instant : ℕ) → time < instant → newer instant ≡ mode) where

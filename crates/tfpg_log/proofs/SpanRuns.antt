@@ -55,32 +55,32 @@ module _ (log : Logbook) where
     has_number instant = eqb (span_number log instant) number
 
     -- the span is the one that the search finds
-    pub record IsFound (span : Span) : Type 0 where
+    pub record IsFoundSpan (span : Span) : Type 0 where
       pub by_now : horizon ≤ now_of log
       pub first : IsLeast has_number horizon span.lo
       pub last : IsGreatest has_number horizon span.hi
       pub mode_is : mode_at log span.lo ≡ span.mode
 
     between : (span : Span) (lo hi : Option ℕ) → horizon ≤ now_of log → MatchOption lo (NonePassesUpTo has_number horizon) (IsLeast has_number horizon)
-        → MatchOption hi (NonePassesUpTo has_number horizon) (IsGreatest has_number horizon) → span_between log lo hi ≡ Some span → IsFound span
+        → MatchOption hi (NonePassesUpTo has_number horizon) (IsGreatest has_number horizon) → span_between log lo hi ≡ Some span → IsFoundSpan span
     between span None hi by_now first last e = absurd cc
     between span (Some lo) None by_now first last e = absurd cc
     between span (Some lo) (Some hi) by_now first last e =
         let found : Span = record { lo = lo; hi = hi; mode = mode_at log lo } in
         let same : found ≡ span = cc in
-        subst IsFound same (record { by_now = by_now; first = first; last = last; mode_is = refl })
+        subst IsFoundSpan same (record { by_now = by_now; first = first; last = last; mode_is = refl })
 
     by_test : (span : Span) (b : Bool) → leb horizon (now_of log) ≡ b
-        → cond b (span_between log (least has_number horizon) (greatest has_number horizon)) None ≡ Some span → IsFound span
+        → cond b (span_between log (least has_number horizon) (greatest has_number horizon)) None ≡ Some span → IsFoundSpan span
     by_test span true at e =
         between span (least has_number horizon) (greatest has_number horizon) (leb-true horizon (now_of log) at) (least_found has_number horizon)
         (greatest_found has_number horizon) e
     by_test span false at e = absurd cc
 
-    pub found_span : (span : Span) → span_at log number horizon ≡ Some span → IsFound span
+    pub found_span : (span : Span) → span_at log number horizon ≡ Some span → IsFoundSpan span
     found_span span e = by_test span (leb horizon (now_of log)) refl e
 
-    module _ (span : Span) (found : IsFound span) where
+    module _ (span : Span) (found : IsFoundSpan span) where
       first_number : span_number log span.lo ≡ number
       first_number = eqb-true (span_number log span.lo) number found.first.here
 

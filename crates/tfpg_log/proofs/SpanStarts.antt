@@ -24,11 +24,11 @@ within_point changes zero instant counted point = record {
   begun = omega arith;
   unended = λ more. let late = ltb-false (change_at changes 0).time instant (point.1 0 (record { time = 0; mode = 0 }) (omega arith) more) in omega arith;
 }
-within_point changes (suc place) instant counted point = record {
+within_point changes (suc index) instant counted point = record {
   counted = counted;
-  begun = let early = ltb-true (change_at changes place).time instant (point.0 place (record { time = 0; mode = 0 }) (omega arith) (omega arith)) in omega arith;
+  begun = let early = ltb-true (change_at changes index).time instant (point.0 index (record { time = 0; mode = 0 }) (omega arith) (omega arith)) in omega arith;
   unended = λ more.
-      let late = ltb-false (change_at changes (suc place)).time instant (point.1 (suc place) (record { time = 0; mode = 0 }) (omega arith) more) in omega arith;
+      let late = ltb-false (change_at changes (suc index)).time instant (point.1 (suc index) (record { time = 0; mode = 0 }) (omega arith) more) in omega arith;
 }
 
 module _ (log : Logbook) (changes : List ModeChange) (spans : BeginSpans (mode_at log) changes) where

@@ -5,7 +5,7 @@ use Rattle.tfpg_base.specs.declared.activation.Activation.{Activation}
 use Rattle.tfpg_base.specs.Trace.{time_of}
 use Rattle.tfpg_graph.specs.declared.edge.Edge.{Edge}
 use Rattle.tfpg_log.specs.declared.span.Window.{Window}
-use Rattle.tfpg_log.specs.Log.{Logbook, now_of, is_allowed_at}
+use Rattle.tfpg_log.specs.Log.{Logbook, now_of, is_active_at}
 use Rattle.tfpg_log.specs.Rules.{HasAge, IsAge}
 use Rattle.tfpg_log.specs.Spans.{span_number, window_of}
 use Rattle.tfpg_log.specs.AgeInWindow.{HasAgeInWindow}
@@ -19,15 +19,15 @@ module _ (log : Logbook) (trace : List Activation) (edge : Edge) where
       → time_of trace edge.source ≡ Some start → HasAge log trace edge instant age ↔ ((window.lo + age ≤ instant) × (start + age ≤ instant))
   at_least number horizon instant age start window e from upto at =
       let run = (is_window log edge number horizon window e).run in
-      let Allowed : ℕ → Type 0 = λ x. IsTrue (is_allowed_at log edge x) in (
+      let IsEdgeActive : ℕ → Type 0 = λ x. IsTrue (is_active_at log edge x) in (
         λ has.
             let since = age_since_start log trace edge instant age start at has in
-            ((holds_since Allowed horizon window.lo window.hi instant age run from upto (omega (arith, since))).0 has.allowed, since),
+            ((holds_since IsEdgeActive horizon window.lo window.hi instant age run from upto (omega (arith, since))).0 has.active_since, since),
         λ both. record {
           start = start;
           source = at;
           since = both.1;
-          allowed = (holds_since Allowed horizon window.lo window.hi instant age run from upto (omega (arith, both.1))).1 both.0;
+          active_since = (holds_since IsEdgeActive horizon window.lo window.hi instant age run from upto (omega (arith, both.1))).1 both.0;
         },
       )
 
@@ -49,7 +49,7 @@ module _ (log : Logbook) (trace : List Activation) (edge : Edge) where
       → HasAge log trace edge instant age ↔ HasAgeInWindow log trace edge (span_number log instant) horizon instant age
   exactly instant horizon age within by_now = (
     λ has.
-        let window = window_there log edge instant horizon within by_now (has.allowed instant (omega arith) (omega arith)) in
+        let window = window_there log edge instant horizon within by_now (has.active_since instant (omega arith) (omega arith)) in
         (by_window (span_number log instant) horizon instant age window.0 window.1 window.2 window.3).0 has,
     λ has.
         let lies = inside log edge instant horizon has.window within has.there in
@@ -58,8 +58,8 @@ module _ (log : Logbook) (trace : List Activation) (edge : Edge) where
 
   -- An edge has an age only where it is active and its source has it.
   pub only_there : (instant age : ℕ) → HasAge log trace edge instant age
-      → IsTrue (is_allowed_at log edge instant) × (start : ℕ) × (time_of trace edge.source ≡ Some start) × (start + age ≤ instant)
-  only_there instant age has = (has.allowed instant (omega arith) (omega arith), has.start, has.source, has.since)
+      → IsTrue (is_active_at log edge instant) × (start : ℕ) × (time_of trace edge.source ≡ Some start) × (start + age ≤ instant)
+  only_there instant age has = (has.active_since instant (omega arith) (omega arith), has.start, has.source, has.since)
 
   -- The greatest age in a window is the time since the later of the two.
   pub age : (number horizon instant start : ℕ) (window : Window) → window_of log edge number horizon ≡ Some window → window.lo ≤ instant → instant ≤ window.hi

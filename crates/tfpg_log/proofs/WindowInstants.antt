@@ -2,9 +2,9 @@
 use Rattle.std.proofs.Common.{◌≡◌, ℕ, ◌≤◌, Bool, Some, subst, arith}
 use Rattle.std.specs.Prelude.{IsTrue}
 use Rattle.tfpg_graph.specs.declared.edge.Edge.{Edge}
-use Rattle.tfpg_graph.specs.Graph.{is_allowed}
+use Rattle.tfpg_graph.specs.Graph.{is_active_in}
 use Rattle.tfpg_log.specs.declared.span.Window.{Window}
-use Rattle.tfpg_log.specs.Log.{Logbook, now_of, mode_at, is_allowed_at}
+use Rattle.tfpg_log.specs.Log.{Logbook, now_of, mode_at, is_active_at}
 use Rattle.tfpg_log.specs.Spans.{span_number, window_of}
 use Rattle.tfpg_log.specs.Runs.{LiesIn, IsWindowRound}
 use Rattle.tfpg_log.proofs.MaximalRuns.{one_beginning}
@@ -37,25 +37,25 @@ round_each log passes number horizon instant window is from upto =
 module _ (log : Logbook) (edge : Edge) where
   -- The windows of an edge are runs.
   pub is_window : (number horizon : ℕ) (window : Window) → window_of log edge number horizon ≡ Some window
-      → IsWindowRound log (is_allowed_at log edge) number horizon window
+      → IsWindowRound log (is_active_at log edge) number horizon window
   is_window number horizon window e = (edge_window log edge number horizon window).0 e
 
   -- The instant lies in the window round its span, and the edge is active there.
   pub inside : (instant horizon : ℕ) (window : Window) → instant ≤ horizon → window_of log edge (span_number log instant) horizon ≡ Some window
-      → (window.lo ≤ instant) × (instant ≤ window.hi) × IsTrue (is_allowed_at log edge instant)
+      → (window.lo ≤ instant) × (instant ≤ window.hi) × IsTrue (is_active_at log edge instant)
   inside instant horizon window within e =
       let is = is_window (span_number log instant) horizon window e in
-      let lies = lies_in log (is_allowed_at log edge) instant horizon window within is in
+      let lies = lies_in log (is_active_at log edge) instant horizon window within is in
       (lies.0, lies.1, is.run.throughout instant lies.0 lies.1)
 
   -- There is a window round the span of each instant at which the edge is active.
-  pub window_there : (instant horizon : ℕ) → instant ≤ horizon → horizon ≤ now_of log → IsTrue (is_allowed_at log edge instant)
+  pub window_there : (instant horizon : ℕ) → instant ≤ horizon → horizon ≤ now_of log → IsTrue (is_active_at log edge instant)
       → (window : Window) × (window_of log edge (span_number log instant) horizon ≡ Some window) × (window.lo ≤ instant) × (instant ≤ window.hi)
-  window_there instant horizon within by_now allowed =
+  window_there instant horizon within by_now active =
       let number : ℕ = span_number log instant in
       let there = has_span log instant horizon within by_now in
       let mode : mode_at log instant ≡ there.0.mode = (is_span log number horizon there.0 there.1).run.throughout instant there.2 there.3 in
-      let window = edge_window_there log edge number horizon there.0 there.1 (subst (λ m. IsTrue (is_allowed edge m)) mode allowed) in
+      let window = edge_window_there log edge number horizon there.0 there.1 (subst (λ m. IsTrue (is_active_in edge m)) mode active) in
       let lies = inside instant horizon window.0 within window.1 in
       (window.0, window.1, lies.0, lies.1)
 
@@ -64,7 +64,7 @@ module _ (log : Logbook) (edge : Edge) where
       → window_of log edge (span_number log instant) horizon ≡ Some window
   throughout number horizon instant window e from upto =
       (edge_window log edge (span_number log instant) horizon window).1
-      (round_each log (is_allowed_at log edge) number horizon instant window (is_window number horizon window e) from upto)
+      (round_each log (is_active_at log edge) number horizon instant window (is_window number horizon window e) from upto)
 
   -- It begins at the same instant for each horizon.
   pub begins : (instant horizon further : ℕ) (window other : Window) → instant ≤ horizon → window_of log edge (span_number log instant) horizon ≡ Some window
@@ -72,6 +72,6 @@ module _ (log : Logbook) (edge : Edge) where
   begins instant horizon further window other within e within_further f =
       let lies = inside instant horizon window within e in
       let others = inside instant further other within_further f in
-      one_beginning (λ x. IsTrue (is_allowed_at log edge x)) horizon further window.lo window.hi other.lo other.hi instant
+      one_beginning (λ x. IsTrue (is_active_at log edge x)) horizon further window.lo window.hi other.lo other.hi instant
       (is_window (span_number log instant) horizon window e).run (is_window (span_number log instant) further other f).run
       lies.0 lies.1 others.0 others.1

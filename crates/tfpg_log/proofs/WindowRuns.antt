@@ -5,11 +5,11 @@ use Rattle.std.specs.List.{list_all}
 use Rattle.std.proofs.lemmas.Bool.{both_ways, leb-true, le-leb, cond-true, and_parts, and_from, cases_eq, cases_lt}
 use Rattle.std.proofs.lemmas.List.Sums.{list_all-from_AllPass}
 use Rattle.tfpg_graph.specs.declared.edge.Edge.{Edge}
-use Rattle.tfpg_graph.specs.Graph.{Tfpg, is_allowed, edges_into}
+use Rattle.tfpg_graph.specs.Graph.{Tfpg, is_active_in, edges_into}
 use Rattle.tfpg_log.specs.declared.span.Span.{Span}
 use Rattle.tfpg_log.specs.declared.span.Window.{Window}
-use Rattle.tfpg_log.specs.Log.{Logbook, mode_at, is_allowed_at}
-use Rattle.tfpg_log.specs.Spans.{span_number, span_at, run_start, run_end, window_between, window_round, are_allowed_at, window_of, joint_of}
+use Rattle.tfpg_log.specs.Log.{Logbook, mode_at, is_active_at}
+use Rattle.tfpg_log.specs.Spans.{span_number, span_at, run_start, run_end, window_between, window_round, are_active_at, window_of, joint_of}
 use Rattle.tfpg_log.specs.Runs.{IsMaximalRun, Overlaps, LiesIn, IsWindowRound}
 use Rattle.tfpg_log.proofs.MaximalRuns.{takes_in, one_run}
 use Rattle.tfpg_log.proofs.Trials.{NonePassesUpTo, IsGreatest, greatest_found, greatest_there}
@@ -18,14 +18,14 @@ use Rattle.tfpg_log.proofs.SpanRuns.{is_span, found_span}
 -- ---- where a run begins and ends
 
 -- the run of passing instants up to this one begins there
-record IsStart (passes : ℕ → Bool) (start instant : ℕ) : Type 0 where
+record BeginsRun (passes : ℕ → Bool) (start instant : ℕ) : Type 0 where
   upto : start ≤ instant
   throughout : (other : ℕ) → start ≤ other → other ≤ instant → passes other ≡ true
   not_before : (other : ℕ) → other + 1 ≡ start → passes other ≡ false
 
 module _ (passes : ℕ → Bool) where
-  start_more : (instant : ℕ) (b : Bool) → passes instant ≡ b → passes (suc instant) ≡ true → (passes instant ≡ true → IsStart passes (run_start passes instant) instant)
-      → IsStart passes (cond b (run_start passes instant) (suc instant)) (suc instant)
+  start_more : (instant : ℕ) (b : Bool) → passes instant ≡ b → passes (suc instant) ≡ true → (passes instant ≡ true → BeginsRun passes (run_start passes instant) instant)
+      → BeginsRun passes (cond b (run_start passes instant) (suc instant)) (suc instant)
   start_more instant true at here earlier = let is = earlier at in record {
     upto = omega (arith, is.upto);
     throughout = λ other from upto. elim (cases_eq (suc instant) other) [
@@ -40,7 +40,7 @@ module _ (passes : ℕ → Bool) where
     not_before = λ other next. let same : instant ≡ other = omega arith in subst (λ n. passes n ≡ false) same at;
   }
 
-  starts : (instant : ℕ) → passes instant ≡ true → IsStart passes (run_start passes instant) instant
+  starts : (instant : ℕ) → passes instant ≡ true → BeginsRun passes (run_start passes instant) instant
   starts zero here = record {
     upto = omega arith;
     throughout = λ other from upto. let same : 0 ≡ other = omega arith in subst (λ n. passes n ≡ true) same here;
@@ -105,7 +105,7 @@ module _ (passes : ℕ → Bool) where
 
 module _ (log : Logbook) (passes : ℕ → Bool) (horizon : ℕ) where
   -- the window is the one that the search finds round a span
-  record IsFound (span : Span) (window : Window) : Type 0 where
+  record IsFoundWindow (span : Span) (window : Window) : Type 0 where
     here : passes span.lo ≡ true
     start : run_start passes span.lo ≡ window.lo
     end : IsGreatest (reaches passes span.lo) horizon window.hi
@@ -113,22 +113,22 @@ module _ (log : Logbook) (passes : ℕ → Bool) (horizon : ℕ) where
 
   between : (span : Span) (window : Window) (hi : Option ℕ) → passes span.lo ≡ true
       → MatchOption hi (NonePassesUpTo (reaches passes span.lo) horizon) (IsGreatest (reaches passes span.lo) horizon)
-      → window_between log (run_start passes span.lo) hi ≡ Some window → IsFound span window
+      → window_between log (run_start passes span.lo) hi ≡ Some window → IsFoundWindow span window
   between span window None here end e = absurd cc
   between span window (Some hi) here end e =
       let found : Window = record { first = span_number log (run_start passes span.lo); lo = run_start passes span.lo; hi = hi } in
       let same : found ≡ window = cc in
-      subst (IsFound span) same (record { here = here; start = refl; end = end; first = refl })
+      subst (IsFoundWindow span) same (record { here = here; start = refl; end = end; first = refl })
 
   by_test : (span : Span) (window : Window) (b : Bool) → passes span.lo ≡ b
-      → cond b (window_between log (run_start passes span.lo) (run_end passes span.lo horizon)) None ≡ Some window → IsFound span window
+      → cond b (window_between log (run_start passes span.lo) (run_end passes span.lo horizon)) None ≡ Some window → IsFoundWindow span window
   by_test span window true here e = between span window (run_end passes span.lo horizon) here (greatest_found (reaches passes span.lo) horizon) e
   by_test span window false here e = absurd cc
 
-  found_window : (span : Span) (window : Window) → window_round log passes span horizon ≡ Some window → IsFound span window
+  found_window : (span : Span) (window : Window) → window_round log passes span horizon ≡ Some window → IsFoundWindow span window
   found_window span window e = by_test span window (passes span.lo) refl e
 
-  run_of : (span : Span) (window : Window) → IsFound span window → IsMaximalRun (λ other. IsTrue (passes other)) window.lo window.hi horizon
+  run_of : (span : Span) (window : Window) → IsFoundWindow span window → IsMaximalRun (λ other. IsTrue (passes other)) window.lo window.hi horizon
   run_of span window found =
       subst (λ lo. IsMaximalRun (λ other. IsTrue (passes other)) lo window.hi horizon) found.start
       (is_run passes span.lo horizon window.hi found.here found.end)
@@ -158,7 +158,7 @@ module _ (log : Logbook) (passes : ℕ → Bool) (horizon : ℕ) where
         takes_in (λ instant. IsTrue (passes instant)) horizon window.lo window.hi span.lo span.hi run
         (λ instant from upto. alike instant common (is.throughout instant from upto ∙ sym mode) ∙ here) is.in_range meets.0 meets.1
 
-    meets_own : (number : ℕ) (span : Span) (window : Window) → span_at log number horizon ≡ Some span → IsFound span window → Overlaps span window
+    meets_own : (number : ℕ) (span : Span) (window : Window) → span_at log number horizon ≡ Some span → IsFoundWindow span window → Overlaps span window
     meets_own number span window e found =
         let run = (is_span log number horizon span e).run in
         (omega (arith, found.start, (starts passes span.lo found.here).upto, run.in_order), (reached passes span.lo window.hi found.end.here).upto)
@@ -212,29 +212,29 @@ module _ (log : Logbook) (passes : ℕ → Bool) (horizon : ℕ) where
 -- ---- the windows of an edge, and of all edges into a node
 
 pub edge_window : (log : Logbook) (edge : Edge) (number horizon : ℕ) (window : Window)
-    → (window_of log edge number horizon ≡ Some window) ↔ IsWindowRound log (is_allowed_at log edge) number horizon window
+    → (window_of log edge number horizon ≡ Some window) ↔ IsWindowRound log (is_active_at log edge) number horizon window
 edge_window log edge number horizon window =
-    let alike : (one other : ℕ) → mode_at log one ≡ mode_at log other → is_allowed_at log edge one ≡ is_allowed_at log edge other =
-    λ one other same. ap (is_allowed edge) same in
-    (is_window log (is_allowed_at log edge) horizon alike number window, window_is_found log (is_allowed_at log edge) horizon alike number window)
+    let alike : (one other : ℕ) → mode_at log one ≡ mode_at log other → is_active_at log edge one ≡ is_active_at log edge other =
+    λ one other same. ap (is_active_in edge) same in
+    (is_window log (is_active_at log edge) horizon alike number window, window_is_found log (is_active_at log edge) horizon alike number window)
 
-pub edge_window_there : (log : Logbook) (edge : Edge) (number horizon : ℕ) (span : Span) → span_at log number horizon ≡ Some span → IsTrue (is_allowed edge span.mode)
+pub edge_window_there : (log : Logbook) (edge : Edge) (number horizon : ℕ) (span : Span) → span_at log number horizon ≡ Some span → IsTrue (is_active_in edge span.mode)
     → (window : Window) × (window_of log edge number horizon ≡ Some window)
-edge_window_there log edge number horizon span e allowed =
-    has_window log (is_allowed_at log edge) horizon number span e
-    (subst (λ mode. IsTrue (is_allowed edge mode)) (sym (found_span log number horizon span e).mode_is) allowed)
+edge_window_there log edge number horizon span e active =
+    has_window log (is_active_at log edge) horizon number span e
+    (subst (λ mode. IsTrue (is_active_in edge mode)) (sym (found_span log number horizon span e).mode_is) active)
 
 pub node_window : (graph : Tfpg) (log : Logbook) (node number horizon : ℕ) (window : Window)
-    → (joint_of graph log node number horizon ≡ Some window) ↔ IsWindowRound log (are_allowed_at graph log node) number horizon window
+    → (joint_of graph log node number horizon ≡ Some window) ↔ IsWindowRound log (are_active_at graph log node) number horizon window
 node_window graph log node number horizon window =
-    let alike : (one other : ℕ) → mode_at log one ≡ mode_at log other → are_allowed_at graph log node one ≡ are_allowed_at graph log node other =
-    λ one other same. ap (λ mode. list_all (λ edge. is_allowed edge mode) (edges_into graph node)) same in
-    (is_window log (are_allowed_at graph log node) horizon alike number window, window_is_found log (are_allowed_at graph log node) horizon alike number window)
+    let alike : (one other : ℕ) → mode_at log one ≡ mode_at log other → are_active_at graph log node one ≡ are_active_at graph log node other =
+    λ one other same. ap (λ mode. list_all (λ edge. is_active_in edge mode) (edges_into graph node)) same in
+    (is_window log (are_active_at graph log node) horizon alike number window, window_is_found log (are_active_at graph log node) horizon alike number window)
 
 pub node_window_there : (graph : Tfpg) (log : Logbook) (node number horizon : ℕ) (span : Span) → span_at log number horizon ≡ Some span
-    → All (λ edge. IsTrue (is_allowed edge span.mode)) (edges_into graph node)
+    → All (λ edge. IsTrue (is_active_in edge span.mode)) (edges_into graph node)
     → (window : Window) × (joint_of graph log node number horizon ≡ Some window)
-node_window_there graph log node number horizon span e allowed =
-    has_window log (are_allowed_at graph log node) horizon number span e
-    (subst (λ mode. IsTrue (list_all (λ edge. is_allowed edge mode) (edges_into graph node))) (sym (found_span log number horizon span e).mode_is)
-    (list_all-from_AllPass (λ edge. is_allowed edge span.mode) (edges_into graph node) allowed))
+node_window_there graph log node number horizon span e active =
+    has_window log (are_active_at graph log node) horizon number span e
+    (subst (λ mode. IsTrue (list_all (λ edge. is_active_in edge mode) (edges_into graph node))) (sym (found_span log number horizon span e).mode_is)
+    (list_all-from_AllPass (λ edge. is_active_in edge span.mode) (edges_into graph node) active))

@@ -31,11 +31,11 @@ Shows graph trace before (Mode time mode) = Unit {0}
 -- The trace shows each event, by its index.
 abbrev pub ShowsAll : Tfpg → List Activation → List Event → Type 0
 ShowsAll graph trace events =
-    (place : ℕ) (event : Event) → slice_get events place ≡ Some event → Shows graph trace (take place events) event
+    (index : ℕ) (event : Event) → slice_get events index ≡ Some event → Shows graph trace (take index events) event
 
 -- the failure mode is a member of the set, a list of positions
 abbrev pub IsMember : Tfpg → List ℕ → ℕ → Type 0
-IsMember graph set node = (place : ℕ) × Contains set place × (failure_at graph place ≡ Some node)
+IsMember graph set node = (index : ℕ) × Contains set index × (failure_at graph index ≡ Some node)
 
 -- The trace explains the log from the set: nothing in it is later than now, each failure mode in it is a member of the
 -- set, the propagation rules hold, and it shows each event.

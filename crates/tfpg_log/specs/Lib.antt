@@ -3,7 +3,7 @@ pub use Rattle.tfpg_graph.specs.Graph
 pub use Rattle.tfpg_graph.specs.Reach
 pub use Rattle.tfpg_graph.specs.Statements
 pub use Rattle.tfpg_graph.specs.Valid
--- What the contracts say.
+-- What the public contracts say.
 pub mod Log
 pub mod Rules
 pub mod Explains

@@ -3,7 +3,7 @@ use Rattle.std.specs.Prelude.{◌≤◌, AllPairs, ◌≡◌, ℕ, suc, ◌-◌,
 use Rattle.tfpg_log.specs.declared.event.Event.{Event}
 use Rattle.tfpg_log.specs.declared.event.Event.TheVariants.{Alarm, Silent, Sweep, Tick, Mode}
 use Rattle.tfpg_graph.specs.declared.edge.Edge.{Edge}
-use Rattle.tfpg_graph.specs.Graph.{Tfpg, is_monitored, is_allowed}
+use Rattle.tfpg_graph.specs.Graph.{Tfpg, is_monitored, is_active_in}
 use Rattle.tfpg_base.specs.Choice.{item_at}
 use Rattle.tfpg_base.specs.declared.limits.TheConstants.{MAX_TIME}
 
@@ -86,8 +86,8 @@ abbrev pub mode_at : Logbook → ℕ → ℕ
 mode_at log instant = mode_after 0 log.events instant
 
 -- the edge is active in the mode of the instant
-abbrev pub is_allowed_at : Logbook → Edge → ℕ → Bool
-is_allowed_at log edge instant = is_allowed edge (mode_at log instant)
+abbrev pub is_active_at : Logbook → Edge → ℕ → Bool
+is_active_at log edge instant = is_active_in edge (mode_at log instant)
 
 -- The time of the event, where it is a silence of the node and these came before it. A sweep is a silence of each
 -- monitored node without an alarm so far.

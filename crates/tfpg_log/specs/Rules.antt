@@ -4,7 +4,7 @@ use Rattle.tfpg_base.specs.declared.activation.Activation.{Activation}
 use Rattle.tfpg_base.specs.Trace.{time_of, IsRisingByNode}
 use Rattle.tfpg_graph.specs.declared.edge.Edge.{Edge}
 use Rattle.tfpg_graph.specs.Graph.{Tfpg, is_kind_at, is_or, is_and, edges_into}
-use Rattle.tfpg_log.specs.Log.{Logbook, now_of, is_allowed_at}
+use Rattle.tfpg_log.specs.Log.{Logbook, now_of, is_active_at}
 
 -- the trace gives the node a time of at most this instant
 abbrev pub IsActive : List Activation → ℕ → ℕ → Type 0
@@ -16,7 +16,7 @@ pub record HasAge (log : Logbook) (trace : List Activation) (edge : Edge) (insta
   pub start : ℕ
   pub source : time_of trace edge.source ≡ Some start
   pub since : start + age ≤ instant
-  pub allowed : (x : ℕ) → instant ≤ x + age → x ≤ instant → IsTrue (is_allowed_at log edge x)
+  pub active_since : (x : ℕ) → instant ≤ x + age → x ≤ instant → IsTrue (is_active_at log edge x)
 
 -- the age of an edge at an instant: the greatest that it has
 pub record IsAge (log : Logbook) (trace : List Activation) (edge : Edge) (instant age : ℕ) : Type 0 where

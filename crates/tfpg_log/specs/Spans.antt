@@ -6,7 +6,7 @@ use Rattle.tfpg_graph.specs.declared.edge.Edge.{Edge}
 use Rattle.tfpg_graph.specs.Graph.{Tfpg, edges_into}
 use Rattle.tfpg_log.specs.declared.span.Span.{Span}
 use Rattle.tfpg_log.specs.declared.span.Window.{Window}
-use Rattle.tfpg_log.specs.Log.{Logbook, now_of, mode_at, is_allowed_at}
+use Rattle.tfpg_log.specs.Log.{Logbook, now_of, mode_at, is_active_at}
 
 -- the least number up to a limit that passes
 abbrev pub least : (ℕ → Bool) → ℕ → Option ℕ
@@ -60,15 +60,15 @@ window_round log passes span horizon =
     if passes span.lo then window_between log (run_start passes span.lo) (run_end passes span.lo horizon) else None
 
 -- each edge into the node is active in the mode of the instant
-abbrev pub are_allowed_at : Tfpg → Logbook → ℕ → ℕ → Bool
-are_allowed_at graph log node instant = list_all (λ edge. is_allowed_at log edge instant) (edges_into graph node)
+abbrev pub are_active_at : Tfpg → Logbook → ℕ → ℕ → Bool
+are_active_at graph log node instant = list_all (λ edge. is_active_at log edge instant) (edges_into graph node)
 
 -- the maximal window round a span in which the edge is active
 abbrev pub window_of : Logbook → Edge → ℕ → ℕ → Option Window
 window_of log edge number horizon =
-    option_and_then (λ span. window_round log (is_allowed_at log edge) span horizon) (span_at log number horizon)
+    option_and_then (λ span. window_round log (is_active_at log edge) span horizon) (span_at log number horizon)
 
 -- the maximal window round a span in which all edges into the node are active at once
 abbrev pub joint_of : Tfpg → Logbook → ℕ → ℕ → ℕ → Option Window
 joint_of graph log node number horizon =
-    option_and_then (λ span. window_round log (are_allowed_at graph log node) span horizon) (span_at log number horizon)
+    option_and_then (λ span. window_round log (are_active_at graph log node) span horizon) (span_at log number horizon)

@@ -2,7 +2,7 @@
 
 ghost use Rattle.std.specs.Prelude.{◌≡◌, ◌<◌, ◌&&◌, ℕ, length};
 ghost use Rattle.std.specs.List.{list_all};
-ghost use Rattle.tfpg_graph.specs.Graph.{is_allowed, edges_into};
+ghost use Rattle.tfpg_graph.specs.Graph.{is_active_in, edges_into};
 ghost use Rattle.tfpg_log.specs.inside.ActiveModes.{has_mode};
 
 use tfpg_graph::{Edge, Graph};
@@ -23,13 +23,13 @@ impl ActiveModes {
     {
         match self {
             ActiveModes::Every => true,
-            ActiveModes::OfEdge(edge) => edge.is_allowed(mode),
+            ActiveModes::OfEdge(edge) => edge.is_active_in(mode),
         }
     }
 
     /// Those of them in which the edge is active too.
     fn and(self, edge: Edge) -> ActiveModes
-        ensures { (mode : ℕ) → has_mode result mode ≡ (has_mode self mode && is_allowed edge mode) }
+        ensures { (mode : ℕ) → has_mode result mode ≡ (has_mode self mode && is_active_in edge mode) }
     {
         match self {
             ActiveModes::Every => ActiveModes::OfEdge(edge),
@@ -42,7 +42,7 @@ impl ActiveModes {
 pub(crate) fn modes_into(graph: &Graph, node: u32) -> ActiveModes
     requires { node < length graph.now.nodes }
     ensures { (mode : ℕ) → has_mode result mode ≡ list_all
-        (λ edge. is_allowed edge mode) (edges_into graph.now node) }
+        (λ edge. is_active_in edge mode) (edges_into graph.now node) }
 {
     let mut modes = ActiveModes::Every;
     let incoming = graph.incoming(node);

@@ -4,16 +4,16 @@ ghost use Rattle.std.specs.Prelude.{◌≡◌, ℕ, ◌+◌, ◌≤◌, ◌↔�
 ghost use Rattle.tfpg_base.specs.declared.activation.Activation.{Activation};
 ghost use Rattle.tfpg_base.specs.Trace.{time_of};
 ghost use Rattle.tfpg_graph.specs.declared.edge.Edge.{Edge};
-ghost use Rattle.tfpg_graph.specs.Graph.{Tfpg, is_allowed, edges_into};
+ghost use Rattle.tfpg_graph.specs.Graph.{Tfpg, is_active_in, edges_into};
 ghost use Rattle.tfpg_graph.specs.Reach.{Reaches};
 ghost use Rattle.tfpg_graph.specs.Valid.{IsValid};
 ghost use Rattle.tfpg_log.specs.declared.event.Event.{Event};
 ghost use Rattle.tfpg_log.specs.declared.span.Span.{Span};
 ghost use Rattle.tfpg_log.specs.declared.span.Window.{Window};
-ghost use Rattle.tfpg_log.specs.Log.{Logbook, GoesOn, IsOf, IsOrdered, now_of, event_at, alarm_of, alarm_event, mode_at, quiet_at, is_allowed_at};
+ghost use Rattle.tfpg_log.specs.Log.{Logbook, GoesOn, IsOf, IsOrdered, now_of, event_at, alarm_of, alarm_event, mode_at, quiet_at, is_active_at};
 ghost use Rattle.tfpg_log.specs.Quiet.{IsLastQuiet};
 ghost use Rattle.tfpg_log.specs.Rules.{IsActive, HasAge, IsAge};
-ghost use Rattle.tfpg_log.specs.Spans.{span_number, span_at, are_allowed_at, window_of, joint_of};
+ghost use Rattle.tfpg_log.specs.Spans.{span_number, span_at, are_active_at, window_of, joint_of};
 ghost use Rattle.tfpg_log.specs.Runs.{IsSpanOf, IsWindowRound};
 ghost use Rattle.tfpg_log.specs.Explains.{Explains, Fits};
 ghost use Rattle.tfpg_log.specs.LogOfLines.{log_after, log_of_lines};
@@ -77,13 +77,13 @@ pub fn nothing_without_failures()
         IsValid graph → Fits graph log [] → Explains graph log [] [] }
 {}
 
-/// An edge has an age exactly where its source is active and the mode of the instant allows the edge. There is then one
-/// greatest age, and what is said of the age is that it is at least so much. It is at most the time since the source
-/// became active, and from one instant to the next it grows by one, where the mode of the next allows the edge.
+/// An edge has an age exactly where its source is active and the edge is active in the mode of the instant. There is then
+/// one greatest age, and what is said of the age is that it is at least so much. It is at most the time since the source
+/// became active, and from one instant to the next it grows by one, where the edge is active in the mode of the next.
 pub fn age_is_the_greatest()
     ensures begins { (log : Logbook) (trace : List Activation) (edge : Edge) (instant : ℕ) →
         HasAge log trace edge instant 0
-        ↔ (IsActive trace edge.source instant × IsTrue (is_allowed_at log edge instant)) }
+        ↔ (IsActive trace edge.source instant × IsTrue (is_active_at log edge instant)) }
     ensures lesser { (log : Logbook) (trace : List Activation) (edge : Edge) (instant age : ℕ) →
         HasAge log trace edge instant (age + 1) → HasAge log trace edge instant age }
     ensures bounded { (log : Logbook) (trace : List Activation) (edge : Edge) (instant age start : ℕ) →
@@ -94,7 +94,7 @@ pub fn age_is_the_greatest()
         IsAge log trace edge instant one → IsAge log trace edge instant other → one ≡ other }
     ensures grows { (log : Logbook) (trace : List Activation) (edge : Edge) (instant age : ℕ) →
         HasAge log trace edge (instant + 1) (age + 1)
-        ↔ (HasAge log trace edge instant age × IsTrue (is_allowed_at log edge (instant + 1))) }
+        ↔ (HasAge log trace edge instant age × IsTrue (is_active_at log edge (instant + 1))) }
 {}
 
 /// A span is a maximal run of instants of one mode, and up to now each instant lies in the span of its number.
@@ -111,16 +111,16 @@ pub fn spans_are_runs_of_one_mode()
 pub fn windows_are_runs_of_spans()
     ensures of_edge { (log : Logbook) (edge : Edge) (number horizon : ℕ) (window : Window) →
         (window_of log edge number horizon ≡ Some window)
-        ↔ IsWindowRound log (is_allowed_at log edge) number horizon window }
+        ↔ IsWindowRound log (is_active_at log edge) number horizon window }
     ensures of_edge_found { (log : Logbook) (edge : Edge) (number horizon : ℕ) (span : Span) →
-        span_at log number horizon ≡ Some span → IsTrue (is_allowed edge span.mode) →
+        span_at log number horizon ≡ Some span → IsTrue (is_active_in edge span.mode) →
         (window : Window) × (window_of log edge number horizon ≡ Some window) }
     ensures of_node { (graph : Tfpg) (log : Logbook) (node number horizon : ℕ) (window : Window) →
         (joint_of graph log node number horizon ≡ Some window)
-        ↔ IsWindowRound log (are_allowed_at graph log node) number horizon window }
+        ↔ IsWindowRound log (are_active_at graph log node) number horizon window }
     ensures of_node_found { (graph : Tfpg) (log : Logbook) (node number horizon : ℕ) (span : Span) →
         span_at log number horizon ≡ Some span →
-        All (λ edge. IsTrue (is_allowed edge span.mode)) (edges_into graph node) →
+        All (λ edge. IsTrue (is_active_in edge span.mode)) (edges_into graph node) →
         (window : Window) × (joint_of graph log node number horizon ≡ Some window) }
 {}
 

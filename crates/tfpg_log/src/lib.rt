@@ -13,8 +13,8 @@
 //!
 //! ```text
 //! let mut log = Log::new(rt.alloc());
-//! log.offer(&graph, b"5 sweep")?; // Ok(Offered::Accepted(Event::Sweep { time: 5 }))
-//! log.offer(&graph, b"4 tick")?; // Ok(Offered::Refused(Refusal::TimeBack { last: 5 }))
+//! log.offer(&graph, b"5 sweep")?; // Offered::Accepted(Event::Sweep { time: 5 })
+//! log.offer(&graph, b"4 tick")?; // Offered::Refused(Refusal::TimeBack { last: 5 })
 //! log.now(); // 5
 //! ```
 #![tactic(auto)]

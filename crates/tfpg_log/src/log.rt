@@ -267,8 +267,8 @@ impl Log {
     fn find_event(&self, number: u32) -> Option<Event>
         ensures { result ≡ event_at self.now number }
     {
-        let place = number.checked_sub(1)?;
-        self.events.get(place as usize).copied()
+        let index = number.checked_sub(1)?;
+        self.events.get(index as usize).copied()
     }
 
     /// Whether a sweep of this number is a silence of the node.

@@ -4,7 +4,7 @@ ghost use Rattle.std.specs.Prelude.{◌≡◌, length, map, codes, bytes_eq, opt
 ghost use Rattle.tfpg_log.specs.LogStatements.{log_statement_of, log_statement_in, Alarm, Silent, Sweep, Tick, Mode};
 ghost use Rattle.tfpg_log.specs.inside.LogLine.{log_statement_seen, log_line_seen};
 
-use tfpg_base::{Words, has_empty_word};
+use tfpg_base::Words;
 
 /// What a line says after its time, with its name unread.
 #[derive(Clone, Copy)]
@@ -27,12 +27,8 @@ pub(crate) struct LogLine<'a> {
 pub(crate) fn read_line(line: &[u8]) -> Option<LogLine<'_>>
     ensures { option_map log_line_seen result ≡ log_statement_of line.now }
 {
-    let words = Words::of(line)?;
-    let words = words.as_slice();
-    if has_empty_word(words) {
-        return None;
-    }
-    log_line_in(words)
+    let words = Words::filled(line)?;
+    log_line_in(words.as_slice())
 }
 
 /// The line of these words.

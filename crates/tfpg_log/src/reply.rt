@@ -50,14 +50,14 @@ impl Log {
 fn reply(graph: &Graph, log: &Log, line: &[u8]) -> Offered
     ensures { result ≡ reply_to graph.now log.now line.now }
 {
-    match judge(graph, log, line) {
+    match event_or_refusal(graph, log, line) {
         Ok(event) => Offered::Accepted(event),
         Err(refusal) => Offered::Refused(refusal),
     }
 }
 
 /// The event of the line, or the first refusal that holds.
-fn judge(graph: &Graph, log: &Log, line: &[u8]) -> Result<Event, Refusal>
+fn event_or_refusal(graph: &Graph, log: &Log, line: &[u8]) -> Result<Event, Refusal>
     ensures { offered result ≡ reply_to graph.now log.now line.now }
 {
     let Some(line) = read_line(line) else {

@@ -234,7 +234,7 @@ fn short_lines(rt: HostRuntime) -> Result<(), Fail> {
 
 #[test]
 fn long_lines(rt: HostRuntime) -> Result<(), Fail> {
-    for (row, count, answer) in [
+    for (row, count, last) in [
         ("as long as a line may be", 4_096, b'|'),
         ("a byte too long", 4_097, b'x'),
         ("as long as the buffer", 65_536, b'x'),
@@ -242,13 +242,13 @@ fn long_lines(rt: HostRuntime) -> Result<(), Fail> {
     ] {
         let mut text = vec![in rt.alloc(); b'a'; count]?;
         let bare = returned(rt.alloc(), text.as_slice(), 1_000, &[])?;
-        assert_eq!(rt; bare.first().copied(), Some(answer), "{row}, at the end");
+        assert_eq!(rt; bare.first().copied(), Some(last), "{row}, at the end");
         assert_eq!(rt; bare.last().copied(), Some(b'.'), "{row}, at the end");
         text.extend_from_slice(b"\nb\n")?;
         let followed = returned(rt.alloc(), text.as_slice(), 70_000, &[])?;
         assert_eq!(rt;
             followed.first().copied(),
-            Some(answer),
+            Some(last),
             "{row}, and a line end"
         );
         assert!(rt;
@@ -288,6 +288,18 @@ fn words_are_cut_at_each_space(rt: HostRuntime) {
     assert!(rt; has_empty_word(words.as_slice()));
     assert!(rt; Words::of(b"1 2 3 4 5 6 7 8 9").is_some());
     assert!(rt; Words::of(b"1 2 3 4 5 6 7 8 9 ").is_none());
+}
+
+#[test]
+fn the_earlier_of_two_times_is_found(rt: HostRuntime) {
+    for (row, one, other, found) in &[
+        ("the first", Some(3), Some(5), Some(3)),
+        ("the second", Some(5), Some(3), Some(3)),
+        ("the one that is", None, Some(7), Some(7)),
+        ("none", None, None, None),
+    ] {
+        assert_eq!(rt; earlier(*one, *other), *found, "{row}");
+    }
 }
 
 /// A row by its name: a word, and whether it is a name.
@@ -353,8 +365,8 @@ const NUMBERS: [(&str, &[u8], u64, Number); 13] = [
 
 #[test]
 fn numbers(rt: HostRuntime) {
-    for (row, word, most, number) in &NUMBERS {
-        assert_eq!(rt; read_number(*word, *most), *number, "{row}");
+    for (row, word, limit, number) in &NUMBERS {
+        assert_eq!(rt; read_number(*word, *limit), *number, "{row}");
     }
 }
 
@@ -385,14 +397,14 @@ fn items_come_back_in_order(rt: HostRuntime) -> Result<(), Fail> {
 fn a_set_holds_its_members(rt: HostRuntime) {
     let set = Set::empty().with(63).with(0).with(63);
     assert_eq!(rt; set.len(), 2);
-    for (row, place, is_member) in [
+    for (row, position, is_member) in [
         ("the least member", 0, true),
         ("between the members", 1, false),
         ("the greatest member", 63, true),
         ("past all members", 64, false),
         ("the greatest number", u32::MAX, false),
     ] {
-        assert_eq!(rt; set.has(place), is_member, "{row}");
+        assert_eq!(rt; set.has(position), is_member, "{row}");
     }
     assert!(rt; Set::empty().is_empty());
     assert!(rt; !set.is_empty());

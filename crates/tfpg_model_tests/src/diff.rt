@@ -16,54 +16,54 @@ fn second_after_first<L: Ledger>(
     rt: &impl Abort,
     alloc: Global,
     blank: Blank,
-    most: u64,
+    bound: u64,
 ) -> Result<bool, Fail>
     requires name { blank.name ≡ L.name }
     requires parts { blank.parts ≡ L.parts }
     requires some { 0 < blank.parts }
-    requires late { 4 ≤ most }
+    requires late { 4 ≤ bound }
 {
     let mut work = Steps::<L>::new(blank);
     let mut system = System::new(alloc, 2)?;
     system.reserve(1)?;
-    assert!(rt; system.raise(0, 5, 50, &mut work).is_ok(), "up to {most}");
+    assert!(rt; system.raise(0, 5, 50, &mut work).is_ok(), "up to {bound}");
     assert!(rt;
-        system.lower(1, most, 70, &mut work).is_ok(),
-        "up to {most}"
+        system.lower(1, bound, 70, &mut work).is_ok(),
+        "up to {bound}"
     );
     assert_eq!(rt;
         system.solution(),
-        [1_000_000_000_001, most].as_slice(),
-        "up to {most}"
+        [1_000_000_000_001, bound].as_slice(),
+        "up to {bound}"
     );
     let constraint = Constraint {
         left: 1,
         right: 2,
-        most: -4,
+        bound: -4,
     };
     let pushed = system.push(constraint, 45, &mut work);
     if pushed == Err(Conflict) {
-        assert_eq!(rt; system.cycle().len(), 3, "up to {most}");
-        assert!(rt; system.cycle().contains(&Why::Given(50)), "up to {most}");
-        assert!(rt; system.cycle().contains(&Why::Given(70)), "up to {most}");
-        assert!(rt; system.cycle().contains(&Why::Given(45)), "up to {most}");
+        assert_eq!(rt; system.cycle().len(), 3, "up to {bound}");
+        assert!(rt; system.cycle().contains(&Why::Given(50)), "up to {bound}");
+        assert!(rt; system.cycle().contains(&Why::Given(70)), "up to {bound}");
+        assert!(rt; system.cycle().contains(&Why::Given(45)), "up to {bound}");
         assert_eq!(rt;
             system.solution(),
-            [1_000_000_000_001, most].as_slice(),
-            "up to {most}"
+            [1_000_000_000_001, bound].as_slice(),
+            "up to {bound}"
         );
     } else {
         assert_eq!(rt;
             system.solution(),
-            [most - 4, most].as_slice(),
-            "up to {most}"
+            [bound - 4, bound].as_slice(),
+            "up to {bound}"
         );
     }
     system.pop_to(0);
     assert_eq!(rt;
         system.solution(),
-        [1_000_000_000_001, most].as_slice(),
-        "up to {most}"
+        [1_000_000_000_001, bound].as_slice(),
+        "up to {bound}"
     );
     Ok(pushed.is_ok())
 }
@@ -89,14 +89,14 @@ fn off_by_one<L: Ledger>(alloc: Global, blank: Blank) -> Result<bool, Fail>
     let before = Constraint {
         left: 1,
         right: 2,
-        most: -1,
+        bound: -1,
     };
     let _ = system.push(before, 1, &mut work);
     system.reserve(1)?;
     let not_before = Constraint {
         left: 2,
         right: 1,
-        most: 0,
+        bound: 0,
     };
     Ok(system.push(not_before, 2, &mut work).is_ok())
 }
@@ -236,7 +236,7 @@ fn solved<L: Ledger>(alloc: Global, blank: Blank, case: &Case) -> Result<Option<
             return Ok(None);
         }
     }
-    for (left, right, most) in case.picks {
+    for (left, right, bound) in case.picks {
         system.reserve(1)?;
         if *left > case.count || *right > case.count {
             return Ok(None);
@@ -244,7 +244,7 @@ fn solved<L: Ledger>(alloc: Global, blank: Blank, case: &Case) -> Result<Option<
         let constraint = Constraint {
             left: *left,
             right: *right,
-            most: *most,
+            bound: *bound,
         };
         if system.push(constraint, 3, &mut work).is_err() {
             return Ok(None);

@@ -71,12 +71,12 @@ const REFUSED: [(&str, &str, Refusal); 42] = [
     ),
     ("a zero in front", "011 tick", Refusal::BadNumber),
     (
-        "a zero in front of a time too large",
+        "a zero before a time too large",
         "01000000000001 tick",
         Refusal::BadNumber,
     ),
     (
-        "a zero in front of a time that falls",
+        "a zero before a time that falls",
         "09 tick",
         Refusal::BadNumber,
     ),

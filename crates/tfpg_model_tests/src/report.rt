@@ -136,7 +136,10 @@ fn ranked(alloc: Global) -> Result<Finding, NoMemory>
         horizon: 30,
     };
     let reasons = vec![in alloc;
-        Reason::Pick { split: 1, place: 1 },
+        Reason::Pick {
+            split: 1,
+            constraint: 1
+        },
         Reason::From { event: 1 },
     ]?;
     let steps = vec![in alloc;
@@ -173,7 +176,10 @@ fn each_reason(alloc: Global) -> Result<Reasons, NoMemory>
         Reason::From { event: 1 },
         Reason::Upto { event: 2 },
         Reason::Quiet { event: 3, node: 2 },
-        Reason::Pick { split: 4, place: 5 },
+        Reason::Pick {
+            split: 4,
+            constraint: 5
+        },
     ]?;
     Ok(Reasons::from_vec(reasons))
 }
@@ -209,7 +215,7 @@ fn each_step(alloc: Global) -> Result<StepList, NoMemory>
 }
 
 /// Both failure modes together, left open with a step of each kind.
-fn unsettled(alloc: Global) -> Result<Finding, NoMemory>
+fn left_open(alloc: Global) -> Result<Finding, NoMemory>
     ensures { IfOk result (λ finding. IsFindingOf small finding × (finding.number ≡ 3)) }
 {
     Ok(Finding {
@@ -224,7 +230,7 @@ fn unsettled(alloc: Global) -> Result<Finding, NoMemory>
 fn round_of_alarm(alloc: Global) -> Result<Round, NoMemory>
     ensures { IfOk result (λ round. IsRoundOf small round) }
 {
-    let findings = vec![in alloc; rejected(alloc)?, ranked(alloc)?, unsettled(alloc)?]?;
+    let findings = vec![in alloc; rejected(alloc)?, ranked(alloc)?, left_open(alloc)?]?;
     let order = vec![in alloc; 1]?;
     Ok(Round {
         number: 1,
@@ -236,7 +242,7 @@ fn round_of_alarm(alloc: Global) -> Result<Round, NoMemory>
             ranked: 1,
             covered: 2,
             rejected: 3,
-            unsettled: 4,
+            left_open: 4,
         },
     })
 }

@@ -292,11 +292,11 @@ fn trace_of(alloc: Global, times: &[(u32, u64)]) -> Result<Trace, Fail> {
 }
 
 /// The set of these positions, where they are below 64.
-fn set_of(places: &[u32]) -> Set {
+fn set_of(positions: &[u32]) -> Set {
     let mut set = Set::empty();
-    for place in places {
-        if *place < 64 {
-            set = set.with(*place);
+    for position in positions {
+        if *position < 64 {
+            set = set.with(*position);
         }
     }
     set
@@ -321,7 +321,7 @@ fn judged(
     alloc: Global,
     text: &[u8],
     lines: &[&[u8]],
-    places: &[u32],
+    positions: &[u32],
     times: &[(u32, u64)],
 ) -> Result<Option<Verdict>, Fail> {
     let graph = read(alloc, text)?;
@@ -330,14 +330,14 @@ fn judged(
     if !is_of(&graph, &trace) {
         return Ok(None);
     }
-    Ok(Some(explains(&graph, &log, set_of(places), &trace)))
+    Ok(Some(explains(&graph, &log, set_of(positions), &trace)))
 }
 
 #[test]
 fn judges_each_trace(rt: HostRuntime) -> Result<(), Fail> {
-    for (name, text, lines, places, times, verdict) in &ROWS {
+    for (name, text, lines, positions, times, verdict) in &ROWS {
         assert_eq!(rt;
-            judged(rt.alloc(), *text, *lines, *places, *times)?,
+            judged(rt.alloc(), *text, *lines, *positions, *times)?,
             Some(*verdict),
             "{name}"
         );

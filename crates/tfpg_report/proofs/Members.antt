@@ -8,16 +8,16 @@ use Rattle.tfpg_base.proofs.lists.Below.{below, below-absent, below-all, below-m
 use Rattle.tfpg_graph.specs.Graph.{Tfpg}
 use Rattle.tfpg_base.specs.TextLine.{separated}
 use Rattle.tfpg_report.specs.Blocks.{failure_word}
-use Rattle.tfpg_base.proofs.Joined.{join-push}
+use Rattle.tfpg_base.proofs.lists.Joined.{join-push}
 
 -- The names of the members below a position stand after the old bytes, and whether there is none.
-pub record AreNamed (graph : Tfpg) (set old new : List ℕ) (is_first : Bool) (position : ℕ) : Type 0 where
+pub record AreMembersWritten (graph : Tfpg) (set old new : List ℕ) (is_first : Bool) (position : ℕ) : Type 0 where
   pub text : new ≡ old ++ join_with_byte 44 (map (failure_word graph) (below position set))
   pub first : is_first ≡ eqb (length (below position set)) 0
 
 -- none is named at first
-pub AreNamed-none : (graph : Tfpg) (set old : List ℕ) → AreNamed graph set old old true 0
-AreNamed-none graph set old =
+pub AreMembersWritten-none : (graph : Tfpg) (set old : List ℕ) → AreMembersWritten graph set old old true 0
+AreMembersWritten-none graph set old =
     let none : below 0 set ≡ [] = below-zero set in
     record {
       text = sym (append-nil old) ∙ ap (λ (ms : List ℕ). old ++ join_with_byte 44 (map (failure_word graph) ms)) (sym none);
@@ -25,9 +25,9 @@ AreNamed-none graph set old =
     }
 
 -- one member more is named
-pub AreNamed-more : (graph : Tfpg) (set old mid new : List ℕ) (is_first : Bool) (position : ℕ) → AllPairs (λ earlier later. earlier < later) set → Contains set position
-    → AreNamed graph set old mid is_first position → new ≡ mid ++ separated 44 is_first (failure_word graph position) → AreNamed graph set old new false (position + 1)
-AreNamed-more graph set old mid new is_first position rising member named e =
+pub AreMembersWritten-more : (graph : Tfpg) (set old mid new : List ℕ) (is_first : Bool) (position : ℕ) → AllPairs (λ earlier later. earlier < later) set → Contains set position
+    → AreMembersWritten graph set old mid is_first position → new ≡ mid ++ separated 44 is_first (failure_word graph position) → AreMembersWritten graph set old new false (position + 1)
+AreMembersWritten-more graph set old mid new is_first position rising member named e =
     let more : below (position + 1) set ≡ below position set ++ position ∷ [] = below-member position set rising member in
     let names : List (List ℕ) = map (failure_word graph) (below position set) in
     let joined : join_with_byte 44 (map (failure_word graph) (below (position + 1) set)) ≡ join_with_byte 44 names ++ separated 44 is_first (failure_word graph position) =
@@ -46,9 +46,9 @@ AreNamed-more graph set old mid new is_first position rising member named e =
     }
 
 -- no member more is to be named
-pub AreNamed-same : (graph : Tfpg) (set old new : List ℕ) (is_first : Bool) (position : ℕ) → (Contains set position → ⊥)
-    → AreNamed graph set old new is_first position → AreNamed graph set old new is_first (position + 1)
-AreNamed-same graph set old new is_first position absent named =
+pub AreMembersWritten-same : (graph : Tfpg) (set old new : List ℕ) (is_first : Bool) (position : ℕ) → (Contains set position → ⊥)
+    → AreMembersWritten graph set old new is_first position → AreMembersWritten graph set old new is_first (position + 1)
+AreMembersWritten-same graph set old new is_first position absent named =
     let same : below (position + 1) set ≡ below position set = below-absent position set absent in
     record {
       text = named.text ∙ ap (λ (ms : List ℕ). old ++ join_with_byte 44 (map (failure_word graph) ms)) (sym same);
@@ -56,7 +56,7 @@ AreNamed-same graph set old new is_first position absent named =
     }
 
 -- all are named
-pub AreNamed-all : (graph : Tfpg) (set old new : List ℕ) (is_first : Bool) (position : ℕ) → All (λ m. m < position) set
-    → AreNamed graph set old new is_first position → new ≡ old ++ join_with_byte 44 (map (failure_word graph) set)
-AreNamed-all graph set old new is_first position small named =
+pub AreMembersWritten-all : (graph : Tfpg) (set old new : List ℕ) (is_first : Bool) (position : ℕ) → All (λ m. m < position) set
+    → AreMembersWritten graph set old new is_first position → new ≡ old ++ join_with_byte 44 (map (failure_word graph) set)
+AreMembersWritten-all graph set old new is_first position small named =
     named.text ∙ ap (λ (ms : List ℕ). old ++ join_with_byte 44 (map (failure_word graph) ms)) (below-all position set (λ m member. All-contains (λ n. n < position) set m small member))

@@ -102,7 +102,7 @@ reason_words graph (Unreached node horizon) = codes "unreached" ∷ name_word gr
 reason_words graph (From event) = codes "from" ∷ decimal event ∷ []
 reason_words graph (Upto event) = codes "upto" ∷ decimal event ∷ []
 reason_words graph (Quiet event node) = codes "quiet" ∷ decimal event ∷ name_word graph node ∷ []
-reason_words graph (Pick split place) = codes "pick" ∷ decimal split ∷ decimal place ∷ []
+reason_words graph (Pick split constraint) = codes "pick" ∷ decimal split ∷ decimal constraint ∷ []
 
 -- the line of a reason
 abbrev pub reason_text : Tfpg → Reason → List ℕ
@@ -169,7 +169,7 @@ rejected_text graph finding Open = []
 abbrev pub counts_words : Counts → List (List ℕ)
 counts_words counts =
     codes "ranked" ∷ decimal counts.ranked ∷ codes "covered" ∷ decimal counts.covered
-    ∷ codes "rejected" ∷ decimal counts.rejected ∷ codes "open" ∷ decimal counts.unsettled ∷ []
+    ∷ codes "rejected" ∷ decimal counts.rejected ∷ codes "open" ∷ decimal counts.left_open ∷ []
 
 -- the line that says how many hypotheses have each status
 abbrev pub counts_text : Counts → List ℕ

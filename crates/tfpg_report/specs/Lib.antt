@@ -1,5 +1,5 @@
 pub use Rattle.tfpg_graph.specs.Graph
--- What the contracts say.
+-- What the public contracts say.
 pub mod Blocks
--- What the code and its proofs need besides. Nothing above reaches it.
+-- What the code and its proofs need besides. No public clause reaches it.
 pub mod inside

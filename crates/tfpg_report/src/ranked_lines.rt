@@ -57,7 +57,7 @@ fn finding_of(findings: &[Finding], number: u32) -> Option<&Finding>
     ensures { option_copied result ≡ finding_numbered findings.now number }
 {
     match findings.binary_search_by_key(&number, |finding| finding.number) {
-        Ok(place) => Some(&findings[place]),
+        Ok(index) => Some(&findings[index]),
         Err(_) => None,
     }
 }

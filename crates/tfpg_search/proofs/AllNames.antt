@@ -1,5 +1,5 @@
 -- The clause names of a log are finitely many: they can be listed.
-use Rattle.std.proofs.Common.{◌≡◌, ℕ, zero, suc, ◌+◌, ◌<◌, ◌≤◌, List, [], ◌∷◌, ◌++◌, length, Bool, true, false, Option, Some, None, refl, sym, ap, subst, ◌∙◌, arith}
+use Rattle.std.proofs.Common.{◌≡◌, ℕ, zero, suc, ◌+◌, ◌<◌, ◌≤◌, List, [], ◌∷◌, ◌++◌, length, Bool, true, false, Option, Some, None, refl, ap, subst, ◌∙◌, arith}
 use Rattle.std.specs.Prelude.{Contains, map, filter, flat_map, nat_le, ◌==◌, ◌&&◌, if◌then◌else◌, is_some, option_and_then, slice_get, filter_map}
 use Rattle.std.specs.Bool.{then_some}
 use Rattle.std.specs.Option.{option_or}
@@ -14,8 +14,8 @@ use Rattle.tfpg_graph.specs.Graph.{Tfpg, is_kind_at, is_or, is_and, edges_into}
 use Rattle.tfpg_graph.proofs.NodeAt.{kind_within}
 use Rattle.tfpg_log.specs.declared.span.Span.{Span}
 use Rattle.tfpg_log.specs.declared.span.Window.{Window}
-use Rattle.tfpg_log.specs.Log.{Logbook, now_of, mode_at, time_of_event, is_allowed_at}
-use Rattle.tfpg_log.specs.Spans.{least, greatest, span_number, span_between, span_at, window_round, window_of, joint_of, are_allowed_at}
+use Rattle.tfpg_log.specs.Log.{Logbook, now_of, mode_at, time_of_event, is_active_at}
+use Rattle.tfpg_log.specs.Spans.{least, greatest, span_number, span_between, span_at, window_round, window_of, joint_of, are_active_at}
 use Rattle.tfpg_evidence.specs.declared.clause_name.ClauseName.{ClauseName}
 use Rattle.tfpg_evidence.specs.declared.clause_name.ClauseName.TheVariants.{OrMay, AndMay, OrMust, AndMust}
 use Rattle.tfpg_base.specs.Choice.{each_of}
@@ -142,11 +142,11 @@ least_is passes (suc limit) n is = by (λ k at. least_is passes limit k at) (lea
         (omega (arith, there.0, same), subst (λ m. passes m ≡ true) same there.1)
 
 -- a span that there is has a number up to its horizon, which is not after now
-pub record IsSmallSpan (log : Logbook) (number horizon : ℕ) : Type 0 where
+pub record HasNumbersUpTo (log : Logbook) (number horizon : ℕ) : Type 0 where
   pub span_small : number ≤ horizon
   pub horizon_small : horizon ≤ now_of log
 
-pub span_small_at : (log : Logbook) (number horizon : ℕ) → is_some (span_at log number horizon) ≡ true → IsSmallSpan log number horizon
+pub span_small_at : (log : Logbook) (number horizon : ℕ) → is_some (span_at log number horizon) ≡ true → HasNumbersUpTo log number horizon
 span_small_at log number horizon some = by (nat_le horizon (now_of log)) refl some
   where
     passes : ℕ → Bool
@@ -161,7 +161,7 @@ span_small_at log number horizon some = by (nat_le horizon (now_of log)) refl so
 
     by : (b : Bool) → nat_le horizon (now_of log) ≡ b
         → is_some (if b then span_between log (least (λ instant. span_number log instant == number) horizon) (greatest (λ instant. span_number log instant == number) horizon) else None) ≡ true
-        → IsSmallSpan log number horizon
+        → HasNumbersUpTo log number horizon
     by true at there = record {
       span_small = found_by (least (λ instant. span_number log instant == number) horizon) refl (greatest (λ instant. span_number log instant == number) horizon) there;
       horizon_small = grind (arith, nat_tests);
@@ -185,7 +185,7 @@ if_holds false x is = cc
 module _ (log : Logbook) where
   -- a may clause has a span, and its test holds
   may_there : (holds : Bool) (target : ℕ) (edges : List Edge) (number horizon : ℕ) → is_some (may_by log holds target edges number horizon) ≡ true
-      → IsSmallSpan log number horizon × (holds ≡ true)
+      → HasNumbersUpTo log number horizon × (holds ≡ true)
   may_there holds target edges number horizon some = (
     span_small_at log number horizon (first_there (λ (s : Span). then_some holds (outside_span target s ++ filter_map (arrival log number horizon s) edges)) (span_at log number horizon) some),
     by (span_at log number horizon) some,
@@ -211,7 +211,7 @@ module _ (graph : Tfpg) (log : Logbook) where
   abbrev allowed : ClauseName → Bool
   allowed name = is_some (alternatives graph log name)
 
-  of_window : {X : Type 0} (f : Span → Option X) (number horizon : ℕ) → is_some (option_and_then f (span_at log number horizon)) ≡ true → IsSmallSpan log number horizon
+  of_window : {X : Type 0} (f : Span → Option X) (number horizon : ℕ) → is_some (option_and_then f (span_at log number horizon)) ≡ true → HasNumbersUpTo log number horizon
   of_window f number horizon some = span_small_at log number horizon (first_there f (span_at log number horizon) some)
 
   of_edge : (f : Edge → Option (List (List Constraint))) (number : ℕ) (found : Option Edge) → slice_get graph.edges number ≡ found → is_some (option_and_then f found) ≡ true
@@ -219,7 +219,7 @@ module _ (graph : Tfpg) (log : Logbook) where
   of_edge f number None at some = absurd cc
   of_edge f number (Some edge) at some = (slice_get_within graph.edges number edge at, edge, some)
 
-  small : (horizon span subject : ℕ) (name : ClauseName) → Contains (names_of_subject horizon span subject) name → IsSmallSpan log span horizon → subject < length graph.nodes + length graph.edges
+  small : (horizon span subject : ℕ) (name : ClauseName) → Contains (names_of_subject horizon span subject) name → HasNumbersUpTo log span horizon → subject < length graph.nodes + length graph.edges
       → Contains (names_below limit) name
   small horizon span subject name there is low =
       in_names limit horizon span subject name there (omega (arith, is.horizon_small)) (omega (arith, is.span_small, is.horizon_small)) (omega (arith, low))
@@ -237,27 +237,27 @@ module _ (graph : Tfpg) (log : Logbook) where
       let own = of_edge (λ (e : Edge). must_by log (is_kind_at is_or graph e.target) e.target (e ∷ []) (window_of log e number horizon) number horizon) edge (slice_get graph.edges edge) refl some in
       let there = must_there log (is_kind_at is_or graph own.1.target) own.1.target (own.1 ∷ []) (window_of log own.1 number horizon) number horizon own.2 in
       small horizon number edge (OrMust edge number horizon) (2, omega arith, refl)
-      (of_window (λ span. window_round log (is_allowed_at log own.1) span horizon) number horizon there.0) (omega (arith, own.0))
+      (of_window (λ span. window_round log (is_active_at log own.1) span horizon) number horizon there.0) (omega (arith, own.0))
   listed (AndMust node number horizon) some =
       let there = must_there log (is_kind_at is_and graph node) node (edges_into graph node) (joint_of graph log node number horizon) number horizon some in
       small horizon number node (AndMust node number horizon) (3, omega arith, refl)
-      (of_window (λ span. window_round log (are_allowed_at graph log node) span horizon) number horizon there.0) (omega (arith, kind_within graph is_and node there.1))
+      (of_window (λ span. window_round log (are_active_at graph log node) span horizon) number horizon there.0) (omega (arith, kind_within graph is_and node there.1))
 
   -- the test of a name whose horizon is the time of an event
   abbrev at_event : ClauseName → Bool
   at_event name = list_any (λ event. time_of_event event == horizon_of name) log.events
 
-  abbrev is_name : ClauseName → Bool
-  is_name name = allowed name && at_event name
+  abbrev is_own_name : ClauseName → Bool
+  is_own_name name = allowed name && at_event name
 
-  name_from : (name : ClauseName) → is_name name ≡ true → IsNameAt graph log name
+  name_from : (name : ClauseName) → is_own_name name ≡ true → IsNameAt graph log name
   name_from name is =
       let parts = and_parts (allowed name) (at_event name) is in
       let clause = is_some-there (alternatives graph log name) parts.0 in
       let event = list_any-found (λ event. time_of_event event == horizon_of name) log.events parts.1 in
       record { clause = clause.0; allowed = clause.1; horizon = record { event = event.0; accepted = event.1; at = eqb-true (time_of_event event.0) (horizon_of name) event.2 } }
 
-  name_to : (name : ClauseName) → IsNameAt graph log name → is_name name ≡ true
+  name_to : (name : ClauseName) → IsNameAt graph log name → is_own_name name ≡ true
   name_to name is =
       and_from (allowed name) (at_event name) (ap is_some is.allowed)
       (list_any-passes (λ event. time_of_event event == horizon_of name) log.events is.horizon.event is.horizon.accepted
@@ -265,7 +265,7 @@ module _ (graph : Tfpg) (log : Logbook) where
 
   -- those of small numbers
   abbrev small_names : List ClauseName
-  small_names = filter is_name (names_below limit)
+  small_names = filter is_own_name (names_below limit)
 
   -- There is a list of all names.
   pub names_listed : (names : List ClauseName) × AreNamesAt graph log names
@@ -274,11 +274,11 @@ module _ (graph : Tfpg) (log : Logbook) where
     record {
       once = once_differ same_name exact_name name_itself small_names;
       exact = λ name. (
-        λ has. name_from name (Contains-filter_only is_name (names_below limit) name (from_once same_name exact_name name_itself small_names name has)).2,
+        λ has. name_from name (Contains-filter_only is_own_name (names_below limit) name (from_once same_name exact_name name_itself small_names name has)).2,
         λ is.
             let low = listed name (and_parts (allowed name) (at_event name) (name_to name is)).0 in
             in_once same_name exact_name name_itself small_names name
-            (Contains-filter is_name (names_below limit) low.0 name (slice_get-contains (names_below limit) name low) (name_to name is)),
+            (Contains-filter is_own_name (names_below limit) low.0 name (slice_get-contains (names_below limit) name low) (name_to name is)),
       );
     },
   )

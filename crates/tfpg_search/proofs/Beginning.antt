@@ -55,7 +55,7 @@ module _ (graph : Tfpg) (reach : List ℕ) where
           stated =
               restated (fact graph new_log reach) (fact graph new_log reach) (stated_by graph new_log reach []) search.leaf stated
               (λ r c states. fact_stated graph new_log reach [] r c states)
-              (λ place r c there states. fact_stated graph new_log reach [] r c states);
+              (λ index r c there states. fact_stated graph new_log reach [] r c states);
           picks = record { few = omega arith; many = omega arith; counts = λ split before there. cc; reasons = picks };
         };
         all_entered = refl;

@@ -20,7 +20,7 @@ use Rattle.tfpg_search.specs.Leaf.{Leaf, pick_reasons, IsStated}
 use Rattle.tfpg_search.specs.inside.Tags.{IsTagged, HasReason, reason_of}
 use Rattle.tfpg_search.specs.inside.Closing.{Closes, IsFaultOf}
 use Rattle.tfpg_search.proofs.Tagging.{IsTagged-write, IsTagged-push}
-use Rattle.tfpg_search.proofs.Stating.{leaf_of, tagged_by-floor, tagged_by-ceiling, IsPlaceOf, IsStated-write, IsStated-push, IsStated-pop, pick_reasons-pop}
+use Rattle.tfpg_search.proofs.Stating.{leaf_of, tagged_by-floor, tagged_by-ceiling, IsIndexOf, IsStated-write, IsStated-push, IsStated-pop, pick_reasons-pop}
 use Rattle.tfpg_search.proofs.Conflicts.{HasReason-cycle, AreDemandsNamed-stated, Closes-cycle}
 
 module _ (demands : Demands) (reasons read : List Reason) (tags lent : List Why) (is_read : read ≡ reasons) (is_lent : lent ≡ tags)
@@ -39,66 +39,14 @@ module _ (demands : Demands) (reasons read : List Reason) (tags lent : List Why)
       (subst (λ (rs : List Reason). IsFaultOf (map (reason_of rs) tags) fault) is_read
       (subst (λ (whys : List Why). IsFaultOf (map (reason_of read) whys) fault) is_lent is))
 
-module _ (demands : Demands) (reasons : List Reason) (tagged : IsTagged demands reasons) (v : ℕ) (old : Bounds) (at : Bounded demands v old)
-    (reason : Reason) where
-  -- the node is one of those of the system
-  inside : v < length demands.bounds
-  inside = slice_get_within demands.bounds v old at
-
-  module _ (least tag : ℕ) (is_tag : tag ≡ v) (tighter : old.floor < least) where
-    -- the demands with the higher bound
-    raised_is : with_floor demands v least tag ≡ demands_of (set demands.bounds v (over old least v)) demands.picks
-    raised_is = ap (with_floor demands v least) is_tag ∙ with_floor-tighter demands.bounds demands.picks v old at least v tighter
-
-    -- a raised lower bound, with its reason in the node's place
-    IsTagged-raise : IsTagged (with_floor demands v least tag) (set reasons v reason)
-    IsTagged-raise = subst (λ (d : Demands). IsTagged d (set reasons v reason)) (sym raised_is)
-        (IsTagged-write demands reasons v (over old least v) v reason tagged (inr refl) (tagged.ceilings v old at))
-
-    IsStated-raise : (fact stated : Reason → Option Constraint) → IsStated fact stated (leaf_of demands reasons) →
-        fact reason ≡ Some (at_least v least) → IsStated fact stated (leaf_of (with_floor demands v least tag) (set reasons v reason))
-    IsStated-raise fact stated is_stated states =
-        let many = tagged.one_each in
-        let below = inside in
-        let place : IsPlaceOf demands v v = record { inside = omega arith; not_lower = λ u other here. other; not_upper = λ u other same. omega arith } in
-        subst (λ (d : Demands). IsStated fact stated (leaf_of d (set reasons v reason))) (sym raised_is)
-        (IsStated-write fact stated demands reasons tagged is_stated v (over old least v) v reason place
-        (ap (option_and_then fact) (slice_get-set_same reasons v reason (omega arith)) ∙ states)
-        (tagged_by-ceiling fact reasons (set reasons v reason) old.ceiling_why v (length demands.bounds + v) (tagged.ceilings v old at)
-        (slice_get-set_other reasons v (length demands.bounds + v) reason (λ same. omega arith))
-        ∙ is_stated.bounds.ceilings v old at))
-
-  module _ (most place : ℕ) (is_place : place ≡ length demands.bounds + v) (tighter : most < old.ceiling) where
-    -- the demands with the lower bound
-    lowered_is : with_ceiling demands v most place ≡ demands_of (set demands.bounds v (under old most place)) demands.picks
-    lowered_is = with_ceiling-tighter demands.bounds demands.picks v old at most place tighter
-
-    -- a lowered upper bound, with its reason in the place after all lower bounds
-    IsTagged-lower : IsTagged (with_ceiling demands v most place) (set reasons place reason)
-    IsTagged-lower = subst (λ (d : Demands). IsTagged d (set reasons place reason)) (sym lowered_is)
-        (IsTagged-write demands reasons v (under old most place) place reason tagged (tagged.floors v old at) (inr (ap Given is_place)))
-
-    IsStated-lower : (fact stated : Reason → Option Constraint) → IsStated fact stated (leaf_of demands reasons) →
-        fact reason ≡ Some (at_most v (pos most)) → IsStated fact stated (leaf_of (with_ceiling demands v most place) (set reasons place reason))
-    IsStated-lower fact stated is_stated states =
-        let many = tagged.one_each in
-        let below = inside in
-        let apart : IsPlaceOf demands v place = record { inside = omega arith; not_lower = λ u other here same. omega arith; not_upper = λ u other same. other (omega arith) } in
-        subst (λ (d : Demands). IsStated fact stated (leaf_of d (set reasons place reason))) (sym lowered_is)
-        (IsStated-write fact stated demands reasons tagged is_stated v (under old most place) place reason apart
-        (tagged_by-floor fact reasons (set reasons place reason) old.floor_why v (tagged.floors v old at)
-        (slice_get-set_other reasons place v reason (λ same. omega arith))
-        ∙ is_stated.bounds.floors v old at)
-        (ap (option_and_then fact) (slice_get-set_same reasons place reason (omega arith)) ∙ states))
-
 -- The fields of the system are what contracts see of it.
 module _ (leaf : Leaf) (demands : Demands) (reasons : List Reason) (view : leaf_of demands reasons ≡ leaf) (tagged : IsTagged demands reasons) where
   -- a reason that is written back leaves what there was
-  pub restored : (new : Demands) (place : ℕ) (reason old : Reason) → new ≡ demands → old ≡ get_or reasons place old → place < length reasons →
-      leaf_of new (set (set reasons place reason) place old) ≡ leaf
-  restored new place reason old same read within =
-      ap (λ (d : Demands). leaf_of d (set (set reasons place reason) place old)) same
-      ∙ ap (leaf_of demands) (set_back reasons place old reason (slice_get_read reasons (length reasons) place old refl within read))
+  pub restored : (new : Demands) (index : ℕ) (reason old : Reason) → new ≡ demands → old ≡ get_or reasons index old → index < length reasons →
+      leaf_of new (set (set reasons index reason) index old) ≡ leaf
+  restored new index reason old same read within =
+      ap (λ (d : Demands). leaf_of d (set (set reasons index reason) index old)) same
+      ∙ ap (leaf_of demands) (set_back reasons index old reason (slice_get_read reasons (length reasons) index old refl within read))
       ∙ view
 
   module _ (v : ℕ) (within : v < length leaf.demands.bounds) where
@@ -112,33 +60,65 @@ module _ (leaf : Leaf) (demands : Demands) (reasons : List Reason) (view : leaf_
     seen : Bounded leaf.demands v bounds_of
     seen = subst (λ (l : Leaf). Bounded l.demands v bounds_of) view at
 
-    -- the places of the reasons of its bounds
-    pub floor_within : v < length reasons
-    floor_within = let below = slice_get_within demands.bounds v bounds_of at in let many = tagged.one_each in omega arith
+    -- the node is one of those of the system
+    inside : v < length demands.bounds
+    inside = slice_get_within demands.bounds v bounds_of at
 
-    pub ceiling_within : (place : ℕ) → place ≡ length demands.bounds + v → place < length reasons
-    ceiling_within place is = let below = slice_get_within demands.bounds v bounds_of at in let many = tagged.one_each in omega arith
+    -- the indexes of the reasons of its bounds
+    pub floor_within : v < length reasons
+    floor_within = let below = inside in let many = tagged.one_each in omega arith
+
+    pub ceiling_within : (index : ℕ) → index ≡ length demands.bounds + v → index < length reasons
+    ceiling_within index is = let below = inside in let many = tagged.one_each in omega arith
 
     module _ (reason : Reason) (least tag : ℕ) (is_tag : tag ≡ v) (tighter : (bounds : Bounds) → Bounded leaf.demands v bounds → bounds.floor < least) where
-      -- a raised lower bound
+      -- the demands with the higher bound
+      raised_is : with_floor demands v least tag ≡ demands_of (set demands.bounds v (over bounds_of least v)) demands.picks
+      raised_is = ap (with_floor demands v least) is_tag ∙ with_floor-tighter demands.bounds demands.picks v bounds_of at least v (tighter bounds_of seen)
+
+      -- a raised lower bound, with its reason at the node's index
       pub raised_tagged : IsTagged (with_floor demands v least tag) (set reasons v reason)
-      raised_tagged = IsTagged-raise demands reasons tagged v bounds_of at reason least tag is_tag (tighter bounds_of seen)
+      raised_tagged = subst (λ (d : Demands). IsTagged d (set reasons v reason)) (sym raised_is)
+          (IsTagged-write demands reasons v (over bounds_of least v) v reason tagged (inr refl) (tagged.ceilings v bounds_of at))
 
       pub raised_stated : (fact stated : Reason → Option Constraint) → IsStated fact stated leaf → fact reason ≡ Some (at_least v least) →
           IsStated fact stated (leaf_of (with_floor demands v least tag) (set reasons v reason))
-      raised_stated fact stated is_stated = IsStated-raise demands reasons tagged v bounds_of at reason least tag is_tag (tighter bounds_of seen) fact stated
-          (subst (IsStated fact stated) (sym view) is_stated)
+      raised_stated fact stated is_stated states =
+          let many = tagged.one_each in
+          let below = inside in
+          let index : IsIndexOf demands v v = record { inside = omega arith; not_lower = λ u other here. other; not_upper = λ u other same. omega arith } in
+          let before : IsStated fact stated (leaf_of demands reasons) = subst (IsStated fact stated) (sym view) is_stated in
+          subst (λ (d : Demands). IsStated fact stated (leaf_of d (set reasons v reason))) (sym raised_is)
+          (IsStated-write fact stated demands reasons tagged before v (over bounds_of least v) v reason index
+          (ap (option_and_then fact) (slice_get-set_same reasons v reason (omega arith)) ∙ states)
+          (tagged_by-ceiling fact reasons (set reasons v reason) bounds_of.ceiling_why v (length demands.bounds + v) (tagged.ceilings v bounds_of at)
+          (slice_get-set_other reasons v (length demands.bounds + v) reason (λ same. omega arith))
+          ∙ before.bounds.ceilings v bounds_of at))
 
-    module _ (reason : Reason) (most place : ℕ) (is_place : place ≡ length demands.bounds + v)
-        (tighter : (bounds : Bounds) → Bounded leaf.demands v bounds → most < bounds.ceiling) where
-      -- a lowered upper bound
-      pub lowered_tagged : IsTagged (with_ceiling demands v most place) (set reasons place reason)
-      lowered_tagged = IsTagged-lower demands reasons tagged v bounds_of at reason most place is_place (tighter bounds_of seen)
+    module _ (reason : Reason) (ceiling index : ℕ) (is_index : index ≡ length demands.bounds + v)
+        (tighter : (bounds : Bounds) → Bounded leaf.demands v bounds → ceiling < bounds.ceiling) where
+      -- the demands with the lower bound
+      lowered_is : with_ceiling demands v ceiling index ≡ demands_of (set demands.bounds v (under bounds_of ceiling index)) demands.picks
+      lowered_is = with_ceiling-tighter demands.bounds demands.picks v bounds_of at ceiling index (tighter bounds_of seen)
 
-      pub lowered_stated : (fact stated : Reason → Option Constraint) → IsStated fact stated leaf → fact reason ≡ Some (at_most v (pos most)) →
-          IsStated fact stated (leaf_of (with_ceiling demands v most place) (set reasons place reason))
-      lowered_stated fact stated is_stated = IsStated-lower demands reasons tagged v bounds_of at reason most place is_place (tighter bounds_of seen) fact stated
-          (subst (IsStated fact stated) (sym view) is_stated)
+      -- a lowered upper bound, with its reason after those of all lower bounds
+      pub lowered_tagged : IsTagged (with_ceiling demands v ceiling index) (set reasons index reason)
+      lowered_tagged = subst (λ (d : Demands). IsTagged d (set reasons index reason)) (sym lowered_is)
+          (IsTagged-write demands reasons v (under bounds_of ceiling index) index reason tagged (tagged.floors v bounds_of at) (inr (ap Given is_index)))
+
+      pub lowered_stated : (fact stated : Reason → Option Constraint) → IsStated fact stated leaf → fact reason ≡ Some (at_most v (pos ceiling)) →
+          IsStated fact stated (leaf_of (with_ceiling demands v ceiling index) (set reasons index reason))
+      lowered_stated fact stated is_stated states =
+          let many = tagged.one_each in
+          let below = inside in
+          let apart : IsIndexOf demands v index = record { inside = omega arith; not_lower = λ u other here same. omega arith; not_upper = λ u other same. other (omega arith) } in
+          let before : IsStated fact stated (leaf_of demands reasons) = subst (IsStated fact stated) (sym view) is_stated in
+          subst (λ (d : Demands). IsStated fact stated (leaf_of d (set reasons index reason))) (sym lowered_is)
+          (IsStated-write fact stated demands reasons tagged before v (under bounds_of ceiling index) index reason apart
+          (tagged_by-floor fact reasons (set reasons index reason) bounds_of.floor_why v (tagged.floors v bounds_of at)
+          (slice_get-set_other reasons index v reason (λ same. omega arith))
+          ∙ before.bounds.floors v bounds_of at)
+          (ap (option_and_then fact) (slice_get-set_same reasons index reason (omega arith)) ∙ states))
 
   module _ (constraint : Constraint) (reason : Reason) (tag : ℕ) (is_tag : tag ≡ length reasons) (longer : List Reason) (pushed : longer ≡ reasons ++ reason ∷ [])
       (held : Demands) (same : held ≡ demands) where

@@ -17,7 +17,7 @@ use Rattle.tfpg_clause.specs.declared.path.Frame.{Frame}
 use Rattle.tfpg_diff.specs.declared.why.Why.{Why}
 use Rattle.tfpg_diff.specs.declared.why.Why.TheVariants.{Floor, Ceiling, Given}
 use Rattle.tfpg_search.specs.Leaf.{Leaf, tagged_by, pick_reasons, IsStated}
-use Rattle.tfpg_search.specs.Picks.{IsAllowed, place_count, picks_from, picks_of_from}
+use Rattle.tfpg_search.specs.Picks.{IsAllowed, constraint_count, picks_from, picks_of_from}
 use Rattle.tfpg_search.specs.Searching.{Searching, IsAtItsLeaf}
 use Rattle.tfpg_search.specs.inside.ClauseLaws.{ClauseLaws}
 use Rattle.tfpg_search.proofs.Picking.{of_frame}
@@ -36,7 +36,7 @@ module _ (laws : ClauseLaws) (graph : Tfpg) (earlier later : Logbook) (ordered :
   still_allowed : (frame : Frame) → IsAllowed graph earlier frame → IsAllowed graph later frame
   still_allowed frame allowed = ap (option_map length) (same_frame frame allowed) ∙ allowed
 
-  same_count : (frame : Frame) → IsAllowed graph earlier frame → place_count graph later frame ≡ place_count graph earlier frame
+  same_count : (frame : Frame) → IsAllowed graph earlier frame → constraint_count graph later frame ≡ constraint_count graph earlier frame
   same_count frame allowed =
       ap (λ (o : Option (List (List Constraint))). option_map_or length (option_and_then (λ clause. item_at clause frame.alternative) o) 0) (same_frame frame allowed)
 
@@ -44,19 +44,19 @@ module _ (laws : ClauseLaws) (graph : Tfpg) (earlier later : Logbook) (ordered :
   same_picks start [] allowed = refl
   same_picks start (frame ∷ deeper) allowed =
       ap (λ (n : ℕ). picks_from start 1 n ++ picks_of_from graph later (start + 1) deeper) (same_count frame (All-head (IsAllowed graph earlier) frame deeper allowed))
-      ∙ ap (λ (rs : List Reason). picks_from start 1 (place_count graph earlier frame) ++ rs) (same_picks (start + 1) deeper (All-tail (IsAllowed graph earlier) frame deeper allowed))
+      ∙ ap (λ (rs : List Reason). picks_from start 1 (constraint_count graph earlier frame) ++ rs) (same_picks (start + 1) deeper (All-tail (IsAllowed graph earlier) frame deeper allowed))
 
-  of_frame_stays : (frames : List Frame) (k place : ℕ) (c : Constraint) → All (IsAllowed graph earlier) frames → of_frame graph earlier (slice_get frames k) place ≡ Some c
-      → of_frame graph later (slice_get frames k) place ≡ Some c
-  of_frame_stays [] k place c allowed is = cc
-  of_frame_stays (frame ∷ deeper) zero place c allowed is =
-      ap (option_and_then (λ clause. constraint_at clause frame.alternative place)) (same_frame frame (All-head (IsAllowed graph earlier) frame deeper allowed)) ∙ is
-  of_frame_stays (frame ∷ deeper) (suc k) place c allowed is = of_frame_stays deeper k place c (All-tail (IsAllowed graph earlier) frame deeper allowed) is
+  of_frame_stays : (frames : List Frame) (k index : ℕ) (c : Constraint) → All (IsAllowed graph earlier) frames → of_frame graph earlier (slice_get frames k) index ≡ Some c
+      → of_frame graph later (slice_get frames k) index ≡ Some c
+  of_frame_stays [] k index c allowed is = cc
+  of_frame_stays (frame ∷ deeper) zero index c allowed is =
+      ap (option_and_then (λ clause. constraint_at clause frame.alternative index)) (same_frame frame (All-head (IsAllowed graph earlier) frame deeper allowed)) ∙ is
+  of_frame_stays (frame ∷ deeper) (suc k) index c allowed is = of_frame_stays deeper k index c (All-tail (IsAllowed graph earlier) frame deeper allowed) is
 
-  framed_stays : (frames : List Frame) (split place : ℕ) (c : Constraint) → All (IsAllowed graph earlier) frames → framed graph earlier frames split place ≡ Some c
-      → framed graph later frames split place ≡ Some c
-  framed_stays frames zero place c allowed is = cc
-  framed_stays frames (suc k) place c allowed is = of_frame_stays frames k place c allowed is
+  framed_stays : (frames : List Frame) (split index : ℕ) (c : Constraint) → All (IsAllowed graph earlier) frames → framed graph earlier frames split index ≡ Some c
+      → framed graph later frames split index ≡ Some c
+  framed_stays frames zero index c allowed is = cc
+  framed_stays frames (suc k) index c allowed is = of_frame_stays frames k index c allowed is
 
   module _ (reach : List ℕ) where
     abbrev still : (r : Reason) (c : Constraint) → fact graph earlier reach r ≡ Some c → fact graph later reach r ≡ Some c
@@ -64,7 +64,7 @@ module _ (laws : ClauseLaws) (graph : Tfpg) (earlier later : Logbook) (ordered :
 
     stated_stays : (frames : List Frame) → All (IsAllowed graph earlier) frames → (r : Reason) (c : Constraint) → stated_by graph earlier reach frames r ≡ Some c
         → stated_by graph later reach frames r ≡ Some c
-    stated_stays frames allowed (Pick split place) c is = framed_stays frames split place c allowed is
+    stated_stays frames allowed (Pick split index) c is = framed_stays frames split index c allowed is
     stated_stays frames allowed (Zero node) c is = still (Zero node) c is
     stated_stays frames allowed (Top node) c is = still (Top node) c is
     stated_stays frames allowed (Unreached node horizon) c is = still (Unreached node horizon) c is
@@ -89,7 +89,7 @@ module _ (laws : ClauseLaws) (graph : Tfpg) (earlier later : Logbook) (ordered :
         floors = λ node bounds there. named_stays leaf.reasons bounds.floor_why _ (is.bounds.floors node bounds there);
         ceilings = λ node bounds there. named_stays leaf.reasons bounds.ceiling_why _ (is.bounds.ceilings node bounds there);
       };
-      picks = λ place pick there. through (slice_get (pick_reasons leaf) place) pick.constraint (is.picks place pick there);
+      picks = λ index pick there. through (slice_get (pick_reasons leaf) index) pick.constraint (is.picks index pick there);
     }
       where
         through : (o : Option Reason) (c : Constraint) → option_and_then (stated_by graph earlier reach frames) o ≡ Some c → option_and_then (stated_by graph later reach frames) o ≡ Some c

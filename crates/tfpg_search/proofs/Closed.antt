@@ -66,8 +66,8 @@ module _ (graph : Tfpg) (log : Logbook) (old : Searching) (at : IsAtItsLeaf grap
     long : length next ≡ stay + 1
     long = ap (λ (fs : List Frame). length fs) after.next_is ∙ length-append front (next_alternative after.frame ∷ [])
 
-    most : stay ≤ length old.entered
-    most = let w = within in let many = at.picks.many in omega arith
+    bound : stay ≤ length old.entered
+    bound = let w = within in let many = at.picks.many in omega arith
 
     same_front : (split : ℕ) → split ≤ stay → take split next ≡ take split old.path
     same_front split less =
@@ -76,32 +76,32 @@ module _ (graph : Tfpg) (log : Logbook) (old : Searching) (at : IsAtItsLeaf grap
         ∙ sym (ap (λ (fs : List Frame). take split fs) after.frames_are ∙ take-append-le split front (after.frame ∷ after.deeper) less)
 
     still_long : length (take stay old.entered) ≡ stay
-    still_long = length-take-le stay old.entered most
+    still_long = length-take-le stay old.entered bound
 
     picks_left : (left : Leaf) (o : Option ℕ) → slice_get old.entered stay ≡ o → Leaves o old.leaf left → pick_reasons left ≡ picks_of graph log (take stay old.path)
     picks_left left None there same =
         let past = slice_get-none old.entered stay there in
-        let number : length old.entered ≡ stay = let m = most in grind arith in
+        let number : length old.entered ≡ stay = let m = bound in grind arith in
         ap (λ (l : Leaf). pick_reasons l) same ∙ at.picks.reasons ∙ ap (λ (n : ℕ). picks_of graph log (take n old.path)) number
     picks_left left (Some before) there leaves =
         leaves.1
         ∙ ap (λ (n : ℕ). take n (pick_reasons old.leaf)) (at.picks.counts stay before there)
         ∙ ap (λ (rs : List Reason). take (length (picks_of graph log (take stay old.path))) rs) at.picks.reasons
-        ∙ picks_take graph log 1 old.path stay (length old.entered) most
+        ∙ picks_take graph log 1 old.path stay (length old.entered) bound
 
-    states_next : (r : Reason) (c : Constraint) (k place : ℕ) → k < stay → r ≡ Pick (1 + k) place → stated_by graph log old.reach old.path r ≡ Some c
+    states_next : (r : Reason) (c : Constraint) (k index : ℕ) → k < stay → r ≡ Pick (1 + k) index → stated_by graph log old.reach old.path r ≡ Some c
         → stated_by graph log old.reach next r ≡ Some c
-    states_next r c k place less pick states =
+    states_next r c k index less pick states =
         let number : 1 + k ≡ suc k = omega arith in
-        let pick_is : r ≡ Pick (suc k) place = pick ∙ ap (λ (n : ℕ). Pick n place) number in
-        let before : framed graph log old.path (suc k) place ≡ Some c = ap (λ (x : Reason). stated_by graph log old.reach old.path x) (sym pick_is) ∙ states in
+        let pick_is : r ≡ Pick (suc k) index = pick ∙ ap (λ (n : ℕ). Pick n index) number in
+        let before : framed graph log old.path (suc k) index ≡ Some c = ap (λ (x : Reason). stated_by graph log old.reach old.path x) (sym pick_is) ∙ states in
         let there : (f : Frame) → slice_get old.path k ≡ Some f → slice_get next k ≡ Some f =
         λ f found.
         ap (λ (fs : List Frame). slice_get fs k) after.next_is
         ∙ slice_get-append_left front (next_alternative after.frame ∷ []) k less
         ∙ sym (ap (λ (fs : List Frame). slice_get fs k) after.frames_are ∙ slice_get-append_left front (after.frame ∷ after.deeper) k less)
         ∙ found in
-        let now : framed graph log next (suc k) place ≡ Some c = of_same graph log (slice_get old.path k) (slice_get next k) place c there before in
+        let now : framed graph log next (suc k) index ≡ Some c = of_same graph log (slice_get old.path k) (slice_get next k) index c there before in
         ap (λ (x : Reason). stated_by graph log old.reach next x) pick_is ∙ now
 
     stands_there : (left : Leaf) → Leaves (slice_get old.entered stay) old.leaf left
@@ -118,9 +118,9 @@ module _ (graph : Tfpg) (log : Logbook) (old : Searching) (at : IsAtItsLeaf grap
               restated (fact graph log old.reach) (stated_by graph log old.reach old.path) (stated_by graph log old.reach next) left
               (keeps.stated (fact graph log old.reach) (stated_by graph log old.reach old.path) at.stated)
               (λ r c states. fact_stated graph log old.reach next r c states)
-              (λ place r c there states.
-              let pick = picks_are graph log 1 front place r (ap (λ (fs : List Frame). slice_get (picks_of graph log fs) place) (sym front_is) ∙ ap (λ (rs : List Reason). slice_get rs place) (sym reasons) ∙ there) in
-              states_next r c pick.k pick.place pick.within pick.is states);
+              (λ index r c there states.
+              let pick = picks_are graph log 1 front index r (ap (λ (fs : List Frame). slice_get (picks_of graph log fs) index) (sym front_is) ∙ ap (λ (rs : List Reason). slice_get rs index) (sym reasons) ∙ there) in
+              states_next r c pick.k pick.index pick.within pick.is states);
           picks = record {
             few = (let l = long in let s = still_long in omega arith);
             many = (let l = long in let s = still_long in omega arith);

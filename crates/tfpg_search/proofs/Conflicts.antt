@@ -24,7 +24,7 @@ use Rattle.tfpg_base.proofs.lists.Cuts.{slice_get-drop}
 use Rattle.tfpg_base.proofs.lists.Elements.{slice_get-contains}
 use Rattle.tfpg_search.proofs.Stating.{leaf_of}
 
--- the tag of a lower bound is the place of a reason, or names one that no reason set
+-- the tag of a lower bound is the index of a reason, or names one that no reason set
 HasReason-floor : (reasons : List Reason) (why : Why) (u : ℕ) → (why ≡ Floor u) ⊎ (why ≡ Given u) → u < length reasons → HasReason reasons why
 HasReason-floor reasons why u either inside = ⊎_elim
     (λ (is : why ≡ Floor u). subst (HasReason reasons) (sym is) tt)
@@ -32,14 +32,14 @@ HasReason-floor reasons why u either inside = ⊎_elim
     either
 
 -- and that of an upper bound
-HasReason-ceiling : (reasons : List Reason) (why : Why) (u place : ℕ) → (why ≡ Ceiling u) ⊎ (why ≡ Given place) → place < length reasons → HasReason reasons why
-HasReason-ceiling reasons why u place either inside = ⊎_elim
+HasReason-ceiling : (reasons : List Reason) (why : Why) (u index : ℕ) → (why ≡ Ceiling u) ⊎ (why ≡ Given index) → index < length reasons → HasReason reasons why
+HasReason-ceiling reasons why u index either inside = ⊎_elim
     (λ (is : why ≡ Ceiling u). subst (HasReason reasons) (sym is) tt)
-    (λ (is : why ≡ Given place). subst (HasReason reasons) (sym is) inside)
+    (λ (is : why ≡ Given index). subst (HasReason reasons) (sym is) inside)
     either
 
 module _ (demands : Demands) (reasons : List Reason) (tagged : IsTagged demands reasons) where
-  -- the tag of each demand is the place of a reason, or names a bound that no reason set
+  -- the tag of each demand is the index of a reason, or names a bound that no reason set
   HasReason-demanded : (e : Demand) → Demanded demands e → HasReason reasons e.why
   HasReason-demanded e demanded = elim demanded [
     | inl is ↦

@@ -15,7 +15,7 @@ use Rattle.tfpg_clause.specs.declared.path.Frame.{Frame}
 use Rattle.tfpg_search.specs.Enough.{IsEventTime, IsNameAt, IsEnough}
 use Rattle.tfpg_search.specs.Picks.{IsAllowed}
 use Rattle.tfpg_search.specs.inside.ClauseLaws.{ClauseLaws}
-use Rattle.tfpg_search.specs.inside.Moves.{Goes, Leads, LeadsTo}
+use Rattle.tfpg_search.specs.inside.Moves.{StepLeads, Leads, LeadsTo}
 use Rattle.tfpg_search.proofs.Names.{frame_name, all_allowed, names_after, AreDistinct}
 use Rattle.tfpg_search.proofs.Lifted.{after_step, distinct_frames}
 use Rattle.tfpg_base.proofs.lists.Pigeons.{length-le_contained}
@@ -23,7 +23,7 @@ use Rattle.tfpg_search.proofs.Measure.{weight, weight_some, weight_limit, AreFew
 
 module _ (laws : ClauseLaws) (graph : Tfpg) (log : Logbook) (reach : List ℕ) (ordered : IsOrdered log) (now_is : IsEventTime log (now_of log)) (budget : ℕ) (enough : IsEnough graph log budget) where
   abbrev a : ℕ
-  a = 2 * enough.most + 3
+  a = 2 * enough.maximum + 3
 
   abbrev n : ℕ
   n = length enough.names
@@ -36,21 +36,21 @@ module _ (laws : ClauseLaws) (graph : Tfpg) (log : Logbook) (reach : List ℕ) (
   AreNames frames = All (IsNameAt graph log) (map frame_name frames)
 
   -- The frames are at the leaf of some steps.
-  record Stands (frames : List Frame) (earlier : List Judged) : Type 0 where
+  record AreLedTo (frames : List Frame) (earlier : List Judged) : Type 0 where
     leads : LeadsTo graph log reach earlier (Some frames)
     names : AreNames frames
 
   few_frames : (frames : List Frame) → All (IsAllowed graph log) frames → AreFew a a_some frames
-  few_frames frames allowed = All-weaker (IsAllowed graph log) (λ (f : Frame). f.alternatives < a) (λ f is. laws.few graph log enough.most enough.incoming.within f.name f.alternatives is) frames allowed
+  few_frames frames allowed = All-weaker (IsAllowed graph log) (λ (f : Frame). f.alternatives < a) (λ f is. laws.few graph log enough.maximum enough.incoming.within f.name f.alternatives is) frames allowed
 
-  few : (frames : List Frame) (earlier : List Judged) → Stands frames earlier → AreFew a a_some frames
+  few : (frames : List Frame) (earlier : List Judged) → AreLedTo frames earlier → AreFew a a_some frames
   few frames earlier stands = few_frames frames (all_allowed graph log laws ordered stands.leads.0.path frames stands.leads.0.frames_are)
 
   short_names : (names : List ClauseName) → AllPairs ◌≢◌ names → All (IsNameAt graph log) names → length names ≤ n
   short_names names distinct are =
       length-le_contained names enough.names distinct (All-weaker (IsNameAt graph log) (Contains enough.names) (λ name is. (enough.names_are.exact name).1 is) names are)
 
-  short : (frames : List Frame) (earlier : List Judged) → Stands frames earlier → length frames ≤ n
+  short : (frames : List Frame) (earlier : List Judged) → AreLedTo frames earlier → length frames ≤ n
   short frames earlier stands =
       let distinct : AreDistinct frames = distinct_frames laws graph log reach ordered frames earlier stands.leads.0 stands.leads.1 in
       omega (arith, length-map frames frame_name, short_names (map frame_name frames) distinct stands.names)
@@ -59,10 +59,10 @@ module _ (laws : ClauseLaws) (graph : Tfpg) (log : Logbook) (reach : List ℕ) (
 
   -- After a step the frames are at the leaf of the lengthened steps, and the measure is lower.
   record Lower (frames : List Frame) (earlier : List Judged) (step : Step) (after : List Frame) : Type 0 where
-    stands : Stands after (with_step earlier log step)
+    stands : AreLedTo after (with_step earlier log step)
     lower : weight a a_some after n + 1 ≤ weight a a_some frames n
 
-  step_lowers : (frames : List Frame) (earlier : List Judged) → Stands frames earlier → (step : Step) (after : List Frame) → Goes graph log reach frames step (Some after) → Lower frames earlier step after
+  step_lowers : (frames : List Frame) (earlier : List Judged) → AreLedTo frames earlier → (step : Step) (after : List Frame) → StepLeads graph log reach frames step (Some after) → Lower frames earlier step after
   step_lowers frames earlier stands (Split name) after goes =
       let count : ℕ = goes.0 in
       let frame : Frame = new_frame name count in
@@ -73,7 +73,7 @@ module _ (laws : ClauseLaws) (graph : Tfpg) (log : Logbook) (reach : List ℕ) (
       let names : AreNames (frames ++ frame ∷ []) =
       subst (All (IsNameAt graph log)) (sym (map-append frame_name frames (frame ∷ [])))
       (All-append (IsNameAt graph log) (map frame_name frames) (name ∷ []) stands.names (All-cons (IsNameAt graph log) name [] own (All-nil (IsNameAt graph log)))) in
-      let stands_after : Stands after (with_step earlier log (Split name)) =
+      let stands_after : AreLedTo after (with_step earlier log (Split name)) =
       record { leads = after_step laws graph log reach ordered frames earlier stands.leads (Split name) (Some after) goes; names = subst AreNames same names } in
       record {
         stands = stands_after;
@@ -82,7 +82,7 @@ module _ (laws : ClauseLaws) (graph : Tfpg) (log : Logbook) (reach : List ℕ) (
             (split_lowers a a_some frames name count n
             (omega (arith, short after (with_step earlier log (Split name)) stands_after, ap length same, length-append frames (frame ∷ [])))
             (omega (arith, laws.some graph log name count goes.1))
-            (laws.few graph log enough.most enough.incoming.within name count goes.1));
+            (laws.few graph log enough.maximum enough.incoming.within name count goes.1));
       }
   step_lowers frames earlier stands (Cycle reasons) after goes =
       let is : path_after frames ≡ Some after = sym goes.1 in
@@ -103,10 +103,10 @@ module _ (laws : ClauseLaws) (graph : Tfpg) (log : Logbook) (reach : List ℕ) (
 
   abbrev Lowers : List Step → Type 0
   Lowers steps =
-      (frames : List Frame) (earlier : List Judged) → Stands frames earlier → (after : List Frame) → Leads graph log reach (Some frames) steps (Some after) → Lowered frames steps after
+      (frames : List Frame) (earlier : List Judged) → AreLedTo frames earlier → (after : List Frame) → Leads graph log reach (Some frames) steps (Some after) → Lowered frames steps after
 
-  lowered_from : (steps : List Step) → Lowers steps → (frames : List Frame) (earlier : List Judged) → Stands frames earlier → (step : Step) (next : Option (List Frame))
-      → Goes graph log reach frames step next → (after : List Frame) → Leads graph log reach next steps (Some after) → Lowered frames (step ∷ steps) after
+  lowered_from : (steps : List Step) → Lowers steps → (frames : List Frame) (earlier : List Judged) → AreLedTo frames earlier → (step : Step) (next : Option (List Frame))
+      → StepLeads graph log reach frames step next → (after : List Frame) → Leads graph log reach next steps (Some after) → Lowered frames (step ∷ steps) after
   lowered_from [] others frames earlier stands step None goes after leads = cc
   lowered_from (other ∷ steps) others frames earlier stands step None goes after leads = absurd leads
   lowered_from steps others frames earlier stands step (Some middle) goes after leads =
@@ -127,7 +127,7 @@ module _ (laws : ClauseLaws) (graph : Tfpg) (log : Logbook) (reach : List ℕ) (
   pub not_spent : (frames : List Frame) (earlier : List Judged) → LeadsTo graph log reach earlier (Some frames) → AreNames frames → (steps : List Step) (after : List Frame)
       → Leads graph log reach (Some frames) steps (Some after) → split_count steps ≡ budget → ⊥
   not_spent frames earlier leads_here names steps after leads spent =
-      let stands : Stands frames earlier = record { leads = leads_here; names = names } in
+      let stands : AreLedTo frames earlier = record { leads = leads_here; names = names } in
       let low = lowered steps frames earlier stands after leads in
       omega (
         arith,

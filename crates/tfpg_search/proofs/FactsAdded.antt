@@ -1,21 +1,21 @@
 -- Bounds that get tighter, until they say all facts.
-use Rattle.std.proofs.Common.{◌≡◌, ◌≢◌, ℕ, zero, suc, ◌+◌, ◌<◌, ◌≤◌, Bool, true, false, cond, eqb, ltb, ◌&&◌, not, leb, List, [], ◌∷◌, length, get_or, take, Option, Some, None, refl, sym, ◌∙◌, ap, subst, inl, inr, ⊎_elim, ◌⊎◌, arith}
-use Rattle.std.specs.Prelude.{slice_get, pos, is_none, option_map, option_and_then, unwrap_or, ◌-◌}
-use Rattle.std.proofs.lemmas.Bool.{ltb-true, ltb-false, eqb-true, and_parts}
-use Rattle.std.proofs.lemmas.Option.{same_Some, cond_some, none-some, slice_get-get_or}
+use Rattle.std.proofs.Common.{◌≡◌, ◌≢◌, ℕ, zero, suc, ◌+◌, ◌<◌, ◌≤◌, Bool, true, false, cond, ltb, ◌&&◌, not, leb, List, [], ◌∷◌, length, get_or, Option, Some, None, refl, sym, ◌∙◌, ap, subst, inl, inr, ⊎_elim, ◌⊎◌, arith}
+use Rattle.std.specs.Prelude.{slice_get, pos, option_map, option_and_then, unwrap_or, ◌-◌}
+use Rattle.std.proofs.lemmas.Bool.{ltb-true, ltb-false, and_parts}
+use Rattle.std.proofs.lemmas.Option.{same_Some, none-some, slice_get-get_or}
 use Rattle.tfpg_base.specs.declared.limits.TheConstants.{NEVER}
 use Rattle.tfpg_base.specs.Constraint.{Meets}
 use Rattle.tfpg_base.specs.declared.constraint.Constraint.{Constraint}
-use Rattle.tfpg_graph.specs.Graph.{Tfpg, is_monitored, lag_at}
+use Rattle.tfpg_graph.specs.Graph.{Tfpg, lag_at}
 use Rattle.tfpg_graph.specs.Reach.{is_among}
 use Rattle.tfpg_log.specs.declared.event.Event.{Event}
 use Rattle.tfpg_log.specs.declared.event.Event.TheVariants.{Alarm, Silent, Sweep, Tick, Mode}
-use Rattle.tfpg_log.specs.Log.{Logbook, IsOf, IsEventOf, now_of, event_at, alarm_among, quiet_time, quiet_at}
+use Rattle.tfpg_log.specs.Log.{Logbook, IsOf, now_of, event_at, quiet_at}
+use Rattle.tfpg_log.proofs.SilentNodes.{event_own, quiet_within}
 use Rattle.tfpg_evidence.specs.declared.reason.Reason.{Reason}
 use Rattle.tfpg_evidence.specs.declared.reason.Reason.TheVariants.{Zero, Top, Unreached, From, Upto, Quiet, Pick}
 use Rattle.tfpg_base.specs.Bounds.{at_most, at_least}
 use Rattle.tfpg_clause.specs.Facts.{fact, from_alarm, upto_alarm}
-use Rattle.tfpg_base.proofs.lists.Elements.{All-at}
 use Rattle.tfpg_base.proofs.lists.Choices.{then_some-true}
 use Rattle.tfpg_graph.proofs.NodeAt.{monitored_within}
 use Rattle.tfpg_diff.specs.declared.bounds.Bounds.{Bounds}
@@ -46,34 +46,9 @@ abbrev pub IsBound : Tfpg → Constraint → Type 0
 IsBound graph constraint = BoundsBelow graph constraint ⊎ BoundsAbove graph constraint
 
 module _ (graph : Tfpg) (log : Logbook) (of : IsOf graph log) where
-  -- what holds of each event holds of that of a number
-  event_of : (number : ℕ) (event : Event) → event_at log number ≡ Some event → IsEventOf graph event
-  event_of zero event at = absurd cc
-  event_of (suc place) event at = All-at (IsEventOf graph) log.events place event of.own at
-
   -- an alarm is of a node of the graph
   pub alarm_within : (number time node : ℕ) → event_at log number ≡ Some (Alarm time node) → node < length graph.nodes
-  alarm_within number time node at = monitored_within graph node (event_of number (Alarm time node) at)
-
-  quiet_event : (before : List Event) (node time : ℕ) (event : Event) → IsEventOf graph event → quiet_time graph before event node ≡ Some time → node < length graph.nodes
-  quiet_event before node time (Alarm own alarmed) is silent = absurd cc
-  quiet_event before node time (Silent own quiet) is silent =
-      let same : quiet ≡ node = eqb-true quiet node (cond_some (eqb quiet node) own time silent).0 in
-      subst (λ (n : ℕ). n < length graph.nodes) same (monitored_within graph quiet is)
-  quiet_event before node time (Sweep own) is silent =
-      let both = and_parts (is_monitored graph node) (is_none (alarm_among before node)) (cond_some (is_monitored graph node && is_none (alarm_among before node)) own time silent).0 in
-      monitored_within graph node both.0
-  quiet_event before node time (Tick own) is silent = absurd cc
-  quiet_event before node time (Mode own mode) is silent = absurd cc
-
-  -- an event silences nodes of the graph
-  pub quiet_within : (number node time : ℕ) → quiet_at graph log number node ≡ Some time → node < length graph.nodes
-  quiet_within number node time silent = by (event_at log number) refl silent
-    where
-      by : (event : Option Event) → event_at log number ≡ event → option_and_then (λ event. quiet_time graph (take (number - 1) log.events) event node) event ≡ Some time →
-          node < length graph.nodes
-      by None at silent = absurd cc
-      by (Some event) at silent = quiet_event (take (number - 1) log.events) node time event (event_of number event at) silent
+  alarm_within number time node at = monitored_within graph node (event_own graph log number (Alarm time node) of at)
 
   module _ (reach : List ℕ) (constraint : Constraint) where
     from_bound : (number : ℕ) (event : Option Event) → event_at log number ≡ event → option_and_then (from_alarm graph) event ≡ Some constraint → IsBound graph constraint
@@ -97,7 +72,7 @@ module _ (graph : Tfpg) (log : Logbook) (of : IsOf graph log) where
     quiet_bound : (number node : ℕ) (time : Option ℕ) → quiet_at graph log number node ≡ time → option_map (λ t. at_least node (t + 1)) time ≡ Some constraint → IsBound graph constraint
     quiet_bound number node None at is = absurd cc
     quiet_bound number node (Some time) at is =
-        inl (record { node = node; bound = time + 1; within = quiet_within number node time at; is = sym (same_Some (at_least node (time + 1)) constraint is) })
+        inl (record { node = node; bound = time + 1; within = quiet_within graph log number node time of at; is = sym (same_Some (at_least node (time + 1)) constraint is) })
 
     -- a fact bounds the time of a node of the graph
     pub fact_bounds : (reason : Reason) → fact graph log reach reason ≡ Some constraint → IsBound graph constraint
@@ -114,7 +89,7 @@ module _ (graph : Tfpg) (log : Logbook) (of : IsOf graph log) where
     fact_bounds (From number) is = from_bound number (event_at log number) refl is
     fact_bounds (Upto number) is = upto_bound number (event_at log number) refl is
     fact_bounds (Quiet number node) is = quiet_bound number node (quiet_at graph log number node) refl is
-    fact_bounds (Pick split place) is = absurd cc
+    fact_bounds (Pick split index) is = absurd cc
 
   -- where bounds say all facts, each solution meets them
   pub facts_met : ClauseLaws → (reach : List ℕ) (demands : Demands) → length demands.bounds ≡ length graph.nodes →
@@ -126,7 +101,7 @@ module _ (graph : Tfpg) (log : Logbook) (of : IsOf graph log) where
       let bounds = get_or demands.bounds low.node (widest 0) in
       let inside = low.within in
       let at : Bounded demands low.node bounds = slice_get-get_or demands.bounds low.node (widest 0) (omega arith) in
-      subst (Meets times) (sym low.is) ((laws.least times low.node low.bound).1 (omega (
+      subst (Meets times) (sym low.is) ((laws.lower times low.node low.bound).1 (omega (
         arith,
         (all low.node inside).floors bounds at reason low.bound (is ∙ ap Some low.is),
         (solution.between low.node bounds at).above,
@@ -135,7 +110,7 @@ module _ (graph : Tfpg) (log : Logbook) (of : IsOf graph log) where
       let bounds = get_or demands.bounds high.node (widest 0) in
       let inside = high.within in
       let at : Bounded demands high.node bounds = slice_get-get_or demands.bounds high.node (widest 0) (omega arith) in
-      subst (Meets times) (sym high.is) ((laws.most times high.node high.bound).1 (omega (
+      subst (Meets times) (sym high.is) ((laws.upper times high.node high.bound).1 (omega (
         arith,
         (all high.node inside).ceilings bounds at reason high.bound (is ∙ ap Some high.is),
         (solution.between high.node bounds at).below,
@@ -144,7 +119,7 @@ module _ (graph : Tfpg) (log : Logbook) (of : IsOf graph log) where
 
 -- ---- tighter bounds
 
--- The bounds of an item of a changed list: those that it had, or at the place of the change these changed.
+-- The bounds of item `u` once item `v` is changed: the old ones, or the change of them where `u` is `v`.
 pub record IsChanged (change : Bounds → Bounds) (old : List Bounds) (v u : ℕ) (new : Bounds) : Type 0 where
   pub before : Bounds
   pub was : slice_get old u ≡ Some before
@@ -179,13 +154,13 @@ raised-tighter least tag old = by (ltb old.floor least) refl
     by true is = let lt = ltb-true old.floor least is in (record { floor = omega arith; ceiling = omega arith }, omega arith)
     by false is = let ge = ltb-false old.floor least is in (record { floor = omega arith; ceiling = omega arith }, omega arith)
 
-lowered-tighter : (most tag : ℕ) (old : Bounds) → IsTighter (lowered most tag old) old × ((lowered most tag old).ceiling ≤ most)
-lowered-tighter most tag old = by (ltb most old.ceiling) refl
+lowered-tighter : (ceiling tag : ℕ) (old : Bounds) → IsTighter (lowered ceiling tag old) old × ((lowered ceiling tag old).ceiling ≤ ceiling)
+lowered-tighter ceiling tag old = by (ltb ceiling old.ceiling) refl
   where
-    by : (b : Bool) → ltb most old.ceiling ≡ b → IsTighter (cond b (record old { ceiling = most; ceiling_why = Given tag }) old) old
-        × ((cond b (record old { ceiling = most; ceiling_why = Given tag }) old).ceiling ≤ most)
-    by true is = let lt = ltb-true most old.ceiling is in (record { floor = omega arith; ceiling = omega arith }, omega arith)
-    by false is = let ge = ltb-false most old.ceiling is in (record { floor = omega arith; ceiling = omega arith }, omega arith)
+    by : (b : Bool) → ltb ceiling old.ceiling ≡ b → IsTighter (cond b (record old { ceiling = ceiling; ceiling_why = Given tag }) old) old
+        × ((cond b (record old { ceiling = ceiling; ceiling_why = Given tag }) old).ceiling ≤ ceiling)
+    by true is = let lt = ltb-true ceiling old.ceiling is in (record { floor = omega arith; ceiling = omega arith }, omega arith)
+    by false is = let ge = ltb-false ceiling old.ceiling is in (record { floor = omega arith; ceiling = omega arith }, omega arith)
 
 -- a change that tightens leaves no bounds looser
 tighter-changed : (change : Bounds → Bounds) (old : List Bounds) (v u : ℕ) (new : Bounds) → ((b : Bounds) → IsTighter (change b) b) →

@@ -42,7 +42,7 @@ module _ (demands : Demands) (reasons : List Reason) (nodes : ℕ) (is : demands
     one_each = (let c = count in let n = ap (length {A = Pick}) none in omega arith);
     floors = λ u b at. inl (ap (λ (c : Bounds). c.floor_why) (bounds_are u b at));
     ceilings = λ u b at. inl (ap (λ (c : Bounds). c.ceiling_why) (bounds_are u b at));
-    picks = λ place pick at. absurd (none-some pick (sym (ap (λ (ps : List Pick). slice_get ps place) none) ∙ at));
+    picks = λ index pick at. absurd (none-some pick (sym (ap (λ (ps : List Pick). slice_get ps index) none) ∙ at));
   }
 
   -- times lie in range
@@ -64,5 +64,5 @@ module _ (demands : Demands) (reasons : List Reason) (nodes : ℕ) (is : demands
           ap (λ (c : Bounds). tagged_by fact reasons c.ceiling_why) (bounds_are u b at) ∙ tops u (omega arith)
           ∙ sym (ap (λ (c : Bounds). Some (at_most u (pos c.ceiling))) (bounds_are u b at));
     };
-    picks = λ place pick at. absurd (none-some pick (sym (ap (λ (ps : List Pick). slice_get ps place) none) ∙ at));
+    picks = λ index pick at. absurd (none-some pick (sym (ap (λ (ps : List Pick). slice_get ps index) none) ∙ at));
   }

@@ -7,7 +7,7 @@ use Rattle.tfpg_log.specs.Log.{Logbook}
 use Rattle.tfpg_evidence.specs.declared.step.Step.{Step}
 use Rattle.tfpg_clause.specs.Trees.{is_split, split_count}
 use Rattle.tfpg_clause.specs.declared.path.Frame.{Frame}
-use Rattle.tfpg_search.specs.inside.Moves.{Goes, Leads, Grows}
+use Rattle.tfpg_search.specs.inside.Moves.{StepLeads, Leads, Grows}
 
 module _ (graph : Tfpg) (log : Logbook) (reach : List ℕ) where
   leads_on : (steps more : List Step) (start middle end : Option (List Frame)) → Leads graph log reach start steps middle → Leads graph log reach middle more end
@@ -34,6 +34,6 @@ module _ (graph : Tfpg) (log : Logbook) (reach : List ℕ) where
   }
 
   -- one step is appended
-  pub grows_one : (start : List Frame) (before after : List Step) (step : Step) (end : Option (List Frame)) → after ≡ before ++ step ∷ [] → Goes graph log reach start step end
+  pub grows_one : (start : List Frame) (before after : List Step) (step : Step) (end : Option (List Frame)) → after ≡ before ++ step ∷ [] → StepLeads graph log reach start step end
       → Grows graph log reach start before after (split_count (step ∷ [])) end
   grows_one start before after step end appended goes = record { added = step ∷ []; appended = appended; count = refl; leads = (end, goes, refl) }

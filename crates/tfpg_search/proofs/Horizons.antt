@@ -12,7 +12,7 @@ use Rattle.tfpg_clause.specs.Order.{horizon_of}
 use Rattle.tfpg_clause.specs.Paths.{new_frame, path_after}
 use Rattle.tfpg_clause.specs.declared.path.Frame.{Frame}
 use Rattle.tfpg_search.specs.Enough.{IsEventTime}
-use Rattle.tfpg_search.specs.inside.Moves.{Goes, Leads}
+use Rattle.tfpg_search.specs.inside.Moves.{StepLeads, Leads}
 use Rattle.tfpg_base.proofs.lists.Elements.{Contains-head, Contains-tail}
 use Rattle.tfpg_search.proofs.PathAfter.{all_after}
 
@@ -62,7 +62,7 @@ module _ (log : Logbook) where
   after_cycle frames times (Some after) is = all_after At (λ frame more time. time) frames after is times
 
   module _ (graph : Tfpg) (reach : List ℕ) (now_is : IsEventTime log (now_of log)) where
-    after_step : (frames : List Frame) → AtTimes log frames → (step : Step) (next : Option (List Frame)) → Goes graph log reach frames step next → AtTimesWhere log next
+    after_step : (frames : List Frame) → AtTimes log frames → (step : Step) (next : Option (List Frame)) → StepLeads graph log reach frames step next → AtTimesWhere log next
     after_step frames times (Split name) next goes =
         subst (AtTimesWhere log) (sym goes.3)
         (All-push At frames (new_frame name goes.0) times (subst (IsEventTime log) (sym goes.2.first.at_now) now_is))

@@ -24,7 +24,7 @@ use Rattle.tfpg_search.specs.Picks.{picks_of}
 use Rattle.tfpg_search.specs.Searching.{Searching, IsAtItsLeaf}
 use Rattle.tfpg_search.specs.inside.Moves.{SolvesFramed, IsLatestFramed, IsSettled}
 use Rattle.tfpg_base.proofs.lists.Choices.{option_and_then-some}
-use Rattle.tfpg_base.proofs.lists.Elements.{All-from_places}
+use Rattle.tfpg_base.proofs.lists.Elements.{All-from_indexes}
 use Rattle.tfpg_search.proofs.Picking.{picks_have}
 
 -- the reason by which something is named
@@ -44,9 +44,9 @@ module _ (laws : ClauseLaws) (graph : Tfpg) (log : Logbook) (search : Searching)
 
   module _ (times : List ℕ) (solution : IsSolution search.leaf.demands times) where
     -- the constraint of each pick on the path is met
-    pick_met : (i split place : ℕ) (c : Constraint) → slice_get (pick_reasons search.leaf) i ≡ Some (Pick split place) → framed graph log search.path split place ≡ Some c → Meets times c
-    pick_met i split place c there is =
-        let within : i < length search.leaf.demands.picks = let w = slice_get_within (pick_reasons search.leaf) i (Pick split place) there in omega arith in
+    pick_met : (i split index : ℕ) (c : Constraint) → slice_get (pick_reasons search.leaf) i ≡ Some (Pick split index) → framed graph log search.path split index ≡ Some c → Meets times c
+    pick_met i split index c there is =
+        let within : i < length search.leaf.demands.picks = let w = slice_get_within (pick_reasons search.leaf) i (Pick split index) there in omega arith in
         let unread : PickOf = record { constraint = c; tag = 0 } in
         let pick : PickOf = get_or search.leaf.demands.picks i unread in
         let states_it : option_and_then states (slice_get (pick_reasons search.leaf) i) ≡ Some pick.constraint =
@@ -55,21 +55,21 @@ module _ (laws : ClauseLaws) (graph : Tfpg) (log : Logbook) (search : Searching)
         let same : c ≡ pick.constraint = cc in
         subst (Meets times) (sym same) (All-get_or (λ (p : PickOf). Meets times p.constraint) search.leaf.demands.picks i unread within solution.met)
 
-    picks_met : (split place : ℕ) (c : Constraint) → framed graph log search.path split place ≡ Some c → Meets times c
-    picks_met zero place c is = absurd cc
-    picks_met (suc k) place c is =
+    picks_met : (split index : ℕ) (c : Constraint) → framed graph log search.path split index ≡ Some c → Meets times c
+    picks_met zero index c is = absurd cc
+    picks_met (suc k) index c is =
         let number : 1 + k ≡ suc k = omega arith in
-        let have = picks_have graph log 1 search.path k place c is in
-        let there : slice_get (pick_reasons search.leaf) have.0 ≡ Some (Pick (suc k) place) =
-        ap (λ (rs : List Reason). slice_get rs have.0) all_picks ∙ have.1 ∙ ap (λ (n : ℕ). Some (Pick n place)) number in
-        pick_met have.0 (suc k) place c there is
+        let have = picks_have graph log 1 search.path k index c is in
+        let there : slice_get (pick_reasons search.leaf) have.0 ≡ Some (Pick (suc k) index) =
+        ap (λ (rs : List Reason). slice_get rs have.0) all_picks ∙ have.1 ∙ ap (λ (n : ℕ). Some (Pick n index)) number in
+        pick_met have.0 (suc k) index c there is
 
     solves : SolvesFramed graph log search.reach search.path times
     solves = record { one_each = solution.complete ∙ at.variables; facts = settled.facts times solution; picks = picks_met }
 
   module _ (times : List ℕ) (solves : SolvesFramed graph log search.reach search.path times) where
     met_by_reason : (r : Reason) (c : Constraint) → states r ≡ Some c → Meets times c
-    met_by_reason (Pick split place) c is = solves.picks split place c is
+    met_by_reason (Pick split index) c is = solves.picks split index c is
     met_by_reason (Zero node) c is = solves.facts (Zero node) c is
     met_by_reason (Top node) c is = solves.facts (Top node) c is
     met_by_reason (Unreached node horizon) c is = solves.facts (Unreached node horizon) c is
@@ -84,12 +84,12 @@ module _ (laws : ClauseLaws) (graph : Tfpg) (log : Logbook) (search : Searching)
           let low = named_fact (fact graph log search.reach) search.leaf.reasons bounds.floor_why (at_least node bounds.floor) (at.stated.bounds.floors node bounds there) in
           let high = named_fact (fact graph log search.reach) search.leaf.reasons bounds.ceiling_why (at_most node (pos bounds.ceiling)) (at.stated.bounds.ceilings node bounds there) in
           record {
-            above = (laws.least times node bounds.floor).0 (solves.facts low.0 (at_least node bounds.floor) low.1);
-            below = (laws.most times node bounds.ceiling).0 (solves.facts high.0 (at_most node (pos bounds.ceiling)) high.1);
+            above = (laws.lower times node bounds.floor).0 (solves.facts low.0 (at_least node bounds.floor) low.1);
+            below = (laws.upper times node bounds.ceiling).0 (solves.facts high.0 (at_most node (pos bounds.ceiling)) high.1);
           };
-      met = All-from_places (λ (p : PickOf). Meets times p.constraint) search.leaf.demands.picks
-          (λ place pick there.
-          let reason = option_and_then-some states (slice_get (pick_reasons search.leaf) place) pick.constraint (at.stated.picks place pick there) in
+      met = All-from_indexes (λ (p : PickOf). Meets times p.constraint) search.leaf.demands.picks
+          (λ index pick there.
+          let reason = option_and_then-some states (slice_get (pick_reasons search.leaf) index) pick.constraint (at.stated.picks index pick there) in
           met_by_reason reason.0 pick.constraint reason.2);
     }
 

@@ -29,4 +29,4 @@ mod Measure
 mod Horizons
 mod Enough
 mod AllNames
-mod MostIncoming
+mod MaximumIncoming

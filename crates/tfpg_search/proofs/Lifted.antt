@@ -18,7 +18,7 @@ use Rattle.tfpg_search.specs.inside.Closing.{IsSimpleCycle}
 use Rattle.tfpg_search.specs.Solutions.{IsLatestBy}
 use Rattle.tfpg_search.specs.Live.{IsLive, IsSimpleAfter, HasDistinctNames, HasNoNameTwice}
 use Rattle.tfpg_search.specs.Searched.{IsSearchStep, AreSearchSteps}
-use Rattle.tfpg_search.specs.inside.Moves.{IsLiveFramed, Goes, Leads, LeadsTo}
+use Rattle.tfpg_search.specs.inside.Moves.{IsLiveFramed, StepLeads, Leads, LeadsTo}
 use Rattle.tfpg_search.specs.Picks.{AreInRange}
 use Rattle.tfpg_search.specs.inside.ClauseLaws.{ClauseLaws}
 use Rattle.tfpg_base.proofs.lists.Cuts.{cut_last}
@@ -30,7 +30,7 @@ module _ (laws : ClauseLaws) (graph : Tfpg) (log : Logbook) (reach : List ℕ) (
   module _ (frames : List Frame) (earlier : List Judged) (at : IsAtLeaf graph log reach frames earlier) where
     -- what is picked on the path is what the frames say
     same_picks : framed graph log frames ≡ picked graph log at.path
-    same_picks = λ i split place. laws.states_same graph log reach at.path frames (Pick split place) ordered at.frames_are i
+    same_picks = λ i split index. laws.states_same graph log reach at.path frames (Pick split index) ordered at.frames_are i
 
     pub live_here : (name : ClauseName) → IsLiveFramed graph log reach frames name → IsLive graph log reach earlier name
     live_here name live = record {
@@ -52,7 +52,7 @@ module _ (laws : ClauseLaws) (graph : Tfpg) (log : Logbook) (reach : List ℕ) (
       simple = closes.1.simple;
     }
 
-    right_here : (step : Step) (next : Option (List Frame)) → Goes graph log reach frames step next → IsSearchStep graph log reach earlier step
+    right_here : (step : Step) (next : Option (List Frame)) → StepLeads graph log reach frames step next → IsSearchStep graph log reach earlier step
     right_here (Split name) next goes = live_here name goes.2
     right_here (Cycle reasons) next goes = simple_here reasons goes.0
 
@@ -79,7 +79,7 @@ module _ (laws : ClauseLaws) (graph : Tfpg) (log : Logbook) (reach : List ℕ) (
   abbrev Here : List Frame → List Judged → Type 0
   Here frames earlier = IsAtLeaf graph log reach frames earlier × HasNoNameTwice graph log reach earlier × AreInRange frames
 
-  after_split : (frames : List Frame) (earlier : List Judged) → Here frames earlier → (name : ClauseName) → (next : Option (List Frame)) → Goes graph log reach frames (Split name) next
+  after_split : (frames : List Frame) (earlier : List Judged) → Here frames earlier → (name : ClauseName) → (next : Option (List Frame)) → StepLeads graph log reach frames (Split name) next
       → LeadsTo graph log reach (with_step earlier log (Split name)) next
   after_split frames earlier here name next goes =
       let frame : Frame = new_frame name goes.0 in
@@ -111,7 +111,7 @@ module _ (laws : ClauseLaws) (graph : Tfpg) (log : Logbook) (reach : List ℕ) (
         range_after frames after here.2 is,
       )
 
-  pub after_step : (frames : List Frame) (earlier : List Judged) → Here frames earlier → (step : Step) (next : Option (List Frame)) → Goes graph log reach frames step next
+  pub after_step : (frames : List Frame) (earlier : List Judged) → Here frames earlier → (step : Step) (next : Option (List Frame)) → StepLeads graph log reach frames step next
       → LeadsTo graph log reach (with_step earlier log step) next
   after_step frames earlier here (Split name) next goes = after_split frames earlier here name next goes
   after_step frames earlier here (Cycle reasons) next goes = after_cycle frames earlier here reasons next goes.0 (sym goes.1)

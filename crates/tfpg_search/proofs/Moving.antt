@@ -18,7 +18,7 @@ use Rattle.tfpg_clause.specs.Facts.{fact}
 use Rattle.tfpg_clause.specs.Clauses.{alternatives, count_of, constraint_at, IsOver, IsSmall}
 use Rattle.tfpg_base.specs.Choice.{item_at}
 use Rattle.tfpg_graph.specs.Valid.{IsValid}
-use Rattle.tfpg_search.proofs.Picking.{of_frame, chosen, in_place, in_place_is, place_in, place_out, picks_push}
+use Rattle.tfpg_search.proofs.Picking.{of_frame, alternative_of, constraint_in, constraint_in_is, index_in, index_out, picks_push}
 use Rattle.tfpg_search.specs.inside.ClauseLaws.{ClauseLaws}
 use Rattle.tfpg_search.specs.declared.add_fault.AddFault.{AddFault}
 use Rattle.tfpg_search.specs.inside.Closing.{Closes}
@@ -29,8 +29,8 @@ use Rattle.tfpg_diff.specs.Solution.{IsSolution}
 use Rattle.tfpg_base.specs.Constraint.{Meets}
 use Rattle.tfpg_search.specs.Leaf.{Leaf, pick_reasons, IsStated}
 use Rattle.tfpg_search.specs.inside.Closing.{IsSimpleCycle}
-use Rattle.tfpg_search.specs.Picks.{place_count, picks_from}
-use Rattle.tfpg_search.specs.inside.Leaving.{places_at}
+use Rattle.tfpg_search.specs.Picks.{constraint_count, picks_from}
+use Rattle.tfpg_search.specs.inside.Leaving.{constraint_count_at}
 use Rattle.tfpg_search.specs.Searching.{Searching, IsAtItsLeaf, HasEnteredAll}
 use Rattle.tfpg_search.specs.inside.Leaving.{Leaves, Pushing, PushesOne}
 use Rattle.tfpg_search.specs.inside.Moves.{IsLiveFramed, Grows, KeepsSet, IsSettled, untaken}
@@ -63,9 +63,9 @@ some_left (suc n) m is not_none = omega arith
 -- ---- pushing
 
 -- each constraint on a path is small
-pub framed_small : ClauseLaws → (graph : Tfpg) (log : Logbook) → IsValid graph → (frames : List Frame) (split place : ℕ) (c : Constraint) → framed graph log frames split place ≡ Some c → IsOver (length graph.nodes) c
-framed_small laws graph log valid frames zero place c is = cc
-framed_small laws graph log valid frames (suc k) place c is = by (slice_get frames k) is
+pub framed_small : ClauseLaws → (graph : Tfpg) (log : Logbook) → IsValid graph → (frames : List Frame) (split index : ℕ) (c : Constraint) → framed graph log frames split index ≡ Some c → IsOver (length graph.nodes) c
+framed_small laws graph log valid frames zero index c is = cc
+framed_small laws graph log valid frames (suc k) index c is = by (slice_get frames k) is
   where
     in_alternative : (alternative : List Constraint) (p : ℕ) → IsSmall (length graph.nodes) alternative → item_at alternative p ≡ Some c → IsOver (length graph.nodes) c
     in_alternative alternative zero small at = cc
@@ -73,32 +73,32 @@ framed_small laws graph log valid frames (suc k) place c is = by (slice_get fram
         subst (IsOver (length graph.nodes)) (get_or_from_slice_get alternative i c c at)
         (All-get_or (IsOver (length graph.nodes)) alternative i c (slice_get_within alternative i c at) small.over)
 
-    in_clause : (clause : List (List Constraint)) (number : ℕ) → All (IsSmall (length graph.nodes)) clause → constraint_at clause number place ≡ Some c → IsOver (length graph.nodes) c
+    in_clause : (clause : List (List Constraint)) (number : ℕ) → All (IsSmall (length graph.nodes)) clause → constraint_at clause number index ≡ Some c → IsOver (length graph.nodes) c
     in_clause clause zero small at = cc
     in_clause clause (suc i) small at = one (slice_get clause i) refl at
       where
-        one : (o : Option (List Constraint)) → slice_get clause i ≡ o → option_and_then (λ (alternative : List Constraint). item_at alternative place) o ≡ Some c → IsOver (length graph.nodes) c
+        one : (o : Option (List Constraint)) → slice_get clause i ≡ o → option_and_then (λ (alternative : List Constraint). item_at alternative index) o ≡ Some c → IsOver (length graph.nodes) c
         one None there none = cc
         one (Some alternative) there some =
-            in_alternative alternative place
+            in_alternative alternative index
             (subst (IsSmall (length graph.nodes)) (get_or_from_slice_get clause i alternative alternative there)
             (All-get_or (IsSmall (length graph.nodes)) clause i alternative (slice_get_within clause i alternative there) small))
             some
 
     named : (frame : Frame) (clause : Option (List (List Constraint))) → alternatives graph log frame.name ≡ clause
-        → option_and_then (λ (c : List (List Constraint)). constraint_at c frame.alternative place) clause ≡ Some c → IsOver (length graph.nodes) c
+        → option_and_then (λ (c : List (List Constraint)). constraint_at c frame.alternative index) clause ≡ Some c → IsOver (length graph.nodes) c
     named frame None there none = cc
     named frame (Some clause) there some = in_clause clause frame.alternative (laws.small graph log frame.name clause valid there) some
 
-    by : (o : Option Frame) → option_and_then (λ (frame : Frame). option_and_then (λ clause. constraint_at clause frame.alternative place) (alternatives graph log frame.name)) o ≡ Some c
+    by : (o : Option Frame) → option_and_then (λ (frame : Frame). option_and_then (λ clause. constraint_at clause frame.alternative index) (alternatives graph log frame.name)) o ≡ Some c
         → IsOver (length graph.nodes) c
     by None none = cc
     by (Some frame) some = named frame (alternatives graph log frame.name) refl some
 
 -- an alternative on a path has at most three constraints
-pub few_places : ClauseLaws → (graph : Tfpg) (log : Logbook) → IsValid graph → (frames : List Frame) (split : ℕ) → places_at graph log frames split ≤ MAX_CONSTRAINTS
-few_places laws graph log valid frames zero = omega arith
-few_places laws graph log valid frames (suc k) = by (slice_get frames k)
+pub few_indexes : ClauseLaws → (graph : Tfpg) (log : Logbook) → IsValid graph → (frames : List Frame) (split : ℕ) → constraint_count_at graph log frames split ≤ MAX_CONSTRAINTS
+few_indexes laws graph log valid frames zero = omega arith
+few_indexes laws graph log valid frames (suc k) = by (slice_get frames k)
   where
     chosen_few : (o : Option (List Constraint)) → ((alternative : List Constraint) → o ≡ Some alternative → length alternative ≤ MAX_CONSTRAINTS) → option_map_or length o 0 ≤ MAX_CONSTRAINTS
     chosen_few None few = omega arith
@@ -115,33 +115,33 @@ few_places laws graph log valid frames (suc k) = by (slice_get frames k)
     named frame None there = omega arith
     named frame (Some clause) there = chosen_few (item_at clause frame.alternative) (in_clause clause frame.alternative (laws.small graph log frame.name clause valid there))
 
-    by : (o : Option Frame) → option_map_or (place_count graph log) o 0 ≤ MAX_CONSTRAINTS
+    by : (o : Option Frame) → option_map_or (constraint_count graph log) o 0 ≤ MAX_CONSTRAINTS
     by None = omega arith
     by (Some frame) = named frame (alternatives graph log frame.name) refl
 
--- how many places there are, by whether there is a constraint in one
+-- a frame has a constraint with each number from 1 up to how many it has, and with no other
 module _ (graph : Tfpg) (log : Logbook) (frames : List Frame) where
-  places_by : (o : Option Frame) (place : ℕ)
-      → (IsTrue (is_some (of_frame graph log o place)) → place ≤ option_map_or (place_count graph log) o 0)
-      × (of_frame graph log o place ≡ None → 1 ≤ place → option_map_or (place_count graph log) o 0 < place)
-  places_by None place = (λ some. cc, λ none low. omega arith)
-  places_by (Some frame) place =
-      let same = in_place_is (alternatives graph log frame.name) frame.alternative place in (
-        λ some. upto (in_place (chosen graph log frame) place) refl (subst (λ (o : Option Constraint). IsTrue (is_some o)) same some),
-        λ none low. place_out (chosen graph log frame) place (sym same ∙ none) low,
+  indexes_by : (o : Option Frame) (index : ℕ)
+      → (IsTrue (is_some (of_frame graph log o index)) → index ≤ option_map_or (constraint_count graph log) o 0)
+      × (of_frame graph log o index ≡ None → 1 ≤ index → option_map_or (constraint_count graph log) o 0 < index)
+  indexes_by None index = (λ some. cc, λ none low. omega arith)
+  indexes_by (Some frame) index =
+      let same = constraint_in_is (alternatives graph log frame.name) frame.alternative index in (
+        λ some. upto (constraint_in (alternative_of graph log frame) index) refl (subst (λ (o : Option Constraint). IsTrue (is_some o)) same some),
+        λ none low. index_out (alternative_of graph log frame) index (sym same ∙ none) low,
       )
     where
-      upto : (o : Option Constraint) → in_place (chosen graph log frame) place ≡ o → IsTrue (is_some o) → place ≤ place_count graph log frame
+      upto : (o : Option Constraint) → constraint_in (alternative_of graph log frame) index ≡ o → IsTrue (is_some o) → index ≤ constraint_count graph log frame
       upto None is some = cc
-      upto (Some c) is some = (place_in (chosen graph log frame) place c is).1
+      upto (Some c) is some = (index_in (alternative_of graph log frame) index c is).1
 
-  pub at_most_there : (split place : ℕ) → IsTrue (is_some (framed graph log frames split place)) → place ≤ places_at graph log frames split
-  at_most_there zero place some = cc
-  at_most_there (suc k) place some = (places_by (slice_get frames k) place).0 some
+  pub at_most_there : (split index : ℕ) → IsTrue (is_some (framed graph log frames split index)) → index ≤ constraint_count_at graph log frames split
+  at_most_there zero index some = cc
+  at_most_there (suc k) index some = (indexes_by (slice_get frames k) index).0 some
 
-  pub none_there : (split place : ℕ) → framed graph log frames split place ≡ None → 1 ≤ place → places_at graph log frames split < place
-  none_there zero place none low = omega arith
-  none_there (suc k) place none low = (places_by (slice_get frames k) place).1 none low
+  pub none_there : (split index : ℕ) → framed graph log frames split index ≡ None → 1 ≤ index → constraint_count_at graph log frames split < index
+  none_there zero index none low = omega arith
+  none_there (suc k) index none low = (indexes_by (slice_get frames k) index).1 none low
 
 module _ (graph : Tfpg) (log : Logbook) (reach : List ℕ) (path : List Frame) (old : Leaf) where
   abbrev Pushed : Leaf → Type 0
@@ -184,7 +184,11 @@ module _ (graph : Tfpg) (log : Logbook) (reach : List ℕ) (path : List Frame) (
     );
   }
 
--- the picks go on by one more alternative's place
+-- What holds of the reach and the path of a search holds of those of another one with the same.
+at_other : (one other : Searching) → other.reach ≡ one.reach → other.path ≡ one.path → (P : List ℕ → List Frame → Type 0) → P other.reach other.path → P one.reach one.path
+at_other one other same_reach same_path P holds = subst (λ (r : List ℕ). P r one.path) same_reach (subst (P other.reach) same_path holds)
+
+-- the picks go on by one more constraint of the alternative
 module _ (graph : Tfpg) (log : Logbook) (now loop : Searching) (same : loop ≡ record now { leaf = loop.leaf })
     (pushing : Pushing graph log now.reach now.path now.leaf loop.leaf) where
   loop_path : loop.path ≡ now.path
@@ -195,12 +199,10 @@ module _ (graph : Tfpg) (log : Logbook) (now loop : Searching) (same : loop ≡ 
 
   pub loop_stated : IsStated (fact graph log loop.reach) (stated_by graph log loop.reach loop.path) loop.leaf
   loop_stated =
-      subst (λ (fs : List Frame). IsStated (fact graph log loop.reach) (stated_by graph log loop.reach fs) loop.leaf) (sym loop_path)
-      (subst (λ (r : List ℕ). IsStated (fact graph log r) (stated_by graph log r now.path) loop.leaf) (sym loop_reach) pushing.stated)
+      at_other loop now (sym loop_reach) (sym loop_path) (λ (r : List ℕ) (fs : List Frame). IsStated (fact graph log r) (stated_by graph log r fs) loop.leaf) pushing.stated
 
   pub loop_closes : (fault : AddFault) → Closes (stated_by graph log loop.reach loop.path) fault → Closes (stated_by graph log now.reach now.path) fault
-  loop_closes fault closes =
-      subst (λ (r : List ℕ). Closes (stated_by graph log r now.path) fault) loop_reach (subst (λ (fs : List Frame). Closes (stated_by graph log loop.reach fs) fault) loop_path closes)
+  loop_closes fault closes = at_other now loop loop_reach loop_path (λ (r : List ℕ) (fs : List Frame). Closes (stated_by graph log r fs) fault) closes
 
   module _ (new : Searching) (new_same : new ≡ record loop { leaf = new.leaf }) (step : Pushing graph log loop.reach loop.path loop.leaf new.leaf) where
     pub step_same : new ≡ record now { leaf = new.leaf }
@@ -209,40 +211,39 @@ module _ (graph : Tfpg) (log : Logbook) (now loop : Searching) (same : loop ≡ 
     pub step_pushing : Pushing graph log now.reach now.path now.leaf new.leaf
     step_pushing =
         pushing_on graph log now.reach now.path now.leaf loop.leaf new.leaf pushing
-        (subst (λ (r : List ℕ). Pushing graph log r now.path loop.leaf new.leaf) loop_reach
-        (subst (λ (fs : List Frame). Pushing graph log loop.reach fs loop.leaf new.leaf) loop_path step))
+        (at_other now loop loop_reach loop_path (λ (r : List ℕ) (fs : List Frame). Pushing graph log r fs loop.leaf new.leaf) step)
 
-    module _ (split before : ℕ) (picks : pick_reasons loop.leaf ≡ pick_reasons now.leaf ++ picks_from split 1 before) (within : before ≤ places_at graph log now.path split) where
+    module _ (split before : ℕ) (picks : pick_reasons loop.leaf ≡ pick_reasons now.leaf ++ picks_from split 1 before) (within : before ≤ constraint_count_at graph log now.path split) where
       pub step_last : PushesOne (framed graph log loop.path split (before + 1)) (Pick split (before + 1)) loop.leaf new.leaf false
-          → pick_reasons new.leaf ≡ pick_reasons now.leaf ++ picks_from split 1 (places_at graph log now.path split)
+          → pick_reasons new.leaf ≡ pick_reasons now.leaf ++ picks_from split 1 (constraint_count_at graph log now.path split)
       step_last last =
           let none : framed graph log now.path split (before + 1) ≡ None = ap (λ (fs : List Frame). framed graph log fs split (before + 1)) (sym loop_path) ∙ last.1 in
           let past = none_there graph log now.path split (before + 1) none (omega arith) in
-          let all : before ≡ places_at graph log now.path split = grind arith in
+          let all : before ≡ constraint_count_at graph log now.path split = grind arith in
           last.0 ∙ picks ∙ ap (λ (n : ℕ). pick_reasons now.leaf ++ picks_from split 1 n) all
 
       pub step_picks : PushesOne (framed graph log loop.path split (before + 1)) (Pick split (before + 1)) loop.leaf new.leaf true
           → pick_reasons new.leaf ≡ pick_reasons now.leaf ++ picks_from split 1 (before + 1)
       step_picks one =
           let number : suc before ≡ before + 1 = omega arith in
-          let place : 1 + before ≡ before + 1 = omega arith in
+          let index : 1 + before ≡ before + 1 = omega arith in
           one.0
           ∙ ap (λ (rs : List Reason). rs ++ Pick split (before + 1) ∷ []) picks
           ∙ append_assoc (pick_reasons now.leaf) (picks_from split 1 before) (Pick split (before + 1) ∷ [])
-          ∙ ap (λ (n : ℕ). pick_reasons now.leaf ++ (picks_from split 1 before ++ Pick split n ∷ [])) (sym place)
+          ∙ ap (λ (n : ℕ). pick_reasons now.leaf ++ (picks_from split 1 before ++ Pick split n ∷ [])) (sym index)
           ∙ ap (λ (rs : List Reason). pick_reasons now.leaf ++ rs) (sym (picks_push split 1 before))
           ∙ ap (λ (n : ℕ). pick_reasons now.leaf ++ picks_from split 1 n) number
 
-      pub step_within : PushesOne (framed graph log loop.path split (before + 1)) (Pick split (before + 1)) loop.leaf new.leaf true → before + 1 ≤ places_at graph log now.path split
+      pub step_within : PushesOne (framed graph log loop.path split (before + 1)) (Pick split (before + 1)) loop.leaf new.leaf true → before + 1 ≤ constraint_count_at graph log now.path split
       step_within one =
           at_most_there graph log now.path split (before + 1) (subst (λ (fs : List Frame). IsTrue (is_some (framed graph log fs split (before + 1)))) loop_path one.1)
 
--- all places were pushed
-pub all_pushed : ClauseLaws → (graph : Tfpg) (log : Logbook) → IsValid graph → (now : Searching) (leaf : Leaf) (split before : ℕ) → MAX_CONSTRAINTS ≤ before → before ≤ places_at graph log now.path split
-    → pick_reasons leaf ≡ pick_reasons now.leaf ++ picks_from split 1 before → pick_reasons leaf ≡ pick_reasons now.leaf ++ picks_from split 1 (places_at graph log now.path split)
+-- all constraints were pushed
+pub all_pushed : ClauseLaws → (graph : Tfpg) (log : Logbook) → IsValid graph → (now : Searching) (leaf : Leaf) (split before : ℕ) → MAX_CONSTRAINTS ≤ before → before ≤ constraint_count_at graph log now.path split
+    → pick_reasons leaf ≡ pick_reasons now.leaf ++ picks_from split 1 before → pick_reasons leaf ≡ pick_reasons now.leaf ++ picks_from split 1 (constraint_count_at graph log now.path split)
 all_pushed laws graph log valid now leaf split before past within picks =
-    let few = few_places laws graph log valid now.path split in
-    let all : before ≡ places_at graph log now.path split = grind arith in
+    let few = few_indexes laws graph log valid now.path split in
+    let all : before ≡ constraint_count_at graph log now.path split = grind arith in
     picks ∙ ap (λ (n : ℕ). pick_reasons now.leaf ++ picks_from split 1 n) all
 
 -- ---- moves
@@ -318,17 +319,17 @@ module _ (graph : Tfpg) (log : Logbook) (old : Searching) (at : IsAtItsLeaf grap
 
       module _ (count : ℕ) (count_is : count ≡ length old.entered) where
         module _ (not_all : count ≡ length old.path → ⊥) (split : ℕ) (split_is : split ≡ count + 1)
-            (picks : pick_reasons pushed.leaf ≡ pick_reasons marked.leaf ++ picks_from split 1 (places_at graph log marked.path split)) where
+            (picks : pick_reasons pushed.leaf ≡ pick_reasons marked.leaf ++ picks_from split 1 (constraint_count_at graph log marked.path split)) where
           left_out : HasEnteredAll old → ⊥
           left_out all = not_all (count_is ∙ all)
 
           pub entered_stands : IsAtItsLeaf graph log pushed
           entered_stands =
               let number : split ≡ length old.entered + 1 = split_is ∙ ap (λ (n : ℕ). n + 1) count_is in
-              let picks_old : pick_reasons pushed.leaf ≡ pick_reasons old.leaf ++ picks_from split 1 (places_at graph log old.path split) =
-              subst (λ (s : Searching). pick_reasons pushed.leaf ≡ pick_reasons s.leaf ++ picks_from split 1 (places_at graph log s.path split)) marked_is picks in
-              let picks_there : pick_reasons pushed.leaf ≡ pick_reasons old.leaf ++ picks_from (length old.entered + 1) 1 (places_at graph log old.path (length old.entered + 1)) =
-              subst (λ (n : ℕ). pick_reasons pushed.leaf ≡ pick_reasons old.leaf ++ picks_from n 1 (places_at graph log old.path n)) number picks_old in
+              let picks_old : pick_reasons pushed.leaf ≡ pick_reasons old.leaf ++ picks_from split 1 (constraint_count_at graph log old.path split) =
+              subst (λ (s : Searching). pick_reasons pushed.leaf ≡ pick_reasons s.leaf ++ picks_from split 1 (constraint_count_at graph log s.path split)) marked_is picks in
+              let picks_there : pick_reasons pushed.leaf ≡ pick_reasons old.leaf ++ picks_from (length old.entered + 1) 1 (constraint_count_at graph log old.path (length old.entered + 1)) =
+              subst (λ (n : ℕ). pick_reasons pushed.leaf ≡ pick_reasons old.leaf ++ picks_from n 1 (constraint_count_at graph log old.path n)) number picks_old in
               subst (IsAtItsLeaf graph log) (sym whole) (enter_stands graph log old at left_out pushed.leaf pushing_old picks_there)
 
         pub left_counted : (number : ℕ) → slice_get pushed.entered count ≡ Some number → number ≤ length (pick_reasons pushed.leaf)
@@ -383,5 +384,4 @@ add_settled graph log middle new same all (Err fault) facts = tt
 pub add_closes : (graph : Tfpg) (log : Logbook) (old middle : Searching) → KeepsSet old middle → middle.path ≡ old.path → (result : Result (Unit {0}) AddFault)
     → IfErr result (Closes (stated_by graph log middle.reach middle.path)) → IfErr result (Closes (stated_by graph log old.reach old.path))
 add_closes graph log old middle keeps path result closes =
-    subst (λ (r : List ℕ). IfErr result (Closes (stated_by graph log r old.path))) keeps.reach
-    (subst (λ (fs : List Frame). IfErr result (Closes (stated_by graph log middle.reach fs))) path closes)
+    at_other old middle keeps.reach path (λ (r : List ℕ) (fs : List Frame). IfErr result (Closes (stated_by graph log r fs))) closes

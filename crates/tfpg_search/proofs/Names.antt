@@ -15,9 +15,9 @@ use Rattle.tfpg_base.specs.Choice.{item_at}
 use Rattle.tfpg_clause.specs.Trees.{PathSplit}
 use Rattle.tfpg_clause.specs.Paths.{AreFramesOf, framed, path_after, next_alternative, new_frame}
 use Rattle.tfpg_clause.specs.declared.path.Frame.{Frame}
-use Rattle.tfpg_search.specs.Picks.{IsInRange, AreInRange}
+use Rattle.tfpg_search.specs.Picks.{IsAllowed, IsInRange, AreInRange}
 use Rattle.tfpg_search.specs.inside.ClauseLaws.{ClauseLaws}
-use Rattle.tfpg_base.proofs.lists.Elements.{All-front, All-from_places, AllPairs-front}
+use Rattle.tfpg_base.proofs.lists.Elements.{All-front, All-from_indexes, AllPairs-front}
 use Rattle.tfpg_search.proofs.PathAfter.{after_is, all_after}
 
 abbrev pub frame_name : Frame → ClauseName
@@ -37,68 +37,64 @@ same_names graph log (split ∷ path) (frame ∷ frames) are =
 -- ---- the frames that name allowed clauses, in one of their alternatives
 
 module _ (graph : Tfpg) (log : Logbook) where
-  -- The frame has an allowed name, with as many alternatives as it says.
-  abbrev pub IsAllowed : Frame → Type 0
-  IsAllowed frame = count_of graph log frame.name ≡ Some frame.alternatives
-
   count_later : ClauseLaws → (earlier : Logbook) → IsOrdered log → GoesOn earlier log → (name : ClauseName) (count : ℕ) (clause : Option (List (List Constraint))) → alternatives graph earlier name ≡ clause
       → option_map length clause ≡ Some count → count_of graph log name ≡ Some count
   count_later laws earlier ordered goes_on name count None is counted = cc
   count_later laws earlier ordered goes_on name count (Some clause) is counted = ap (option_map length) (laws.clause_stays graph earlier log name clause ordered goes_on is) ∙ counted
 
-  pub all_allowed : ClauseLaws → IsOrdered log → (path : List PathSplit) (frames : List Frame) → AreFramesOf graph log path frames → All IsAllowed frames
-  all_allowed laws ordered [] [] are = All-nil IsAllowed
+  pub all_allowed : ClauseLaws → IsOrdered log → (path : List PathSplit) (frames : List Frame) → AreFramesOf graph log path frames → All (IsAllowed graph log) frames
+  all_allowed laws ordered [] [] are = All-nil (IsAllowed graph log)
   all_allowed laws ordered [] (frame ∷ frames) are = absurd are
   all_allowed laws ordered (split ∷ path) [] are = absurd are
   all_allowed laws ordered (split ∷ path) (frame ∷ frames) are =
       let of_split : count_of graph log split.name ≡ Some frame.alternatives =
       count_later laws (first_events log split.seen) ordered (laws.first log split.seen) split.name frame.alternatives (alternatives graph (first_events log split.seen) split.name) refl are.0.alternatives in
-      All-cons IsAllowed frame frames (ap (count_of graph log) are.0.name ∙ of_split) (all_allowed laws ordered path frames are.1)
+      All-cons (IsAllowed graph log) frame frames (ap (count_of graph log) are.0.name ∙ of_split) (all_allowed laws ordered path frames are.1)
 
   module _ (times : List ℕ) where
     -- The times meet a clause, where they meet each constraint of one of its alternatives.
     met_by : (clause : List (List Constraint)) (number : ℕ) → 1 ≤ number → number ≤ length clause
-        → ((place : ℕ) (constraint : Constraint) → constraint_at clause number place ≡ Some constraint → Meets times constraint) → MeetsClause times clause
+        → ((index : ℕ) (constraint : Constraint) → constraint_at clause number index ≡ Some constraint → Meets times constraint) → MeetsClause times clause
     met_by clause zero low high each = absurd (omega arith)
     met_by clause (suc before) low high each =
         let there : slice_get clause before ≡ Some (get_or clause before []) = slice_get-get_or clause before [] (omega arith) in (
           get_or clause before [],
           Contains-get_or clause before [] (omega arith),
-          All-from_places (Meets times) (get_or clause before [])
-              (λ place constraint at. each (suc place) constraint (ap (option_and_then (λ (a : List Constraint). item_at a (suc place))) there ∙ at)),
+          All-from_indexes (Meets times) (get_or clause before [])
+              (λ index constraint at. each (suc index) constraint (ap (option_and_then (λ (a : List Constraint). item_at a (suc index))) there ∙ at)),
         )
 
     -- the constraints of the alternative of a frame are met
     abbrev IsMet : Frame → Type 0
     IsMet frame =
-        (place : ℕ) (constraint : Constraint)
-        → option_and_then (λ clause. constraint_at clause frame.alternative place) (alternatives graph log frame.name) ≡ Some constraint → Meets times constraint
+        (index : ℕ) (constraint : Constraint)
+        → option_and_then (λ clause. constraint_at clause frame.alternative index) (alternatives graph log frame.name) ≡ Some constraint → Meets times constraint
 
-    not_violated : (frame : Frame) → IsInRange frame → IsAllowed frame → IsMet frame → Violates graph log times frame.name → ⊥
+    not_violated : (frame : Frame) → IsInRange frame → IsAllowed graph log frame → IsMet frame → Violates graph log times frame.name → ⊥
     not_violated frame range allowed met violates =
         let long : Some (length violates.clause) ≡ Some frame.alternatives = sym (ap (option_map length) violates.allowed) ∙ allowed in
         let same : length violates.clause ≡ frame.alternatives = cc in
         violates.not_met
         (met_by violates.clause frame.alternative range.first (omega (arith, range.last, same))
-        (λ place constraint at. met place constraint (ap (option_and_then (λ clause. constraint_at clause frame.alternative place)) violates.allowed ∙ at)))
+        (λ index constraint at. met index constraint (ap (option_and_then (λ clause. constraint_at clause frame.alternative index)) violates.allowed ∙ at)))
 
-    others : (frames : List Frame) (name : ClauseName) → AreInRange frames → All IsAllowed frames → ((place : ℕ) (frame : Frame) → slice_get frames place ≡ Some frame → IsMet frame)
+    others : (frames : List Frame) (name : ClauseName) → AreInRange frames → All (IsAllowed graph log) frames → ((index : ℕ) (frame : Frame) → slice_get frames index ≡ Some frame → IsMet frame)
         → Violates graph log times name → All (λ (frame : Frame). frame.name ≢ name) frames
     others [] name range allowed met violates = All-nil (λ (frame : Frame). frame.name ≢ name)
     others (frame ∷ frames) name range allowed met violates =
         All-cons (λ (f : Frame). f.name ≢ name) frame frames
-        (λ same. not_violated frame (All-head IsInRange frame frames range) (All-head IsAllowed frame frames allowed) (met 0 frame refl) (subst (λ (n : ClauseName). Violates graph log times n) (sym same) violates))
-        (others frames name (All-tail IsInRange frame frames range) (All-tail IsAllowed frame frames allowed) (λ place f at. met (suc place) f at) violates)
+        (λ same. not_violated frame (All-head IsInRange frame frames range) (All-head (IsAllowed graph log) frame frames allowed) (met 0 frame refl) (subst (λ (n : ClauseName). Violates graph log times n) (sym same) violates))
+        (others frames name (All-tail IsInRange frame frames range) (All-tail (IsAllowed graph log) frame frames allowed) (λ index f at. met (suc index) f at) violates)
 
     -- A clause that the times violate is that of no frame, where they meet each pick.
-    pub new_name : (frames : List Frame) (name : ClauseName) → AreInRange frames → All IsAllowed frames
-        → ((split place : ℕ) (constraint : Constraint) → framed graph log frames split place ≡ Some constraint → Meets times constraint)
+    pub new_name : (frames : List Frame) (name : ClauseName) → AreInRange frames → All (IsAllowed graph log) frames
+        → ((split index : ℕ) (constraint : Constraint) → framed graph log frames split index ≡ Some constraint → Meets times constraint)
         → Violates graph log times name → All (λ (n : ClauseName). n ≢ name) (map frame_name frames)
     new_name frames name range allowed picks violates =
         All-map (λ (n : ClauseName). n ≢ name) frame_name frames
         (others frames name range allowed
-        (λ place frame at where_ constraint is.
-        picks (suc place) where_ constraint
+        (λ index frame at where_ constraint is.
+        picks (suc index) where_ constraint
         (ap (option_and_then (λ (f : Frame). option_and_then (λ clause. constraint_at clause f.alternative where_) (alternatives graph log f.name))) at ∙ is))
         violates)
 

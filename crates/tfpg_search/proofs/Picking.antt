@@ -13,119 +13,119 @@ use Rattle.tfpg_evidence.specs.declared.reason.Reason.TheVariants.{Pick}
 use Rattle.tfpg_clause.specs.Clauses.{alternatives, constraint_at}
 use Rattle.tfpg_base.specs.Choice.{item_at}
 use Rattle.tfpg_clause.specs.declared.path.Frame.{Frame}
-use Rattle.tfpg_search.specs.Picks.{place_count, picks_from, picks_of_from}
+use Rattle.tfpg_search.specs.Picks.{constraint_count, picks_from, picks_of_from}
 use Rattle.tfpg_base.proofs.lists.Elements.{slice_get-none}
 use Rattle.tfpg_base.proofs.lists.Written.{slice_get-append_cases, slice_get-append_some, slice_get-append_right}
 
 -- ---- the picks of one alternative
 
-pub pick_of : (split place count i : ℕ) (r : Reason) → slice_get (picks_from split place count) i ≡ Some r → (p : ℕ) × (r ≡ Pick split p)
-pick_of split place zero i r is = cc
-pick_of split place (suc count) zero r is = let same : Pick split place ≡ r = cc in (place, sym same)
-pick_of split place (suc count) (suc i) r is = pick_of split (place + 1) count i r is
+pub pick_of : (split index count i : ℕ) (r : Reason) → slice_get (picks_from split index count) i ≡ Some r → (p : ℕ) × (r ≡ Pick split p)
+pick_of split index zero i r is = cc
+pick_of split index (suc count) zero r is = let same : Pick split index ≡ r = cc in (index, sym same)
+pick_of split index (suc count) (suc i) r is = pick_of split (index + 1) count i r is
 
-pub pick_at : (split place count i : ℕ) → i < count → slice_get (picks_from split place count) i ≡ Some (Pick split (place + i))
-pick_at split place zero i less = absurd (omega arith)
-pick_at split place (suc count) zero less = let same : place ≡ place + 0 = omega arith in ap (λ (n : ℕ). Some (Pick split n)) same
-pick_at split place (suc count) (suc i) less =
-    let same : place + 1 + i ≡ place + suc i = omega arith in
-    pick_at split (place + 1) count i (omega arith) ∙ ap (λ (n : ℕ). Some (Pick split n)) same
+pub pick_at : (split index count i : ℕ) → i < count → slice_get (picks_from split index count) i ≡ Some (Pick split (index + i))
+pick_at split index zero i less = absurd (omega arith)
+pick_at split index (suc count) zero less = let same : index ≡ index + 0 = omega arith in ap (λ (n : ℕ). Some (Pick split n)) same
+pick_at split index (suc count) (suc i) less =
+    let same : index + 1 + i ≡ index + suc i = omega arith in
+    pick_at split (index + 1) count i (omega arith) ∙ ap (λ (n : ℕ). Some (Pick split n)) same
 
-pub picks_push : (split place count : ℕ) → picks_from split place (suc count) ≡ picks_from split place count ++ Pick split (place + count) ∷ []
-picks_push split place zero = let same : place ≡ place + 0 = omega arith in ap (λ (n : ℕ). Pick split n ∷ []) same
-picks_push split place (suc count) =
-    let same : place + 1 + count ≡ place + suc count = omega arith in
-    ap (λ (rs : List Reason). Pick split place ∷ rs) (picks_push split (place + 1) count)
-    ∙ ap (λ (n : ℕ). Pick split place ∷ picks_from split (place + 1) count ++ Pick split n ∷ []) same
+pub picks_push : (split index count : ℕ) → picks_from split index (suc count) ≡ picks_from split index count ++ Pick split (index + count) ∷ []
+picks_push split index zero = let same : index ≡ index + 0 = omega arith in ap (λ (n : ℕ). Pick split n ∷ []) same
+picks_push split index (suc count) =
+    let same : index + 1 + count ≡ index + suc count = omega arith in
+    ap (λ (rs : List Reason). Pick split index ∷ rs) (picks_push split (index + 1) count)
+    ∙ ap (λ (n : ℕ). Pick split index ∷ picks_from split (index + 1) count ++ Pick split n ∷ []) same
 
 -- ---- constraints of an alternative
 
--- the constraint in a place of an alternative, where there is one
-abbrev pub in_place : Option (List Constraint) → ℕ → Option Constraint
-in_place alternative place = option_and_then (λ (constraints : List Constraint). item_at constraints place) alternative
+-- the constraint with this number in an alternative, where there is one
+abbrev pub constraint_in : Option (List Constraint) → ℕ → Option Constraint
+constraint_in alternative index = option_and_then (λ (constraints : List Constraint). item_at constraints index) alternative
 
-pub in_place_is : (clause : Option (List (List Constraint))) (number place : ℕ)
-    → option_and_then (λ (c : List (List Constraint)). constraint_at c number place) clause ≡ in_place (option_and_then (λ (c : List (List Constraint)). item_at c number) clause) place
-in_place_is None number place = refl
-in_place_is (Some clause) number place = refl
+pub constraint_in_is : (clause : Option (List (List Constraint))) (number index : ℕ)
+    → option_and_then (λ (c : List (List Constraint)). constraint_at c number index) clause ≡ constraint_in (option_and_then (λ (c : List (List Constraint)). item_at c number) clause) index
+constraint_in_is None number index = refl
+constraint_in_is (Some clause) number index = refl
 
-pub place_in : (alternative : Option (List Constraint)) (place : ℕ) (c : Constraint) → in_place alternative place ≡ Some c → (1 ≤ place) × (place ≤ option_map_or length alternative 0)
-place_in None place c is = cc
-place_in (Some constraints) zero c is = cc
-place_in (Some constraints) (suc before) c is = let within = slice_get_within constraints before c is in (omega arith, omega arith)
+pub index_in : (alternative : Option (List Constraint)) (index : ℕ) (c : Constraint) → constraint_in alternative index ≡ Some c → (1 ≤ index) × (index ≤ option_map_or length alternative 0)
+index_in None index c is = cc
+index_in (Some constraints) zero c is = cc
+index_in (Some constraints) (suc before) c is = let within = slice_get_within constraints before c is in (omega arith, omega arith)
 
-pub place_out : (alternative : Option (List Constraint)) (place : ℕ) → in_place alternative place ≡ None → 1 ≤ place → option_map_or length alternative 0 < place
-place_out None place is low = omega arith
-place_out (Some constraints) zero is low = absurd (omega arith)
-place_out (Some constraints) (suc before) is low = let past = slice_get-none constraints before is in omega arith
+pub index_out : (alternative : Option (List Constraint)) (index : ℕ) → constraint_in alternative index ≡ None → 1 ≤ index → option_map_or length alternative 0 < index
+index_out None index is low = omega arith
+index_out (Some constraints) zero is low = absurd (omega arith)
+index_out (Some constraints) (suc before) is low = let past = slice_get-none constraints before is in omega arith
 
 -- ---- the picks of a path
 
 module _ (graph : Tfpg) (log : Logbook) where
-  -- the constraint in a place of the alternative of a frame
+  -- the constraint with this number in the alternative of a frame
   abbrev pub of_frame : Option Frame → ℕ → Option Constraint
-  of_frame frame place = option_and_then (λ (f : Frame). option_and_then (λ clause. constraint_at clause f.alternative place) (alternatives graph log f.name)) frame
+  of_frame frame index = option_and_then (λ (f : Frame). option_and_then (λ clause. constraint_at clause f.alternative index) (alternatives graph log f.name)) frame
 
   -- the alternative of a frame
-  abbrev pub chosen : Frame → Option (List Constraint)
-  chosen frame = option_and_then (λ clause. item_at clause frame.alternative) (alternatives graph log frame.name)
+  abbrev pub alternative_of : Frame → Option (List Constraint)
+  alternative_of frame = option_and_then (λ clause. item_at clause frame.alternative) (alternatives graph log frame.name)
 
   -- The reason is a pick at one of the splits of these frames.
   pub record IsPickOf (start : ℕ) (frames : List Frame) (r : Reason) : Type 0 where
     pub k : ℕ
-    pub place : ℕ
+    pub index : ℕ
     pub within : k < length frames
-    pub is : r ≡ Pick (start + k) place
+    pub is : r ≡ Pick (start + k) index
 
   pub picks_are : (start : ℕ) (frames : List Frame) (i : ℕ) (r : Reason) → slice_get (picks_of_from graph log start frames) i ≡ Some r → IsPickOf start frames r
   picks_are start [] i r is = cc
   picks_are start (frame ∷ deeper) i r is =
-      elim (slice_get-append_cases (picks_from start 1 (place_count graph log frame)) (picks_of_from graph log (start + 1) deeper) i r is) [
+      elim (slice_get-append_cases (picks_from start 1 (constraint_count graph log frame)) (picks_of_from graph log (start + 1) deeper) i r is) [
         | inl first ↦
-            let pick = pick_of start 1 (place_count graph log frame) i r first in
+            let pick = pick_of start 1 (constraint_count graph log frame) i r first in
             let same : start ≡ start + 0 = omega arith in
-            record { k = 0; place = pick.0; within = omega arith; is = pick.1 ∙ ap (λ (n : ℕ). Pick n pick.0) same }
+            record { k = 0; index = pick.0; within = omega arith; is = pick.1 ∙ ap (λ (n : ℕ). Pick n pick.0) same }
         | inr others ↦
             let pick = picks_are (start + 1) deeper others.0 r others.1 in
             let same : start + 1 + pick.k ≡ start + suc pick.k = omega arith in
-            record { k = suc pick.k; place = pick.place; within = (let w = pick.within in omega arith); is = pick.is ∙ ap (λ (n : ℕ). Pick n pick.place) same }
+            record { k = suc pick.k; index = pick.index; within = (let w = pick.within in omega arith); is = pick.is ∙ ap (λ (n : ℕ). Pick n pick.index) same }
       ]
 
   -- each constraint of an alternative on the path is picked
-  pub picks_have : (start : ℕ) (frames : List Frame) (k place : ℕ) (c : Constraint) → of_frame (slice_get frames k) place ≡ Some c
-      → (i : ℕ) × (slice_get (picks_of_from graph log start frames) i ≡ Some (Pick (start + k) place))
-  picks_have start [] k place c is = cc
-  picks_have start (frame ∷ deeper) zero place c is =
-      let range = place_in (chosen frame) place c (sym (in_place_is (alternatives graph log frame.name) frame.alternative place) ∙ is) in
-      first place range.0 range.1
+  pub picks_have : (start : ℕ) (frames : List Frame) (k index : ℕ) (c : Constraint) → of_frame (slice_get frames k) index ≡ Some c
+      → (i : ℕ) × (slice_get (picks_of_from graph log start frames) i ≡ Some (Pick (start + k) index))
+  picks_have start [] k index c is = cc
+  picks_have start (frame ∷ deeper) zero index c is =
+      let range = index_in (alternative_of frame) index c (sym (constraint_in_is (alternatives graph log frame.name) frame.alternative index) ∙ is) in
+      first index range.0 range.1
     where
-      first : (p : ℕ) → 1 ≤ p → p ≤ place_count graph log frame → (i : ℕ) × (slice_get (picks_of_from graph log start (frame ∷ deeper)) i ≡ Some (Pick (start + 0) p))
+      first : (p : ℕ) → 1 ≤ p → p ≤ constraint_count graph log frame → (i : ℕ) × (slice_get (picks_of_from graph log start (frame ∷ deeper)) i ≡ Some (Pick (start + 0) p))
       first zero low high = absurd (omega arith)
       first (suc before) low high =
-          let same_place : 1 + before ≡ suc before = omega arith in
+          let same_index : 1 + before ≡ suc before = omega arith in
           let same_split : start ≡ start + 0 = omega arith in (
             before,
-            slice_get-append_some (picks_from start 1 (place_count graph log frame)) (picks_of_from graph log (start + 1) deeper) before (Pick (start + 0) (suc before))
-                (pick_at start 1 (place_count graph log frame) before (omega arith)
-                ∙ ap (λ (n : ℕ). Some (Pick start n)) same_place
+            slice_get-append_some (picks_from start 1 (constraint_count graph log frame)) (picks_of_from graph log (start + 1) deeper) before (Pick (start + 0) (suc before))
+                (pick_at start 1 (constraint_count graph log frame) before (omega arith)
+                ∙ ap (λ (n : ℕ). Some (Pick start n)) same_index
                 ∙ ap (λ (n : ℕ). Some (Pick n (suc before))) same_split),
           )
-  picks_have start (frame ∷ deeper) (suc k) place c is =
-      let there = picks_have (start + 1) deeper k place c is in
+  picks_have start (frame ∷ deeper) (suc k) index c is =
+      let there = picks_have (start + 1) deeper k index c is in
       let same : start + 1 + k ≡ start + suc k = omega arith in
-      let front = picks_from start 1 (place_count graph log frame) in
-      (length front + there.0, slice_get-append_right front (picks_of_from graph log (start + 1) deeper) there.0 ∙ there.1 ∙ ap (λ (n : ℕ). Some (Pick n place)) same)
+      let front = picks_from start 1 (constraint_count graph log frame) in
+      (length front + there.0, slice_get-append_right front (picks_of_from graph log (start + 1) deeper) there.0 ∙ there.1 ∙ ap (λ (n : ℕ). Some (Pick n index)) same)
 
   pub picks_last : (start : ℕ) (frames : List Frame) (frame : Frame)
-      → picks_of_from graph log start (frames ++ frame ∷ []) ≡ picks_of_from graph log start frames ++ picks_from (start + length frames) 1 (place_count graph log frame)
+      → picks_of_from graph log start (frames ++ frame ∷ []) ≡ picks_of_from graph log start frames ++ picks_from (start + length frames) 1 (constraint_count graph log frame)
   picks_last start [] frame =
       let same : start ≡ start + 0 = omega arith in
-      append-nil (picks_from start 1 (place_count graph log frame)) ∙ ap (λ (n : ℕ). picks_from n 1 (place_count graph log frame)) same
+      append-nil (picks_from start 1 (constraint_count graph log frame)) ∙ ap (λ (n : ℕ). picks_from n 1 (constraint_count graph log frame)) same
   picks_last start (first ∷ frames) frame =
       let same : start + 1 + length frames ≡ start + suc (length frames) = omega arith in
-      ap (λ (rs : List Reason). picks_from start 1 (place_count graph log first) ++ rs) (picks_last (start + 1) frames frame)
-      ∙ sym (append_assoc (picks_from start 1 (place_count graph log first)) (picks_of_from graph log (start + 1) frames) (picks_from (start + 1 + length frames) 1 (place_count graph log frame)))
-      ∙ ap (λ (n : ℕ). (picks_from start 1 (place_count graph log first) ++ picks_of_from graph log (start + 1) frames) ++ picks_from n 1 (place_count graph log frame)) same
+      ap (λ (rs : List Reason). picks_from start 1 (constraint_count graph log first) ++ rs) (picks_last (start + 1) frames frame)
+      ∙ sym (append_assoc (picks_from start 1 (constraint_count graph log first)) (picks_of_from graph log (start + 1) frames) (picks_from (start + 1 + length frames) 1 (constraint_count graph log frame)))
+      ∙ ap (λ (n : ℕ). (picks_from start 1 (constraint_count graph log first) ++ picks_of_from graph log (start + 1) frames) ++ picks_from n 1 (constraint_count graph log frame)) same
 
   -- the picks of the first frames are the first picks
   pub picks_take : (start : ℕ) (frames : List Frame) (n m : ℕ) → n ≤ m
@@ -134,7 +134,7 @@ module _ (graph : Tfpg) (log : Logbook) where
   picks_take start frames (suc n) zero less = absurd (omega arith)
   picks_take start [] (suc n) (suc m) less = refl
   picks_take start (frame ∷ deeper) (suc n) (suc m) less =
-      let front = picks_from start 1 (place_count graph log frame) in
+      let front = picks_from start 1 (constraint_count graph log frame) in
       let few = picks_of_from graph log (start + 1) (take n deeper) in
       let many = picks_of_from graph log (start + 1) (take m deeper) in
       ap (λ (count : ℕ). take count (front ++ many)) (length-append front few) ∙ take-append-add front many (length few) ∙ ap (λ (rs : List Reason). front ++ rs) (picks_take (start + 1) deeper n m (omega arith))

@@ -1,16 +1,14 @@
--- What settling, looking and searching on come to.
+-- What calls of a search after another come to.
 use Rattle.std.proofs.Common.{◌≡◌, ℕ, ◌+◌, ◌≤◌, List, Option, Some, refl, subst, ◌∙◌, arith}
-use Rattle.std.specs.Prelude.{Result, Ok, Err, IfOk}
+use Rattle.std.specs.Prelude.{Result}
 use Rattle.tfpg_base.specs.declared.no_memory.NoMemory.{NoMemory}
 use Rattle.tfpg_graph.specs.Graph.{Tfpg}
 use Rattle.tfpg_log.specs.Log.{Logbook}
 use Rattle.tfpg_evidence.specs.declared.step.Step.{Step}
 use Rattle.tfpg_clause.specs.declared.path.Frame.{Frame}
 use Rattle.tfpg_search.specs.declared.found.Found.{Found}
-use Rattle.tfpg_search.specs.declared.search.Look.{Look}
-use Rattle.tfpg_search.specs.declared.search.Look.TheVariants.{Violated, Shown, Closed}
-use Rattle.tfpg_search.specs.Searching.{Searching, IsAtItsLeaf}
-use Rattle.tfpg_search.specs.inside.Moves.{Grows, KeepsSet, IsSettled, Sees, Looking, FoundAtLeaf, SearchesOn}
+use Rattle.tfpg_search.specs.Searching.{Searching}
+use Rattle.tfpg_search.specs.inside.Moves.{Grows, KeepsSet, FoundAtLeaf, SearchesOn}
 use Rattle.tfpg_search.proofs.Growing.{grows_on}
 
 pub keeps_on : (a b c : Searching) → KeepsSet a b → KeepsSet b c → KeepsSet a c
@@ -25,13 +23,6 @@ module _ (graph : Tfpg) (log : Logbook) where
       grows_on graph log initial.reach initial.path path before between after splits more end one
       (subst (λ (fs : List Frame). Grows graph log initial.reach fs between after more end) path_is
       (subst (λ (r : List ℕ). Grows graph log r middle.path between after more end) keeps.reach other))
-
-  pub look_ok : (old new : Searching) (before after : List Step) (result : Result Look NoMemory) → IfOk result (Sees graph log new) → IsAtItsLeaf graph log new → IsSettled graph log new
-      → Grows graph log old.reach old.path before after 0 (Some new.path) → Looking graph log old new before after result
-  look_ok old new before after (Ok (Violated name)) sees stands settled grows = (stands, settled.all_entered, sees, grows)
-  look_ok old new before after (Ok (Shown trace)) sees stands settled grows = (stands, settled.all_entered, sees, grows)
-  look_ok old new before after (Ok Closed) sees stands settled grows = absurd sees
-  look_ok old new before after (Err no_memory) sees stands settled grows = (Some new.path, grows)
 
   -- what was grown, and no split more
   pub grows_still : (initial middle : Searching) (path : List Frame) (before between after : List Step) (splits : ℕ) (end : Option (List Frame)) → KeepsSet initial middle → middle.path ≡ path
@@ -52,7 +43,3 @@ module _ (graph : Tfpg) (log : Logbook) where
     within = within;
     ends = ends;
   }
-
--- there is one more to spend
-pub more_spent : (spent budget : ℕ) → spent ≤ budget → (spent ≡ budget → ⊥) → spent + 1 ≤ budget
-more_spent spent budget within not_all = grind arith

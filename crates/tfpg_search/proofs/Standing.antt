@@ -18,8 +18,8 @@ use Rattle.tfpg_base.specs.Choice.{item_at}
 use Rattle.tfpg_clause.specs.Paths.{framed, stated_by, new_frame}
 use Rattle.tfpg_clause.specs.declared.path.Frame.{Frame}
 use Rattle.tfpg_search.specs.Leaf.{Leaf, pick_reasons, IsStated}
-use Rattle.tfpg_search.specs.Picks.{IsAllowed, place_count, picks_from, picks_of}
-use Rattle.tfpg_search.specs.inside.Leaving.{places_at}
+use Rattle.tfpg_search.specs.Picks.{IsAllowed, constraint_count, picks_from, picks_of}
+use Rattle.tfpg_search.specs.inside.Leaving.{constraint_count_at}
 use Rattle.tfpg_search.specs.Searching.{Searching, IsAtItsLeaf, HasEnteredAll}
 use Rattle.tfpg_search.specs.inside.Leaving.{KeepsBounds, Leaves, Pushing}
 use Rattle.tfpg_search.proofs.Names.{range_push}
@@ -35,11 +35,11 @@ module _ (facts stated other : Reason → Option Constraint) (leaf : Leaf) where
 
   -- all is stated by other reasons that state what the picks do
   pub restated : IsStated facts stated leaf → ((r : Reason) (c : Constraint) → facts r ≡ Some c → other r ≡ Some c)
-      → ((place : ℕ) (r : Reason) (c : Constraint) → slice_get (pick_reasons leaf) place ≡ Some r → stated r ≡ Some c → other r ≡ Some c) → IsStated facts other leaf
+      → ((index : ℕ) (r : Reason) (c : Constraint) → slice_get (pick_reasons leaf) index ≡ Some r → stated r ≡ Some c → other r ≡ Some c) → IsStated facts other leaf
   restated is wider same = record {
     wider = wider;
     bounds = is.bounds;
-    picks = λ place pick at. through (slice_get (pick_reasons leaf) place) pick.constraint (λ r there states. same place r pick.constraint there states) (is.picks place pick at);
+    picks = λ index pick at. through (slice_get (pick_reasons leaf) index) pick.constraint (λ r there states. same index r pick.constraint there states) (is.picks index pick at);
   }
 
 -- what is read past the end
@@ -47,18 +47,18 @@ abbrev no_frame : Frame
 no_frame = record { name = OrMay 0 0 0; alternative = 0; alternatives = 0 }
 
 module _ (graph : Tfpg) (log : Logbook) where
-  pub of_same : (one other : Option Frame) (place : ℕ) (c : Constraint) → ((f : Frame) → one ≡ Some f → other ≡ Some f) → of_frame graph log one place ≡ Some c → of_frame graph log other place ≡ Some c
-  of_same None other place c same is = cc
-  of_same (Some f) other place c same is = ap (λ (o : Option Frame). of_frame graph log o place) (same f refl) ∙ is
+  pub of_same : (one other : Option Frame) (index : ℕ) (c : Constraint) → ((f : Frame) → one ≡ Some f → other ≡ Some f) → of_frame graph log one index ≡ Some c → of_frame graph log other index ≡ Some c
+  of_same None other index c same is = cc
+  of_same (Some f) other index c same is = ap (λ (o : Option Frame). of_frame graph log o index) (same f refl) ∙ is
 
-  framed_push : (frames : List Frame) (last : Frame) (split place : ℕ) (c : Constraint) → framed graph log frames split place ≡ Some c → framed graph log (frames ++ last ∷ []) split place ≡ Some c
-  framed_push frames last zero place c is = cc
-  framed_push frames last (suc k) place c is = of_same (slice_get frames k) (slice_get (frames ++ last ∷ []) k) place c (λ f at. slice_get-append_some frames (last ∷ []) k f at) is
+  framed_push : (frames : List Frame) (last : Frame) (split index : ℕ) (c : Constraint) → framed graph log frames split index ≡ Some c → framed graph log (frames ++ last ∷ []) split index ≡ Some c
+  framed_push frames last zero index c is = cc
+  framed_push frames last (suc k) index c is = of_same (slice_get frames k) (slice_get (frames ++ last ∷ []) k) index c (λ f at. slice_get-append_some frames (last ∷ []) k f at) is
 
   module _ (reach : List ℕ) where
-    pub states_more : (frames others : List Frame) → ((split place : ℕ) (c : Constraint) → framed graph log frames split place ≡ Some c → framed graph log others split place ≡ Some c)
+    pub states_more : (frames others : List Frame) → ((split index : ℕ) (c : Constraint) → framed graph log frames split index ≡ Some c → framed graph log others split index ≡ Some c)
         → (r : Reason) (c : Constraint) → stated_by graph log reach frames r ≡ Some c → stated_by graph log reach others r ≡ Some c
-    states_more frames others more (Pick split place) c is = more split place c is
+    states_more frames others more (Pick split index) c is = more split index c is
     states_more frames others more (Zero node) c is = is
     states_more frames others more (Top node) c is = is
     states_more frames others more (Unreached node horizon) c is = is
@@ -68,7 +68,7 @@ module _ (graph : Tfpg) (log : Logbook) where
 
     -- a fact is stated on any path
     pub fact_stated : (frames : List Frame) (r : Reason) (c : Constraint) → fact graph log reach r ≡ Some c → stated_by graph log reach frames r ≡ Some c
-    fact_stated frames (Pick split place) c is = cc
+    fact_stated frames (Pick split index) c is = cc
     fact_stated frames (Zero node) c is = is
     fact_stated frames (Top node) c is = is
     fact_stated frames (Unreached node horizon) c is = is
@@ -105,7 +105,7 @@ module _ (graph : Tfpg) (log : Logbook) where
           stated =
               restated (fact graph log old.reach) (stated_by graph log old.reach old.path) (stated_by graph log old.reach (old.path ++ frame ∷ [])) old.leaf at.stated
               (λ r c is. fact_stated old.reach (old.path ++ frame ∷ []) r c is)
-              (λ place r c there is. states_more old.reach old.path (old.path ++ frame ∷ []) (framed_push old.path frame) r c is);
+              (λ index r c there is. states_more old.reach old.path (old.path ++ frame ∷ []) (framed_push old.path frame) r c is);
           picks = record {
             few = omega arith;
             many = omega arith;
@@ -133,22 +133,22 @@ module _ (graph : Tfpg) (log : Logbook) where
       whole_path : take (length old.entered + 1) old.path ≡ take (length old.entered) old.path ++ last_frame ∷ []
       whole_path = take_more old.path (length old.entered) no_frame (let one = one_left in omega arith)
 
-      last_places : places_at graph log old.path (length old.entered + 1) ≡ place_count graph log last_frame
-      last_places =
+      last_indexes : constraint_count_at graph log old.path (length old.entered + 1) ≡ constraint_count graph log last_frame
+      last_indexes =
           let number : length old.entered + 1 ≡ suc (length old.entered) = omega arith in
-          ap (λ (n : ℕ). option_map_or (place_count graph log) (item_at old.path n) 0) number
-          ∙ ap (λ (o : Option Frame). option_map_or (place_count graph log) o 0) last_at
+          ap (λ (n : ℕ). option_map_or (constraint_count graph log) (item_at old.path n) 0) number
+          ∙ ap (λ (o : Option Frame). option_map_or (constraint_count graph log) o 0) last_at
 
-      all_picks : (leaf : Leaf) → pick_reasons leaf ≡ pick_reasons old.leaf ++ picks_from (length old.entered + 1) 1 (places_at graph log old.path (length old.entered + 1))
+      all_picks : (leaf : Leaf) → pick_reasons leaf ≡ pick_reasons old.leaf ++ picks_from (length old.entered + 1) 1 (constraint_count_at graph log old.path (length old.entered + 1))
           → pick_reasons leaf ≡ picks_of graph log (take (length old.entered + 1) old.path)
       all_picks leaf pushed =
           let front : List Frame = take (length old.entered) old.path in
           let short : length front ≡ length old.entered = length-take-le (length old.entered) old.path (let one = one_left in omega arith) in
           let number : 1 + length front ≡ length old.entered + 1 = omega arith in
           pushed
-          ∙ ap (λ (rs : List Reason). rs ++ picks_from (length old.entered + 1) 1 (places_at graph log old.path (length old.entered + 1))) at.picks.reasons
-          ∙ ap (λ (n : ℕ). picks_of graph log front ++ picks_from (length old.entered + 1) 1 n) last_places
-          ∙ ap (λ (n : ℕ). picks_of graph log front ++ picks_from n 1 (place_count graph log last_frame)) (sym number)
+          ∙ ap (λ (rs : List Reason). rs ++ picks_from (length old.entered + 1) 1 (constraint_count_at graph log old.path (length old.entered + 1))) at.picks.reasons
+          ∙ ap (λ (n : ℕ). picks_of graph log front ++ picks_from (length old.entered + 1) 1 n) last_indexes
+          ∙ ap (λ (n : ℕ). picks_of graph log front ++ picks_from n 1 (constraint_count graph log last_frame)) (sym number)
           ∙ sym (picks_last graph log 1 front last_frame)
           ∙ ap (λ (fs : List Frame). picks_of graph log fs) (sym whole_path)
 
@@ -166,7 +166,7 @@ module _ (graph : Tfpg) (log : Logbook) where
       ]
 
       pub enter_stands : (leaf : Leaf) → Pushing graph log old.reach old.path old.leaf leaf
-          → pick_reasons leaf ≡ pick_reasons old.leaf ++ picks_from (length old.entered + 1) 1 (places_at graph log old.path (length old.entered + 1))
+          → pick_reasons leaf ≡ pick_reasons old.leaf ++ picks_from (length old.entered + 1) 1 (constraint_count_at graph log old.path (length old.entered + 1))
           → IsAtItsLeaf graph log (record old { entered = old.entered ++ length (pick_reasons old.leaf) ∷ []; leaf = leaf })
       enter_stands leaf pushing pushed = record {
         reach_is = at.reach_is;

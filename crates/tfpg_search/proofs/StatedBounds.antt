@@ -1,17 +1,16 @@
 -- Which facts bound the time of a node.
 use Rattle.std.proofs.Common.{◌≡◌, ℕ, zero, suc, ◌+◌, ◌-◌, ◌<◌, ◌≤◌, Bool, true, false, not, ◌&&◌, leb, ltb, List, length, Option, Some, None, refl, sym, ◌∙◌, ap, inl, inr, ⊎_elim, ◌⊎◌, arith}
-use Rattle.std.specs.Prelude.{pos, ℤ, neg_ℤ, unwrap_or, option_map, option_and_then}
+use Rattle.std.specs.Prelude.{pos, unwrap_or, option_map, option_and_then}
 use Rattle.std.proofs.lemmas.Bool.{leb-true, le-leb, lt-ltb, and_parts, and_from, not-true}
 use Rattle.std.specs.Bool.{then_some}
-use Rattle.std.proofs.lemmas.Int.{ints}
 use Rattle.tfpg_base.specs.declared.limits.TheConstants.{NEVER}
-use Rattle.tfpg_base.specs.declared.constraint.Constraint.{Constraint}
 use Rattle.tfpg_graph.specs.Graph.{Tfpg, lag_at}
 use Rattle.tfpg_graph.specs.Reach.{is_among}
 use Rattle.tfpg_log.specs.declared.event.Event.{Event}
 use Rattle.tfpg_log.specs.declared.event.Event.TheVariants.{Alarm, Silent, Sweep, Tick, Mode}
 use Rattle.tfpg_log.specs.Log.{Logbook, IsOrdered, now_of, event_at, alarm_event, quiet_at, time_of_event}
 use Rattle.tfpg_log.proofs.AlarmEvents.{alarm_event_is}
+use Rattle.tfpg_log.proofs.Order.{event_by_now}
 use Rattle.tfpg_log.proofs.SilenceTimes.{silence_at}
 use Rattle.tfpg_evidence.specs.declared.reason.Reason.{Reason}
 use Rattle.tfpg_evidence.specs.declared.reason.Reason.TheVariants.{Zero, Top, Unreached, From, Upto, Quiet, Pick}
@@ -19,27 +18,7 @@ use Rattle.tfpg_base.specs.Bounds.{at_most, at_least}
 use Rattle.tfpg_clause.specs.Facts.{fact, from_alarm, upto_alarm}
 use Rattle.tfpg_base.proofs.lists.Choices.{then_some-true}
 use Rattle.tfpg_clause.proofs.InRange.{now_in_range}
-use Rattle.tfpg_clause.proofs.FactsMet.{event_by_now}
-
--- two lower bounds that are the same are of one node, at one time
-at_least-same : (u v a b : ℕ) → at_least u a ≡ at_least v b → (u ≡ v) × (a ≡ b)
-at_least-same u v a b same =
-    let right : u + 1 ≡ v + 1 = ap (λ (c : Constraint). c.right) same in
-    let most : neg_ℤ (pos a) ≡ neg_ℤ (pos b) = ap (λ (c : Constraint). c.most) same in
-    (omega arith, omega (arith, ints))
-
--- and two upper bounds
-at_most-same : (u v a b : ℕ) → at_most u (pos a) ≡ at_most v (pos b) → (u ≡ v) × (a ≡ b)
-at_most-same u v a b same =
-    let left : u + 1 ≡ v + 1 = ap (λ (c : Constraint). c.left) same in
-    let most : pos a ≡ pos b = ap (λ (c : Constraint). c.most) same in
-    (omega arith, omega (arith, ints))
-
--- an upper bound is no lower bound
-at_most-least : (u v b : ℕ) (most : ℤ) → at_most u most ≡ at_least v b → ⊥
-at_most-least u v b most same =
-    let left : u + 1 ≡ 0 = ap (λ (c : Constraint). c.left) same in
-    omega arith
+use Rattle.tfpg_clause.proofs.Bounded.{at_least-same, at_most-same, at_most-least}
 
 -- The set does not reach the node, which is not active by a horizon up to now.
 pub record IsUnreached (log : Logbook) (reach : List ℕ) (node bound : ℕ) : Type 0 where
@@ -137,7 +116,7 @@ module _ (graph : Tfpg) (log : Logbook) (reach : List ℕ) (node bound : ℕ) wh
   low_cause (From number) is = low_of_alarm number (event_at log number) refl is
   low_cause (Upto number) is = absurd (no_low number (event_at log number) is)
   low_cause (Quiet number u) is = low_of_silence number u (quiet_at graph log number u) refl is
-  low_cause (Pick split place) is = absurd cc
+  low_cause (Pick split index) is = absurd cc
 
   high_of_alarm : (number : ℕ) (event : Option Event) → event_at log number ≡ event → option_and_then upto_alarm event ≡ Some (at_most node (pos bound)) →
       IsActiveBy log node bound
@@ -181,12 +160,12 @@ module _ (graph : Tfpg) (log : Logbook) (reach : List ℕ) (node bound : ℕ) wh
   high_cause (From number) is = absurd (no_high_of_alarm number (event_at log number) is)
   high_cause (Upto number) is = inr (high_of_alarm number (event_at log number) refl is)
   high_cause (Quiet number u) is = absurd (no_high_of_silence u (quiet_at graph log number u) is)
-  high_cause (Pick split place) is = absurd cc
+  high_cause (Pick split index) is = absurd cc
 
 -- an event of a number is not after now
 pub number_by_now : (log : Logbook) (number : ℕ) (event : Event) → IsOrdered log → event_at log number ≡ Some event → time_of_event event ≤ now_of log
 number_by_now log zero event ordered at = absurd cc
-number_by_now log (suc place) event ordered at = event_by_now log place event ordered at
+number_by_now log (suc index) event ordered at = event_by_now log index event ordered at
 
 module _ (graph : Tfpg) (log : Logbook) (reach : List ℕ) (node : ℕ) (ordered : IsOrdered log) where
   -- no fact gives a greater lower bound than after now

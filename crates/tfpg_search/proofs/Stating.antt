@@ -33,16 +33,16 @@ module _ (stated : Reason → Option Constraint) (reasons others : List Reason) 
       either
 
   -- and that of an upper bound
-  pub tagged_by-ceiling : (why : Why) (u place : ℕ) → (why ≡ Ceiling u) ⊎ (why ≡ Given place) → slice_get others place ≡ slice_get reasons place →
+  pub tagged_by-ceiling : (why : Why) (u index : ℕ) → (why ≡ Ceiling u) ⊎ (why ≡ Given index) → slice_get others index ≡ slice_get reasons index →
       tagged_by stated others why ≡ tagged_by stated reasons why
-  tagged_by-ceiling why u place either same = ⊎_elim
+  tagged_by-ceiling why u index either same = ⊎_elim
       (λ (is : why ≡ Ceiling u). ap (tagged_by stated others) is ∙ sym (ap (tagged_by stated reasons) is))
-      (λ (is : why ≡ Given place). ap (tagged_by stated others) is ∙ ap (option_and_then stated) same ∙ sym (ap (tagged_by stated reasons) is))
+      (λ (is : why ≡ Given index). ap (tagged_by stated others) is ∙ ap (option_and_then stated) same ∙ sym (ap (tagged_by stated reasons) is))
       either
 
 -- the bounds stay stated where their reasons stay
 pub AreBoundsStated-same : (fact : Reason → Option Constraint) (demands : Demands) (picks : List Pick) (reasons others : List Reason) → IsTagged demands reasons →
-    ((place : ℕ) → place < 2 * length demands.bounds → slice_get others place ≡ slice_get reasons place) →
+    ((index : ℕ) → index < 2 * length demands.bounds → slice_get others index ≡ slice_get reasons index) →
     AreBoundsStated fact (leaf_of demands reasons) → AreBoundsStated fact (leaf_of (demands_of demands.bounds picks) others)
 AreBoundsStated-same fact demands picks reasons others tagged same stated = record {
   floors = λ u b at.
@@ -54,11 +54,11 @@ AreBoundsStated-same fact demands picks reasons others tagged same stated = reco
       ∙ stated.ceilings u b at;
 }
 
--- The place is that of the reason of one bound of the node.
-pub record IsPlaceOf (demands : Demands) (v place : ℕ) : Type 0 where
-  pub inside : place < 2 * length demands.bounds
-  pub not_lower : (u : ℕ) → u ≢ v → u < length demands.bounds → u ≢ place
-  pub not_upper : (u : ℕ) → u ≢ v → length demands.bounds + u ≢ place
+-- The index is that of the reason of one bound of the node.
+pub record IsIndexOf (demands : Demands) (v index : ℕ) : Type 0 where
+  pub inside : index < 2 * length demands.bounds
+  pub not_lower : (u : ℕ) → u ≢ v → u < length demands.bounds → u ≢ index
+  pub not_upper : (u : ℕ) → u ≢ v → length demands.bounds + u ≢ index
 
 module _ (demands : Demands) (reasons : List Reason) (tagged : IsTagged demands reasons) where
   -- the reasons of the picks, after a push
@@ -79,14 +79,14 @@ module _ (demands : Demands) (reasons : List Reason) (tagged : IsTagged demands 
 module _ (fact stated : Reason → Option Constraint) (demands : Demands) (reasons : List Reason) (tagged : IsTagged demands reasons)
     (is_stated : IsStated fact stated (leaf_of demands reasons)) where
   -- after a write of the bounds of one node, and of a reason
-  pub IsStated-write : (v : ℕ) (new : Bounds) (place : ℕ) (reason : Reason) → IsPlaceOf demands v place →
-      tagged_by fact (set reasons place reason) new.floor_why ≡ Some (at_least v new.floor) →
-      tagged_by fact (set reasons place reason) new.ceiling_why ≡ Some (at_most v (pos new.ceiling)) →
-      IsStated fact stated (leaf_of (demands_of (set demands.bounds v new) demands.picks) (set reasons place reason))
-  IsStated-write v new place reason apart low high =
-      let others : List Reason = set reasons place reason in
+  pub IsStated-write : (v : ℕ) (new : Bounds) (index : ℕ) (reason : Reason) → IsIndexOf demands v index →
+      tagged_by fact (set reasons index reason) new.floor_why ≡ Some (at_least v new.floor) →
+      tagged_by fact (set reasons index reason) new.ceiling_why ≡ Some (at_most v (pos new.ceiling)) →
+      IsStated fact stated (leaf_of (demands_of (set demands.bounds v new) demands.picks) (set reasons index reason))
+  IsStated-write v new index reason apart low high =
+      let others : List Reason = set reasons index reason in
       let picks_same : pick_reasons (leaf_of (demands_of (set demands.bounds v new) demands.picks) others) ≡ pick_reasons (leaf_of demands reasons) =
-      ap (λ (n : ℕ). drop (2 * n) others) (length-set demands.bounds v new) ∙ drop-set-lt (2 * length demands.bounds) reasons place reason apart.inside in
+      ap (λ (n : ℕ). drop (2 * n) others) (length-set demands.bounds v new) ∙ drop-set-lt (2 * length demands.bounds) reasons index reason apart.inside in
       record {
         wider = is_stated.wider;
         bounds = record {
@@ -96,7 +96,7 @@ module _ (fact stated : Reason → Option Constraint) (demands : Demands) (reaso
               ∙ sym (ap (λ (n : ℕ). Some (at_least n b.floor)) here.0 ∙ ap (λ (c : Bounds). Some (at_least v c.floor)) here.1))
               (λ (there : (u ≢ v) × Bounded demands u b).
               tagged_by-floor fact reasons others b.floor_why u (tagged.floors u b there.1)
-              (slice_get-set_other reasons place u reason (apart.not_lower u there.0 (slice_get_within demands.bounds u b there.1)))
+              (slice_get-set_other reasons index u reason (apart.not_lower u there.0 (slice_get_within demands.bounds u b there.1)))
               ∙ is_stated.bounds.floors u b there.1)
               (Bounded-set demands.bounds demands.picks v new u b at);
           ceilings = λ u b at. ⊎_elim
@@ -105,7 +105,7 @@ module _ (fact stated : Reason → Option Constraint) (demands : Demands) (reaso
               ∙ sym (ap (λ (n : ℕ). Some (at_most n (pos b.ceiling))) here.0 ∙ ap (λ (c : Bounds). Some (at_most v (pos c.ceiling))) here.1))
               (λ (there : (u ≢ v) × Bounded demands u b).
               tagged_by-ceiling fact reasons others b.ceiling_why u (length demands.bounds + u) (tagged.ceilings u b there.1)
-              (slice_get-set_other reasons place (length demands.bounds + u) reason (apart.not_upper u there.0))
+              (slice_get-set_other reasons index (length demands.bounds + u) reason (apart.not_upper u there.0))
               ∙ is_stated.bounds.ceilings u b there.1)
               (Bounded-set demands.bounds demands.picks v new u b at);
         };
@@ -122,7 +122,7 @@ module _ (fact stated : Reason → Option Constraint) (demands : Demands) (reaso
       record {
         wider = is_stated.wider;
         bounds = AreBoundsStated-same fact demands (demands.picks ++ pick ∷ []) reasons (reasons ++ reason ∷ []) tagged
-            (λ place before. slice_get-push_before reasons reason place (let o = tagged.one_each in omega arith))
+            (λ index before. slice_get-push_before reasons reason index (let o = tagged.one_each in omega arith))
             is_stated.bounds;
         picks = λ k p at.
             ap (λ (rs : List Reason). option_and_then stated (slice_get rs k)) (pick_reasons-push demands reasons tagged constraint tag reason)
@@ -143,7 +143,7 @@ module _ (fact stated : Reason → Option Constraint) (demands : Demands) (reaso
   IsStated-pop len = record {
     wider = is_stated.wider;
     bounds = AreBoundsStated-same fact demands (take len demands.picks) reasons (take (2 * length demands.bounds + len) reasons) tagged
-        (λ place before. slice_get-take (2 * length demands.bounds + len) reasons place (omega arith))
+        (λ index before. slice_get-take (2 * length demands.bounds + len) reasons index (omega arith))
         is_stated.bounds;
     picks = λ k p at.
         let kept = slice_get-taken len demands.picks k p at in

@@ -1,4 +1,4 @@
--- Tags stay the places of their reasons.
+-- Tags stay the indexes of their reasons.
 use Rattle.std.proofs.Common.{◌≡◌, ◌≢◌, ℕ, ◌+◌, ◌*◌, List, [], ◌∷◌, ◌++◌, length, set, Some, sym, ◌∙◌, ap, inl, inr, ⊎_elim, ◌⊎◌, arith, length-append}
 use Rattle.std.specs.Prelude.{slice_get}
 use Rattle.std.proofs.lemmas.List.{length-set}
@@ -15,26 +15,26 @@ use Rattle.tfpg_diff.proofs.Changes.{Bounded-set}
 use Rattle.tfpg_search.specs.inside.Tags.{IsTagged}
 use Rattle.tfpg_base.proofs.lists.Written.{slice_get-push_cases}
 
--- The tag is one that no reason set, or that of a place.
+-- The tag is one that no reason set, or the index of its reason.
 abbrev pub IsEither : Why → Why → ℕ → Type 0
-IsEither why unset place = (why ≡ unset) ⊎ (why ≡ Given place)
+IsEither why unset index = (why ≡ unset) ⊎ (why ≡ Given index)
 
 -- one of both, of another equal tag and an equal node
-IsEither-same : (unset : ℕ → Why) (place : ℕ → ℕ) (why other : Why) (u v : ℕ) → u ≡ v → other ≡ why → IsEither why (unset v) (place v) →
-    IsEither other (unset u) (place u)
-IsEither-same unset place why other u v node tag either = ⊎_elim
+IsEither-same : (unset : ℕ → Why) (index : ℕ → ℕ) (why other : Why) (u v : ℕ) → u ≡ v → other ≡ why → IsEither why (unset v) (index v) →
+    IsEither other (unset u) (index u)
+IsEither-same unset index why other u v node tag either = ⊎_elim
     (λ (is : why ≡ unset v). inl (tag ∙ is ∙ sym (ap unset node)))
-    (λ (is : why ≡ Given (place v)). inr (tag ∙ is ∙ sym (ap (λ (n : ℕ). Given (place n)) node)))
+    (λ (is : why ≡ Given (index v)). inr (tag ∙ is ∙ sym (ap (λ (n : ℕ). Given (index n)) node)))
     either
 
 -- after a write of the bounds of one node, and of a reason
-pub IsTagged-write : (demands : Demands) (reasons : List Reason) (v : ℕ) (new : Bounds) (place : ℕ) (reason : Reason) → IsTagged demands reasons →
+pub IsTagged-write : (demands : Demands) (reasons : List Reason) (v : ℕ) (new : Bounds) (index : ℕ) (reason : Reason) → IsTagged demands reasons →
     IsEither new.floor_why (Floor v) v → IsEither new.ceiling_why (Ceiling v) (length demands.bounds + v) →
-    IsTagged (demands_of (set demands.bounds v new) demands.picks) (set reasons place reason)
-IsTagged-write demands reasons v new place reason tagged low high =
+    IsTagged (demands_of (set demands.bounds v new) demands.picks) (set reasons index reason)
+IsTagged-write demands reasons v new index reason tagged low high =
     let as_many : length (set demands.bounds v new) ≡ length demands.bounds = length-set demands.bounds v new in
     record {
-      one_each = (let l = length-set reasons place reason in let o = tagged.one_each in omega arith);
+      one_each = (let l = length-set reasons index reason in let o = tagged.one_each in omega arith);
       floors = λ u b at. ⊎_elim
           (λ (here : (u ≡ v) × (b ≡ new)).
           IsEither-same Floor (λ (n : ℕ). n) new.floor_why b.floor_why u v here.0 (ap (λ (c : Bounds). c.floor_why) here.1) low)
@@ -45,7 +45,7 @@ IsTagged-write demands reasons v new place reason tagged low high =
           IsEither-same Ceiling (λ (n : ℕ). length demands.bounds + n) new.ceiling_why b.ceiling_why u v here.0 (ap (λ (c : Bounds). c.ceiling_why) here.1) high)
           (λ (there : (u ≢ v) × Bounded demands u b). tagged.ceilings u b there.1)
           (Bounded-set demands.bounds demands.picks v new u b at));
-      picks = λ place pick at. tagged.picks place pick at ∙ ap (λ (n : ℕ). 2 * n + place) (sym as_many);
+      picks = λ index pick at. tagged.picks index pick at ∙ ap (λ (n : ℕ). 2 * n + index) (sym as_many);
     }
 
 -- after a push of a pick and its reason
@@ -57,9 +57,9 @@ IsTagged-push demands reasons constraint tag reason tagged is =
       one_each = (let a = length-append reasons (reason ∷ []) in let b = length-append demands.picks (pick ∷ []) in let o = tagged.one_each in omega arith);
       floors = tagged.floors;
       ceilings = tagged.ceilings;
-      picks = λ place p at. ⊎_elim
-          (λ (old : slice_get demands.picks place ≡ Some p). tagged.picks place p old)
-          (λ (last : (place ≡ length demands.picks) × (pick ≡ p)).
+      picks = λ index p at. ⊎_elim
+          (λ (old : slice_get demands.picks index ≡ Some p). tagged.picks index p old)
+          (λ (last : (index ≡ length demands.picks) × (pick ≡ p)).
           ap (λ (q : Pick). q.tag) (sym last.1) ∙ is ∙ ap (λ (n : ℕ). 2 * length demands.bounds + n) (sym last.0))
-          (slice_get-push_cases demands.picks pick place p at);
+          (slice_get-push_cases demands.picks pick index p at);
     }

@@ -5,7 +5,7 @@ use Rattle.tfpg_graph.specs.Graph.{Tfpg, edges_into}
 use Rattle.tfpg_log.specs.declared.event.Event.{Event}
 use Rattle.tfpg_log.specs.Log.{Logbook, time_of_event}
 use Rattle.tfpg_evidence.specs.declared.clause_name.ClauseName.{ClauseName}
-use Rattle.tfpg_clause.specs.Clauses.{alternatives, alternatives_bound}
+use Rattle.tfpg_clause.specs.Clauses.{alternatives, alternatives_limit}
 use Rattle.tfpg_clause.specs.Order.{horizon_of}
 
 -- some accepted event has this time
@@ -26,16 +26,16 @@ pub record AreNamesAt (graph : Tfpg) (log : Logbook) (names : List ClauseName) :
   pub exact : (name : ClauseName) → Contains names name ↔ IsNameAt graph log name
 
 -- the greatest number of edges into a node
-pub record IsMostIncoming (graph : Tfpg) (most : ℕ) : Type 0 where
-  pub within : (node : ℕ) → length (edges_into graph node) ≤ most
+pub record IsMaximumIncoming (graph : Tfpg) (maximum : ℕ) : Type 0 where
+  pub within : (node : ℕ) → length (edges_into graph node) ≤ maximum
   pub node : ℕ
-  pub reached : length (edges_into graph node) ≡ most
+  pub reached : length (edges_into graph node) ≡ maximum
 
--- The budget is at least the number that is always enough: where `most` edges enter a node at most, a clause has fewer than
--- `alternatives_bound most` alternatives, and this number to the power of how many names there are is enough.
+-- The budget is at least the number that is always enough: where `maximum` edges enter a node at most, a clause has fewer than
+-- `alternatives_limit maximum` alternatives, and this number to the power of how many names there are is enough.
 pub record IsEnough (graph : Tfpg) (log : Logbook) (budget : ℕ) : Type 0 where
-  pub most : ℕ
-  pub incoming : IsMostIncoming graph most
+  pub maximum : ℕ
+  pub incoming : IsMaximumIncoming graph maximum
   pub names : List ClauseName
   pub names_are : AreNamesAt graph log names
-  pub enough : alternatives_bound most ^ length names ≤ budget
+  pub enough : alternatives_limit maximum ^ length names ≤ budget

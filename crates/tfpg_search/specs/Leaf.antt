@@ -37,8 +37,8 @@ pub record AreBoundsStated (fact : Reason → Option Constraint) (leaf : Leaf) :
 -- Each pick is stated by the reason at the same index.
 abbrev pub ArePicksStated : (Reason → Option Constraint) → Leaf → Type 0
 ArePicksStated stated leaf =
-    (place : ℕ) (pick : Pick) → slice_get leaf.demands.picks place ≡ Some pick
-    → option_and_then stated (slice_get (pick_reasons leaf) place) ≡ Some pick.constraint
+    (index : ℕ) (pick : Pick) → slice_get leaf.demands.picks index ≡ Some pick
+    → option_and_then stated (slice_get (pick_reasons leaf) index) ≡ Some pick.constraint
 
 -- All that the system demands is stated: bounds by facts, and picks by reasons that hold at the leaf. Each fact holds
 -- at the leaf.

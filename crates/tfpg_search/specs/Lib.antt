@@ -1,7 +1,7 @@
 pub use Rattle.tfpg_clause.specs.Trees
 pub use Rattle.tfpg_log.specs.Log
 pub use Rattle.tfpg_log.specs.Explains
--- What the contracts say.
+-- What the public contracts say.
 pub mod Solutions
 pub mod Live
 pub mod Leaf

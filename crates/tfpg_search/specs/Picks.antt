@@ -24,20 +24,20 @@ abbrev pub AreInRange : List Frame → Type 0
 AreInRange frames = All IsInRange frames
 
 -- how many constraints the alternative of a frame has
-abbrev pub place_count : Tfpg → Logbook → Frame → ℕ
-place_count graph log frame =
+abbrev pub constraint_count : Tfpg → Logbook → Frame → ℕ
+constraint_count graph log frame =
     option_map_or length (option_and_then (λ clause. item_at clause frame.alternative) (alternatives graph log frame.name)) 0
 
--- so many picks at the split of this number, from this place on
+-- so many picks at the split of this number, from this constraint on
 abbrev pub picks_from : ℕ → ℕ → ℕ → List Reason
-picks_from split place zero = []
-picks_from split place (suc more) = Pick split place ∷ picks_from split (place + 1) more
+picks_from split number zero = []
+picks_from split number (suc more) = Pick split number ∷ picks_from split (number + 1) more
 
 -- the picks of these frames, the first of which is the split of this number
 abbrev pub picks_of_from : Tfpg → Logbook → ℕ → List Frame → List Reason
 picks_of_from graph log split [] = []
 picks_of_from graph log split (frame ∷ deeper) =
-    picks_from split 1 (place_count graph log frame) ++ picks_of_from graph log (split + 1) deeper
+    picks_from split 1 (constraint_count graph log frame) ++ picks_of_from graph log (split + 1) deeper
 
 -- the picks of a path
 abbrev pub picks_of : Tfpg → Logbook → List Frame → List Reason

@@ -9,13 +9,13 @@ use Rattle.tfpg_clause.specs.Facts.{fact}
 use Rattle.tfpg_clause.specs.Trees.{PathSplit, picked}
 
 -- The times solve what holds at a leaf, where this picks the constraints of its path: there is one for each node, and they meet
--- each fact of the log and each constraint that is picked in some place of some split.
+-- each fact of the log and each constraint that is picked at some split.
 pub record SolvesBy (graph : Tfpg) (log : Logbook) (reach : List ℕ) (pick : ℕ → ℕ → Option Constraint)
     (times : List ℕ) : Type 0 where
   pub one_each : length times ≡ length graph.nodes
   pub facts : (reason : Reason) (constraint : Constraint) → fact graph log reach reason ≡ Some constraint
       → Meets times constraint
-  pub picks : (split place : ℕ) (constraint : Constraint) → pick split place ≡ Some constraint → Meets times constraint
+  pub picks : (split number : ℕ) (constraint : Constraint) → pick split number ≡ Some constraint → Meets times constraint
 
 -- The times are the latest solution: no other solution gives any node a later time.
 pub record IsLatestBy (graph : Tfpg) (log : Logbook) (reach : List ℕ) (pick : ℕ → ℕ → Option Constraint)

@@ -112,14 +112,14 @@ impl LeafSystem {
             fact reason ≡ Some (at_least node least) → IfErr result (Closes stated) }
         ensures step { work.new ≡ work.old + 1 }
     {
-        let place = node as usize;
-        let old = self.reasons[place];
-        self.reasons[place] = reason;
+        let index = node as usize;
+        let old = self.reasons[index];
+        self.reasons[index] = reason;
         match self.system.raise(node, least, u64::from(node), work) {
             Ok(()) => Ok(()),
             Err(Conflict) => {
                 let fault = closed(self.alloc, self.system.cycle(), &self.reasons);
-                self.reasons[place] = old;
+                self.reasons[index] = old;
                 Err(fault)
             }
         }
@@ -129,33 +129,34 @@ impl LeafSystem {
     pub(crate) fn lower<L: Ledger>(
         &mut self,
         node: u32,
-        most: u64,
+        ceiling: u64,
         reason: Reason,
         work: &mut Steps<L>,
     ) -> Result<(), AddFault>
         requires node { node < length self.old.demands.bounds }
-        requires tighter { (bounds : Bounds) → Bounded self.old.demands node bounds → most < bounds.ceiling }
+        requires tighter { (bounds : Bounds) → Bounded self.old.demands node bounds →
+            ceiling < bounds.ceiling }
         ensures ok { OnOk result
-            (self.new.demands ≡ with_ceiling self.old.demands node most
+            (self.new.demands ≡ with_ceiling self.old.demands node ceiling
             (length self.old.demands.bounds + node)) }
         ensures err { OnErr result (self.new ≡ self.old) }
         ensures nodes { length self.new.demands.bounds ≡ length self.old.demands.bounds }
         ensures reasons { pick_reasons self.new ≡ pick_reasons self.old }
         ensures stated { (fact stated : Reason → Option Constraint) → IsStated fact stated self.old →
-            fact reason ≡ Some (at_most node (pos most)) → IsStated fact stated self.new }
+            fact reason ≡ Some (at_most node (pos ceiling)) → IsStated fact stated self.new }
         ensures closes { (fact stated : Reason → Option Constraint) → IsStated fact stated self.old →
-            fact reason ≡ Some (at_most node (pos most)) → IfErr result (Closes stated) }
+            fact reason ≡ Some (at_most node (pos ceiling)) → IfErr result (Closes stated) }
         ensures step { work.new ≡ work.old + 1 }
     {
         let tag = u64::from(self.system.variable_count()) + u64::from(node);
-        let place = tag as usize;
-        let old = self.reasons[place];
-        self.reasons[place] = reason;
-        match self.system.lower(node, most, tag, work) {
+        let index = tag as usize;
+        let old = self.reasons[index];
+        self.reasons[index] = reason;
+        match self.system.lower(node, ceiling, tag, work) {
             Ok(()) => Ok(()),
             Err(Conflict) => {
                 let fault = closed(self.alloc, self.system.cycle(), &self.reasons);
-                self.reasons[place] = old;
+                self.reasons[index] = old;
                 Err(fault)
             }
         }

@@ -52,11 +52,9 @@ impl Model for Search {
     } };
 }
 
-/// What was seen at the present leaf.
+/// What was seen at a settled leaf.
 #[derive(Drop)]
 pub(crate) enum Look {
-    /// The tree is closed.
-    Closed,
     /// The latest solution, cut at now, is a trace that explains the log.
     Shown(Trace),
     /// It violates this clause first.
@@ -67,7 +65,7 @@ impl Search {
     /// The search for a set of failure modes that reaches these nodes, before any event. It keeps about 190 bytes for each
     /// node, and for each split on the path to its present leaf the split and the constraints of its alternative.
     pub fn new(alloc: Global, graph: &Graph, set: Set, reach: NodeSet) -> Result<Search, NoMemory>
-        requires members { All (λ place. place < length (failures graph.now)) set }
+        requires members { All (λ index. index < length (failures graph.now)) set }
         requires reach { IsReach graph.now set reach }
         ensures set { IfOk result (λ search. search.set ≡ set) }
         ensures reach { IfOk result (λ search. search.reach ≡ reach) }
@@ -137,9 +135,9 @@ impl Search {
         loop {
             match self.look(graph, log, steps, work) {
                 Err(NoMemory) => return Err(NoMemory),
-                Ok(Look::Closed) => return Ok(Found::Closed),
-                Ok(Look::Shown(trace)) => return Ok(Found::Shown(trace)),
-                Ok(Look::Violated(name)) => {
+                Ok(None) => return Ok(Found::Closed),
+                Ok(Some(Look::Shown(trace))) => return Ok(Found::Shown(trace)),
+                Ok(Some(Look::Violated(name))) => {
                     if spent == budget {
                         return Ok(Found::Spent);
                     }

@@ -14,15 +14,16 @@ use Rattle.tfpg_base.specs.Lines.{with_line_end, HasNoLineEnd, is_too_long}
 use Rattle.tfpg_base.specs.declared.limits.TheConstants.{LONGEST_LINE, MAX_TIME}
 use Rattle.tfpg_base.specs.Words.{line_of, is_name, is_number}
 use Rattle.tfpg_base.proofs.Numbers.{is_number-decimal}
-use Rattle.tfpg_base.proofs.Separators.{lacks_checked, name_lacks, decimal_lacks}
+use Rattle.tfpg_base.proofs.Separators.{lacks_checked}
 use Rattle.tfpg_base.proofs.WordLengths.{name_short, number_short}
 use Rattle.tfpg_base.proofs.lists.Choices.{first_of-all_none}
-use Rattle.tfpg_graph.specs.Graph.{Tfpg, node_named, mode_named, is_monitored, name_word}
+use Rattle.tfpg_graph.specs.Graph.{Tfpg, mode_named, is_monitored, name_word}
 use Rattle.tfpg_graph.specs.Valid.{IsValid}
 use Rattle.tfpg_graph.proofs.lemmas.reading.LinesSay.{IsWord, IsWord-name, IsWord-decimal, keyword, no_empty_word, no_space}
 use Rattle.tfpg_graph.proofs.lemmas.reading.SaidLines.{line_words}
-use Rattle.tfpg_graph.proofs.lemmas.reading.SpelledEdges.{is_name-name_of, node_named-name_of}
+use Rattle.tfpg_graph.proofs.lemmas.reading.SpelledEdges.{is_name-name_word, node_named-name_word}
 use Rattle.tfpg_graph.proofs.lemmas.reading.SpelledValues.{position-named}
+use Rattle.tfpg_graph.proofs.lemmas.writing.CleanLines.{clean_name, clean_number}
 use Rattle.tfpg_log.specs.declared.event.Event.{Event}
 use Rattle.tfpg_log.specs.declared.event.Event.TheVariants as event
 use Rattle.tfpg_log.specs.declared.event.Offered.TheVariants.{Accepted, Refused}
@@ -32,6 +33,7 @@ use Rattle.tfpg_log.specs.declared.refusal.Refusal.TheVariants.{BadLine, BadNumb
 use Rattle.tfpg_log.specs.Log.{Logbook, now_of, alarm_of, is_mode_change, time_of_event, IsEventOf}
 use Rattle.tfpg_log.specs.LogStatements.{LogStatement, Alarm, Silent, Sweep, Tick, Mode, words_of_log_statement, log_statement_of}
 use Rattle.tfpg_log.specs.Accepted.{time_refusals, statement_refusals, event_of, offered, reply_to_statement, reply_to, monitor_refusals, alarm_of_named, room_refusal}
+use Rattle.tfpg_log.proofs.Accepting.{AreNone}
 use Rattle.tfpg_log.proofs.WrittenLines.{read_as_written}
 use Rattle.tfpg_graph.proofs.NodeAt.{monitored_within}
 use Rattle.tfpg_sim.specs.SimulatedLog.{mode_word, event_line}
@@ -45,7 +47,7 @@ IsUnalarmed log (event.Tick time) = Unit {0}
 IsUnalarmed log (event.Mode time mode) = Unit {0}
 
 -- The event may come next in a log: it is of the graph, not before now and not too late, its node has no alarm so far, and there is room.
-pub record IsNext (graph : Tfpg) (log : Logbook) (e : Event) : Type 0 where
+pub record IsNextEvent (graph : Tfpg) (log : Logbook) (e : Event) : Type 0 where
   pub own : IsEventOf graph e
   pub not_back : now_of log ≤ time_of_event e
   pub in_range : time_of_event e ≤ MAX_TIME
@@ -80,13 +82,10 @@ clean word [] own rest = own
 clean word (next ∷ words) own rest =
     All-append (λ byte. eqb byte 10 ≡ false) word (32 ∷ line_of (next ∷ words)) own (All-cons (λ byte. eqb byte 10 ≡ false) 32 (line_of (next ∷ words)) refl rest)
 
-pub number_clean : (number : ℕ) → number ≤ MAX_TIME → HasNoLineEnd (decimal number)
-number_clean number small = decimal_lacks 10 number refl (omega arith)
-
 -- so has a line of a time, a keyword and a name
 pub named_clean : (time : ℕ) (word name : List ℕ) → time ≤ MAX_TIME → HasNoLineEnd word → IsTrue (is_name name) → HasNoLineEnd (line_of (decimal time ∷ word ∷ name ∷ []))
 named_clean time word name small own named =
-    clean (decimal time) (word ∷ name ∷ []) (number_clean time small) (clean word (name ∷ []) own (name_lacks 10 name refl named))
+    clean (decimal time) (word ∷ name ∷ []) (clean_number time small) (clean word (name ∷ []) own (clean_name name named))
 
 -- and such a line is short
 named_short : (time : ℕ) (word name : List ℕ) → time ≤ MAX_TIME → length word ≤ 6 → IsTrue (is_name name) → length (line_of (decimal time ∷ word ∷ name ∷ [])) ≤ LONGEST_LINE
@@ -101,18 +100,12 @@ named_short time word name small short named =
 
 -- ---- tests
 
--- no test refuses
-abbrev AreNone : List (Option Refusal) → Type 0
-AreNone tests = AllByRecursion (λ test. test ≡ None) tests
-
+-- where no test refuses, there is no first refusal
 none_first : (tests : List (Option Refusal)) → AreNone tests → first_of tests ≡ None
 none_first tests are = first_of-all_none tests (All-from_recursion (λ test. test ≡ None) tests are)
 
 module _ (graph : Tfpg) (valid : IsValid graph) (log : Logbook) where
-  -- the name of a node is found, and that of a mode
-  node_found : (node : ℕ) → node < length graph.nodes → node_named graph (name_word graph node) ≡ Some node
-  node_found node within = node_named-name_of graph node within valid.so_far.nodes_differ
-
+  -- the name of a mode is found
   mode_at : (mode : ℕ) → mode < length graph.modes → mode_word graph mode ≡ get_or graph.modes mode []
   mode_at mode within = ap (λ o. unwrap_or o []) (slice_get-get_or graph.modes mode [] within)
 
@@ -120,7 +113,7 @@ module _ (graph : Tfpg) (valid : IsValid graph) (log : Logbook) where
   mode_found mode within = ap (mode_named graph) (mode_at mode within) ∙ position-named graph.modes mode [] valid.so_far.modes_differ within
 
   node_name : (node : ℕ) → node < length graph.nodes → IsTrue (is_name (name_word graph node))
-  node_name node within = is_name-name_of graph node within valid.so_far.node_names
+  node_name node within = is_name-name_word graph node within valid.so_far.node_names
 
   mode_name : (mode : ℕ) → mode < length graph.modes → IsTrue (is_name (mode_word graph mode))
   mode_name mode within = ap is_name (mode_at mode within) ∙ valid.so_far.mode_names mode [] within
@@ -129,7 +122,7 @@ module _ (graph : Tfpg) (valid : IsValid graph) (log : Logbook) where
   own_none : (node : ℕ) (cause : ℕ → Refusal) → IsTrue (is_monitored graph node) → alarm_of log node ≡ None → room_refusal log ≡ None
       → AreNone (monitor_refusals graph (name_word graph node) ++ option_map cause (alarm_of_named graph log (name_word graph node)) ∷ room_refusal log ∷ [])
   own_none node cause monitored unalarmed room =
-      let found = node_found node (monitored_within graph node monitored) in (
+      let found = node_named-name_word graph node (monitored_within graph node monitored) valid.so_far.nodes_differ in (
         ap (λ o. then_some (is_none o) UnknownName) found,
         (
           ap (option_and_then (λ n. then_some (not (is_monitored graph n)) NotMonitored)) found ∙ ap (λ b. then_some (not b) NotMonitored) monitored,
@@ -137,7 +130,7 @@ module _ (graph : Tfpg) (valid : IsValid graph) (log : Logbook) where
         ),
       )
 
-  module _ (e : Event) (next : IsNext graph log e) where
+  module _ (e : Event) (next : IsNextEvent graph log e) where
     abbrev time : ℕ
     time = time_of_event e
 
@@ -178,17 +171,17 @@ module _ (graph : Tfpg) (valid : IsValid graph) (log : Logbook) where
         ∙ ap Accepted is
 
   -- The line of an event that may come next is accepted as this event.
-  pub is_accepted : (e : Event) → IsNext graph log e → reply_to graph log (line_said graph e) ≡ Accepted e
+  pub is_accepted : (e : Event) → IsNextEvent graph log e → reply_to graph log (line_said graph e) ≡ Accepted e
   is_accepted (event.Alarm time node) next =
       let e = event.Alarm time node in
       let within = monitored_within graph node next.own in
-      let found = node_found node within in
+      let found = node_named-name_word graph node within valid.so_far.nodes_differ in
       accepted e next (Alarm (name_word graph node)) e (keyword (codes "alarm") refl refl, (IsWord-name (name_word graph node) (node_name node within), tt))
       (own_none node SecondAlarm next.own next.unalarmed (room e next)) (λ i. event.Alarm (value e next i) (unwrap_or (found i) 0))
   is_accepted (event.Silent time node) next =
       let e = event.Silent time node in
       let within = monitored_within graph node next.own in
-      let found = node_found node within in
+      let found = node_named-name_word graph node within valid.so_far.nodes_differ in
       accepted e next (Silent (name_word graph node)) e (keyword (codes "silent") refl refl, (IsWord-name (name_word graph node) (node_name node within), tt))
       (own_none node SilentAfterAlarm next.own next.unalarmed (room e next)) (λ i. event.Silent (value e next i) (unwrap_or (found i) 0))
   is_accepted (event.Sweep time) next =
@@ -206,10 +199,10 @@ module _ (graph : Tfpg) (valid : IsValid graph) (log : Logbook) where
       ) (λ i. event.Mode (value e next i) (unwrap_or (found i) 0))
 
   -- It is not too long.
-  pub is_short : (e : Event) → IsNext graph log e → is_too_long (line_said graph e) ≡ false
+  pub is_short : (e : Event) → IsNextEvent graph log e → is_too_long (line_said graph e) ≡ false
   is_short e next = le-ltb LONGEST_LINE (length (line_said graph e)) (by e next)
     where
-      by : (e : Event) → IsNext graph log e → length (line_said graph e) ≤ LONGEST_LINE
+      by : (e : Event) → IsNextEvent graph log e → length (line_said graph e) ≤ LONGEST_LINE
       by (event.Alarm time node) next = named_short time (codes "alarm") (name_word graph node) next.in_range (omega arith) (node_name node (monitored_within graph node next.own))
       by (event.Silent time node) next = named_short time (codes "silent") (name_word graph node) next.in_range (omega arith) (node_name node (monitored_within graph node next.own))
       by (event.Sweep time) next = omega (arith, length-append (decimal time) (32 ∷ codes "sweep"), number_short time next.in_range)
@@ -217,12 +210,12 @@ module _ (graph : Tfpg) (valid : IsValid graph) (log : Logbook) where
       by (event.Mode time mode) next = named_short time (codes "mode") (mode_word graph mode) next.in_range (omega arith) (mode_name mode next.own)
 
   -- No byte of it ends a line.
-  pub is_clean : (e : Event) → IsNext graph log e → HasNoLineEnd (line_said graph e)
+  pub is_clean : (e : Event) → IsNextEvent graph log e → HasNoLineEnd (line_said graph e)
   is_clean (event.Alarm time node) next =
       named_clean time (codes "alarm") (name_word graph node) next.in_range (lacks_checked 10 (codes "alarm") refl) (node_name node (monitored_within graph node next.own))
   is_clean (event.Silent time node) next =
       named_clean time (codes "silent") (name_word graph node) next.in_range (lacks_checked 10 (codes "silent") refl) (node_name node (monitored_within graph node next.own))
-  is_clean (event.Sweep time) next = clean (decimal time) (codes "sweep" ∷ []) (number_clean time next.in_range) (lacks_checked 10 (codes "sweep") refl)
-  is_clean (event.Tick time) next = clean (decimal time) (codes "tick" ∷ []) (number_clean time next.in_range) (lacks_checked 10 (codes "tick") refl)
+  is_clean (event.Sweep time) next = clean (decimal time) (codes "sweep" ∷ []) (clean_number time next.in_range) (lacks_checked 10 (codes "sweep") refl)
+  is_clean (event.Tick time) next = clean (decimal time) (codes "tick" ∷ []) (clean_number time next.in_range) (lacks_checked 10 (codes "tick") refl)
   is_clean (event.Mode time mode) next =
       named_clean time (codes "mode") (mode_word graph mode) next.in_range (lacks_checked 10 (codes "mode") refl) (mode_name mode next.own)

@@ -1,15 +1,16 @@
 -- The lines of a simulated log are accepted, and make its events.
-use Rattle.std.proofs.Common.{◌≡◌, ℕ, zero, suc, ◌≤◌, cond, List, [], ◌∷◌, ◌++◌, length, map, get_or, take, drop, fold, All, Contains, Option, Some, None, slice_get, refl, sym, ap, ◌∙◌, subst, arith, length-append, append_assoc, append-nil, eqb}
+use Rattle.std.proofs.Common.{◌≡◌, ℕ, suc, ◌≤◌, cond, List, [], ◌∷◌, ◌++◌, length, map, get_or, take, drop, fold, All, Contains, Option, None, refl, sym, ap, ◌∙◌, subst, arith, length-append, append_assoc, append-nil}
 use Rattle.std.specs.Prelude.{count_by, is_some, option_map}
 use Rattle.std.specs.List.{flat_map}
 use Rattle.std.proofs.lemmas.Bool.{cond-false}
 use Rattle.std.proofs.lemmas.List.Elements.{All-head, All-tail, All-contains, All-cons, All-nil, Contains-append_right}
 use Rattle.std.proofs.lemmas.List.Sums.{sum_by-append, sum_by-cons}
 use Rattle.std.proofs.lemmas.List.{take-map}
+use Rattle.std.proofs.lemmas.List.Folds.{flat_map-map}
 use Rattle.tfpg_base.proofs.lists.Elements.{Contains-head}
 use Rattle.tfpg_base.proofs.LinesOf.{lines_of-after}
 use Rattle.tfpg_base.proofs.lists.Cuts.{cut_at}
-use Rattle.tfpg_base.proofs.lists.Images.{slice_get-map_only}
+use Rattle.tfpg_base.proofs.lists.Images.{slice_get-map_only, flat_map-same}
 use Rattle.tfpg_base.specs.declared.activation.Activation.{Activation}
 use Rattle.tfpg_base.specs.Lines.{lines_of, with_line_end, HasNoLineEnd, is_too_long}
 use Rattle.tfpg_graph.specs.Graph.{Tfpg}
@@ -26,16 +27,16 @@ use Rattle.tfpg_sim.specs.Draws.{latenesses}
 use Rattle.tfpg_sim.specs.Script.{time_so_far}
 use Rattle.tfpg_sim.specs.SimulatedLog.{event_line, log_text}
 use Rattle.tfpg_sim.specs.inside.Entries.{IsScript}
-use Rattle.tfpg_sim.proofs.AcceptedEvents.{IsUnalarmed, IsNext, line_said, event_line-said, is_accepted, is_short, is_clean}
+use Rattle.tfpg_sim.proofs.AcceptedEvents.{IsUnalarmed, IsNextEvent, line_said, event_line-said, is_accepted, is_short, is_clean}
 use Rattle.tfpg_sim.proofs.AlarmTimes.{length-latenesses, lateness_within, alarmed_at}
 use Rattle.tfpg_sim.proofs.LoggedEvents.{IsLogged, AreLogged}
-use Rattle.tfpg_sim.proofs.PutAlarms.{IsOther, Precedes, AreInOrder, before_each, not_later}
+use Rattle.tfpg_sim.proofs.PutAlarms.{IsOther, Precedes, MayStandInOrder, before_each, Precedes-times}
 use Rattle.tfpg_sim.proofs.ScriptOrder.{small}
 
--- lines with their line ends
-ended_lines : {X : Type 0} (whole line : X → List ℕ) (xs : List X) → ((x : X) → whole x ≡ with_line_end (line x)) → flat_map whole xs ≡ flat_map with_line_end (map line xs)
-ended_lines whole line [] is = refl
-ended_lines whole line (x ∷ xs) is = (λ i. is x i ++ ended_lines whole line xs is i)
+-- lines with their line ends are these lines
+pub lines_again : (lines : List (List ℕ)) → All HasNoLineEnd lines → lines_of (flat_map with_line_end lines) ≡ lines
+lines_again lines clean_lines =
+    ap lines_of (sym (append-nil (flat_map with_line_end lines))) ∙ lines_of-after lines [] clean_lines ∙ append-nil lines
 
 -- ---- what comes before an event
 
@@ -82,7 +83,7 @@ module _ (graph : Tfpg) (valid : IsValid graph) (entries : List Entry) (script :
     its = All-contains (λ x. IsLoggedHere x) events e logged.each (subst (λ es. Contains es e) (sym are) (Contains-append_right front (e ∷ back) e (Contains-head e back)))
 
     earlier : All (λ x. Precedes x e) front
-    earlier = before_each front back e (subst AreInOrder are logged.order)
+    earlier = before_each front back e (subst MayStandInOrder are logged.order)
 
     none_before : (x : Event) → IsLoggedHere x → All (λ y. Precedes y x) front → IsUnalarmed (record { events = front }) x
     none_before (event.Alarm time node) is all = no_alarm front node (λ k d within. (all k d within).1)
@@ -92,10 +93,10 @@ module _ (graph : Tfpg) (valid : IsValid graph) (entries : List Entry) (script :
     none_before (event.Mode time mode) is all = tt
 
     -- The event may come next.
-    pub comes_next : IsNext graph (record { events = front }) e
+    pub comes_next : IsNextEvent graph (record { events = front }) e
     comes_next = record {
       own = own_event e its;
-      not_back = now_upto front 0 (time_of_event e) (omega arith) (λ k d within. not_later _ e (earlier k d within));
+      not_back = now_upto front 0 (time_of_event e) (omega arith) (λ k d within. Precedes-times _ e (earlier k d within));
       in_range = let upto = by_stop e its in omega (arith, small graph entries script);
       unalarmed = none_before e its earlier;
       room = let few = logged.few in
@@ -140,9 +141,9 @@ module _ (graph : Tfpg) (valid : IsValid graph) (entries : List Entry) (script :
   -- the text's lines are those of the events
   pub lines_there : lines_of (log_text graph events) ≡ map (line_said graph) events
   lines_there =
-      ap lines_of (ended_lines (event_line graph) (line_said graph) events (event_line-said graph) ∙ sym (append-nil (flat_map with_line_end (map (line_said graph) events))))
-      ∙ lines_of-after (map (line_said graph) events) [] (clean_lines [] events refl)
-      ∙ append-nil (map (line_said graph) events)
+      ap lines_of (flat_map-same (event_line graph) (λ e. with_line_end (line_said graph e)) events (λ k d within. event_line-said graph (get_or events k d))
+      ∙ sym (flat_map-map with_line_end (line_said graph) events))
+      ∙ lines_again (map (line_said graph) events) (clean_lines [] events refl)
 
   -- The log of the lines has these events.
   pub log_there : log_of_lines graph (lines_of (log_text graph events)) ≡ record { events = events }
@@ -150,14 +151,14 @@ module _ (graph : Tfpg) (valid : IsValid graph) (entries : List Entry) (script :
 
   -- Each line is accepted.
   pub lines_accepted : AreAccepted graph (lines_of (log_text graph events))
-  lines_accepted = subst (AreAccepted graph) (sym lines_there) (λ place line at.
-      let item = slice_get-map_only (line_said graph) events place line at in
-      let are = cut_at events place item.0 item.1 in
-      let front = take place events in
-      let back = drop (suc place) events in
+  lines_accepted = subst (AreAccepted graph) (sym lines_there) (λ index line at.
+      let item = slice_get-map_only (line_said graph) events index line at in
+      let are = cut_at events index item.0 item.1 in
+      let front = take index events in
+      let back = drop (suc index) events in
       let next = comes_next front back item.0 are in
-      let log : log_of_lines graph (take place (map (line_said graph) events)) ≡ record { events = front } =
-      ap (log_of_lines graph) (take-map (line_said graph) place events) ∙ first_lines front (item.0 ∷ back) are in (
+      let log : log_of_lines graph (take index (map (line_said graph) events)) ≡ record { events = front } =
+      ap (log_of_lines graph) (take-map (line_said graph) index events) ∙ first_lines front (item.0 ∷ back) are in (
         item.0,
         ap is_too_long (sym item.2) ∙ is_short graph valid (record { events = front }) item.0 next,
         (λ i. reply_to graph (log i) (sym item.2 i)) ∙ is_accepted graph valid (record { events = front }) item.0 next,

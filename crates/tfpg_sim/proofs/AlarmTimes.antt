@@ -1,6 +1,6 @@
 -- When a node is alarmed: after its activation, within its lag, and not after a sweep that comes then.
 use Rattle.std.proofs.Common.{◌≡◌, ℕ, zero, suc, ◌+◌, ◌%◌, ◌<◌, ◌≤◌, ⊎_elim, cond, min, leb, List, [], ◌∷◌, length, get_or, filter_map, Contains, IsTrue, Option, Some, None, unwrap_or, slice_get, refl, sym, ap, ◌∙◌, subst, arith}
-use Rattle.std.specs.Prelude.{AllPairs, nat_le, is_some, option_map, option_and_then, find}
+use Rattle.std.specs.Prelude.{AllPairs, nat_le, is_some, option_map, option_and_then}
 use Rattle.std.specs.Bool.{then_some}
 use Rattle.std.proofs.lemmas.Bool.{cond_both, le-leb, leb-true, false≢true}
 use Rattle.std.proofs.lemmas.List.Elements.{All-contains}
@@ -8,6 +8,7 @@ use Rattle.tfpg_base.proofs.lists.Elements.{AllPairs-head, AllPairs-tail, Contai
 use Rattle.tfpg_base.specs.declared.activation.Activation.{Activation}
 use Rattle.tfpg_base.specs.Trace.{time_of}
 use Rattle.tfpg_base.proofs.lists.Choices.{option_and_then-some, then_some-true}
+use Rattle.tfpg_base.proofs.lists.FirstFound.{find-passes}
 use Rattle.tfpg_graph.specs.Graph.{Tfpg, Node, lag_of, lag_at, is_monitored}
 use Rattle.tfpg_graph.proofs.NodeAt.{monitored_within}
 use Rattle.rand_pcg.specs.Lcg.{Lcg}
@@ -32,7 +33,7 @@ lateness_at state (node ∷ nodes) zero within = (state, node, refl, refl)
 lateness_at state (node ∷ nodes) (suc n) within = lateness_at (after_lag state (lag_of node.kind)) nodes n (omega arith)
 
 -- it is within the lag
-within_lag : (value late : ℕ) (lag : Option ℕ) → option_map (λ lag. value % (lag + 1)) lag ≡ Some late → (most : ℕ) × (lag ≡ Some most) × (late ≤ most)
+within_lag : (value late : ℕ) (lag : Option ℕ) → option_map (λ lag. value % (lag + 1)) lag ≡ Some late → (greatest : ℕ) × (lag ≡ Some greatest) × (late ≤ greatest)
 within_lag value late None is = absurd (let none : None ≡ Some late = is in cc)
 within_lag value late (Some lag) is =
     let same : value % (lag + 1) ≡ late = cc in
@@ -64,17 +65,9 @@ module _ (graph : Tfpg) (number : ℕ) where
 
 -- ---- the first sweep
 
--- a time that is found passes the test
-found_passes : (instant found : ℕ) (times : List ℕ) → find (λ time. leb instant time) times ≡ Some found → instant ≤ found
-found_passes instant found [] is = absurd (let none : None ≡ Some found = is in cc)
-found_passes instant found (time ∷ times) is =
-    cond_both (leb instant time) (Some time) (find (λ t. leb instant t) times) (λ o. o ≡ Some found → instant ≤ found)
-    (λ passes here. let same : time ≡ found = cc in let upto = leb-true instant time passes in omega arith)
-    (λ _ rest. found_passes instant found times rest) is
-
 -- the first sweep is not before the instant
 pub sweep_late : (instant found : ℕ) (entries : List Entry) → first_sweep instant entries ≡ Some found → instant ≤ found
-sweep_late instant found entries is = found_passes instant found (filter_map sweep_time entries) is
+sweep_late instant found entries is = leb-true instant found (find-passes (λ time. leb instant time) (filter_map sweep_time entries) found is).1
 
 -- a first sweep up to one
 abbrev SweepUpto : ℕ → List Entry → ℕ → Type 0
@@ -119,7 +112,7 @@ module _ (entries : List Entry) (active late : ℕ) where
       subst (λ o. min (unwrap_or o (active + late)) (active + late) ≤ time) (sym sweep.1) (let upto = sweep.2 in omega arith)
 
 -- What it means that a node is alarmed at a time.
-pub record IsAlarmed (entries : List Entry) (trace : List Activation) (lateness : Option ℕ) (node stop time : ℕ) : Type 0 where
+pub record IsAlarmTime (entries : List Entry) (trace : List Activation) (lateness : Option ℕ) (node stop time : ℕ) : Type 0 where
   pub late : ℕ
   pub lateness_is : lateness ≡ Some late
   pub active : ℕ
@@ -128,7 +121,7 @@ pub record IsAlarmed (entries : List Entry) (trace : List Activation) (lateness 
   pub by_stop : time ≤ stop
 
 module _ (entries : List Entry) (trace : List Activation) (lateness : Option ℕ) (node stop : ℕ) where
-  pub alarmed_at : (time : ℕ) → alarm_time entries trace lateness node stop ≡ Some time → IsAlarmed entries trace lateness node stop time
+  pub alarmed_at : (time : ℕ) → alarm_time entries trace lateness node stop ≡ Some time → IsAlarmTime entries trace lateness node stop time
   alarmed_at time is =
       let late = option_and_then-some (λ late. option_and_then (λ active. then_some (nat_le (due_time entries active late) stop) (due_time entries active late)) (time_of trace node)) lateness time is in
       let active = option_and_then-some (λ active. then_some (nat_le (due_time entries active late.0) stop) (due_time entries active late.0)) (time_of trace node) time late.2 in

@@ -1,5 +1,5 @@
 -- The failure arrives at a discrepancy exactly where the flights over its edges have landed.
-use Rattle.std.proofs.Common.{◌≡◌, ℕ, suc, ◌⊎◌, ⊎_elim, cond, [], ◌∷◌, ◌<◌, ◌≤◌, Bool, true, false, eqb, List, length, get_or, filter_map, All, Option, Some, None, option_map, option_and_then, slice_get, slice_index, refl, sym, ap, ◌∙◌, subst, arith}
+use Rattle.std.proofs.Common.{◌≡◌, ℕ, ◌⊎◌, ⊎_elim, ◌<◌, ◌≤◌, true, false, List, length, get_or, filter_map, Option, Some, None, option_map, option_and_then, slice_get, slice_index, refl, sym, ap, ◌∙◌, subst, arith}
 use Rattle.std.proofs.lemmas.List.{get_or_past}
 use Rattle.std.proofs.lemmas.Option.{slice_get-get_or, slice_get_within, get_or_from_slice_get}
 use Rattle.std.proofs.lemmas.List.Elements.{All-contains}
@@ -17,21 +17,13 @@ use Rattle.tfpg_sim.specs.declared.flight.Flight.{Flight}
 use Rattle.tfpg_sim.specs.inside.Flights.{Lands, LandsBy}
 use Rattle.tfpg_sim.specs.inside.Arrivals.{flight_over, AreNearTimes, AreNearDelays, AreNearFlights, far}
 use Rattle.tfpg_sim.specs.Simulation.{Carries, Arrives, IsFirst}
+use Rattle.tfpg_sim.proofs.ScriptOrder.{time_holds}
 
 -- the first instant at which the one holds is that of the other
 pub IsFirst-same : (Holds Other : ℕ → Type 0) (limit : ℕ) (first : Option ℕ) → ((x : ℕ) → Holds x → Other x) → ((x : ℕ) → Other x → Holds x)
     → IsFirst Holds limit first → IsFirst Other limit first
 IsFirst-same Holds Other limit None to from is = λ x upto other. is x upto (from x other)
 IsFirst-same Holds Other limit (Some first) to from is = (is.0, to first is.1, λ x less other. is.2 x less (from x other))
-
--- a time of a trace is one of its times
-time_small : (limit : ℕ) (trace : List Activation) (node start : ℕ) → All (λ activation. activation.time ≤ limit) trace → time_of trace node ≡ Some start → start ≤ limit
-time_small limit [] node start all is = absurd (let none : None ≡ Some start = is in cc)
-time_small limit (first ∷ others) node start all is = by (eqb first.node node) is (λ rest. time_small limit others node start (λ k d within. all (suc k) d (omega arith)) rest)
-  where
-    by : (same : Bool) → cond same (Some first.time) (time_of others node) ≡ Some start → (time_of others node ≡ Some start → start ≤ limit) → start ≤ limit
-    by true here again = let upto : first.time ≤ limit = all 0 first (omega arith) in let same : first.time ≡ start = (let somes : Some first.time ≡ Some start = here in cc) in omega arith
-    by false rest again = again rest
 
 -- the flights have small numbers
 pub flights_small : (graph : Tfpg) (delays : List ℕ) (trace : List Activation) (numbers : List ℕ)
@@ -43,7 +35,7 @@ flights_small graph delays trace numbers small times = λ k d within.
     let edge = option_and_then-some (λ (e : Edge). option_map (λ start. record { edge = e; start = start; delay = slice_index delays item.0 }) (time_of trace e.source)) (slice_get graph.edges item.0) _ item.2 in
     let start = option_map-some (λ start. record { edge = edge.0; start = start; delay = slice_index delays item.0 }) (time_of trace edge.0.source) _ edge.2 in
     subst (λ (flight : Flight). (flight.start ≤ far) × (flight.delay ≤ far)) start.2
-    (time_small far trace edge.0.source start.0 times start.1, delay_small item.0)
+    (time_holds (λ activation. activation.time ≤ far) trace edge.0.source start.0 times start.1, delay_small item.0)
   where
     delay_small : (number : ℕ) → slice_index delays number ≤ far
     delay_small number = ⊎_elim (λ within. small number 0 within) (λ past. let none : get_or delays number 0 ≡ 0 = get_or_past delays number 0 past in omega arith)
@@ -60,7 +52,7 @@ module _ (graph : Tfpg) (log : Logbook) (delays : List ℕ) (trace : List Activa
             ∙ ap (λ o. option_map (λ start. record { edge = carries.edge; start = start; delay = slice_index delays number }) o) carries.age.source,
         record {
           since = let since = carries.age.since in omega arith;
-          open_since = λ y after upto. carries.age.allowed y (omega arith) upto;
+          active_since = λ y after upto. carries.age.active_since y (omega arith) upto;
         },
       )
 
@@ -77,7 +69,7 @@ module _ (graph : Tfpg) (log : Logbook) (delays : List ℕ) (trace : List Activa
         is = edge.1;
         delay = slice_index delays number;
         drawn = slice_get-get_or delays number 0 within;
-        age = record { start = start.0; source = start.1; since = here.since; allowed = here.open_since };
+        age = record { start = start.0; source = start.1; since = here.since; active_since = here.active_since };
       }
 
   module _ (node : ℕ) where
@@ -95,8 +87,8 @@ module _ (graph : Tfpg) (log : Logbook) (delays : List ℕ) (trace : List Activa
         })
         (λ x arrives. let some = arrives.or_node (kind_test graph node is_or (Or lag) kind) in
         let flight = carried x some.0 some.2 in
-        let place = slice_get-filter_map (flight_over graph delays trace) (incoming graph node) some.0 flight.0 some.1 flight.1 in
-        (place.0, flight.0, place.1, flight.2))
+        let index = slice_get-filter_map (flight_over graph delays trace) (incoming graph node) some.0 flight.0 some.1 flight.1 in
+        (index.0, flight.0, index.1, flight.2))
 
     pub and_arrival : (lag : Option ℕ) (limit : ℕ) (first : Option ℕ) → kind_at graph node ≡ Some (And lag)
         → length (incoming graph node) ≤ length flights
@@ -106,10 +98,10 @@ module _ (graph : Tfpg) (log : Logbook) (delays : List ℕ) (trace : List Activa
           or_node = λ other. absurd (not_so graph node is_or (And lag) kind refl other);
           and_node = λ _. All-from_members (Carries graph log delays trace x) (incoming graph node) (λ number member.
               let valued = each_from_length-filter_map (flight_over graph delays trace) (incoming graph node) many number member in
-              let place = slice_get-filter_map (flight_over graph delays trace) (incoming graph node) number valued.0 member valued.1 in
-              landed x number valued.0 valued.1 (all place.0 valued.0 place.1));
+              let index = slice_get-filter_map (flight_over graph delays trace) (incoming graph node) number valued.0 member valued.1 in
+              landed x number valued.0 valued.1 (all index.0 valued.0 index.1));
         })
-        (λ x arrives place flight at. let item = slice_get-filter_map_only (flight_over graph delays trace) (incoming graph node) place flight at in
+        (λ x arrives index flight at. let item = slice_get-filter_map_only (flight_over graph delays trace) (incoming graph node) index flight at in
         let own = carried x item.0 (All-contains (Carries graph log delays trace x) (incoming graph node) item.0 (arrives.and_node (kind_test graph node is_and (And lag) kind)) item.1) in
         subst (Lands log x) (let same : own.0 ≡ flight = (let somes : Some own.0 ≡ Some flight = sym own.1 ∙ item.2 in cc) in same) own.2)
 

@@ -11,7 +11,7 @@ use Rattle.tfpg_base.specs.Lines.{lines_of}
 use Rattle.tfpg_base.specs.Set.{with_member}
 use Rattle.tfpg_base.specs.Trace.{time_of}
 use Rattle.tfpg_graph.specs.declared.edge.Edge.{Edge}
-use Rattle.tfpg_graph.specs.Graph.{Tfpg, is_kind_at, is_failure, is_allowed, edges_into, position_of_failure}
+use Rattle.tfpg_graph.specs.Graph.{Tfpg, is_kind_at, is_failure, is_active_in, edges_into, position_of_failure}
 use Rattle.tfpg_graph.specs.Valid.{IsValid}
 use Rattle.tfpg_log.specs.declared.event.Event.{Event}
 use Rattle.tfpg_log.specs.declared.event.Event.TheVariants as event
@@ -33,7 +33,7 @@ use Rattle.tfpg_sim.specs.inside.Entries.{IsScript}
 use Rattle.tfpg_sim.proofs.AcceptedLines.{by_stop, its, now_upto, log_there, lines_accepted}
 use Rattle.tfpg_sim.proofs.KeptRules.{keeps}
 use Rattle.tfpg_sim.proofs.LoggedEvents.{AreLogged, logged}
-use Rattle.tfpg_sim.proofs.PutAlarms.{AreInOrder, not_later}
+use Rattle.tfpg_sim.proofs.PutAlarms.{MayStandInOrder, Precedes-times}
 use Rattle.tfpg_sim.proofs.ReadScripts.{script_read}
 use Rattle.tfpg_sim.proofs.ScriptOrder.{all_by_last}
 use Rattle.tfpg_sim.proofs.ShownEvents.{shown}
@@ -47,12 +47,12 @@ now_late (first ∷ events) start time from all =
     now_late events (time_of_event first) time (All-head (λ e. time ≤ time_of_event e) first events all) (All-tail (λ e. time ≤ time_of_event e) first events all)
 
 -- so now is not before an event, where the times do not fall
-now_from : (events : List Event) (start : ℕ) (e : Event) → AreInOrder events → Contains events e → time_of_event e ≤ fold (λ last x. time_of_event x) start events
+now_from : (events : List Event) (start : ℕ) (e : Event) → MayStandInOrder events → Contains events e → time_of_event e ≤ fold (λ last x. time_of_event x) start events
 now_from [] start e order member = absurd (Contains-nil e member)
 now_from (first ∷ events) start e order member =
     ⊎_elim
     (λ here. subst (λ (x : Event). time_of_event x ≤ fold (λ last y. time_of_event y) (time_of_event first) events) here
-    (now_late events (time_of_event first) (time_of_event first) (omega arith) (λ k d within. not_later first _ (order.0 k d within))))
+    (now_late events (time_of_event first) (time_of_event first) (omega arith) (λ k d within. Precedes-times first _ (order.0 k d within))))
     (λ there. now_from events (time_of_event first) e order.1 there) (Contains-cons_cases first events e member)
 
 -- ---- what the script starts
@@ -72,31 +72,31 @@ start_there (Sweep when ∷ entries) node time is = Contains-tail (Sweep when) e
 start_there (Tick when ∷ entries) node time is = Contains-tail (Tick when) entries (Start time node) (start_there entries node time is)
 start_there (Stop when ∷ entries) node time is = Contains-tail (Stop when) entries (Start time node) (start_there entries node time is)
 
-module _ (graph : Tfpg) (place : ℕ) where
+module _ (graph : Tfpg) (index : ℕ) where
   -- a line keeps the members
-  kept_by : (entry : Entry) (set : List ℕ) → Contains set place → Contains (with_started graph set entry) place
+  kept_by : (entry : Entry) (set : List ℕ) → Contains set index → Contains (with_started graph set entry) index
   kept_by (Start time node) set member = by (position_of_failure graph node)
     where
-      by : (o : Option ℕ) → Contains (unwrap_or (option_map (λ p. with_member p set) o) set) place
+      by : (o : Option ℕ) → Contains (unwrap_or (option_map (λ p. with_member p set) o) set) index
       by None = member
-      by (Some p) = with_member-keeps p set place member
+      by (Some p) = with_member-keeps p set index member
   kept_by (Mode time mode) set member = member
   kept_by (Sweep time) set member = member
   kept_by (Tick time) set member = member
   kept_by (Stop time) set member = member
 
-  all_keep : (entries : List Entry) (set : List ℕ) → Contains set place → Contains (fold (with_started graph) set entries) place
+  all_keep : (entries : List Entry) (set : List ℕ) → Contains set index → Contains (fold (with_started graph) set entries) index
   all_keep [] set member = member
   all_keep (entry ∷ entries) set member = all_keep entries (with_started graph set entry) (kept_by entry set member)
 
   -- what a line starts is a member
-  started_member : (entries : List Entry) (set : List ℕ) (time node : ℕ) → position_of_failure graph node ≡ Some place → Contains entries (Start time node)
-      → Contains (fold (with_started graph) set entries) place
+  started_member : (entries : List Entry) (set : List ℕ) (time node : ℕ) → position_of_failure graph node ≡ Some index → Contains entries (Start time node)
+      → Contains (fold (with_started graph) set entries) index
   started_member [] set time node at member = absurd (Contains-nil (Start time node) member)
   started_member (entry ∷ entries) set time node at member =
       ⊎_elim
-      (λ here. all_keep entries (with_started graph set entry) (subst (λ n. Contains (with_started graph set n) place) (sym here)
-      (subst (λ o. Contains (unwrap_or (option_map (λ p. with_member p set) o) set) place) (sym at) (Contains-with_member place set))))
+      (λ here. all_keep entries (with_started graph set entry) (subst (λ n. Contains (with_started graph set n) index) (sym here)
+      (subst (λ o. Contains (unwrap_or (option_map (λ p. with_member p set) o) set) index) (sym at) (Contains-with_member index set))))
       (λ there. started_member entries (with_started graph set entry) time node at there) (Contains-cons_cases entry entries (Start time node) member)
 
 -- ---- rules under the same modes
@@ -107,7 +107,7 @@ module _ (log other : Logbook) (alike : (x : ℕ) → mode_at log x ≡ mode_at 
     start = has.start;
     source = has.source;
     since = has.since;
-    allowed = λ x after before. subst (λ mode. IsTrue (is_allowed edge mode)) (alike x) (has.allowed x after before);
+    active_since = λ x after before. subst (λ mode. IsTrue (is_active_in edge mode)) (alike x) (has.active_since x after before);
   }
 
 module _ (graph : Tfpg) (log other : Logbook) (alike : (x : ℕ) → mode_at log x ≡ mode_at other x) (trace : List Activation) (node instant : ℕ) where
@@ -188,11 +188,11 @@ module _ (graph : Tfpg) (script : List ℕ) (number : ℕ) (simulated : Simulate
     where
       by : (o : Option ℕ) → position_of_failure graph node ≡ o → IsMember graph simulated.set node
       by None none = absurd (no_failure graph node none failure)
-      by (Some place) there = (
-        place,
-        subst (λ set. Contains set place) (sym is.set)
-            (started_member graph place entries [] time node there (start_there entries node time (sym (is.trace.failure_modes node failure) ∙ at))),
-        stands_there graph place node there,
+      by (Some index) there = (
+        index,
+        subst (λ set. Contains set index) (sym is.set)
+            (started_member graph index entries [] time node there (start_there entries node time (sym (is.trace.failure_modes node failure) ∙ at))),
+        stands_there graph index node there,
       )
 
   alike : (x : ℕ) → mode_at (script_log entries) x ≡ mode_at log x
@@ -212,10 +212,10 @@ module _ (graph : Tfpg) (script : List ℕ) (number : ℕ) (simulated : Simulate
       must = λ instant upto. must_there graph (script_log entries) log alike trace node instant
           (keeps graph entries number trace valid is.trace node instant within (omega (arith, upto, now_by_stop))).1;
     };
-    shows = λ place e at.
-        let are = cut_at events place e at in
-        shown graph entries is_script trace number events logs (take place events) (drop (suc place) events) e are
-        (its graph valid entries is_script trace number events logs (take place events) (drop (suc place) events) e are);
+    shows = λ index e at.
+        let are = cut_at events index e at in
+        shown graph entries is_script trace number events logs (take index events) (drop (suc index) events) e are
+        (its graph valid entries is_script trace number events logs (take index events) (drop (suc index) events) e are);
   }
 
   -- The trace explains the log of the lines from the set.

@@ -1,9 +1,9 @@
 -- The script of a generated graph is right, and starts one failure mode or two.
-use Rattle.std.proofs.Common.{◌≡◌, ℕ, zero, suc, ◌+◌, ◌<◌, ◌≤◌, ◌⊎◌, inl, inr, ⊎_elim, Bool, true, false, not, ◌||◌, cond, eqb, nat_lt, nat_le, List, [], ◌∷◌, ◌++◌, length, fold, All, Option, Some, None, Ok, Err, slice_get, codes, refl, sym, ap, ◌∙◌, subst, arith, length-append, append_assoc, append-nil}
+use Rattle.std.proofs.Common.{◌≡◌, ℕ, zero, suc, ◌+◌, ◌<◌, ◌≤◌, ◌⊎◌, inl, inr, ⊎_elim, Bool, true, false, not, ◌||◌, cond, eqb, nat_lt, nat_le, List, [], ◌∷◌, ◌++◌, length, fold, All, Option, Some, None, Ok, Err, slice_get, codes, refl, sym, ap, ◌∙◌, subst, arith, length-append, append_assoc}
 use Rattle.std.specs.Prelude.{decimal, unwrap_or, option_map, option_and_then, filter_map, slice_index_or}
 use Rattle.std.specs.Bool.{then_some}
 use Rattle.std.specs.Option.{option_map_or}
-use Rattle.std.specs.List.{flat_map, list_all}
+use Rattle.std.specs.List.{list_all}
 use Rattle.std.proofs.lemmas.Bool.{cond_both, le-leb}
 use Rattle.std.proofs.lemmas.List.{get_or_append_left}
 use Rattle.std.proofs.lemmas.List.Elements.{All-nil, All-cons}
@@ -11,18 +11,18 @@ use Rattle.std.proofs.lemmas.List.Quantifiers.{position-Some}
 use Rattle.std.proofs.lemmas.Option.{slice_get-get_or}
 use Rattle.rand_pcg.specs.Lcg.{Lcg}
 use Rattle.tfpg_base.specs.declared.activation.Activation.{Activation}
-use Rattle.tfpg_base.specs.Lines.{lines_of, with_line_end, HasNoLineEnd}
+use Rattle.tfpg_base.specs.Lines.{lines_of, HasNoLineEnd}
 use Rattle.tfpg_base.specs.Set.{with_member, IsSet}
-use Rattle.tfpg_base.specs.declared.limits.TheConstants.{MAX_TIME}
+use Rattle.tfpg_base.specs.declared.limits.TheConstants.{MAX_CASE_SIZE, MAX_MEMBERS, MAX_TIME}
 use Rattle.tfpg_base.specs.Words.{line_of}
 use Rattle.tfpg_base.proofs.Sets.{IsSet-with_member}
-use Rattle.tfpg_base.proofs.LinesOf.{lines_of-after}
 use Rattle.tfpg_base.proofs.Numbers.{number_of-decimal}
 use Rattle.tfpg_base.proofs.Separators.{name_lacks, decimal_lacks, slice_split-join, lacks_checked}
 use Rattle.tfpg_graph.specs.declared.kind.Kind.{Kind}
 use Rattle.tfpg_graph.specs.declared.kind.Kind.TheVariants.{Failure}
-use Rattle.tfpg_graph.specs.Graph.{Tfpg, is_kind_at, is_failure, node_named, failures, position_of_failure}
-use Rattle.tfpg_graph.proofs.lemmas.reading.SpelledEdges.{name_of, node_named-name_of}
+use Rattle.tfpg_graph.specs.declared.limits.TheConstants.{MAX_FAILURES}
+use Rattle.tfpg_graph.specs.Graph.{Tfpg, is_kind_at, is_failure, name_word, node_named, failures, position_of_failure}
+use Rattle.tfpg_graph.proofs.lemmas.reading.SpelledEdges.{node_named-name_word}
 use Rattle.tfpg_log.specs.declared.event.Event.{Event}
 use Rattle.tfpg_log.specs.LogOfLines.{log_of_lines}
 use Rattle.tfpg_sim.specs.declared.entry.Entry.{Entry}
@@ -36,9 +36,10 @@ use Rattle.tfpg_sim.specs.Simulation.{event_of_entry}
 use Rattle.tfpg_sim.specs.SimulatedLog.{with_started, set_of, alarm_time, with_alarm, with_alarms, log_events}
 use Rattle.tfpg_sim.specs.Script.{entry_in, entry_of, entry_with_name, failure_named, may_follow, with_script_line, with_next, read_lines, stopped, script_of, time_so_far}
 use Rattle.tfpg_sim.proofs.AcceptedEvents.{named_clean}
+use Rattle.tfpg_sim.proofs.AcceptedLines.{lines_again}
 use Rattle.tfpg_sim.proofs.ExplainedLogs.{events_are}
 use Rattle.tfpg_sim.proofs.PutAlarms.{put_there, one_more}
-use Rattle.tfpg_sim.proofs.GeneratedGraphs.{generated_valid, generated_failures, length-failure_kinds, failure_kind, length-named_nodes, get_or-named_nodes, node_of, is_name-drawn_name}
+use Rattle.tfpg_sim.proofs.GeneratedGraphs.{generated_valid, generated_failures, length-failure_kinds, failure_kind, length-named_nodes, get_or-named_nodes, drawn_node, is_name-drawn_name}
 
 -- the line by which a failure mode starts
 abbrev start_line : ℕ → ℕ → List ℕ
@@ -52,7 +53,7 @@ fixed_lines = codes "100 mode M1" ∷ codes "140 mode M0" ∷ codes "200 sweep" 
 abbrev pub fixed_entries : List Entry
 fixed_entries = Mode 100 1 ∷ Mode 140 0 ∷ Sweep 200 ∷ Sweep 300 ∷ Stop 400 ∷ []
 
-start_clean : (time node : ℕ) → time ≤ MAX_TIME → node < 16 → HasNoLineEnd (start_line time node)
+start_clean : (time node : ℕ) → time ≤ MAX_TIME → node < FAILURE_COUNT → HasNoLineEnd (start_line time node)
 start_clean time node small low =
     named_clean time (codes "start") (drawn_name node) small (lacks_checked 10 (codes "start") refl) (is_name-drawn_name node (omega arith))
 
@@ -72,17 +73,12 @@ fixed_clean =
     (clean_line (codes "300 sweep") stop refl
     (clean_line (codes "400 stop") [] refl (All-nil HasNoLineEnd)))))
 
--- lines with their line ends are these lines
-lines_again : (lines : List (List ℕ)) → All HasNoLineEnd lines → lines_of (flat_map with_line_end lines) ≡ lines
-lines_again lines clean_lines =
-    ap lines_of (sym (append-nil (flat_map with_line_end lines))) ∙ lines_of-after lines [] clean_lines ∙ append-nil lines
-
 -- what a generated script says: one start or two, and the lines after them
 pub record IsDrawnScript (entries : List Entry) : Type 0 where
   pub first : ℕ
   pub form : (entries ≡ Start 0 first ∷ fixed_entries) ⊎ ((second : ℕ) × (entries ≡ Start 0 first ∷ Start 50 second ∷ fixed_entries))
 
-module _ (number size : ℕ) (some : 1 ≤ size) (few : size ≤ 100) where
+module _ (number size : ℕ) (some : 1 ≤ size) (few : size ≤ MAX_CASE_SIZE) where
   abbrev graph : Tfpg
   graph = generated_graph number size
 
@@ -90,31 +86,31 @@ module _ (number size : ℕ) (some : 1 ≤ size) (few : size ≤ 100) where
   kinds = failure_kinds FAILURE_COUNT ++ (draft_of number size).kinds
 
   -- a failure mode stands at its number
-  node_at : (node : ℕ) → node < 16 → slice_get graph.nodes node ≡ Some (node_of node (Failure (node + 1)))
+  node_at : (node : ℕ) → node < FAILURE_COUNT → slice_get graph.nodes node ≡ Some (drawn_node node (Failure (node + 1)))
   node_at node low =
-      let within : node < length kinds = omega (arith, length-append (failure_kinds 16) (draft_of number size).kinds, length-failure_kinds 16) in
-      slice_get-get_or graph.nodes node (node_of 0 (Failure 0)) (omega (arith, within, length-named_nodes 0 kinds))
-      ∙ ap Some (get_or-named_nodes 0 kinds node (node_of 0 (Failure 0)) (Failure 0) within)
-      ∙ ap (λ k. Some (node_of (0 + node) k))
-      (get_or_append_left (failure_kinds 16) (draft_of number size).kinds (Failure 0) node (omega (arith, length-failure_kinds 16)) ∙ failure_kind 16 node (Failure 0) low)
-      ∙ ap (λ n. Some (node_of n (Failure (node + 1)))) (let same : 0 + node ≡ node = omega arith in same)
+      let within : node < length kinds = omega (arith, length-append (failure_kinds FAILURE_COUNT) (draft_of number size).kinds, length-failure_kinds FAILURE_COUNT) in
+      slice_get-get_or graph.nodes node (drawn_node 0 (Failure 0)) (omega (arith, within, length-named_nodes 0 kinds))
+      ∙ ap Some (get_or-named_nodes 0 kinds node (drawn_node 0 (Failure 0)) (Failure 0) within)
+      ∙ ap (λ k. Some (drawn_node (0 + node) k))
+      (get_or_append_left (failure_kinds FAILURE_COUNT) (draft_of number size).kinds (Failure 0) node (omega (arith, length-failure_kinds FAILURE_COUNT)) ∙ failure_kind FAILURE_COUNT node (Failure 0) low)
+      ∙ ap (λ n. Some (drawn_node n (Failure (node + 1)))) (let same : 0 + node ≡ node = omega arith in same)
 
-  node_within : (node : ℕ) → node < 16 → node < length graph.nodes
-  node_within node low = omega (arith, length-append (failure_kinds 16) (draft_of number size).kinds, length-failure_kinds 16, length-named_nodes 0 kinds)
+  node_within : (node : ℕ) → node < FAILURE_COUNT → node < length graph.nodes
+  node_within node low = omega (arith, length-append (failure_kinds FAILURE_COUNT) (draft_of number size).kinds, length-failure_kinds FAILURE_COUNT, length-named_nodes 0 kinds)
 
   -- and is found by its name
-  failure_there : (node : ℕ) → node < 16 → failure_named graph (drawn_name node) ≡ Some node
+  failure_there : (node : ℕ) → node < FAILURE_COUNT → failure_named graph (drawn_name node) ≡ Some node
   failure_there node low =
       let at = node_at node low in
-      let name : name_of graph node ≡ drawn_name node = ap (λ o. unwrap_or (option_map (λ n. n.name) o) []) at in
+      let name : name_word graph node ≡ drawn_name node = ap (λ o. unwrap_or (option_map (λ n. n.name) o) []) at in
       let valid = generated_valid number size some few in
       let found : node_named graph (drawn_name node) ≡ Some node =
-      ap (node_named graph) (sym name) ∙ node_named-name_of graph node (node_within node low) valid.so_far.nodes_differ in
+      ap (node_named graph) (sym name) ∙ node_named-name_word graph node (node_within node low) valid.so_far.nodes_differ in
       ap (option_and_then (λ n. then_some (is_kind_at is_failure graph n) n)) found
       ∙ ap (λ o. then_some (option_map_or is_failure (option_map (λ n. n.kind) o) false) node) at
 
   -- so the line of a start says so
-  start_said : (time node : ℕ) → time ≤ MAX_TIME → node < 16 → entry_of graph (start_line time node) ≡ Some (Start time node)
+  start_said : (time node : ℕ) → time ≤ MAX_TIME → node < FAILURE_COUNT → entry_of graph (start_line time node) ≡ Some (Start time node)
   start_said time node small low =
       ap (entry_in graph) (slice_split-join 32 (decimal time ∷ codes "start" ∷ drawn_name node ∷ []) (omega arith)
       (decimal_lacks 32 time refl (omega arith), (lacks_checked 32 (codes "start") refl, (name_lacks 32 (drawn_name node) refl (is_name-drawn_name node (omega arith)), tt))))
@@ -123,12 +119,12 @@ module _ (number size : ℕ) (some : 1 ≤ size) (few : size ≤ 100) where
       ∙ ap (option_map (λ n. Start time n)) (failure_there node low)
 
   -- one start and the lines after it
-  one_started : (node : ℕ) → node < 16 → read_lines graph (start_line 0 node ∷ fixed_lines) ≡ Ok (Start 0 node ∷ fixed_entries)
+  one_started : (node : ℕ) → node < FAILURE_COUNT → read_lines graph (start_line 0 node ∷ fixed_lines) ≡ Ok (Start 0 node ∷ fixed_entries)
   one_started node low =
       ap (λ o. fold (with_script_line graph) (with_next [] (option_and_then (λ e. then_some (may_follow [] e) e) o)) fixed_lines) (start_said 0 node (omega arith) low)
 
   -- two starts and the lines after them
-  two_started : (node other : ℕ) → node < 16 → other < 16 → eqb node other ≡ false
+  two_started : (node other : ℕ) → node < FAILURE_COUNT → other < FAILURE_COUNT → eqb node other ≡ false
       → read_lines graph (start_line 0 node ∷ start_line 50 other ∷ fixed_lines) ≡ Ok (Start 0 node ∷ Start 50 other ∷ fixed_entries)
   two_started node other low too apart =
       ap (λ o. fold (with_script_line graph) (with_next [] (option_and_then (λ e. then_some (may_follow [] e) e) o)) (start_line 50 other ∷ fixed_lines)) (start_said 0 node (omega arith) low)
@@ -139,7 +135,7 @@ module _ (number size : ℕ) (some : 1 ≤ size) (few : size ≤ 100) where
       second_new = ap (λ b. not (b || false)) apart
 
   -- the text of one start or of two is right
-  text_right : (x y : ℕ) → x < 16 → y < 16 → (b : Bool) → eqb x y ≡ b
+  text_right : (x y : ℕ) → x < FAILURE_COUNT → y < FAILURE_COUNT → (b : Bool) → eqb x y ≡ b
       → (entries : List Entry) × (script_of graph (start_text 0 x ++ (cond b [] (start_text 50 y) ++ last_lines)) ≡ Ok entries) × IsDrawnScript entries
   text_right x y low too true same = (
     Start 0 x ∷ fixed_entries,
@@ -158,7 +154,7 @@ module _ (number size : ℕ) (some : 1 ≤ size) (few : size ≤ 100) where
   )
 
 -- A generated script is right.
-pub script_right : (number size : ℕ) → 1 ≤ size → size ≤ 100
+pub script_right : (number size : ℕ) → 1 ≤ size → size ≤ MAX_CASE_SIZE
     → (entries : List Entry) × (script_of (generated_graph number size) (generated_script number size) ≡ Ok entries) × IsDrawnScript entries
 script_right number size some few =
     let state : Lcg = (draft_of number size).state in
@@ -169,7 +165,7 @@ script_right number size some few =
     (text_right number size some few x y (omega arith) (omega arith) (eqb x y) refl)
 
 -- and never at fault
-pub never_at_fault : (number size line : ℕ) → 1 ≤ size → size ≤ 100 → script_of (generated_graph number size) (generated_script number size) ≡ Err line → ⊥
+pub never_at_fault : (number size line : ℕ) → 1 ≤ size → size ≤ MAX_CASE_SIZE → script_of (generated_graph number size) (generated_script number size) ≡ Err line → ⊥
 never_at_fault number size line some few fault =
     let script = script_right number size some few in
     let both : Ok script.0 ≡ Err line = sym script.1 ∙ fault in
@@ -178,31 +174,31 @@ never_at_fault number size line some few fault =
 -- ---- the set and the log
 
 -- a member more makes a set at most one longer
-length-with_member : (place : ℕ) (set : List ℕ) → length (with_member place set) ≤ length set + 1
-length-with_member place [] = omega arith
-length-with_member place (first ∷ others) =
-    cond_both (nat_lt place first) (place ∷ first ∷ others) _ (λ s. length s ≤ length (first ∷ others) + 1) (λ _. omega arith)
-    (λ _. cond_both (eqb place first) (first ∷ others) (first ∷ with_member place others) (λ s. length s ≤ length (first ∷ others) + 1) (λ _. omega arith)
-    (λ _. omega (arith, length-with_member place others)))
+length-with_member_le : (index : ℕ) (set : List ℕ) → length (with_member index set) ≤ length set + 1
+length-with_member_le index [] = omega arith
+length-with_member_le index (first ∷ others) =
+    cond_both (nat_lt index first) (index ∷ first ∷ others) _ (λ s. length s ≤ length (first ∷ others) + 1) (λ _. omega arith)
+    (λ _. cond_both (eqb index first) (first ∷ others) (first ∷ with_member index others) (λ s. length s ≤ length (first ∷ others) + 1) (λ _. omega arith)
+    (λ _. omega (arith, length-with_member_le index others)))
 
-module _ (graph : Tfpg) (few_failures : length (failures graph) ≤ 64) where
+module _ (graph : Tfpg) (few_failures : length (failures graph) ≤ MAX_FAILURES) where
   -- a start makes a set at most one longer, and keeps it a set
   started_length : (time node : ℕ) (set : List ℕ) → length (with_started graph set (Start time node)) ≤ length set + 1
   started_length time node set = by (position_of_failure graph node)
     where
-      by : (o : Option ℕ) → length (unwrap_or (option_map (λ place. with_member place set) o) set) ≤ length set + 1
+      by : (o : Option ℕ) → length (unwrap_or (option_map (λ index. with_member index set) o) set) ≤ length set + 1
       by None = omega arith
-      by (Some place) = length-with_member place set
+      by (Some index) = length-with_member_le index set
 
   started_set : (time node : ℕ) (set : List ℕ) → IsSet set → IsSet (with_started graph set (Start time node))
   started_set time node set is = by (position_of_failure graph node) refl
     where
-      by : (o : Option ℕ) → position_of_failure graph node ≡ o → IsSet (unwrap_or (option_map (λ place. with_member place set) o) set)
+      by : (o : Option ℕ) → position_of_failure graph node ≡ o → IsSet (unwrap_or (option_map (λ index. with_member index set) o) set)
       by None at = is
-      by (Some place) at = IsSet-with_member place set (let within = (position-Some (λ failure. eqb failure node) (failures graph) place 0 at).0 in omega arith) is
+      by (Some index) at = IsSet-with_member index set (let within = (position-Some (λ failure. eqb failure node) (failures graph) index 0 at).0 in omega arith) is
 
   no_member : IsSet []
-  no_member = record { rising = λ i j d before within. absurd (omega arith); small = All-nil (λ place. place < 64) }
+  no_member = record { rising = λ i j d before within. absurd (omega arith); small = All-nil (λ index. index < MAX_MEMBERS) }
 
   -- the set of a drawn script has at most two members
   pub drawn_set : (entries : List Entry) → IsDrawnScript entries → IsSet (set_of graph entries) × (length (set_of graph entries) ≤ 2)
@@ -239,7 +235,7 @@ drawn_events entries is trace lates stop =
 
 -- ---- the clauses
 
-module _ (number size draw : ℕ) (simulated : Simulated) (some : 1 ≤ size) (few : size ≤ 100)
+module _ (number size draw : ℕ) (simulated : Simulated) (some : 1 ≤ size) (few : size ≤ MAX_CASE_SIZE)
     (is : IsSimulationOf (generated_graph number size) (generated_script number size) draw simulated) where
   -- what was simulated is the drawn script
   same_entries : IsDrawnScript is.entries

@@ -15,48 +15,49 @@ use Rattle.tfpg_graph.specs.declared.kind.Kind.TheVariants.{Failure}
 use Rattle.tfpg_graph.specs.Graph.{Tfpg, Node, name_at}
 use Rattle.tfpg_graph.specs.Text.{tmax_word, modes_word, canonical_text, Spells}
 use Rattle.tfpg_graph.specs.Valid.{IsValid, IsValidEdge}
-use Rattle.tfpg_graph.specs.inside.writing.Written.{edge_text}
+use Rattle.tfpg_graph.specs.inside.writing.Written.{node_text, edge_text}
 use Rattle.tfpg_graph.proofs.lemmas.writing.Spelled.{Spells-canonical}
 use Rattle.tfpg_graph.proofs.lemmas.writing.TextPieces.{canonical_text-pieces}
 use Rattle.tfpg_sim.specs.Generated.{drawn_name, failure_kinds, named_nodes, drawn_graph}
-use Rattle.tfpg_sim.specs.inside.GraphText.{drawn_head_text, drawn_node_text, drawn_modes_word, edge_text_by_number, draft_text, HasDrawnModes}
-use Rattle.tfpg_sim.proofs.GeneratedGraphs.{node_of, length-failure_kinds, length-named_nodes, get_or-named_nodes}
+use Rattle.tfpg_sim.specs.inside.GraphText.{drawn_head_text, drawn_modes_word, edge_text_by_number, draft_text, HasDrawnModes}
+use Rattle.tfpg_sim.specs.declared.limits.TheConstants.{FAILURE_COUNT}
+use Rattle.tfpg_sim.proofs.GeneratedGraphs.{drawn_node, length-failure_kinds, length-named_nodes, get_or-named_nodes}
 
 named_nodes-append : (number : ℕ) (kinds more : List Kind) → named_nodes number (kinds ++ more) ≡ named_nodes number kinds ++ named_nodes (number + length kinds) more
 named_nodes-append number [] more = ap (λ n. named_nodes n more) (let same : number ≡ number + 0 = omega arith in same)
 named_nodes-append number (kind ∷ kinds) more =
-    ap (λ nodes. node_of number kind ∷ nodes) (named_nodes-append (number + 1) kinds more
+    ap (λ nodes. drawn_node number kind ∷ nodes) (named_nodes-append (number + 1) kinds more
     ∙ ap (λ n. named_nodes (number + 1) kinds ++ named_nodes n more) (let same : number + 1 + length kinds ≡ number + suc (length kinds) = omega arith in same))
 
 -- the text of nodes with one more kind
-pub node_texts-push : (number : ℕ) (kinds : List Kind) (kind : Kind) → flat_map drawn_node_text (named_nodes number (kinds ++ kind ∷ []))
-    ≡ flat_map drawn_node_text (named_nodes number kinds) ++ drawn_node_text (node_of (number + length kinds) kind)
+pub node_texts-push : (number : ℕ) (kinds : List Kind) (kind : Kind) → flat_map node_text (named_nodes number (kinds ++ kind ∷ []))
+    ≡ flat_map node_text (named_nodes number kinds) ++ node_text (drawn_node (number + length kinds) kind)
 node_texts-push number kinds kind =
-    ap (flat_map drawn_node_text) (named_nodes-append number kinds (kind ∷ [])) ∙ flat_map-append drawn_node_text (named_nodes number kinds) (node_of (number + length kinds) kind ∷ [])
-    ∙ ap (λ t. flat_map drawn_node_text (named_nodes number kinds) ++ t) (append-nil (drawn_node_text (node_of (number + length kinds) kind)))
+    ap (flat_map node_text) (named_nodes-append number kinds (kind ∷ [])) ∙ flat_map-append node_text (named_nodes number kinds) (drawn_node (number + length kinds) kind ∷ [])
+    ∙ ap (λ t. flat_map node_text (named_nodes number kinds) ++ t) (append-nil (node_text (drawn_node (number + length kinds) kind)))
 
 -- the lines of the first nodes after the old bytes, and that of the next node
-pub nodes_next : (number place : ℕ) (kinds : List Kind) (d : Kind) (old mid new : List ℕ) → place < length kinds
-    → mid ≡ old ++ flat_map drawn_node_text (named_nodes number (take place kinds)) → new ≡ mid ++ drawn_node_text (node_of (number + place) (get_or kinds place d))
-    → new ≡ old ++ flat_map drawn_node_text (named_nodes number (take (place + 1) kinds))
-nodes_next number place kinds d old mid new within before one =
-    one ∙ ap (λ t. t ++ drawn_node_text (node_of (number + place) (get_or kinds place d))) before
-    ∙ append_assoc old (flat_map drawn_node_text (named_nodes number (take place kinds))) (drawn_node_text (node_of (number + place) (get_or kinds place d)))
+pub nodes_next : (number index : ℕ) (kinds : List Kind) (d : Kind) (old mid new : List ℕ) → index < length kinds
+    → mid ≡ old ++ flat_map node_text (named_nodes number (take index kinds)) → new ≡ mid ++ node_text (drawn_node (number + index) (get_or kinds index d))
+    → new ≡ old ++ flat_map node_text (named_nodes number (take (index + 1) kinds))
+nodes_next number index kinds d old mid new within before one =
+    one ∙ ap (λ t. t ++ node_text (drawn_node (number + index) (get_or kinds index d))) before
+    ∙ append_assoc old (flat_map node_text (named_nodes number (take index kinds))) (node_text (drawn_node (number + index) (get_or kinds index d)))
     ∙ ap (λ t. old ++ t)
-    (sym (ap (λ ks. flat_map drawn_node_text (named_nodes number ks)) (take_more kinds place d within) ∙ node_texts-push number (take place kinds) (get_or kinds place d)
-    ∙ ap (λ n. flat_map drawn_node_text (named_nodes number (take place kinds)) ++ drawn_node_text (node_of (number + n) (get_or kinds place d)))
-    (let same : length (take place kinds) ≡ place = omega (arith, length-take place kinds) in same)))
+    (sym (ap (λ ks. flat_map node_text (named_nodes number ks)) (take_more kinds index d within) ∙ node_texts-push number (take index kinds) (get_or kinds index d)
+    ∙ ap (λ n. flat_map node_text (named_nodes number (take index kinds)) ++ node_text (drawn_node (number + n) (get_or kinds index d)))
+    (let same : length (take index kinds) ≡ index = omega (arith, length-take index kinds) in same)))
 
 -- the same of the failure modes
-pub failures_next : (place rarity : ℕ) (old mid new : List ℕ) → rarity ≡ place + 1 → mid ≡ old ++ flat_map drawn_node_text (named_nodes 0 (failure_kinds place))
-    → new ≡ mid ++ drawn_node_text (node_of place (Failure rarity)) → new ≡ old ++ flat_map drawn_node_text (named_nodes 0 (failure_kinds (place + 1)))
-failures_next place rarity old mid new is before one =
-    one ∙ (λ i. before i ++ drawn_node_text (node_of place (Failure (is i))))
-    ∙ append_assoc old (flat_map drawn_node_text (named_nodes 0 (failure_kinds place))) (drawn_node_text (node_of place (Failure (place + 1))))
+pub failures_next : (index rarity : ℕ) (old mid new : List ℕ) → rarity ≡ index + 1 → mid ≡ old ++ flat_map node_text (named_nodes 0 (failure_kinds index))
+    → new ≡ mid ++ node_text (drawn_node index (Failure rarity)) → new ≡ old ++ flat_map node_text (named_nodes 0 (failure_kinds (index + 1)))
+failures_next index rarity old mid new is before one =
+    one ∙ (λ i. before i ++ node_text (drawn_node index (Failure (is i))))
+    ∙ append_assoc old (flat_map node_text (named_nodes 0 (failure_kinds index))) (node_text (drawn_node index (Failure (index + 1))))
     ∙ ap (λ t. old ++ t)
-    (sym (ap (λ n. flat_map drawn_node_text (named_nodes 0 (failure_kinds n))) (add-one place) ∙ node_texts-push 0 (failure_kinds place) (Failure (place + 1))
-    ∙ ap (λ n. flat_map drawn_node_text (named_nodes 0 (failure_kinds place)) ++ drawn_node_text (node_of n (Failure (place + 1))))
-    (let same : 0 + length (failure_kinds place) ≡ place = omega (arith, length-failure_kinds place) in same)))
+    (sym (ap (λ n. flat_map node_text (named_nodes 0 (failure_kinds n))) (add-one index) ∙ node_texts-push 0 (failure_kinds index) (Failure (index + 1))
+    ∙ ap (λ n. flat_map node_text (named_nodes 0 (failure_kinds index)) ++ node_text (drawn_node n (Failure (index + 1))))
+    (let same : 0 + length (failure_kinds index) ≡ index = omega (arith, length-failure_kinds index) in same)))
 
 module _ (kinds : List Kind) (edges : List Edge) where
   abbrev graph : Tfpg
@@ -64,9 +65,9 @@ module _ (kinds : List Kind) (edges : List Edge) where
 
   name_is : (node : ℕ) → node < length graph.nodes → unwrap_or (name_at graph node) [] ≡ drawn_name node
   name_is node within =
-      let nobody : Node = node_of 0 (Failure 0) in
+      let nobody : Node = drawn_node 0 (Failure 0) in
       ap (λ (o : Option Node). unwrap_or (option_map (λ n. n.name) o) []) (slice_get-get_or graph.nodes node nobody within)
-      ∙ ap (λ (n : Node). n.name) (get_or-named_nodes 0 (failure_kinds 16 ++ kinds) node nobody (Failure 0) (omega (arith, length-named_nodes 0 (failure_kinds 16 ++ kinds))))
+      ∙ ap (λ (n : Node). n.name) (get_or-named_nodes 0 (failure_kinds FAILURE_COUNT ++ kinds) node nobody (Failure 0) (omega (arith, length-named_nodes 0 (failure_kinds FAILURE_COUNT ++ kinds))))
       ∙ ap drawn_name (let same : 0 + node ≡ node = omega arith in same)
 
   modes_are : (modes : ℕ) → (modes ≡ 1) ⊎ (modes ≡ 3) → modes_word graph modes ≡ drawn_modes_word modes
@@ -78,21 +79,21 @@ module _ (kinds : List Kind) (edges : List Edge) where
   edge_is edge valid modes = λ i. with_line_end (line_of (codes "edge" ∷ name_is edge.source valid.source i ∷ name_is edge.target valid.target i
       ∷ decimal edge.tmin ∷ tmax_word edge.tmax ∷ modes_are edge.modes modes i ∷ []))
 
-  nodes_are : flat_map drawn_node_text graph.nodes ≡ flat_map drawn_node_text (named_nodes 0 (failure_kinds 16)) ++ flat_map drawn_node_text (named_nodes 16 kinds)
+  nodes_are : flat_map node_text graph.nodes ≡ flat_map node_text (named_nodes 0 (failure_kinds FAILURE_COUNT)) ++ flat_map node_text (named_nodes FAILURE_COUNT kinds)
   nodes_are =
-      ap (flat_map drawn_node_text) (named_nodes-append 0 (failure_kinds 16) kinds
-      ∙ ap (λ n. named_nodes 0 (failure_kinds 16) ++ named_nodes n kinds) (let same : 0 + length (failure_kinds 16) ≡ 16 = omega (arith, length-failure_kinds 16) in same))
-      ∙ flat_map-append drawn_node_text (named_nodes 0 (failure_kinds 16)) (named_nodes 16 kinds)
+      ap (flat_map node_text) (named_nodes-append 0 (failure_kinds FAILURE_COUNT) kinds
+      ∙ ap (λ n. named_nodes 0 (failure_kinds FAILURE_COUNT) ++ named_nodes n kinds) (let same : 0 + length (failure_kinds FAILURE_COUNT) ≡ FAILURE_COUNT = omega (arith, length-failure_kinds FAILURE_COUNT) in same))
+      ∙ flat_map-append node_text (named_nodes 0 (failure_kinds FAILURE_COUNT)) (named_nodes FAILURE_COUNT kinds)
 
   -- The text is the canonical one.
   pub text_is : IsValid graph → All HasDrawnModes edges → draft_text kinds edges ≡ canonical_text graph
   text_is valid modes =
       let end : List ℕ = text_line (codes "end" ∷ []) in
-      let first : List ℕ = flat_map drawn_node_text (named_nodes 0 (failure_kinds 16)) in
-      let others : List ℕ = flat_map drawn_node_text (named_nodes 16 kinds) in
+      let first : List ℕ = flat_map node_text (named_nodes 0 (failure_kinds FAILURE_COUNT)) in
+      let others : List ℕ = flat_map node_text (named_nodes FAILURE_COUNT kinds) in
       ap (λ t. t ++ flat_map edge_text_by_number edges ++ end) (append_assoc drawn_head_text first others)
       ∙ ap (λ t. drawn_head_text ++ t ++ flat_map edge_text_by_number edges ++ end) (sym nodes_are)
-      ∙ ap (λ t. drawn_head_text ++ flat_map drawn_node_text graph.nodes ++ t ++ end)
+      ∙ ap (λ t. drawn_head_text ++ flat_map node_text graph.nodes ++ t ++ end)
       (sym (flat_map-same (edge_text graph) edge_text_by_number edges (λ k d within. edge_is (get_or edges k d) (valid.so_far.edges k d within) (modes k d within))))
       ∙ sym (canonical_text-pieces graph)
 

@@ -1,5 +1,5 @@
 -- The simulated trace keeps the propagation rules.
-use Rattle.std.proofs.Common.{◌≡◌, ℕ, ◌+◌, ◌-◌, ◌%◌, ◌<◌, ◌≤◌, ◌⊎◌, ⊎_elim, true, false, eqb, IsTrue, IfSome, List, [], length, Option, Some, None, slice_get, refl, sym, ◌∙◌, subst, arith}
+use Rattle.std.proofs.Common.{◌≡◌, ℕ, ◌+◌, ◌-◌, ◌%◌, ◌<◌, ◌≤◌, ◌⊎◌, ⊎_elim, eqb, IsTrue, IfSome, List, length, Option, Some, None, slice_get, refl, sym, ◌∙◌, subst, arith}
 use Rattle.std.specs.List.{Contains}
 use Rattle.std.proofs.lemmas.List.Elements.{All-contains}
 use Rattle.tfpg_base.proofs.lists.Elements.{All-from_members, All-at}
@@ -23,11 +23,11 @@ use Rattle.tfpg_sim.specs.Simulation.{Carries, Arrives, IsFirst, IsSimulated, sc
 use Rattle.tfpg_sim.specs.declared.limits.TheConstants.{DELAY_STREAM}
 
 -- a delay is between the least and the greatest one
-delay_most : (tmin value m : ℕ) (tmax : Option ℕ) → tmax ≡ Some m → tmin ≤ m → tmin + value % delay_count tmin tmax ≤ m
-delay_most tmin value m tmax is order = subst (λ t. tmin + value % delay_count tmin t ≤ m) (sym is) (most (m - tmin + 1) (omega arith) (omega arith))
+delay_upto : (tmin value m : ℕ) (tmax : Option ℕ) → tmax ≡ Some m → tmin ≤ m → tmin + value % delay_count tmin tmax ≤ m
+delay_upto tmin value m tmax is order = subst (λ t. tmin + value % delay_count tmin t ≤ m) (sym is) (upto_greatest (m - tmin + 1) (omega arith) (omega arith))
   where
-    most : (count : ℕ) → 0 < count → tmin + count ≡ m + 1 → tmin + value % count ≤ m
-    most count some same = let below : value % count < count = omega arith in omega arith
+    upto_greatest : (count : ℕ) → 0 < count → tmin + count ≡ m + 1 → tmin + value % count ≤ m
+    upto_greatest count some same = let below : value % count < count = omega arith in omega arith
 
 delay_at : (graph : Tfpg) (number n : ℕ) (edge : Edge) → IsValid graph → slice_get graph.edges n ≡ Some edge
     → (delay : ℕ) × (slice_get (delays graph number) n ≡ Some delay) × (edge.tmin ≤ delay) × ((m : ℕ) → edge.tmax ≡ Some m → delay ≤ m)
@@ -37,8 +37,8 @@ delay_at graph number n edge valid at =
       delay_of edge (drawn found.0),
       found.1,
       omega arith,
-      (λ m is. let bounds = subst (λ t. IfSome t (λ tmax. (edge.tmin ≤ tmax) × (tmax ≤ MAX_TIME))) is own.most in
-          delay_most edge.tmin (drawn found.0) m edge.tmax is bounds.0),
+      (λ m is. let bounds = subst (λ t. IfSome t (λ tmax. (edge.tmin ≤ tmax) × (tmax ≤ MAX_TIME))) is own.greatest in
+          delay_upto edge.tmin (drawn found.0) m edge.tmax is bounds.0),
     )
 
 -- an age of so much is one of less
@@ -47,7 +47,7 @@ HasAge-less log trace edge x age less upto has = record {
   start = has.start;
   source = has.source;
   since = let since = has.since in omega arith;
-  allowed = λ y after within. has.allowed y (omega arith) within;
+  active_since = λ y after within. has.active_since y (omega arith) within;
 }
 
 module _ (graph : Tfpg) (entries : List Entry) (number : ℕ) (trace : List Activation) (valid : IsValid graph)

@@ -1,22 +1,22 @@
 -- When flights land, span by span.
 use Rattle.std.proofs.Common.{◌≡◌, ℕ, zero, suc, ◌+◌, ◌<◌, ◌≤◌, ◌↔◌, max, ◌⊎◌, inl, inr, ⊎_elim, Bool, true, false, IsTrue, List, [], ◌∷◌, length, get_or, cond, Option, Some, None, slice_get, unwrap_or, refl, sym, ap, subst, ◌∙◌, arith}
-use Rattle.tfpg_graph.specs.Graph.{is_allowed}
+use Rattle.tfpg_graph.specs.Graph.{is_active_in}
 use Rattle.std.proofs.lemmas.Option.{slice_get-get_or, slice_get_within}
 use Rattle.tfpg_log.specs.declared.span.Span.{Span}
 use Rattle.tfpg_log.specs.Log.{Logbook, mode_at}
 use Rattle.tfpg_sim.specs.declared.flight.Flight.{Flight}
-use Rattle.tfpg_sim.specs.inside.Flights.{IsOpen, Lands, LandsBy, IsReached, ReachedBy, IsFirstIn, pending_in, IsPending, ArePending}
+use Rattle.tfpg_sim.specs.inside.Flights.{HasActiveEdge, Lands, LandsBy, IsReached, ReachedBy, IsFirstIn, pending_in, IsPending, ArePending}
 use Rattle.tfpg_sim.specs.inside.ModeSpans.{AreSpans}
 use Rattle.tfpg_sim.specs.Simulation.{IsFirst}
 
 module _ (log : Logbook) (flight : Flight) where
   -- what is pending once an instant has come, by whether the edge is active in it
-  pending_at : (lo : ℕ) (pending : Option ℕ) (open_there : Bool) → (IsTrue open_there → IsOpen log flight lo)
-      → (IsOpen log flight lo → IsTrue open_there) → IsPending log lo flight pending
-      → (entered : Option ℕ) → entered ≡ cond open_there (Some (unwrap_or pending (max lo flight.start + flight.delay))) None
+  pending_at : (lo : ℕ) (pending : Option ℕ) (active_there : Bool) → (IsTrue active_there → HasActiveEdge log flight lo)
+      → (HasActiveEdge log flight lo → IsTrue active_there) → IsPending log lo flight pending
+      → (entered : Option ℕ) → entered ≡ cond active_there (Some (unwrap_or pending (max lo flight.start + flight.delay))) None
       → IsPending log (lo + 1) flight entered
   pending_at lo pending false there back before entered is =
-      subst (IsPending log (lo + 1) flight) (sym is) (λ x next open_x. let no : false ≡ true = back (subst (IsOpen log flight) (let same : x ≡ lo = omega arith in same) open_x) in cc)
+      subst (IsPending log (lo + 1) flight) (sym is) (λ x next active_x. let no : false ≡ true = back (subst (HasActiveEdge log flight) (let same : x ≡ lo = omega arith in same) active_x) in cc)
   pending_at lo (Some arrival) true there back before entered is =
       subst (IsPending log (lo + 1) flight) (sym is) (
         before.0,
@@ -28,14 +28,14 @@ module _ (log : Logbook) (flight : Flight) where
         before.2,
       )
     where
-      by_last : (last x : ℕ) → x < last + 1 → (x < last → IsOpen log flight x) → IsOpen log flight last → IsOpen log flight x
-      by_last last x within less here = ⊎_elim less (λ same. subst (IsOpen log flight) same here) (let cases : (x < last) ⊎ (last ≡ x) = grind arith in cases)
+      by_last : (last x : ℕ) → x < last + 1 → (x < last → HasActiveEdge log flight x) → HasActiveEdge log flight last → HasActiveEdge log flight x
+      by_last last x within less here = ⊎_elim less (λ same. subst (HasActiveEdge log flight) same here) (let cases : (x < last) ⊎ (last ≡ x) = grind arith in cases)
   pending_at lo None true there back before entered is =
       subst (IsPending log (lo + 1) flight) (sym is) (
         lo,
         record {
           before = omega arith;
-          throughout = λ x from_x upto. subst (IsOpen log flight) (let same : lo ≡ x = omega arith in same) (there refl);
+          throughout = λ x from_x upto. subst (HasActiveEdge log flight) (let same : lo ≡ x = omega arith in same) (there refl);
           alone = before;
         },
         refl,
@@ -45,15 +45,15 @@ module _ (log : Logbook) (flight : Flight) where
   pending_stays : (lo later : ℕ) (pending : Option ℕ) → lo ≤ later
       → ((x : ℕ) → lo ≤ x → x ≤ later → mode_at log x ≡ mode_at log lo)
       → IsPending log (lo + 1) flight pending → IsPending log (later + 1) flight pending
-  pending_stays lo later None upto same before = λ x next open_x.
+  pending_stays lo later None upto same before = λ x next active_x.
       let here : x ≡ later = omega arith in
-      before lo (omega arith) (subst (λ mode. IsTrue (is_allowed flight.edge mode)) (ap (mode_at log) here ∙ same later upto (omega arith)) open_x)
+      before lo (omega arith) (subst (λ mode. IsTrue (is_active_in flight.edge mode)) (ap (mode_at log) here ∙ same later upto (omega arith)) active_x)
   pending_stays lo later (Some arrival) upto same before = (
     before.0,
     record {
       before = omega (arith, before.1.before);
       throughout = λ x from_x within. ⊎_elim (λ less. before.1.throughout x from_x less)
-          (λ past. subst (λ mode. IsTrue (is_allowed flight.edge mode)) (sym (same x (omega arith) (omega arith)))
+          (λ past. subst (λ mode. IsTrue (is_active_in flight.edge mode)) (sym (same x (omega arith) (omega arith)))
           (before.1.throughout lo (omega (arith, before.1.before)) (omega arith))) (let cases : (x < lo + 1) ⊎ (lo + 1 ≤ x) = grind arith in cases);
       alone = before.1.alone;
     },
@@ -63,15 +63,15 @@ module _ (log : Logbook) (flight : Flight) where
   -- a flight has landed at an instant exactly where the time that is pending is reached
   pending_lands : (x : ℕ) (pending : Option ℕ) → IsPending log (x + 1) flight pending → Lands log x flight ↔ IsReached pending x
   pending_lands x None before =
-      ((λ lands. before x (omega arith) (lands.open_since x (omega arith) (omega arith))), (λ never. absurd never))
+      ((λ lands. before x (omega arith) (lands.active_since x (omega arith) (omega arith))), (λ never. absurd never))
   pending_lands x (Some arrival) before =
       let from = before.0 in (
         (λ lands. ⊎_elim (λ late. let since = lands.since in omega (arith, before.2))
-            (λ early. absurd (before.1.alone early.0 early.1 (lands.open_since early.0 (let after = early.2 in let next = early.1 in omega arith)
+            (λ early. absurd (before.1.alone early.0 early.1 (lands.active_since early.0 (let after = early.2 in let next = early.1 in omega arith)
             (let next = early.1 in let upto = before.1.before in omega arith)))) (early_or_late from lands.since)),
         (λ reached. let is = before.2 in record {
           since = omega arith;
-          open_since = λ y after upto. before.1.throughout y (omega arith) (omega arith);
+          active_since = λ y after upto. before.1.throughout y (omega arith) (omega arith);
         }),
       )
     where
@@ -100,10 +100,10 @@ module _ (log : Logbook) (flights : List Flight) where
         (some.0, get_or flights some.0 no_flight, at, (pending_lands log _ x (get_or pendings some.0 None) (are some.0 _ at)).1 some.2)),
   )
   lands_reached true x pendings same are = (
-    (λ each place within. let inside : place < length flights = omega arith in
-        let at = slice_get-get_or flights place no_flight inside in (pending_lands log _ x (get_or pendings place None) (are place _ at)).0 (each place _ at)),
-    (λ each place flight at. (pending_lands log flight x (get_or pendings place None) (are place flight at)).1
-        (each place (let within : place < length flights = slice_get_within flights place flight at in omega arith))),
+    (λ each index within. let inside : index < length flights = omega arith in
+        let at = slice_get-get_or flights index no_flight inside in (pending_lands log _ x (get_or pendings index None) (are index _ at)).0 (each index _ at)),
+    (λ each index flight at. (pending_lands log flight x (get_or pendings index None) (are index flight at)).1
+        (each index (let within : index < length flights = slice_get_within flights index flight at in omega arith))),
   )
 
 -- spans end no earlier than they begin
@@ -121,20 +121,20 @@ module _ (log : Logbook) (limit : ℕ) (flights : List Flight) (needs_all : Bool
 
   module _ (begin : ℕ) (span : Span) (spans : List Span) (pendings entered : List (Option ℕ)) (reached first : Option ℕ)
       (before : IsBefore begin (span ∷ spans) pendings) (same : length entered ≡ length flights)
-      (enters : (place : ℕ) (flight : Flight) → slice_get flights place ≡ Some flight → get_or entered place None ≡ pending_in span flight (get_or pendings place None))
+      (enters : (index : ℕ) (flight : Flight) → slice_get flights index ≡ Some flight → get_or entered index None ≡ pending_in span flight (get_or pendings index None))
       (reaches : (x : ℕ) → IsReached reached x ↔ ReachedBy needs_all entered x) (is_first : IsFirstIn (IsReached reached) span.lo span.hi first) where
     modes : (x : ℕ) → span.lo ≤ x → x ≤ span.hi → mode_at log x ≡ span.mode
     modes = before.left.2
 
     -- what is pending at an instant of the span
     at : (x : ℕ) → span.lo ≤ x → x ≤ span.hi → ArePending log (x + 1) flights entered
-    at x from upto = λ place flight is.
+    at x from upto = λ index flight is.
         let here = modes span.lo (omega arith) before.left.1 in
-        let test : ℕ → Type 0 = λ mode. IsTrue (is_allowed flight.edge mode) in
-        pending_stays log flight span.lo x (get_or entered place None) from (λ y after within. modes y after (omega arith) ∙ sym here)
-        (pending_at log flight span.lo (get_or pendings place None) (is_allowed flight.edge span.mode) (subst test (sym here)) (subst test here)
-        (subst (λ n. IsPending log n flight (get_or pendings place None)) (sym before.left.0) (before.pending place flight is))
-        (get_or entered place None) (enters place flight is))
+        let test : ℕ → Type 0 = λ mode. IsTrue (is_active_in flight.edge mode) in
+        pending_stays log flight span.lo x (get_or entered index None) from (λ y after within. modes y after (omega arith) ∙ sym here)
+        (pending_at log flight span.lo (get_or pendings index None) (is_active_in flight.edge span.mode) (subst test (sym here)) (subst test here)
+        (subst (λ n. IsPending log n flight (get_or pendings index None)) (sym before.left.0) (before.pending index flight is))
+        (get_or entered index None) (enters index flight is))
 
     -- the flights have landed in the span exactly where the time is reached
     lands : (x : ℕ) → span.lo ≤ x → x ≤ span.hi → LandsBy needs_all log flights x → IsReached reached x
@@ -170,10 +170,10 @@ module _ (log : Logbook) (limit : ℕ) (flights : List Flight) (needs_all : Bool
 
   -- before the first span nothing is pending
   pub at_first : (spans : List Span) (pendings : List (Option ℕ)) → AreSpans log (limit + 1) 0 spans
-      → ((place : ℕ) → get_or pendings place None ≡ None) → IsBefore 0 spans pendings
+      → ((index : ℕ) → get_or pendings index None ≡ None) → IsBefore 0 spans pendings
   at_first spans pendings are none = record {
     left = are;
-    pending = λ place flight is. subst (IsPending log 0 flight) (sym (none place)) (λ x next open_x. omega arith);
+    pending = λ index flight is. subst (IsPending log 0 flight) (sym (none index)) (λ x next active_x. omega arith);
     none = λ x less landed. omega arith;
   }
 

@@ -20,7 +20,7 @@ use Rattle.tfpg_log.specs.declared.limits.TheConstants.{MAX_MODE_CHANGES}
 use Rattle.tfpg_sim.specs.Simulation.{event_of_entry}
 use Rattle.tfpg_sim.specs.SimulatedLog.{alarm_time, with_alarm, with_alarms}
 use Rattle.tfpg_sim.specs.inside.Entries.{IsEntryOf, IsScript}
-use Rattle.tfpg_sim.proofs.PutAlarms.{put, put_there, All-put, alarm_there, still_there, one_more, changes_same, modes_same, IsOther, Precedes, AreInOrder, order_put}
+use Rattle.tfpg_sim.proofs.PutAlarms.{put, put_there, All-put, alarm_there, still_there, one_more, changes_same, modes_same, IsOther, Precedes, MayStandInOrder, order_put}
 use Rattle.tfpg_sim.proofs.ReadScripts.{few_entries, few_changes}
 use Rattle.tfpg_sim.proofs.ScriptOrder.{all_by_last, in_order}
 
@@ -53,7 +53,7 @@ own_after e (Sweep time) late = late
 own_after e (Tick time) late = late
 own_after e (Stop time) late = late
 
-own_order : (entries : List Entry) → AllPairs (λ a b. time_of_entry a ≤ time_of_entry b) entries → AreInOrder (filter_map event_of_entry entries)
+own_order : (entries : List Entry) → AllPairs (λ a b. time_of_entry a ≤ time_of_entry b) entries → MayStandInOrder (filter_map event_of_entry entries)
 own_order [] pairs = tt
 own_order (entry ∷ entries) pairs =
     by entry (AllPairs-head (λ a b. time_of_entry a ≤ time_of_entry b) entry entries pairs)
@@ -62,7 +62,7 @@ own_order (entry ∷ entries) pairs =
     after : (e : Event) → All (λ n. time_of_event e ≤ time_of_entry n) entries → All (Precedes e) (filter_map event_of_entry entries)
     after e late = All-own (Precedes e) entries (λ k d within. own_after e (get_or entries k d) (late k d within))
 
-    by : (n : Entry) → All (λ later. time_of_entry n ≤ time_of_entry later) entries → AreInOrder (filter_map event_of_entry entries) → AreInOrder (filter_map event_of_entry (n ∷ entries))
+    by : (n : Entry) → All (λ later. time_of_entry n ≤ time_of_entry later) entries → MayStandInOrder (filter_map event_of_entry entries) → MayStandInOrder (filter_map event_of_entry (n ∷ entries))
     by (Start time node) late rest = rest
     by (Mode time mode) late rest = (after (event.Mode time mode) late, rest)
     by (Sweep time) late rest = (after (event.Sweep time) late, rest)
@@ -123,7 +123,7 @@ module _ (graph : Tfpg) (entries : List Entry) (trace : List Activation) (latene
   IsLogged count (event.Mode time mode) = (mode < length graph.modes) × (time ≤ stop)
 
   pub record AreLogged (count : ℕ) (events : List Event) : Type 0 where
-    pub order : AreInOrder events
+    pub order : MayStandInOrder events
     pub each : All (IsLogged count) events
     pub alarmed : (node time : ℕ) → node < count → alarm_at node ≡ Some time → Contains events (event.Alarm time node)
     pub few : length events ≤ MAX_ENTRIES + count

@@ -1,5 +1,5 @@
 -- What is read of a script is one.
-use Rattle.std.proofs.Common.{◌≡◌, ℕ, ◌≤◌, ◌⊎◌, ⊎_elim, true, nat_le, List, [], ◌∷◌, ◌++◌, length, take, Some, None, IsTrue, codes, bytes_eq, sym, ap, ◌∙◌, subst, arith}
+use Rattle.std.proofs.Common.{◌≡◌, ℕ, ◌≤◌, ⊎_elim, true, nat_le, List, [], ◌∷◌, ◌++◌, length, take, Some, None, IsTrue, codes, bytes_eq, sym, ap, ◌∙◌, subst, arith}
 use Rattle.std.specs.Bool.{then_some}
 use Rattle.std.proofs.lemmas.Bool.{cond_both}
 use Rattle.std.proofs.lemmas.Bool.Decides.{nat_tests}
@@ -71,15 +71,15 @@ pub script_push : (graph : Tfpg) (before more : List Entry) (line : List ℕ) (e
     → more ≡ before ++ entry ∷ [] → IsScript graph before → IsScript graph more
 script_push graph before more line entry is are script = subst (IsScript graph) (sym are) (record {
   own = All-append (IsEntryOf graph) before (entry ∷ []) script.own (All-cons (IsEntryOf graph) entry [] own (All-nil (IsEntryOf graph)));
-  follows = λ place other at. ⊎_elim
-      (λ less. subst (λ es. may_follow es other ≡ true) (sym (take-append-le place before (entry ∷ []) (omega arith)))
-      (script.follows place other (sym (slice_get-push_before before entry place less) ∙ at)))
-      (λ here. let last : Some entry ≡ Some other = sym (slice_get-push_last before entry place here) ∙ at in
+  follows = λ index other at. ⊎_elim
+      (λ less. subst (λ es. may_follow es other ≡ true) (sym (take-append-le index before (entry ∷ []) (omega arith)))
+      (script.follows index other (sym (slice_get-push_before before entry index less) ∙ at)))
+      (λ here. let last : Some entry ≡ Some other = sym (slice_get-push_last before entry index here) ∙ at in
       let same : entry ≡ other = cc in
       subst (λ es. may_follow es other ≡ true)
       (sym (ap (λ n. take n (before ++ entry ∷ [])) here ∙ take-append-le (length before) before (entry ∷ []) (omega arith) ∙ take_all (length before) before (omega arith)))
       (subst (λ e. may_follow before e ≡ true) same test.0))
-      (below_or_last place (length before) (omega (arith, length_push before entry, slice_get_within (before ++ entry ∷ []) place other at)));
+      (below_or_last index (length before) (omega (arith, length_push before entry, slice_get_within (before ++ entry ∷ []) index other at)));
 })
   where
     found : (e : Entry) × (entry_of graph line ≡ Some e) × (then_some (may_follow before e) e ≡ Some entry)
@@ -95,4 +95,4 @@ script_push graph before more line entry is are script = subst (IsScript graph) 
     own = subst (IsEntryOf graph) tested.1 (entry_own graph (words_of line) found.0 found.1)
 
 pub script_none : (graph : Tfpg) → IsScript graph []
-script_none graph = record { own = All-nil (IsEntryOf graph); follows = λ place entry at. absurd (let none : None ≡ Some entry = at in cc) }
+script_none graph = record { own = All-nil (IsEntryOf graph); follows = λ index entry at. absurd (let none : None ≡ Some entry = at in cc) }

@@ -2,14 +2,15 @@
 use Rattle.std.proofs.Common.{◌≡◌, ℕ, zero, suc, ◌+◌, ◌-◌, ◌≤◌, ⊎_elim, Bool, true, false, not, ◌||◌, cond, eqb, nat_le, nat_lt, List, [], ◌∷◌, ◌++◌, length, take, get_or, All, AllPairs, Option, Some, None, slice_get, refl, sym, ap, ◌∙◌, subst, arith}
 use Rattle.std.specs.List.{list_any}
 use Rattle.std.specs.Option.{option_or, option_map_or}
-use Rattle.std.proofs.lemmas.Bool.{cond-true, cond-false, eqb-true, ne_eqb, eq-eqb, cases_eq, not-true, and_parts}
+use Rattle.std.proofs.lemmas.Bool.{cond-true, cond-false, ne_eqb, eq-eqb, cases_eq, not-true, and_parts}
 use Rattle.std.proofs.lemmas.Bool.Decides.{nat_tests}
 use Rattle.std.proofs.lemmas.List.{take_all, get_or-take, length-take, length_push}
-use Rattle.std.proofs.lemmas.List.Elements.{All-nil, All-cons, All-append}
+use Rattle.std.proofs.lemmas.List.Elements.{All-nil, All-cons, All-append, All-contains}
 use Rattle.std.proofs.lemmas.Option.{slice_get-get_or}
 use Rattle.tfpg_base.specs.declared.activation.Activation.{Activation}
 use Rattle.tfpg_base.specs.Trace.{time_of, with_time}
 use Rattle.tfpg_base.specs.declared.limits.TheConstants.{MAX_TIME}
+use Rattle.tfpg_base.proofs.TraceTimes.{activation_there}
 use Rattle.tfpg_base.proofs.Traces.{time_of-with_time, time_of-with_time_other}
 use Rattle.tfpg_graph.specs.Graph.{Tfpg}
 use Rattle.tfpg_sim.specs.declared.entry.Entry.{Entry}
@@ -138,17 +139,7 @@ All-with_time P (first ∷ others) node time all one =
 
 -- what holds of all activations holds of one that a trace gives
 pub time_holds : (P : Activation → Type 0) (trace : List Activation) (node time : ℕ) → All P trace → time_of trace node ≡ Some time → P (record { node = node; time = time })
-time_holds P [] node time all is = absurd (let none : None ≡ Some time = is in cc)
-time_holds P (first ∷ others) node time all is =
-    by (eqb first.node node) refl is (λ rest. time_holds P others node time (λ k d within. all (suc k) d (omega arith)) rest)
-  where
-    by : (here : Bool) → eqb first.node node ≡ here → cond here (Some first.time) (time_of others node) ≡ Some time
-        → (time_of others node ≡ Some time → P (record { node = node; time = time })) → P (record { node = node; time = time })
-    by true same here again =
-        let one : first.node ≡ node = eqb-true first.node node same in
-        let two : first.time ≡ time = (let somes : Some first.time ≡ Some time = here in cc) in
-        subst (λ n. P (record { node = n; time = time })) one (subst (λ t. P (record { node = first.node; time = t })) two (all 0 first (omega arith)))
-    by false same rest again = again rest
+time_holds P trace node time all is = All-contains P trace (record { node = node; time = time }) all (activation_there trace node time is)
 
 module _ (graph : Tfpg) (entries : List Entry) (script : IsScript graph entries) (i : ℕ) (entry : Entry) (at : slice_get entries i ≡ Some entry) (trace : List Activation) where
   -- the trace with one line more

@@ -50,7 +50,7 @@ module _ (graph : Tfpg) (log : Logbook) (delays : List ℕ) where
     is = carries.is;
     delay = carries.delay;
     drawn = carries.drawn;
-    age = record { start = carries.age.start; source = source; since = carries.age.since; allowed = carries.age.allowed };
+    age = record { start = carries.age.start; source = source; since = carries.age.since; active_since = carries.age.active_since };
   }
 
   module _ (trace : List Activation) (settled time : ℕ) (absent : time_of trace settled ≡ None) where

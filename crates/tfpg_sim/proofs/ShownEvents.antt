@@ -1,7 +1,7 @@
 -- The simulated trace shows each event of the simulated log.
-use Rattle.std.proofs.Common.{◌≡◌, ℕ, ◌≤◌, ⊎_elim, List, [], ◌∷◌, ◌++◌, length, get_or, All, Contains, IsTrue, Option, None, is_some, sym, ◌∙◌, subst, arith}
+use Rattle.std.proofs.Common.{◌≡◌, ℕ, ◌≤◌, ⊎_elim, List, [], ◌∷◌, ◌++◌, length, get_or, All, Contains, IsTrue, Option, None, is_some, refl, sym, ◌∙◌, subst, arith}
 use Rattle.std.specs.Prelude.{find}
-use Rattle.std.proofs.lemmas.Bool.{leb-false, false≢true}
+use Rattle.std.proofs.lemmas.Bool.{eq-eqb, leb-false, false≢true}
 use Rattle.std.proofs.lemmas.List.Elements.{All-contains, Contains-append_cases}
 use Rattle.tfpg_base.proofs.lists.Elements.{Contains-cons_cases}
 use Rattle.tfpg_base.proofs.lists.Valued.{is_some-option_map}
@@ -10,7 +10,6 @@ use Rattle.tfpg_graph.specs.Graph.{Tfpg}
 use Rattle.tfpg_log.specs.declared.event.Event.{Event}
 use Rattle.tfpg_log.specs.declared.event.Event.TheVariants as event
 use Rattle.tfpg_log.specs.Log.{is_alarm_of, alarm_among, time_of_event}
-use Rattle.tfpg_log.proofs.AlarmPlaces.{same_node}
 use Rattle.tfpg_base.proofs.lists.FirstFound.{find-Contains}
 use Rattle.tfpg_log.specs.Explains.{Shows}
 use Rattle.tfpg_graph.proofs.NodeAt.{monitored_within}
@@ -21,16 +20,16 @@ use Rattle.tfpg_sim.specs.SimulatedLog.{due_time}
 use Rattle.tfpg_sim.specs.inside.Entries.{IsScript}
 use Rattle.tfpg_sim.proofs.AlarmTimes.{length-latenesses, lateness_within, monitored_lateness, sweep_early, due_between, due_by_sweep, alarmed_at, alarm_comes}
 use Rattle.tfpg_sim.proofs.LoggedEvents.{IsLogged, AreLogged}
-use Rattle.tfpg_sim.proofs.PutAlarms.{Precedes, AreInOrder}
+use Rattle.tfpg_sim.proofs.PutAlarms.{Precedes, MayStandInOrder}
 use Rattle.tfpg_sim.proofs.ScriptOrder.{in_order}
 
 -- an alarm of a node that stands among events is found there
 alarm_found : (events : List Event) (time node : ℕ) → Contains events (event.Alarm time node) → IsTrue (is_some (alarm_among events node))
 alarm_found events time node member =
-    is_some-option_map time_of_event (find (is_alarm_of node) events) ∙ find-Contains (is_alarm_of node) events (event.Alarm time node) member (same_node node)
+    is_some-option_map time_of_event (find (is_alarm_of node) events) ∙ find-Contains (is_alarm_of node) events (event.Alarm time node) member (eq-eqb node node refl)
 
 -- each event after another one in the list may stand after it
-after_each : (front back : List Event) (e : Event) → AreInOrder (front ++ e ∷ back) → All (Precedes e) back
+after_each : (front back : List Event) (e : Event) → MayStandInOrder (front ++ e ∷ back) → All (Precedes e) back
 after_each [] back e order = order.0
 after_each (first ∷ front) back e order = after_each front back e order.1
 
@@ -58,7 +57,7 @@ module _ (graph : Tfpg) (entries : List Entry) (script : IsScript graph entries)
       (λ rest. ⊎_elim
       (λ here. absurd (cc))
       (λ after.
-      let order = after_each front back (event.Sweep time) (subst AreInOrder are logged.order) in
+      let order = after_each front back (event.Sweep time) (subst MayStandInOrder are logged.order) in
       let later = leb-false due time (All-contains (Precedes (event.Sweep time)) back (event.Alarm due node) order after).0 in
       absurd (omega arith))
       (Contains-cons_cases (event.Sweep time) back (event.Alarm due node) rest))

@@ -1,10 +1,11 @@
 -- A simulated set has failure modes of its graph alone.
-use Rattle.std.proofs.Common.{◌≡◌, ℕ, ◌<◌, ◌==◌, nat_lt, List, [], ◌∷◌, length, fold, All, Option, Some, None, refl, sym, subst}
+use Rattle.std.proofs.Common.{◌≡◌, ℕ, ◌<◌, ◌==◌, ⊎_elim, List, [], ◌∷◌, length, fold, All, Option, Some, None, refl, sym, subst}
 use Rattle.std.specs.Prelude.{unwrap_or, option_map}
-use Rattle.std.proofs.lemmas.Bool.{cond_both}
-use Rattle.std.proofs.lemmas.List.Elements.{All-nil, All-cons, All-head, All-tail}
+use Rattle.std.proofs.lemmas.List.Elements.{All-nil, All-contains}
 use Rattle.std.proofs.lemmas.List.Quantifiers.{position-Some}
 use Rattle.tfpg_base.specs.Set.{with_member}
+use Rattle.tfpg_base.proofs.Sets.{with_member-only}
+use Rattle.tfpg_base.proofs.lists.Elements.{All-from_members}
 use Rattle.tfpg_graph.specs.Graph.{Tfpg, failures, position_of_failure}
 use Rattle.tfpg_sim.specs.declared.entry.Entry.{Entry}
 use Rattle.tfpg_sim.specs.declared.entry.Entry.TheVariants.{Start, Mode, Sweep, Tick, Stop}
@@ -14,23 +15,19 @@ use Rattle.tfpg_sim.specs.SimulatedLog.{with_started}
 
 module _ (graph : Tfpg) where
   abbrev InGraph : ℕ → Type 0
-  InGraph place = place < length (failures graph)
+  InGraph index = index < length (failures graph)
 
-  with_member_in : (place : ℕ) (set : List ℕ) → InGraph place → All InGraph set → All InGraph (with_member place set)
-  with_member_in place [] is all = All-cons InGraph place [] is all
-  with_member_in place (first ∷ others) is all =
-      cond_both (nat_lt place first) (place ∷ first ∷ others) _ (All InGraph)
-      (λ _. All-cons InGraph place (first ∷ others) is all)
-      (λ _. cond_both (place == first) (first ∷ others) (first ∷ with_member place others) (All InGraph) (λ _. all)
-      (λ _. All-cons InGraph first (with_member place others) (All-head InGraph first others all) (with_member_in place others is (All-tail InGraph first others all))))
+  with_member_in : (index : ℕ) (set : List ℕ) → InGraph index → All InGraph set → All InGraph (with_member index set)
+  with_member_in index set is all = All-from_members InGraph (with_member index set) (λ other member.
+      ⊎_elim (λ same. subst InGraph same is) (λ old. All-contains InGraph set other all old) (with_member-only index set other member))
 
   -- a line starts failure modes of the graph
   started_in : (entry : Entry) (set : List ℕ) → All InGraph set → All InGraph (with_started graph set entry)
   started_in (Start time node) set all = by (position_of_failure graph node) refl
     where
-      by : (o : Option ℕ) → position_of_failure graph node ≡ o → All InGraph (unwrap_or (option_map (λ place. with_member place set) o) set)
+      by : (o : Option ℕ) → position_of_failure graph node ≡ o → All InGraph (unwrap_or (option_map (λ index. with_member index set) o) set)
       by None is = all
-      by (Some place) is = with_member_in place set (position-Some (λ failure. failure == node) (failures graph) place 0 is).0 all
+      by (Some index) is = with_member_in index set (position-Some (λ failure. failure == node) (failures graph) index 0 is).0 all
   started_in (Mode time mode) set all = all
   started_in (Sweep time) set all = all
   started_in (Tick time) set all = all
@@ -42,5 +39,5 @@ module _ (graph : Tfpg) where
 
   -- the members of a simulated set are failure modes of the graph
   pub simulated_members : (script : List ℕ) (number : ℕ) (simulated : Simulated) → IsSimulationOf graph script number simulated
-      → All (λ place. place < length (failures graph)) simulated.set
+      → All (λ index. index < length (failures graph)) simulated.set
   simulated_members script number simulated is = subst (All InGraph) (sym is.set) (all_started_in is.entries [] (All-nil InGraph))

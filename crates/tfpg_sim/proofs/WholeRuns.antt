@@ -1,11 +1,10 @@
 -- How a simulation begins, goes on and ends.
-use Rattle.std.proofs.Common.{◌≡◌, ℕ, zero, suc, ◌+◌, ◌<◌, ◌≤◌, ⊎_elim, true, false, cond, IsTrue, List, length, get_or, All, Option, Some, None, is_none, option_map, slice_get, refl, sym, ap, ◌∙◌, subst, arith}
-use Rattle.std.specs.Option.{option_map_or}
-use Rattle.std.proofs.lemmas.Option.{slice_get_within}
+use Rattle.std.proofs.Common.{◌≡◌, ℕ, zero, suc, ◌+◌, ◌<◌, ◌≤◌, ⊎_elim, true, false, cond, List, length, get_or, All, Option, Some, None, is_none, refl, sym, ap, ◌∙◌, subst, arith}
 use Rattle.tfpg_base.specs.declared.activation.Activation.{Activation}
 use Rattle.tfpg_base.specs.Trace.{time_of, with_time, IsRisingByNode}
 use Rattle.tfpg_base.proofs.Traces.{time_of-with_time, time_of-with_time_other}
-use Rattle.tfpg_graph.specs.Graph.{Tfpg, Node, is_kind_at, is_failure}
+use Rattle.tfpg_graph.specs.Graph.{Tfpg, is_kind_at, is_failure}
+use Rattle.tfpg_graph.proofs.NodeAt.{kind_within}
 use Rattle.tfpg_sim.specs.declared.entry.Entry.{Entry}
 use Rattle.tfpg_sim.specs.Script.{time_so_far}
 use Rattle.tfpg_sim.specs.Simulation.{Arrives, IsFirst, IsSimulated, script_log, start_of}
@@ -14,21 +13,13 @@ use Rattle.tfpg_sim.proofs.ScriptOrder.{All-with_time, time_holds}
 use Rattle.tfpg_sim.proofs.SettledNodes.{settle, its_first}
 use Rattle.std.proofs.lemmas.Bool.{cases_eq, not-true}
 
--- a failure mode is a node of the graph
-failure_within : (graph : Tfpg) (node : ℕ) → IsTrue (is_kind_at is_failure graph node) → node < length graph.nodes
-failure_within graph node is = by (slice_get graph.nodes node) refl
-  where
-    by : (o : Option Node) → slice_get graph.nodes node ≡ o → node < length graph.nodes
-    by None at = let both : false ≡ true = sym (ap (λ o. option_map_or is_failure (option_map (λ (n : Node). n.kind) o) false) at) ∙ is in absurd (cc)
-    by (Some n) at = slice_get_within graph.nodes node n at
-
 module _ (graph : Tfpg) (entries : List Entry) (delays : List ℕ) (stop : ℕ) where
   -- it begins with the failure modes that the script starts
   pub begins : (trace : List Activation) (candidates : List (Option ℕ)) → ((node : ℕ) → time_of trace node ≡ start_of entries node)
       → All (IsFailureStart graph stop) trace → AreCandidates graph (script_log entries) delays stop trace candidates
       → IsUnderWay graph (script_log entries) delays stop (start_of entries) trace candidates
   begins trace candidates times own known = record {
-    within = λ k d below. failure_within graph (get_or trace k d).node (own k d below).0;
+    within = λ k d below. kind_within graph is_failure (get_or trace k d).node (own k d below).0;
     times = λ k d below. (own k d below).1;
     failure_modes = λ node is. times node;
     settled = λ node time unlike at. absurd (never node time unlike at);

@@ -15,4 +15,4 @@ IsAccepted graph before line =
 -- Each of the lines is accepted, in this order.
 abbrev pub AreAccepted : Tfpg → List (List ℕ) → Type 0
 AreAccepted graph lines =
-    (place : ℕ) (line : List ℕ) → slice_get lines place ≡ Some line → IsAccepted graph (take place lines) line
+    (index : ℕ) (line : List ℕ) → slice_get lines index ≡ Some line → IsAccepted graph (take index lines) line

@@ -23,9 +23,9 @@ abbrev pub after_words : ℕ → Lcg → Lcg
 after_words zero state = state
 after_words (suc count) state = after_words count (after_word state)
 
--- The draw below a bound that comes after so many words.
+-- The draw below a limit that comes after so many words.
 abbrev pub draw : ℕ → ℕ → Lcg → ℕ
-draw bound count state = next_word (after_words count state) % bound
+draw limit count state = next_word (after_words count state) % limit
 
 -- how many discrepancies there are
 abbrev pub discrepancy_count : ℕ → ℕ
@@ -39,7 +39,7 @@ drawn_name node =
 -- the kinds of the first so many failure modes
 abbrev pub failure_kinds : ℕ → List Kind
 failure_kinds zero = []
-failure_kinds (suc place) = failure_kinds place ++ Failure (place + 1) ∷ []
+failure_kinds (suc index) = failure_kinds index ++ Failure (index + 1) ∷ []
 
 -- the two nodes that are drawn as the sources of a node; they may be the same
 abbrev pub first_source : ℕ → Lcg → ℕ
@@ -101,7 +101,7 @@ with_discrepancy node draft = record {
 -- the draft of the first so many discrepancies, from this generator on
 abbrev pub draft_after : Lcg → ℕ → Draft
 draft_after state zero = record { kinds = []; edges = []; state = state }
-draft_after state (suc place) = with_discrepancy (FAILURE_COUNT + place) (draft_after state place)
+draft_after state (suc index) = with_discrepancy (FAILURE_COUNT + index) (draft_after state index)
 
 -- the nodes of these kinds, numbered from this number on
 abbrev pub named_nodes : ℕ → List Kind → List Node

@@ -1,6 +1,6 @@
 -- What the public contracts say.
 pub mod Script
-pub mod ScriptAnswers
+pub mod ScriptFaults
 pub mod Draws
 pub mod Simulation
 pub mod SimulatedLog

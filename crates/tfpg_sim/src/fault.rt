@@ -6,9 +6,9 @@ use tfpg_base::NoMemory;
 /// Why a script is not simulated.
 #[derive(Clone, Copy, Debug, PartialEq, Eq)]
 pub enum SimFault {
-    /// This line of the script is the first at fault. Lines count from 1.
+    /// This line of the script is the first at fault. Lines are numbered from 1.
     BadScript { line: u64 },
-    /// Ran out of memory.
+    /// Out of memory.
     NoMemory,
 }
 

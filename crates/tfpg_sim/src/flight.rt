@@ -3,12 +3,12 @@
 ghost use Rattle.std.specs.Prelude.{◌≡◌, ◌≤◌, ◌+◌, ◌^◌, ◌==◌, ◌↔◌, ℕ, true, false, length, vec_len, IfOk, Some, None, slice_get, slice_index_or};
 ghost use Rattle.tfpg_log.specs.Log.{Logbook};
 ghost use Rattle.tfpg_sim.specs.inside.Arrivals.{AreNearSpans, AreNearFlights, far};
-ghost use Rattle.tfpg_sim.specs.inside.Flights.{IsReached, ReachedBy, ReachedByEither, LandsBy, IsFirstIn, pending_in};
+ghost use Rattle.tfpg_sim.specs.inside.Flights.{IsReached, ReachedBy, LandsBy, IsFirstIn, pending_in};
 ghost use Rattle.tfpg_sim.specs.inside.ModeSpans.{AreSpans};
 ghost use Rattle.tfpg_sim.specs.Simulation.{IsFirst};
 
 use std::alloc::Global;
-use tfpg_base::NoMemory;
+use tfpg_base::{NoMemory, earlier};
 use tfpg_graph::Edge;
 use tfpg_log::Span;
 
@@ -40,7 +40,7 @@ pub(crate) fn first_landing(
 
 /// Nothing pending of so many flights.
 fn nothing_pending(alloc: Global, count: usize) -> Result<Vec<Option<u64>>, NoMemory>
-    ensures none { IfOk result (λ pendings. (place : ℕ) → slice_index_or pendings.items place None ≡ None) }
+    ensures none { IfOk result (λ pendings. (index : ℕ) → slice_index_or pendings.items index None ≡ None) }
     ensures len { IfOk result (λ pendings. vec_len pendings ≡ count) }
 {
     let mut pendings = Vec::new(alloc);
@@ -58,14 +58,14 @@ fn landing_in(
     pendings: &mut [Option<u64>],
 ) -> Option<u64>
     requires room { length pendings.old ≡ length flights.now }
-    requires none { (place : ℕ) → slice_index_or pendings.old place None ≡ None }
+    requires none { (index : ℕ) → slice_index_or pendings.old index None ≡ None }
     requires spans { AreNearSpans spans.now }
     requires flights { AreNearFlights flights.now }
     ensures { (log : Logbook) (limit : ℕ) → AreSpans log (limit + 1) 0 spans.now →
         IsFirst (LandsBy needs_all log flights.now) limit result }
 {
     for span in spans {
-        enter(*span, flights, pendings);
+        begin_span(*span, flights, pendings);
         let first = first_in(*span, reached(pendings, needs_all));
         if first.is_some() {
             return first;
@@ -75,16 +75,16 @@ fn landing_in(
 }
 
 /// What is pending of each flight once the span has begun.
-fn enter(span: Span, flights: &[Flight], pendings: &mut [Option<u64>])
+fn begin_span(span: Span, flights: &[Flight], pendings: &mut [Option<u64>])
     requires room { length pendings.old ≡ length flights.now }
     requires span { span.lo ≤ far }
     requires flights { AreNearFlights flights.now }
-    ensures { (place : ℕ) (flight : Flight) → slice_get flights.now place ≡ Some flight →
-        slice_index_or pendings.new place None ≡
-        pending_in span flight (slice_index_or pendings.old place None) }
+    ensures { (index : ℕ) (flight : Flight) → slice_get flights.now index ≡ Some flight →
+        slice_index_or pendings.new index None ≡
+        pending_in span flight (slice_index_or pendings.old index None) }
 {
-    for (place, flight) in flights.iter().enumerate() {
-        pendings[place] = pending_in(span, *flight, pendings[place]);
+    for (index, flight) in flights.iter().enumerate() {
+        pendings[index] = pending_in(span, *flight, pendings[index]);
     }
 }
 
@@ -96,7 +96,7 @@ fn pending_in(span: Span, flight: Flight, pending: Option<u64>) -> Option<u64>
     requires delay { flight.delay ≤ far }
     ensures { result ≡ pending_in span flight pending }
 {
-    if !flight.edge.is_allowed(span.mode) {
+    if !flight.edge.is_active_in(span.mode) {
         return None;
     }
     match pending {
@@ -141,18 +141,7 @@ fn soonest(pendings: &[Option<u64>]) -> Option<u64>
 {
     let mut first = None;
     for pending in pendings {
-        first = sooner(first, *pending);
+        first = earlier(first, *pending);
     }
     first
-}
-
-/// The lesser of two times, where there is one.
-fn sooner(one: Option<u64>, other: Option<u64>) -> Option<u64>
-    ensures { (instant : ℕ) → IsReached result instant ↔ ReachedByEither one other instant }
-{
-    match (one, other) {
-        (Some(a), Some(b)) => Some(a.min(b)),
-        (Some(a), None) => Some(a),
-        (None, b) => b,
-    }
 }

@@ -4,7 +4,7 @@ ghost use Rattle.std.specs.Prelude.{◌≡◌, All, IfOk};
 ghost use Rattle.std.specs.List.{flat_map};
 ghost use Rattle.tfpg_base.specs.Append.{Appends};
 ghost use Rattle.tfpg_sim.specs.SimulatedLog.{event_line, log_text};
-ghost use Rattle.tfpg_sim.specs.inside.Entries.{IsNamed};
+ghost use Rattle.tfpg_sim.specs.inside.Entries.{HasNames};
 
 use itoa::Buffer;
 use std::alloc::Global;
@@ -14,7 +14,7 @@ use tfpg_log::Event;
 
 /// The text of the events, a line for each.
 pub(crate) fn log_text(alloc: Global, graph: &Graph, events: &[Event]) -> Result<Bytes, NoMemory>
-    requires { All (IsNamed graph.now) events.now }
+    requires { All (HasNames graph.now) events.now }
     ensures { IfOk result (λ text. text ≡ log_text graph.now events.now) }
 {
     let mut text = Vec::new(alloc);
@@ -24,7 +24,7 @@ pub(crate) fn log_text(alloc: Global, graph: &Graph, events: &[Event]) -> Result
 
 /// Appends the lines of the events.
 fn append_events(graph: &Graph, events: &[Event], into: &mut Vec<u8>) -> Result<(), NoMemory>
-    requires { All (IsNamed graph.now) events.now }
+    requires { All (HasNames graph.now) events.now }
     ensures { Appends result into.old.items into.new.items (flat_map (event_line graph.now) events.now) }
 {
     for event in events {
@@ -35,7 +35,7 @@ fn append_events(graph: &Graph, events: &[Event], into: &mut Vec<u8>) -> Result<
 
 /// Appends the line of an event.
 fn append_event(graph: &Graph, event: Event, into: &mut Vec<u8>) -> Result<(), NoMemory>
-    requires { IsNamed graph.now event }
+    requires { HasNames graph.now event }
     ensures { Appends result into.old.items into.new.items (event_line graph.now event) }
 {
     let mut digits = Buffer::new();

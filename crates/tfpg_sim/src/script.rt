@@ -4,7 +4,7 @@ ghost use Rattle.std.specs.Prelude.{◌≡◌, ◌<◌, ◌≤◌, length, IfOk,
 ghost use Rattle.std.specs.List.{list_any};
 ghost use Rattle.tfpg_sim.specs.Script.{has_stopped, starts, is_new, may_follow, next_entry, script_of};
 ghost use Rattle.tfpg_sim.specs.inside.Entries.{IsScript};
-ghost use Rattle.tfpg_sim.specs.ScriptAnswers.{IsFaultAt};
+ghost use Rattle.tfpg_sim.specs.ScriptFaults.{IsFaultAt};
 
 use crate::SimFault;
 use crate::entry::{Entry, time_so_far};

@@ -6,7 +6,7 @@ ghost use Rattle.tfpg_log.specs.Explains.{Explains};
 ghost use Rattle.tfpg_log.specs.LogOfLines.{log_of_lines};
 ghost use Rattle.tfpg_sim.specs.AcceptedLog.{AreAccepted};
 ghost use Rattle.tfpg_sim.specs.Script.{script_of};
-ghost use Rattle.tfpg_sim.specs.ScriptAnswers.{IsFaultAt};
+ghost use Rattle.tfpg_sim.specs.ScriptFaults.{IsFaultAt};
 ghost use Rattle.tfpg_sim.specs.Simulated.{IsSimulationOf};
 
 use crate::alarms::log_events;

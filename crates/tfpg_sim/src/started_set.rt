@@ -1,6 +1,7 @@
 //! The set of failure modes that a script starts.
 
 ghost use Rattle.std.specs.Prelude.{◌≡◌, ◌<◌, All, IfSome, IsTrue};
+ghost use Rattle.tfpg_base.specs.declared.limits.TheConstants.{MAX_MEMBERS};
 ghost use Rattle.tfpg_graph.specs.Graph.{is_kind_at, is_failure, position_of_failure};
 ghost use Rattle.tfpg_sim.specs.inside.Entries.{IsEntryOf};
 ghost use Rattle.tfpg_sim.specs.SimulatedLog.{set_of, with_started};
@@ -28,7 +29,7 @@ fn with_started(graph: &Graph, set: Set, entry: Entry) -> Set
 {
     match entry {
         Entry::Start { node, .. } => match position_of(graph, node) {
-            Some(place) => set.with(place),
+            Some(position) => set.with(position),
             None => set,
         },
         Entry::Mode { .. } | Entry::Sweep { .. } | Entry::Tick { .. } | Entry::Stop { .. } => set,
@@ -38,8 +39,8 @@ fn with_started(graph: &Graph, set: Set, entry: Entry) -> Set
 /// The position of the failure mode.
 fn position_of(graph: &Graph, node: u32) -> Option<u32>
     requires { IsTrue (is_kind_at is_failure graph.now node) }
-    ensures place { result ≡ position_of_failure graph.now node }
-    ensures small { IfSome result (λ place. place < 64) }
+    ensures position { result ≡ position_of_failure graph.now node }
+    ensures small { IfSome result (λ position. position < MAX_MEMBERS) }
 {
     let _few = graph.node_count();
     graph.position_of(node)

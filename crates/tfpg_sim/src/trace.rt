@@ -63,13 +63,13 @@ fn started(alloc: Global, entries: &[Entry]) -> Result<Trace, NoMemory>
 {
     let mut trace = Trace::new(alloc);
     for entry in entries {
-        start(&mut trace, *entry)?;
+        set_start(&mut trace, *entry)?;
     }
     Ok(trace)
 }
 
-/// Gives the failure mode that the line starts its time.
-fn start(trace: &mut Trace, entry: Entry) -> Result<(), NoMemory>
+/// Sets the time of the failure mode that the line starts.
+fn set_start(trace: &mut Trace, entry: Entry) -> Result<(), NoMemory>
     ensures { OnOk result (trace.new ≡ with_start entry trace.old) }
 {
     match entry {

@@ -188,7 +188,7 @@ const OR_MUST: ClauseName = ClauseName::OrMust {
     horizon: 30,
 };
 
-/// Its constraints by alternative and place.
+/// Its constraints by alternative and number.
 const OR_MUST_BOUNDS: [(&str, u32, u32, Option<Constraint>); 6] = [
     (
         "F1 starts late",
@@ -197,7 +197,7 @@ const OR_MUST_BOUNDS: [(&str, u32, u32, Option<Constraint>); 6] = [
         Some(Constraint {
             left: 0,
             right: 1,
-            most: -11,
+            bound: -11,
         }),
     ),
     (
@@ -207,7 +207,7 @@ const OR_MUST_BOUNDS: [(&str, u32, u32, Option<Constraint>); 6] = [
         Some(Constraint {
             left: 3,
             right: 1,
-            most: 20,
+            bound: 20,
         }),
     ),
     (
@@ -217,12 +217,12 @@ const OR_MUST_BOUNDS: [(&str, u32, u32, Option<Constraint>); 6] = [
         Some(Constraint {
             left: 3,
             right: 0,
-            most: 20,
+            bound: 20,
         }),
     ),
     ("there is no fourth alternative", 4, 1, None),
     ("there is no alternative 0", 0, 1, None),
-    ("there is no second place", 3, 2, None),
+    ("there is no second constraint", 3, 2, None),
 ];
 
 #[test]
@@ -230,9 +230,9 @@ fn three_alternatives_of_a_must(rt: HostRuntime) -> Result<(), Fail> {
     let graph = read(rt.alloc(), GRAPH)?;
     let log = log_of(rt.alloc(), &graph, &ONE_SPAN)?;
     assert_eq!(rt; count(&graph, &log, OR_MUST), Ok(3));
-    for (row, alternative, place, expected) in &OR_MUST_BOUNDS {
+    for (row, alternative, number, expected) in &OR_MUST_BOUNDS {
         assert_eq!(rt;
-            constraint(&graph, &log, OR_MUST, *alternative, *place),
+            constraint(&graph, &log, OR_MUST, *alternative, *number),
             Ok(*expected),
             "{row}"
         );
@@ -249,7 +249,7 @@ fn three_alternatives_of_a_must(rt: HostRuntime) -> Result<(), Fail> {
     Ok(())
 }
 
-/// Constraints of clauses at a log with cuts, by name, alternative and place.
+/// Constraints of clauses at a log with cuts, by name, alternative and number.
 const BOUNDS: [(&str, ClauseName, u32, u32, Constraint); 18] = [
     (
         "A before the span",
@@ -263,7 +263,7 @@ const BOUNDS: [(&str, ClauseName, u32, u32, Constraint); 18] = [
         Constraint {
             left: 3,
             right: 0,
-            most: 20,
+            bound: 20,
         },
     ),
     (
@@ -278,7 +278,7 @@ const BOUNDS: [(&str, ClauseName, u32, u32, Constraint); 18] = [
         Constraint {
             left: 0,
             right: 3,
-            most: -26,
+            bound: -26,
         },
     ),
     (
@@ -293,7 +293,7 @@ const BOUNDS: [(&str, ClauseName, u32, u32, Constraint); 18] = [
         Constraint {
             left: 1,
             right: 3,
-            most: -10,
+            bound: -10,
         },
     ),
     (
@@ -308,7 +308,7 @@ const BOUNDS: [(&str, ClauseName, u32, u32, Constraint); 18] = [
         Constraint {
             left: 0,
             right: 3,
-            most: -21,
+            bound: -21,
         },
     ),
     (
@@ -323,7 +323,7 @@ const BOUNDS: [(&str, ClauseName, u32, u32, Constraint); 18] = [
         Constraint {
             left: 3,
             right: 0,
-            most: 25,
+            bound: 25,
         },
     ),
     (
@@ -338,7 +338,7 @@ const BOUNDS: [(&str, ClauseName, u32, u32, Constraint); 18] = [
         Constraint {
             left: 2,
             right: 3,
-            most: -5,
+            bound: -5,
         },
     ),
     (
@@ -353,7 +353,7 @@ const BOUNDS: [(&str, ClauseName, u32, u32, Constraint); 18] = [
         Constraint {
             left: 0,
             right: 3,
-            most: -31,
+            bound: -31,
         },
     ),
     (
@@ -368,7 +368,7 @@ const BOUNDS: [(&str, ClauseName, u32, u32, Constraint); 18] = [
         Constraint {
             left: 3,
             right: 5,
-            most: 0,
+            bound: 0,
         },
     ),
     (
@@ -383,7 +383,7 @@ const BOUNDS: [(&str, ClauseName, u32, u32, Constraint); 18] = [
         Constraint {
             left: 0,
             right: 5,
-            most: -26,
+            bound: -26,
         },
     ),
     (
@@ -398,7 +398,7 @@ const BOUNDS: [(&str, ClauseName, u32, u32, Constraint); 18] = [
         Constraint {
             left: 0,
             right: 2,
-            most: -16,
+            bound: -16,
         },
     ),
     (
@@ -413,7 +413,7 @@ const BOUNDS: [(&str, ClauseName, u32, u32, Constraint); 18] = [
         Constraint {
             left: 0,
             right: 2,
-            most: -36,
+            bound: -36,
         },
     ),
     (
@@ -428,7 +428,7 @@ const BOUNDS: [(&str, ClauseName, u32, u32, Constraint); 18] = [
         Constraint {
             left: 3,
             right: 2,
-            most: 5,
+            bound: 5,
         },
     ),
     (
@@ -443,7 +443,7 @@ const BOUNDS: [(&str, ClauseName, u32, u32, Constraint); 18] = [
         Constraint {
             left: 3,
             right: 0,
-            most: 31,
+            bound: 31,
         },
     ),
     (
@@ -458,7 +458,7 @@ const BOUNDS: [(&str, ClauseName, u32, u32, Constraint); 18] = [
         Constraint {
             left: 0,
             right: 3,
-            most: -31,
+            bound: -31,
         },
     ),
     (
@@ -473,7 +473,7 @@ const BOUNDS: [(&str, ClauseName, u32, u32, Constraint); 18] = [
         Constraint {
             left: 0,
             right: 4,
-            most: -31,
+            bound: -31,
         },
     ),
     (
@@ -488,7 +488,7 @@ const BOUNDS: [(&str, ClauseName, u32, u32, Constraint); 18] = [
         Constraint {
             left: 5,
             right: 3,
-            most: 10,
+            bound: 10,
         },
     ),
     (
@@ -503,7 +503,7 @@ const BOUNDS: [(&str, ClauseName, u32, u32, Constraint); 18] = [
         Constraint {
             left: 5,
             right: 4,
-            most: 10,
+            bound: 10,
         },
     ),
     (
@@ -518,7 +518,7 @@ const BOUNDS: [(&str, ClauseName, u32, u32, Constraint); 18] = [
         Constraint {
             left: 5,
             right: 0,
-            most: 10,
+            bound: 10,
         },
     ),
 ];
@@ -527,9 +527,9 @@ const BOUNDS: [(&str, ClauseName, u32, u32, Constraint); 18] = [
 fn each_kind_of_clause_has_its_constraints(rt: HostRuntime) -> Result<(), Fail> {
     let graph = read(rt.alloc(), GRAPH)?;
     let log = log_of(rt.alloc(), &graph, &CUT)?;
-    for (row, name, alternative, place, expected) in &BOUNDS {
+    for (row, name, alternative, number, expected) in &BOUNDS {
         assert_eq!(rt;
-            constraint(&graph, &log, *name, *alternative, *place),
+            constraint(&graph, &log, *name, *alternative, *number),
             Ok(Some(*expected)),
             "{row}"
         );
@@ -652,7 +652,7 @@ const FACTS: [(&str, Reason, Result<Constraint, NotAFact>); 18] = [
         Ok(Constraint {
             left: 0,
             right: 3,
-            most: 0,
+            bound: 0,
         }),
     ),
     ("zero of no node", Reason::Zero { node: 5 }, Err(NotAFact)),
@@ -662,7 +662,7 @@ const FACTS: [(&str, Reason, Result<Constraint, NotAFact>); 18] = [
         Ok(Constraint {
             left: 3,
             right: 0,
-            most: 1_000_000_000_001,
+            bound: 1_000_000_000_001,
         }),
     ),
     ("top of no node", Reason::Top { node: 5 }, Err(NotAFact)),
@@ -675,7 +675,7 @@ const FACTS: [(&str, Reason, Result<Constraint, NotAFact>); 18] = [
         Ok(Constraint {
             left: 0,
             right: 2,
-            most: -41,
+            bound: -41,
         }),
     ),
     (
@@ -687,7 +687,7 @@ const FACTS: [(&str, Reason, Result<Constraint, NotAFact>); 18] = [
         Ok(Constraint {
             left: 0,
             right: 2,
-            most: -1,
+            bound: -1,
         }),
     ),
     (
@@ -712,7 +712,7 @@ const FACTS: [(&str, Reason, Result<Constraint, NotAFact>); 18] = [
         Ok(Constraint {
             left: 0,
             right: 3,
-            most: -28,
+            bound: -28,
         }),
     ),
     (
@@ -721,7 +721,7 @@ const FACTS: [(&str, Reason, Result<Constraint, NotAFact>); 18] = [
         Ok(Constraint {
             left: 3,
             right: 0,
-            most: 30,
+            bound: 30,
         }),
     ),
     (
@@ -741,7 +741,7 @@ const FACTS: [(&str, Reason, Result<Constraint, NotAFact>); 18] = [
         Ok(Constraint {
             left: 0,
             right: 3,
-            most: -6,
+            bound: -6,
         }),
     ),
     (
@@ -755,7 +755,7 @@ const FACTS: [(&str, Reason, Result<Constraint, NotAFact>); 18] = [
         Ok(Constraint {
             left: 0,
             right: 5,
-            most: -8,
+            bound: -8,
         }),
     ),
     (
@@ -763,7 +763,14 @@ const FACTS: [(&str, Reason, Result<Constraint, NotAFact>); 18] = [
         Reason::Quiet { event: 4, node: 2 },
         Err(NotAFact),
     ),
-    ("a pick", Reason::Pick { split: 1, place: 1 }, Err(NotAFact)),
+    (
+        "a pick",
+        Reason::Pick {
+            split: 1,
+            constraint: 1,
+        },
+        Err(NotAFact),
+    ),
 ];
 
 #[test]

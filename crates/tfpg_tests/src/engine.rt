@@ -34,7 +34,7 @@ const ROWS: [Row; 6] = [
             ranked: 1,
             covered: 3,
             rejected: 0,
-            unsettled: 0,
+            left_open: 0,
         },
     },
     Row {
@@ -47,7 +47,7 @@ const ROWS: [Row; 6] = [
             ranked: 2,
             covered: 0,
             rejected: 1,
-            unsettled: 0,
+            left_open: 0,
         },
     },
     Row {
@@ -60,7 +60,7 @@ const ROWS: [Row; 6] = [
             ranked: 1,
             covered: 1,
             rejected: 2,
-            unsettled: 0,
+            left_open: 0,
         },
     },
     Row {
@@ -73,7 +73,7 @@ const ROWS: [Row; 6] = [
             ranked: 1,
             covered: 0,
             rejected: 3,
-            unsettled: 0,
+            left_open: 0,
         },
     },
     Row {
@@ -86,7 +86,7 @@ const ROWS: [Row; 6] = [
             ranked: 0,
             covered: 0,
             rejected: 2,
-            unsettled: 0,
+            left_open: 0,
         },
     },
     Row {
@@ -99,7 +99,7 @@ const ROWS: [Row; 6] = [
             ranked: 0,
             covered: 0,
             rejected: 2,
-            unsettled: 0,
+            left_open: 0,
         },
     },
 ];

@@ -5,7 +5,7 @@ ghost use Rattle.tfpg_hyp.specs.Hypotheses.{IsTableOf};
 use std::alloc::Global;
 use std::test::Fail;
 use tfpg_graph::{Graph, read};
-use tfpg_hyp::{Fraction, Place, Table, TableFault, cost, is_ranked_before, robust};
+use tfpg_hyp::{Fraction, RankingKey, Table, TableFault, cost, is_ranked_before, robust};
 use tfpg_log::Log;
 
 /// Three failure modes. The first is shown by two monitors, the second by one that also needs the third.
@@ -131,7 +131,7 @@ fn count_of(alloc: Global, graph: &Graph, k: u32) -> Result<u128, Fail> {
     }
 }
 
-/// Name, the better place, and the worse one: cost, alarmed and monitored nodes, number.
+/// Name, the key that comes first, and the other: cost, alarmed and monitored nodes, number.
 const RANKED: [(&str, (u64, u32, u32, u32), (u64, u32, u32, u32)); 8] = [
     ("cheaper, though less robust", (1, 0, 9, 8), (2, 9, 9, 0)),
     ("more robust, by more alarms", (1, 2, 3, 8), (1, 1, 3, 0)),
@@ -158,8 +158,8 @@ const RANKED: [(&str, (u64, u32, u32, u32), (u64, u32, u32, u32)); 8] = [
 #[test]
 fn ranks_by_cost_then_robustness_then_number(rt: HostRuntime) {
     for (name, better, worse) in &RANKED {
-        let better = place_of(*better);
-        let worse = place_of(*worse);
+        let better = key_of(*better);
+        let worse = key_of(*worse);
         assert_eq!(rt; comes_before(&better, &worse), Some(true), "{name}");
         assert_eq!(rt;
             comes_before(&worse, &better),
@@ -174,16 +174,16 @@ fn ranks_by_cost_then_robustness_then_number(rt: HostRuntime) {
     }
 }
 
-/// Whether the one place comes before the other, where both have fractions.
-fn comes_before(a: &Place, b: &Place) -> Option<bool> {
+/// Whether the one key comes before the other, where both have fractions.
+fn comes_before(a: &RankingKey, b: &RankingKey) -> Option<bool> {
     if a.robust.monitored == 0 || b.robust.monitored == 0 {
         return None;
     }
     Some(is_ranked_before(a, b))
 }
 
-fn place_of(row: (u64, u32, u32, u32)) -> Place {
-    Place {
+fn key_of(row: (u64, u32, u32, u32)) -> RankingKey {
+    RankingKey {
         cost: row.0,
         robust: Fraction {
             alarmed: row.1,

@@ -30,7 +30,10 @@ const MUST: ClauseName = ClauseName::OrMust {
 
 /// The two reasons that close the first alternative of the first split.
 const TOO_EARLY: [Reason; 2] = [
-    Reason::Pick { split: 1, place: 1 },
+    Reason::Pick {
+        split: 1,
+        constraint: 1,
+    },
     Reason::From { event: 2 },
 ];
 
@@ -39,7 +42,7 @@ struct Row {
     name: &'static str,
     split: Option<ClauseName>,
     reasons: &'static [Reason],
-    answer: Taken,
+    result: Taken,
 }
 
 /// The refutation of the set of F, and steps after it.
@@ -48,64 +51,82 @@ const REFUTATION: [Row; 11] = [
         name: "split on E",
         split: Some(MAY),
         reasons: &[],
-        answer: Taken::Open,
+        result: Taken::Partial,
     },
     Row {
         name: "E before 0",
         split: None,
         reasons: &TOO_EARLY,
-        answer: Taken::Open,
+        result: Taken::Partial,
     },
     Row {
         name: "E after 10",
         split: None,
         reasons: &[
-            Reason::Pick { split: 1, place: 1 },
+            Reason::Pick {
+                split: 1,
+                constraint: 1,
+            },
             Reason::Upto { event: 2 },
         ],
-        answer: Taken::Open,
+        result: Taken::Partial,
     },
     Row {
         name: "split on A",
         split: Some(MUST),
         reasons: &[],
-        answer: Taken::Open,
+        result: Taken::Partial,
     },
     Row {
         name: "F too late for A",
         split: None,
         reasons: &[
-            Reason::Pick { split: 1, place: 1 },
+            Reason::Pick {
+                split: 1,
+                constraint: 1,
+            },
             Reason::Upto { event: 2 },
-            Reason::Pick { split: 2, place: 1 },
+            Reason::Pick {
+                split: 2,
+                constraint: 1,
+            },
         ],
-        answer: Taken::Open,
+        result: Taken::Partial,
     },
     Row {
         name: "A follows F",
         split: None,
         reasons: &[
-            Reason::Pick { split: 2, place: 1 },
-            Reason::Pick { split: 1, place: 1 },
+            Reason::Pick {
+                split: 2,
+                constraint: 1,
+            },
+            Reason::Pick {
+                split: 1,
+                constraint: 1,
+            },
             Reason::Upto { event: 2 },
             Reason::Quiet { event: 1, node: 1 },
         ],
-        answer: Taken::Open,
+        result: Taken::Partial,
     },
     Row {
         name: "A by the time it is due",
         split: None,
         reasons: &[
-            Reason::Pick { split: 2, place: 1 },
+            Reason::Pick {
+                split: 2,
+                constraint: 1,
+            },
             Reason::Quiet { event: 1, node: 1 },
         ],
-        answer: Taken::Closed,
+        result: Taken::Closed,
     },
     Row {
         name: "the first step once more",
         split: Some(MAY),
         reasons: &[],
-        answer: Taken::Bad(BadStep::AfterClosed),
+        result: Taken::Bad(BadStep::AfterClosed),
     },
     Row {
         name: "no clause after the end",
@@ -115,19 +136,19 @@ const REFUTATION: [Row; 11] = [
             horizon: 10,
         }),
         reasons: &[],
-        answer: Taken::Bad(BadStep::AfterClosed),
+        result: Taken::Bad(BadStep::AfterClosed),
     },
     Row {
         name: "no fact after the end",
         split: None,
         reasons: &[Reason::From { event: 1 }],
-        answer: Taken::Bad(BadStep::AfterClosed),
+        result: Taken::Bad(BadStep::AfterClosed),
     },
     Row {
         name: "no reason after the end",
         split: None,
         reasons: &[],
-        answer: Taken::Bad(BadStep::AfterClosed),
+        result: Taken::Bad(BadStep::AfterClosed),
     },
 ];
 
@@ -141,7 +162,7 @@ const BAD: [Row; 13] = [
             horizon: 10,
         }),
         reasons: &[],
-        answer: Taken::Bad(BadStep::NotAClause),
+        result: Taken::Bad(BadStep::NotAClause),
     },
     Row {
         name: "a horizon after now",
@@ -151,82 +172,103 @@ const BAD: [Row; 13] = [
             horizon: 11,
         }),
         reasons: &[],
-        answer: Taken::Bad(BadStep::NotAClause),
+        result: Taken::Bad(BadStep::NotAClause),
     },
     Row {
         name: "a silence is no alarm",
         split: None,
         reasons: &[Reason::From { event: 1 }],
-        answer: Taken::Bad(BadStep::NotAFact),
+        result: Taken::Bad(BadStep::NotAFact),
     },
     Row {
         name: "an event past the end",
         split: None,
         reasons: &[
-            Reason::Pick { split: 1, place: 1 },
+            Reason::Pick {
+                split: 1,
+                constraint: 1,
+            },
             Reason::From { event: 3 },
         ],
-        answer: Taken::Bad(BadStep::NotAFact),
+        result: Taken::Bad(BadStep::NotAFact),
     },
     Row {
         name: "a split past the path",
         split: None,
-        reasons: &[Reason::Pick { split: 2, place: 1 }],
-        answer: Taken::Bad(BadStep::NotOnPath),
+        reasons: &[Reason::Pick {
+            split: 2,
+            constraint: 1,
+        }],
+        result: Taken::Bad(BadStep::NotOnPath),
     },
     Row {
         name: "splits count from 1",
         split: None,
-        reasons: &[Reason::Pick { split: 0, place: 1 }],
-        answer: Taken::Bad(BadStep::NotOnPath),
+        reasons: &[Reason::Pick {
+            split: 0,
+            constraint: 1,
+        }],
+        result: Taken::Bad(BadStep::NotOnPath),
     },
     Row {
-        name: "a place past the alternative",
+        name: "a constraint past the alternative",
         split: None,
-        reasons: &[Reason::Pick { split: 1, place: 2 }],
-        answer: Taken::Bad(BadStep::NotOnPath),
+        reasons: &[Reason::Pick {
+            split: 1,
+            constraint: 2,
+        }],
+        result: Taken::Bad(BadStep::NotOnPath),
     },
     Row {
         name: "no fact, and then a pick off the path",
         split: None,
         reasons: &[
             Reason::From { event: 1 },
-            Reason::Pick { split: 2, place: 1 },
+            Reason::Pick {
+                split: 2,
+                constraint: 1,
+            },
         ],
-        answer: Taken::Bad(BadStep::NotAFact),
+        result: Taken::Bad(BadStep::NotAFact),
     },
     Row {
         name: "a pick off the path, and then no fact",
         split: None,
         reasons: &[
-            Reason::Pick { split: 2, place: 1 },
+            Reason::Pick {
+                split: 2,
+                constraint: 1,
+            },
             Reason::From { event: 1 },
         ],
-        answer: Taken::Bad(BadStep::NotOnPath),
+        result: Taken::Bad(BadStep::NotOnPath),
     },
     Row {
         name: "no reason",
         split: None,
         reasons: &[],
-        answer: Taken::Bad(BadStep::Unchained),
+        result: Taken::Bad(BadStep::Unchained),
     },
     Row {
         name: "not closed round",
         split: None,
-        reasons: &[Reason::Pick { split: 1, place: 1 }],
-        answer: Taken::Bad(BadStep::Unchained),
+        reasons: &[Reason::Pick {
+            split: 1,
+            constraint: 1,
+        }],
+        result: Taken::Bad(BadStep::Unchained),
     },
     Row {
         name: "neither chained nor negative",
         split: None,
         reasons: &[Reason::Zero { node: 1 }, Reason::Top { node: 2 }],
-        answer: Taken::Bad(BadStep::Unchained),
+        result: Taken::Bad(BadStep::Unchained),
     },
     Row {
         name: "a sum of 0",
         split: None,
         reasons: &[Reason::From { event: 2 }, Reason::Upto { event: 2 }],
-        answer: Taken::Bad(BadStep::NotNegative),
+        result: Taken::Bad(BadStep::NotNegative),
     },
 ];
 
@@ -239,7 +281,7 @@ fn step_of(alloc: Global, split: Option<ClauseName>, reasons: &[Reason]) -> Resu
 }
 
 /// What the checker returns for a step, with room for it.
-fn answer_to(checker: &mut Checker, graph: &Graph, log: &Log, step: &Step) -> Result<Taken, Fail>
+fn take_step(checker: &mut Checker, graph: &Graph, log: &Log, step: &Step) -> Result<Taken, Fail>
     requires { IsOf graph.now log.now }
 {
     checker.reserve()?;
@@ -259,8 +301,8 @@ fn go_through(
 {
     for row in rows {
         let step = step_of(alloc, row.split, row.reasons)?;
-        let answer = answer_to(checker, graph, log, &step)?;
-        assert!(rt; answer == row.answer, "{}", row.name);
+        let result = take_step(checker, graph, log, &step)?;
+        assert!(rt; result == row.result, "{}", row.name);
     }
     Ok(())
 }
@@ -281,8 +323,8 @@ fn the_first_cause_of_a_bad_step_is_named(rt: HostRuntime) -> Result<(), Fail> {
     let reach = reach_of_first(&graph)?;
     let mut checker = Checker::new(rt.alloc(), reach);
     assert_eq!(rt;
-        answer_to(&mut checker, &graph, &log, &Step::Split(MAY))?,
-        Taken::Open
+        take_step(&mut checker, &graph, &log, &Step::Split(MAY))?,
+        Taken::Partial
     );
     go_through(&rt, rt.alloc(), &mut checker, &graph, &log, &BAD)
 }
@@ -303,7 +345,7 @@ fn a_log_may_grow_between_steps(rt: HostRuntime) -> Result<(), Fail> {
         &REFUTATION[..1],
     )?;
     let cycle = step_of(rt.alloc(), None, &TOO_EARLY)?;
-    let early = answer_to(&mut checker, &graph, &first, &cycle)?;
+    let early = take_step(&mut checker, &graph, &first, &cycle)?;
     assert_eq!(rt; early, Taken::Bad(BadStep::NotAFact));
     go_through(
         &rt,
@@ -323,8 +365,8 @@ fn a_cycle_may_be_long_and_a_path_deep(rt: HostRuntime) -> Result<(), Fail> {
     let mut checker = Checker::new(rt.alloc(), reach);
     for split in 0..60_u32 {
         assert_eq!(rt;
-            answer_to(&mut checker, &graph, &log, &Step::Split(MAY))?,
-            Taken::Open,
+            take_step(&mut checker, &graph, &log, &Step::Split(MAY))?,
+            Taken::Partial,
             "split {split}"
         );
     }
@@ -336,14 +378,14 @@ fn a_cycle_may_be_long_and_a_path_deep(rt: HostRuntime) -> Result<(), Fail> {
     // Three alternatives of the deepest split, and two more of each of the 58 between it and the first.
     for leaf in 0..119_u32 {
         assert_eq!(rt;
-            answer_to(&mut checker, &graph, &log, &cycle)?,
-            Taken::Open,
+            take_step(&mut checker, &graph, &log, &cycle)?,
+            Taken::Partial,
             "leaf {leaf}"
         );
     }
     // The first split is in its second alternative, whose constraint does not chain with the other.
     assert_eq!(rt;
-        answer_to(&mut checker, &graph, &log, &cycle)?,
+        take_step(&mut checker, &graph, &log, &cycle)?,
         Taken::Bad(BadStep::Unchained)
     );
     Ok(())

@@ -12,6 +12,8 @@ mod clause_path;
 #[cfg(test)]
 mod engine;
 #[cfg(test)]
+mod evidence;
+#[cfg(test)]
 mod given;
 #[cfg(test)]
 mod hyp;

@@ -23,7 +23,7 @@ const NEVER_DUE: &[u8] =
     b"tfpg 1\nmode N\nfailure F 1\nor A watch 0\nor E watch 0\nedge F A 1 inf *\nedge F E 9 9 *\nend\n";
 
 /// What a search finds at the end of a log.
-enum Answer {
+enum Expected {
     /// A trace.
     Shown,
     /// The only trace that there is.
@@ -40,7 +40,7 @@ struct Row {
     graph: &'static [u8],
     member: Option<u32>,
     lines: &'static [&'static [u8]],
-    answer: Answer,
+    result: Expected,
 }
 
 /// Worked logs, with a budget that is ample for each.
@@ -50,21 +50,21 @@ const ROWS: [Row; 16] = [
         graph: TWO,
         member: None,
         lines: &[b"30 alarm A"],
-        answer: Answer::Closed(1),
+        result: Expected::Closed(1),
     },
     Row {
         name: "the first of two suspects for one alarm",
         graph: TWO,
         member: Some(0),
         lines: &[b"30 alarm A"],
-        answer: Answer::Shown,
+        result: Expected::Shown,
     },
     Row {
         name: "the second, whose edge takes exactly 5",
         graph: TWO,
         member: Some(1),
         lines: &[b"30 alarm A"],
-        answer: Answer::Only(&[
+        result: Expected::Only(&[
             Activation { node: 1, time: 25 },
             Activation { node: 2, time: 30 },
         ]),
@@ -74,49 +74,49 @@ const ROWS: [Row; 16] = [
         graph: TWO,
         member: Some(0),
         lines: &[b"20 mode D", b"30 alarm A"],
-        answer: Answer::Shown,
+        result: Expected::Shown,
     },
     Row {
         name: "an edge that is cut at 21",
         graph: TWO,
         member: Some(1),
         lines: &[b"20 mode D", b"30 alarm A"],
-        answer: Answer::Closed(4),
+        result: Expected::Closed(4),
     },
     Row {
         name: "an age of 14 in a window from 0 on",
         graph: TWO,
         member: Some(0),
         lines: &[b"3 mode D", b"9 mode N", b"14 alarm A"],
-        answer: Answer::Shown,
+        result: Expected::Shown,
     },
     Row {
         name: "an age of 4 in a window that begins anew at 10",
         graph: TWO,
         member: Some(1),
         lines: &[b"3 mode D", b"9 mode N", b"14 alarm A"],
-        answer: Answer::Closed(4),
+        result: Expected::Closed(4),
     },
     Row {
         name: "an age of 5 in it",
         graph: TWO,
         member: Some(1),
         lines: &[b"3 mode D", b"9 mode N", b"15 alarm A"],
-        answer: Answer::Shown,
+        result: Expected::Shown,
     },
     Row {
         name: "an alarm that the must rule contradicts",
         graph: ONE,
         member: Some(0),
         lines: &[b"10 silent A", b"10 alarm E"],
-        answer: Answer::Closed(7),
+        result: Expected::Closed(7),
     },
     Row {
         name: "an edge that is never due",
         graph: NEVER_DUE,
         member: Some(0),
         lines: &[b"10 silent A", b"10 alarm E"],
-        answer: Answer::Only(&[
+        result: Expected::Only(&[
             Activation { node: 0, time: 1 },
             Activation { node: 2, time: 10 },
         ]),
@@ -126,42 +126,42 @@ const ROWS: [Row; 16] = [
         graph: TWO,
         member: Some(0),
         lines: &[b"30 alarm C"],
-        answer: Answer::Shown,
+        result: Expected::Shown,
     },
     Row {
         name: "an effect out of reach, since one of the others is",
         graph: TWO,
         member: Some(1),
         lines: &[b"30 alarm C"],
-        answer: Answer::Closed(1),
+        result: Expected::Closed(1),
     },
     Row {
         name: "an effect without a cause",
         graph: TWO,
         member: None,
         lines: &[b"30 alarm C"],
-        answer: Answer::Closed(1),
+        result: Expected::Closed(1),
     },
     Row {
         name: "a sweep and an alarm at one time, without a cause",
         graph: TWO,
         member: None,
         lines: &[b"10 sweep", b"10 alarm A"],
-        answer: Answer::Closed(1),
+        result: Expected::Closed(1),
     },
     Row {
         name: "a sweep and an alarm at one time, of the first",
         graph: TWO,
         member: Some(0),
         lines: &[b"10 sweep", b"10 alarm A"],
-        answer: Answer::Closed(1),
+        result: Expected::Closed(1),
     },
     Row {
         name: "a sweep and an alarm at one time, of the second",
         graph: TWO,
         member: Some(1),
         lines: &[b"10 sweep", b"10 alarm A"],
-        answer: Answer::Closed(1),
+        result: Expected::Closed(1),
     },
 ];
 
@@ -172,14 +172,14 @@ const SPENT: [Row; 2] = [
         graph: ONE,
         member: Some(0),
         lines: &[b"10 silent A", b"10 alarm E"],
-        answer: Answer::Spent(1),
+        result: Expected::Spent(1),
     },
     Row {
         name: "the next round goes on",
         graph: ONE,
         member: Some(0),
         lines: &[b"10 silent A", b"10 alarm E", b"11 tick"],
-        answer: Answer::Closed(7),
+        result: Expected::Closed(7),
     },
 ];
 
@@ -193,12 +193,12 @@ fn search_of(alloc: Global, graph: &Graph, member: Option<u32>) -> Result<Search
 
 /// The set of one failure mode of the graph, or of none.
 fn set_of(graph: &Graph, member: Option<u32>) -> Option<Set>
-    ensures { IfSome result (All (λ place. place < length (failures graph.now))) }
+    ensures { IfSome result (All (λ position. position < length (failures graph.now))) }
 {
     match member {
         None => Some(Set::empty()),
-        Some(place) if place < 64 && place < graph.failure_count() => {
-            Some(Set::empty().with(place))
+        Some(position) if position < 64 && position < graph.failure_count() => {
+            Some(Set::empty().with(position))
         }
         Some(_) => None,
     }
@@ -280,12 +280,12 @@ fn asked<L: Ledger>(
 }
 
 /// Whether this was found as expected, with these steps.
-fn is_as_expected(answer: &Answer, found: &Found, steps: &StepList) -> bool {
-    match (answer, found) {
-        (Answer::Shown, Found::Shown(_)) => true,
-        (Answer::Only(times), Found::Shown(trace)) => trace.as_slice() == *times,
-        (Answer::Closed(most), Found::Closed) => steps.as_slice().len() <= *most,
-        (Answer::Spent(splits), Found::Spent) => split_count(steps) == *splits,
+fn is_as_expected(expected: &Expected, found: &Found, steps: &StepList) -> bool {
+    match (expected, found) {
+        (Expected::Shown, Found::Shown(_)) => true,
+        (Expected::Only(times), Found::Shown(trace)) => trace.as_slice() == *times,
+        (Expected::Closed(limit), Found::Closed) => steps.as_slice().len() <= *limit,
+        (Expected::Spent(splits), Found::Spent) => split_count(steps) == *splits,
         _ => false,
     }
 }
@@ -316,7 +316,7 @@ fn first_wrong<L: Ledger>(
     for row in rows {
         let graph = read(alloc, row.graph)?;
         let (found, steps) = asked(alloc, &graph, row, at, budget, &mut work)?;
-        if !is_as_expected(&row.answer, &found, &steps) {
+        if !is_as_expected(&row.result, &found, &steps) {
             return Ok(Some(row.name));
         }
     }

@@ -1,7 +1,8 @@
 -- Where, in a run of instants, one or all of several things begin to hold, to stay.
 use Rattle.std.proofs.Common.{◌≡◌, ℕ, ◌+◌, ◌<◌, ◌≤◌, Option, Some, None, inl, inr, subst, arith, max}
 use Rattle.std.proofs.lemmas.Bool.{cases_lt}
-use Rattle.tfpg_trace.specs.inside.Due.{Begins, earlier}
+use Rattle.tfpg_base.specs.Choice.{earlier}
+use Rattle.tfpg_trace.specs.inside.Due.{Begins}
 
 -- What holds of the same instants of a run begins to hold there at the same one.
 pub carried : (P Q : ℕ → Type 0) (lo hi : ℕ) (found : Option ℕ) → ((instant : ℕ) → lo ≤ instant → instant ≤ hi → P instant → Q instant)
@@ -17,11 +18,11 @@ carried P Q lo hi (Some begin) there back at = record {
 module _ (Due : ℕ → ℕ → Type 0) where
   -- one of the first things so many holds
   abbrev pub OneOf : ℕ → ℕ → Type 0
-  OneOf count instant = (place : ℕ) × (place < count) × Due place instant
+  OneOf count instant = (index : ℕ) × (index < count) × Due index instant
 
   -- each of them does
   abbrev pub EachOf : ℕ → ℕ → Type 0
-  EachOf count instant = (place : ℕ) → place < count → Due place instant
+  EachOf count instant = (index : ℕ) → index < count → Due index instant
 
   -- of no things none holds
   pub one_of_none : (lo hi : ℕ) → Begins (OneOf 0) lo hi None
@@ -30,7 +31,7 @@ module _ (Due : ℕ → ℕ → Type 0) where
   one_more : (count instant : ℕ) → OneOf (count + 1) instant → (Due count instant → ⊥) → OneOf count instant
   one_more count instant one other = elim (cases_lt one.0 count) [
     | inl below ↦ (one.0, below, one.2)
-    | inr above ↦ (let same : one.0 ≡ count = omega (arith, one.1, above) in absurd (other (subst (λ place. Due place instant) same one.2)))
+    | inr above ↦ (let same : one.0 ≡ count = omega (arith, one.1, above) in absurd (other (subst (λ index. Due index instant) same one.2)))
   ]
 
   one_less : (count instant : ℕ) → OneOf count instant → OneOf (count + 1) instant
@@ -74,17 +75,17 @@ module _ (Due : ℕ → ℕ → Type 0) where
     from = omega arith;
     upto = order;
     not_before = λ instant from before each. omega (arith, from, before);
-    since = λ instant since upto place below. absurd (omega (arith, below));
+    since = λ instant since upto index below. absurd (omega (arith, below));
   }
 
   each_more : (count instant : ℕ) → EachOf count instant → Due count instant → EachOf (count + 1) instant
-  each_more count instant each holds place below = elim (cases_lt place count) [
-    | inl lesser ↦ each place lesser
-    | inr above ↦ (let same : count ≡ place = omega arith in subst (λ p. Due p instant) same holds)
+  each_more count instant each holds index below = elim (cases_lt index count) [
+    | inl lesser ↦ each index lesser
+    | inr above ↦ (let same : count ≡ index = omega arith in subst (λ p. Due p instant) same holds)
   ]
 
   each_less : (count instant : ℕ) → EachOf (count + 1) instant → EachOf count instant
-  each_less count instant each place below = each place (omega arith)
+  each_less count instant each index below = each index (omega arith)
 
   -- Each of one thing more begins to hold with the later of the two.
   pub begins_each_more : (lo hi count first next : ℕ) → Begins (EachOf count) lo hi (Some first) → Begins (Due count) lo hi (Some next)
@@ -101,5 +102,5 @@ module _ (Due : ℕ → ℕ → Type 0) where
   }
 
   -- Where one thing never holds, all do not.
-  pub never_each : (lo hi count place : ℕ) → place < count → Begins (Due place) lo hi None → Begins (EachOf count) lo hi None
-  never_each lo hi count place below none = λ instant from upto each. none instant from upto (each place below)
+  pub never_each : (lo hi count index : ℕ) → index < count → Begins (Due index) lo hi None → Begins (EachOf count) lo hi None
+  never_each lo hi count index below none = λ instant from upto each. none instant from upto (each index below)

@@ -5,7 +5,7 @@ use Rattle.std.proofs.lemmas.Bool.{eqb-true, eqb-false}
 use Rattle.tfpg_base.proofs.lists.Elements.{Contains-tail, Contains-cons_cases}
 use Rattle.tfpg_graph.specs.Graph.{Tfpg, is_kind_at, is_failure, position_of_failure}
 use Rattle.tfpg_log.specs.Explains.{IsMember}
-use Rattle.tfpg_trace.proofs.FailureModes.{member_by_place, no_failure}
+use Rattle.tfpg_trace.proofs.FailureModes.{member_by_position, no_failure}
 
 -- a number that cannot be missing is there
 pub there_or_not : (numbers : List ℕ) (number : ℕ) → ((Contains numbers number → ⊥) → ⊥) → Contains numbers number
@@ -26,8 +26,8 @@ there_or_not (first ∷ others) number never = by (nat_eq first number) refl (th
 pub member_or_not : (graph : Tfpg) (set : List ℕ) (node : ℕ) → IsTrue (is_kind_at is_failure graph node) → ((IsMember graph set node → ⊥) → ⊥) → IsMember graph set node
 member_or_not graph set node failure never = by (position_of_failure graph node) refl
   where
-    by : (place : Option ℕ) → position_of_failure graph node ≡ place → IsMember graph set node
+    by : (position : Option ℕ) → position_of_failure graph node ≡ position → IsMember graph set node
     by None none = absurd (no_failure graph node none failure)
-    by (Some place) at =
-        let same = member_by_place graph set place node at in
-        same.1 (there_or_not set place (λ missing. never (λ member. missing (same.0 member))))
+    by (Some position) at =
+        let same = member_by_position graph set position node at in
+        same.1 (there_or_not set position (λ missing. never (λ member. missing (same.0 member))))

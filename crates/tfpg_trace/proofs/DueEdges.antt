@@ -5,9 +5,9 @@ use Rattle.std.proofs.lemmas.Bool.{both_ways, cases_lt}
 use Rattle.tfpg_base.specs.declared.activation.Activation.{Activation}
 use Rattle.tfpg_base.specs.Trace.{time_of}
 use Rattle.tfpg_graph.specs.declared.edge.Edge.{Edge}
-use Rattle.tfpg_graph.specs.Graph.{Tfpg, is_allowed}
+use Rattle.tfpg_graph.specs.Graph.{Tfpg, is_active_in}
 use Rattle.tfpg_log.specs.declared.span.Span.{Span}
-use Rattle.tfpg_log.specs.Log.{Logbook, now_of, is_allowed_at}
+use Rattle.tfpg_log.specs.Log.{Logbook, now_of, is_active_at}
 use Rattle.tfpg_log.specs.Rules.{IsDue}
 use Rattle.tfpg_log.specs.Spans.{span_number, span_at}
 use Rattle.tfpg_log.proofs.Ages.{age_since_start}
@@ -23,17 +23,17 @@ module _ (graph : Tfpg) (log : Logbook) (trace : List Activation) (item number :
   own instant due = let same : due.0 ≡ edge = cc (due.1, at) in subst (λ e. IsDue log trace e instant) same due.2
 
   -- An edge is not due in a span in whose mode it is not active.
-  pub without_mode : is_allowed edge span.mode ≡ false → Begins (IsDueBy graph log trace item) span.lo span.hi None
+  pub without_mode : is_active_in edge span.mode ≡ false → Begins (IsDueBy graph log trace item) span.lo span.hi None
   without_mode shut = λ instant from upto due.
       let own_due = own instant due in
-      let open_here : IsTrue (is_allowed edge span.mode) =
-      subst (λ m. IsTrue (is_allowed edge m)) (in_mode log number span here instant from upto) (own_due.2.allowed instant (omega arith) (omega arith)) in
-      absurd (both_ways (is_allowed edge span.mode) shut open_here)
+      let open_here : IsTrue (is_active_in edge span.mode) =
+      subst (λ m. IsTrue (is_active_in edge m)) (in_mode log number span here instant from upto) (own_due.2.active_since instant (omega arith) (omega arith)) in
+      absurd (both_ways (is_active_in edge span.mode) shut open_here)
 
-  module _ (active : IsTrue (is_allowed edge span.mode)) where
+  module _ (active : IsTrue (is_active_in edge span.mode)) where
     -- where it is active from an instant on to the span, it is so on in the span
-    active_on : (begin : ℕ) → ((x : ℕ) → begin ≤ x → x ≤ now_of log → span_number log x < number → IsTrue (is_allowed_at log edge x))
-        → (instant x : ℕ) → span.lo ≤ instant → instant ≤ span.hi → begin ≤ x → x ≤ instant → IsTrue (is_allowed_at log edge x)
+    active_on : (begin : ℕ) → ((x : ℕ) → begin ≤ x → x ≤ now_of log → span_number log x < number → IsTrue (is_active_at log edge x))
+        → (instant x : ℕ) → span.lo ≤ instant → instant ≤ span.hi → begin ≤ x → x ≤ instant → IsTrue (is_active_at log edge x)
     active_on begin given instant x from upto since before =
         let within : instant ≤ now_of log = by_now log number span here instant upto in
         let not_above : span_number log x ≤ span_number log instant = number_rises log x instant before in
@@ -42,12 +42,12 @@ module _ (graph : Tfpg) (log : Logbook) (trace : List Activation) (item number :
           | inl below ↦ given x since (omega (arith, before, within)) below
           | inr above ↦ (
               let lies = inside log number span here x (omega (arith, before, within)) (omega (arith, not_above, is, above)) in
-              subst (λ m. IsTrue (is_allowed edge m)) (sym (in_mode log number span here x lies.0 lies.1)) active)
+              subst (λ m. IsTrue (is_active_in edge m)) (sym (in_mode log number span here x lies.0 lies.1)) active)
         ]
 
     -- the edge is due where it is active for so long
     due_for : (begin start delay instant : ℕ) → edge.tmax ≡ Some delay → time_of trace edge.source ≡ Some start
-        → ((x : ℕ) → begin ≤ x → x ≤ now_of log → span_number log x < number → IsTrue (is_allowed_at log edge x))
+        → ((x : ℕ) → begin ≤ x → x ≤ now_of log → span_number log x < number → IsTrue (is_active_at log edge x))
         → span.lo ≤ instant → instant ≤ span.hi → start + delay ≤ instant → begin + delay ≤ instant → IsDueBy graph log trace item instant
     due_for begin start delay instant tmax source given from upto since since_begin = (
       edge,
@@ -59,7 +59,7 @@ module _ (graph : Tfpg) (log : Logbook) (trace : List Activation) (item number :
           start = start;
           source = source;
           since = since;
-          allowed = λ x after before. active_on begin given instant x from upto (omega (arith, after, since_begin)) before;
+          active_since = λ x after before. active_on begin given instant x from upto (omega (arith, after, since_begin)) before;
         },
       ),
     )
@@ -73,7 +73,7 @@ module _ (graph : Tfpg) (log : Logbook) (trace : List Activation) (item number :
         omega (arith, age_since_start log trace edge instant own_due.0 start source own_due.2, same)
 
     -- and so is it itself
-    since_gap : (gap delay instant : ℕ) → edge.tmax ≡ Some delay → span_number log gap < number → (IsTrue (is_allowed_at log edge gap) → ⊥)
+    since_gap : (gap delay instant : ℕ) → edge.tmax ≡ Some delay → span_number log gap < number → (IsTrue (is_active_at log edge gap) → ⊥)
         → span.lo ≤ instant → instant ≤ span.hi → IsDueBy graph log trace item instant → gap + 1 + delay ≤ instant
     since_gap gap delay instant tmax before shut from upto due =
         let own_due = own instant due in
@@ -85,7 +85,7 @@ module _ (graph : Tfpg) (log : Logbook) (trace : List Activation) (item number :
         ] in
         elim (cases_lt (gap + delay) instant) [
           | inl behind ↦ omega (arith, behind)
-          | inr short ↦ absurd (shut (own_due.2.allowed gap (omega (arith, short, same)) earlier))
+          | inr short ↦ absurd (shut (own_due.2.active_since gap (omega (arith, short, same)) earlier))
         ]
 
     -- It is due so long after the later of two, the instant after its gap and the time of its source.

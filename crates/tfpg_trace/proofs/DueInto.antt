@@ -52,19 +52,19 @@ module _ (graph : Tfpg) (node : ℕ) (Q : ℕ → Type 0) (P : Edge → Type 0) 
       (to_numbers (λ edge. eqb edge.target node) Q P 0 graph.edges (λ i edge at here. let same : i ≡ 0 + i = omega arith in subst Q same (there i edge at here))
       (recursion_from_All P (edges_into graph node) all))
 
--- an edge at a place among the edges of these numbers is due
+-- an edge at an index among the edges of these numbers is due
 abbrev pub DueAt : Tfpg → Logbook → List Activation → List ℕ → ℕ → ℕ → Type 0
-DueAt graph log trace numbers place instant = IsDueBy graph log trace (get_or numbers place 0) instant
+DueAt graph log trace numbers index instant = IsDueBy graph log trace (get_or numbers index 0) instant
 
 -- the edge has a number among these
-abbrev pub HasPlace : Tfpg → List ℕ → Edge → Type 0
-HasPlace graph numbers edge = (place : ℕ) × (place < length numbers) × (slice_get graph.edges (get_or numbers place 0) ≡ Some edge)
+abbrev pub HasIndex : Tfpg → List ℕ → Edge → Type 0
+HasIndex graph numbers edge = (index : ℕ) × (index < length numbers) × (slice_get graph.edges (get_or numbers index 0) ≡ Some edge)
 
 -- each number into a node is that of an edge
-pub in_graph : (graph : Tfpg) (node place : ℕ) (numbers : List ℕ) → numbers ≡ incoming graph node → place < length numbers
-    → get_or numbers place 0 < length graph.edges
-in_graph graph node place numbers are below =
-    All-get_or (λ number. number < length graph.edges) numbers place 0 below
+pub in_graph : (graph : Tfpg) (node index : ℕ) (numbers : List ℕ) → numbers ≡ incoming graph node → index < length numbers
+    → get_or numbers index 0 < length graph.edges
+in_graph graph node index numbers are below =
+    All-get_or (λ number. number < length graph.edges) numbers index 0 below
     (All-same (λ number. number < length graph.edges) numbers (incoming graph node) are (All-below-numbers_from (λ edge. eqb edge.target node) graph.edges))
 
 module _ (graph : Tfpg) (log : Logbook) (trace : List Activation) (node : ℕ) where
@@ -72,8 +72,8 @@ module _ (graph : Tfpg) (log : Logbook) (trace : List Activation) (node : ℕ) w
   own number instant edge at due = let same : due.0 ≡ edge = cc (due.1, at) in subst (λ e. IsDue log trace e instant) same due.2
 
   each_from : (instant : ℕ) → AllDue graph log trace node instant → EachOf (DueAt graph log trace (incoming graph node)) (length (incoming graph node)) instant
-  each_from instant all place below =
-      All-get_or (λ number. IsDueBy graph log trace number instant) (incoming graph node) place 0 below
+  each_from instant all index below =
+      All-get_or (λ number. IsDueBy graph log trace number instant) (incoming graph node) index 0 below
       (all_numbers graph node (λ number. IsDueBy graph log trace number instant) (λ edge. IsDue log trace edge instant) (λ i edge at due. (edge, at, due)) all)
 
   each_to : (instant : ℕ) → EachOf (DueAt graph log trace (incoming graph node)) (length (incoming graph node)) instant → AllDue graph log trace node instant
@@ -81,13 +81,13 @@ module _ (graph : Tfpg) (log : Logbook) (trace : List Activation) (node : ℕ) w
       all_edges graph node (λ number. IsDueBy graph log trace number instant) (λ edge. IsDue log trace edge instant) (λ i edge at due. own i instant edge at due)
       (All-from_get_or (λ number. IsDueBy graph log trace number instant) (incoming graph node) 0 each)
 
-  -- Where some or all edges into a node begin to be due, by their places.
-  by_places : (Those : (ℕ → ℕ → Type 0) → ℕ → ℕ → Type 0) (Holds : ℕ → Type 0)
+  -- Where some or all edges into a node begin to be due, by their indexes.
+  by_indexes : (Those : (ℕ → ℕ → Type 0) → ℕ → ℕ → Type 0) (Holds : ℕ → Type 0)
       → ((instant : ℕ) → Those (DueAt graph log trace (incoming graph node)) (length (incoming graph node)) instant → Holds instant)
       → ((instant : ℕ) → Holds instant → Those (DueAt graph log trace (incoming graph node)) (length (incoming graph node)) instant)
       → (lo hi count : ℕ) (numbers : List ℕ) (found : Option ℕ) → numbers ≡ incoming graph node → count ≡ length numbers
       → Begins (Those (DueAt graph log trace numbers) count) lo hi found → Begins Holds lo hi found
-  by_places Those Holds to from lo hi count numbers found are counted begins =
+  by_indexes Those Holds to from lo hi count numbers found are counted begins =
       let all : count ≡ length (incoming graph node) = counted ∙ ap length are in
       let of_all : Begins (Those (DueAt graph log trace (incoming graph node)) (length (incoming graph node))) lo hi found =
       subst (λ n. Begins (Those (DueAt graph log trace (incoming graph node)) n) lo hi found) all
@@ -95,15 +95,15 @@ module _ (graph : Tfpg) (log : Logbook) (trace : List Activation) (node : ℕ) w
       carried (Those (DueAt graph log trace (incoming graph node)) (length (incoming graph node))) Holds lo hi found
       (λ instant after upto holds. to instant holds) (λ instant after upto holds. from instant holds) of_all
 
-  pub all_by_places : (lo hi count : ℕ) (numbers : List ℕ) (found : Option ℕ) → numbers ≡ incoming graph node → count ≡ length numbers
+  pub all_by_indexes : (lo hi count : ℕ) (numbers : List ℕ) (found : Option ℕ) → numbers ≡ incoming graph node → count ≡ length numbers
       → Begins (EachOf (DueAt graph log trace numbers) count) lo hi found → Begins (AllDue graph log trace node) lo hi found
-  all_by_places lo hi count numbers found are counted begins =
-      by_places EachOf (AllDue graph log trace node) each_to each_from lo hi count numbers found are counted begins
+  all_by_indexes lo hi count numbers found are counted begins =
+      by_indexes EachOf (AllDue graph log trace node) each_to each_from lo hi count numbers found are counted begins
 
-  has_place : (edge : Edge) → Contains (edges_into graph node) edge → HasPlace graph (incoming graph node) edge
-  has_place edge member =
-      All-contains (HasPlace graph (incoming graph node)) (edges_into graph node) edge
-      (all_edges graph node (Contains (incoming graph node)) (HasPlace graph (incoming graph node))
+  has_index : (edge : Edge) → Contains (edges_into graph node) edge → HasIndex graph (incoming graph node) edge
+  has_index edge member =
+      All-contains (HasIndex graph (incoming graph node)) (edges_into graph node) edge
+      (all_edges graph node (Contains (incoming graph node)) (HasIndex graph (incoming graph node))
       (λ i e at there. (there.0, there.1, ap (slice_get graph.edges) (get_or_default (incoming graph node) there.0 0 i there.1 ∙ there.2) ∙ at))
       (All-contains_itself (incoming graph node)))
       member
@@ -112,22 +112,22 @@ module _ (graph : Tfpg) (log : Logbook) (trace : List Activation) (node : ℕ) w
   abbrev pub IsInto : ℕ → Type 0
   IsInto number = (edge : Edge) → slice_get graph.edges number ≡ Some edge → Contains (edges_into graph node) edge
 
-  is_into : (place : ℕ) → place < length (incoming graph node) → IsInto (get_or (incoming graph node) place 0)
-  is_into place below =
-      All-get_or IsInto (incoming graph node) place 0 below
+  is_into : (index : ℕ) → index < length (incoming graph node) → IsInto (get_or (incoming graph node) index 0)
+  is_into index below =
+      All-get_or IsInto (incoming graph node) index 0 below
       (all_numbers graph node IsInto (Contains (edges_into graph node))
       (λ i e at member edge there. let same : e ≡ edge = cc (at, there) in subst (Contains (edges_into graph node)) same member)
       (All-contains_itself (edges_into graph node)))
 
   some_from : (instant : ℕ) → SomeDue graph log trace node instant → OneOf (DueAt graph log trace (incoming graph node)) (length (incoming graph node)) instant
   some_from instant some =
-      let there = has_place some.0 some.1 in
+      let there = has_index some.0 some.1 in
       (there.0, there.1, (some.0, there.2, some.2))
 
   some_to : (instant : ℕ) → OneOf (DueAt graph log trace (incoming graph node)) (length (incoming graph node)) instant → SomeDue graph log trace node instant
   some_to instant one = (one.2.0, is_into one.0 one.1 one.2.0 one.2.1, one.2.2)
 
-  pub some_by_places : (lo hi count : ℕ) (numbers : List ℕ) (found : Option ℕ) → numbers ≡ incoming graph node → count ≡ length numbers
+  pub some_by_indexes : (lo hi count : ℕ) (numbers : List ℕ) (found : Option ℕ) → numbers ≡ incoming graph node → count ≡ length numbers
       → Begins (OneOf (DueAt graph log trace numbers) count) lo hi found → Begins (SomeDue graph log trace node) lo hi found
-  some_by_places lo hi count numbers found are counted begins =
-      by_places OneOf (SomeDue graph log trace node) some_to some_from lo hi count numbers found are counted begins
+  some_by_indexes lo hi count numbers found are counted begins =
+      by_indexes OneOf (SomeDue graph log trace node) some_to some_from lo hi count numbers found are counted begins

@@ -1,5 +1,6 @@
 -- Whether a trace shows an event is decided, and where it does not, there is what is said of the event.
 use Rattle.std.proofs.Common.{◌≡◌, ℕ, suc, ◌+◌, ◌<◌, ◌≤◌, cond, List, length, Some, None, ◌⊎◌, inl, inr, refl, ap, arith}
+use Rattle.std.proofs.lemmas.Bool.{eq-eqb}
 use Rattle.tfpg_base.specs.declared.activation.Activation.{Activation}
 use Rattle.tfpg_base.specs.Trace.{time_of}
 use Rattle.tfpg_graph.specs.Graph.{Tfpg, lag_at, is_monitored}
@@ -9,7 +10,6 @@ use Rattle.tfpg_log.specs.declared.event.Event.TheVariants.{Alarm, Silent, Sweep
 use Rattle.tfpg_log.specs.Log.{alarm_among, quiet_time}
 use Rattle.tfpg_log.specs.Rules.{IsActive}
 use Rattle.tfpg_log.specs.Explains.{ShowsAlarm, ShowsSilence, Shows}
-use Rattle.tfpg_log.proofs.AlarmPlaces.{same_node}
 use Rattle.tfpg_trace.specs.declared.verdict.Verdict.{Verdict}
 use Rattle.tfpg_trace.specs.declared.verdict.Verdict.TheVariants as verdict
 use Rattle.tfpg_trace.specs.inside.Shown.{IsNotShown}
@@ -85,7 +85,7 @@ module _ (graph : Tfpg) (trace : List Activation) where
   ]
   event_decided before (Silent time node) = elim (silences_decided before (Silent time node) (suc node)) [
     | inl fault ↦ inl fault
-    | inr quiet ↦ inr (quiet node (omega arith) time (ap (λ b. cond b (Some time) None) (same_node node)))
+    | inr quiet ↦ inr (quiet node (omega arith) time (ap (λ b. cond b (Some time) None) (eq-eqb node node refl)))
   ]
   event_decided before (Sweep time) = elim (silences_decided before (Sweep time) (length graph.nodes)) [
     | inl fault ↦ inl fault

@@ -77,6 +77,6 @@ module _ (graph : Tfpg) (log : Logbook) (set : List ℕ) (trace : List Activatio
       absurd (fault.breaks.broken ((explains.rules node fault.in_graph).may time fault.breaks.by_now))
   only_yes (verdict.Must node time) fault explains =
       absurd (fault.breaks.broken ((explains.rules node fault.in_graph).must time fault.breaks.by_now))
-  only_yes (verdict.Alarm node time) fault explains = absurd (fault.not_shown (explains.shows fault.place (Alarm time node) fault.event))
+  only_yes (verdict.Alarm node time) fault explains = absurd (fault.not_shown (explains.shows fault.index (Alarm time node) fault.event))
   only_yes (verdict.Silence node time) fault explains =
-      absurd (fault.not_shown (shows_quiet graph trace (take fault.place log.events) fault.event node time (explains.shows fault.place fault.event fault.at) fault.silent))
+      absurd (fault.not_shown (shows_quiet graph trace (take fault.index log.events) fault.event node time (explains.shows fault.index fault.event fault.at) fault.silent))

@@ -11,21 +11,21 @@ use Rattle.tfpg_graph.proofs.NodeAt.{is_kind_at-item}
 use Rattle.tfpg_base.proofs.lists.Positions.{All-none}
 use Rattle.tfpg_log.specs.Explains.{IsMember}
 use Rattle.tfpg_trace.specs.inside.Strays.{IsOutside}
-use Rattle.tfpg_base.proofs.lists.Numbered.{item_of, one_place, number_of}
+use Rattle.tfpg_base.proofs.lists.Numbered.{item_of, one_index, number_of}
 
 module _ (graph : Tfpg) where
   -- the node at a position is a failure mode
-  pub is_failure_there : (place node : ℕ) → failure_at graph place ≡ Some node → IsTrue (is_kind_at is_failure graph node)
-  is_failure_there place node at =
-      let of = item_of (λ n. is_failure n.kind) 0 graph.nodes place node at in
-      let same : of.place ≡ node = omega (arith, of.counted) in
+  pub is_failure_there : (position node : ℕ) → failure_at graph position ≡ Some node → IsTrue (is_kind_at is_failure graph node)
+  is_failure_there position node at =
+      let of = item_of (λ n. is_failure n.kind) 0 graph.nodes position node at in
+      let same : of.index ≡ node = omega (arith, of.counted) in
       is_kind_at-item graph node is_failure of.item (ap (slice_get graph.nodes) (sym same) ∙ of.at) ∙ of.passes
 
   -- the position of a node is where it stands
-  pub stands_there : (place node : ℕ) → position_of_failure graph node ≡ Some place → failure_at graph place ≡ Some node
-  stands_there place node at =
-      let found = position-Some (λ failure. nat_eq failure node) (failures graph) place 0 at in
-      slice_get-get_or (failures graph) place 0 found.0 ∙ ap Some (eqb-true (get_or (failures graph) place 0) node found.1)
+  pub stands_there : (position node : ℕ) → position_of_failure graph node ≡ Some position → failure_at graph position ≡ Some node
+  stands_there position node at =
+      let found = position-Some (λ failure. nat_eq failure node) (failures graph) position 0 at in
+      slice_get-get_or (failures graph) position 0 found.0 ∙ ap Some (eqb-true (get_or (failures graph) position 0) node found.1)
 
   -- a node without a position is no failure mode
   pub no_failure : (node : ℕ) → position_of_failure graph node ≡ None → IsTrue (is_kind_at is_failure graph node) → ⊥
@@ -45,24 +45,24 @@ module _ (graph : Tfpg) where
 
   module _ (set : List ℕ) where
     -- a failure mode is a member exactly where its position is
-    pub member_by_place : (place node : ℕ) → position_of_failure graph node ≡ Some place → IsMember graph set node ↔ Contains set place
-    member_by_place place node at = (
+    pub member_by_position : (position node : ℕ) → position_of_failure graph node ≡ Some position → IsMember graph set node ↔ Contains set position
+    member_by_position position node at = (
       λ member.
-          subst (Contains set) (one_place (λ n. is_failure n.kind) 0 graph.nodes member.0 place node member.2 (stands_there place node at)) member.1,
-      λ has. (place, has, stands_there place node at),
+          subst (Contains set) (one_index (λ n. is_failure n.kind) 0 graph.nodes member.0 position node member.2 (stands_there position node at)) member.1,
+      λ has. (position, has, stands_there position node at),
     )
 
     -- a failure mode is outside exactly where its position is no member
-    pub outside_by_place : (place node : ℕ) (has : Bool) → position_of_failure graph node ≡ Some place → IsTrue has ↔ Contains set place
+    pub outside_by_position : (position node : ℕ) (has : Bool) → position_of_failure graph node ≡ Some position → IsTrue has ↔ Contains set position
         → IsTrue (not has) ↔ IsOutside graph set node
-    outside_by_place place node true at member = (
+    outside_by_position position node true at member = (
       λ no. absurd (false≢true no),
-      λ outside. absurd (outside.outside ((member_by_place place node at).1 (member.0 refl))),
+      λ outside. absurd (outside.outside ((member_by_position position node at).1 (member.0 refl))),
     )
-    outside_by_place place node false at member = (
+    outside_by_position position node false at member = (
       λ yes. record {
-        failure = is_failure_there place node (stands_there place node at);
-        outside = λ inside. false≢true (member.1 ((member_by_place place node at).0 inside));
+        failure = is_failure_there position node (stands_there position node at);
+        outside = λ inside. false≢true (member.1 ((member_by_position position node at).0 inside));
       },
       λ outside. refl,
     )

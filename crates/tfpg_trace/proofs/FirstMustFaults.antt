@@ -14,9 +14,9 @@ use Rattle.tfpg_trace.proofs.MustFaults.{keeps_active}
 
 module _ (log : Logbook) where
   -- what a look-up says of an instant up to now
-  numbered : (horizon : ℕ) (answer : Option ℕ) → horizon ≤ now_of log → answer ≡ cond (leb horizon (now_of log)) (Some (span_number log horizon)) None
-      → answer ≡ Some (span_number log horizon)
-  numbered horizon answer by_now e = e ∙ cond-true (leb horizon (now_of log)) _ _ (le-leb horizon (now_of log) by_now)
+  numbered : (horizon : ℕ) (found : Option ℕ) → horizon ≤ now_of log → found ≡ cond (leb horizon (now_of log)) (Some (span_number log horizon)) None
+      → found ≡ Some (span_number log horizon)
+  numbered horizon found by_now e = e ∙ cond-true (leb horizon (now_of log)) _ _ (le-leb horizon (now_of log) by_now)
 
   module _ (graph : Tfpg) (trace : List Activation) (node : ℕ) where
     -- the node keeps the must rule at all instants up to now of spans before this one

@@ -15,9 +15,9 @@ use Rattle.tfpg_trace.proofs.Beginnings.{carried}
 use Rattle.tfpg_trace.proofs.SpanOrder.{none_inside, inside, numbered, by_now}
 
 -- what a look-up says of a span up to now
-pub told : (log : Logbook) (number now : ℕ) (answer : Option Span) → now ≡ now_of log → answer ≡ span_at log number now
-    → span_at log number (now_of log) ≡ answer
-told log number now answer now_is e = sym (e ∙ ap (span_at log number) now_is)
+pub span_reported : (log : Logbook) (number now : ℕ) (found : Option Span) → now ≡ now_of log → found ≡ span_at log number now
+    → span_at log number (now_of log) ≡ found
+span_reported log number now found now_is e = sym (e ∙ ap (span_at log number) now_is)
 
 module _ (graph : Tfpg) (log : Logbook) (trace : List Activation) (node : ℕ) where
   -- An OR node must be active where some edge into it is due.

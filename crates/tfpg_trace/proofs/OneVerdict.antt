@@ -75,8 +75,8 @@ module _ (graph : Tfpg) (log : Logbook) (set : List ℕ) (trace : List Activatio
   first_must node time fault (verdict.Silence other later) also = absurd (fault.breaks.broken ((also.rules.rules node fault.in_graph).must time fault.breaks.by_now))
 
   -- an event of which a silence is not shown is not shown
-  not_shown : (node time : ℕ) (fault : IsSilenceFault graph log set trace node time) → Shows graph trace (take fault.place log.events) fault.event → ⊥
-  not_shown node time fault shows = fault.not_shown (shows_quiet graph trace (take fault.place log.events) fault.event node time shows fault.silent)
+  not_shown : (node time : ℕ) (fault : IsSilenceFault graph log set trace node time) → Shows graph trace (take fault.index log.events) fault.event → ⊥
+  not_shown node time fault shows = fault.not_shown (shows_quiet graph trace (take fault.index log.events) fault.event node time shows fault.silent)
 
   first_alarm : (node time : ℕ) → IsAlarmFault graph log set trace node time → (said : Verdict) → IsVerdict graph log set trace said → said ≡ verdict.Alarm node time
   first_alarm node time fault verdict.Yes explains = let yes = only_yes graph log set trace (verdict.Alarm node time) fault explains in absurd cc
@@ -85,18 +85,18 @@ module _ (graph : Tfpg) (log : Logbook) (set : List ℕ) (trace : List Activatio
   first_alarm node time fault (verdict.May other later) also = sym (first_may other later also (verdict.Alarm node time) fault)
   first_alarm node time fault (verdict.Must other later) also = sym (first_must other later also (verdict.Alarm node time) fault)
   first_alarm node time fault (verdict.Alarm other later) also =
-      let same : fault.place ≡ also.place =
-      same_from_neither fault.place also.place (λ lt. fault.not_shown (also.before fault.place (Alarm time node) lt fault.event))
-      (λ lt. also.not_shown (fault.before also.place (Alarm later other) lt also.event)) in
+      let same : fault.index ≡ also.index =
+      same_from_neither fault.index also.index (λ lt. fault.not_shown (also.before fault.index (Alarm time node) lt fault.event))
+      (λ lt. also.not_shown (fault.before also.index (Alarm later other) lt also.event)) in
       let event : Alarm later other ≡ Alarm time node = cc (same, fault.event, also.event) in
       cc
   first_alarm node time fault (verdict.Silence other later) also =
-      let same : fault.place ≡ also.place =
-      same_from_neither fault.place also.place (λ lt. fault.not_shown (also.before fault.place (Alarm time node) lt fault.event))
-      (λ lt. not_shown other later also (fault.before also.place also.event lt also.at)) in
+      let same : fault.index ≡ also.index =
+      same_from_neither fault.index also.index (λ lt. fault.not_shown (also.before fault.index (Alarm time node) lt fault.event))
+      (λ lt. not_shown other later also (fault.before also.index also.event lt also.at)) in
       let event : also.event ≡ Alarm time node = cc (same, fault.event, also.at) in
-      let silent : quiet_time graph (take also.place log.events) (Alarm time node) other ≡ Some later =
-      ap (λ e. quiet_time graph (take also.place log.events) e other) (sym event) ∙ also.silent in
+      let silent : quiet_time graph (take also.index log.events) (Alarm time node) other ≡ Some later =
+      ap (λ e. quiet_time graph (take also.index log.events) e other) (sym event) ∙ also.silent in
       absurd cc
 
   first_silence : (node time : ℕ) → IsSilenceFault graph log set trace node time → (said : Verdict) → IsVerdict graph log set trace said
@@ -108,17 +108,17 @@ module _ (graph : Tfpg) (log : Logbook) (set : List ℕ) (trace : List Activatio
   first_silence node time fault (verdict.Must other later) also = sym (first_must other later also (verdict.Silence node time) fault)
   first_silence node time fault (verdict.Alarm other later) also = sym (first_alarm other later also (verdict.Silence node time) fault)
   first_silence node time fault (verdict.Silence other later) also =
-      let same : fault.place ≡ also.place =
-      same_from_neither fault.place also.place (λ lt. not_shown node time fault (also.before fault.place fault.event lt fault.at))
-      (λ lt. not_shown other later also (fault.before also.place also.event lt also.at)) in
+      let same : fault.index ≡ also.index =
+      same_from_neither fault.index also.index (λ lt. not_shown node time fault (also.before fault.index fault.event lt fault.at))
+      (λ lt. not_shown other later also (fault.before also.index also.event lt also.at)) in
       let event : fault.event ≡ also.event = cc (same, fault.at, also.at) in
-      let silent : quiet_time graph (take fault.place log.events) fault.event other ≡ Some later =
-      ap (λ p. quiet_time graph (take p log.events) fault.event other) same ∙ ap (λ e. quiet_time graph (take also.place log.events) e other) event ∙ also.silent in
-      let said : quiet_time graph (take also.place log.events) also.event node ≡ Some time =
-      ap (λ p. quiet_time graph (take p log.events) also.event node) (sym same) ∙ ap (λ e. quiet_time graph (take fault.place log.events) e node) (sym event) ∙ fault.silent in
+      let silent : quiet_time graph (take fault.index log.events) fault.event other ≡ Some later =
+      ap (λ p. quiet_time graph (take p log.events) fault.event other) same ∙ ap (λ e. quiet_time graph (take also.index log.events) e other) event ∙ also.silent in
+      let said : quiet_time graph (take also.index log.events) also.event node ≡ Some time =
+      ap (λ p. quiet_time graph (take p log.events) also.event node) (sym same) ∙ ap (λ e. quiet_time graph (take fault.index log.events) e node) (sym event) ∙ fault.silent in
       let at : time ≡ later =
-      silence_time graph (take fault.place log.events) fault.event node time fault.silent
-      ∙ sym (silence_time graph (take fault.place log.events) fault.event other later silent) in
+      silence_time graph (take fault.index log.events) fault.event node time fault.silent
+      ∙ sym (silence_time graph (take fault.index log.events) fault.event other later silent) in
       let node_is : node ≡ other =
       same_from_neither node other
       (λ lt. fault.not_shown (subst (ShowsSilence trace node) (sym at) (also.first node lt (said ∙ ap Some at))))

@@ -5,7 +5,7 @@ use Rattle.tfpg_base.specs.declared.activation.Activation.{Activation}
 use Rattle.tfpg_base.specs.Trace.{time_of}
 use Rattle.tfpg_graph.specs.declared.edge.Edge.{Edge}
 use Rattle.tfpg_graph.specs.Graph.{Tfpg, is_kind_at, is_or, is_and, edges_into}
-use Rattle.tfpg_log.specs.Log.{Logbook, now_of, is_allowed_at}
+use Rattle.tfpg_log.specs.Log.{Logbook, now_of, is_active_at}
 use Rattle.tfpg_log.specs.Rules.{IsActive, HasAge, SomeArrives, AllArrive, KeepsMay, IsDue, KeepsMust, KeepsRulesOf}
 use Rattle.tfpg_trace.specs.declared.verdict.Verdict.{Verdict}
 use Rattle.tfpg_trace.specs.declared.verdict.Verdict.TheVariants as verdict
@@ -20,20 +20,20 @@ active_decided trace node instant = some_decided (λ time. time ≤ instant) (ti
 module _ (log : Logbook) (trace : List Activation) (edge : Edge) (instant : ℕ) where
   -- the edge is active at each instant since then
   abbrev IsActiveSince : ℕ → Type 0
-  IsActiveSince age = (x : ℕ) → x < suc instant → instant ≤ x + age → IsTrue (is_allowed_at log edge x)
+  IsActiveSince age = (x : ℕ) → x < suc instant → instant ≤ x + age → IsTrue (is_active_at log edge x)
 
   active_since_decided : (age : ℕ) → IsDecided (IsActiveSince age)
   active_since_decided age =
-      all_below (λ x. instant ≤ x + age → IsTrue (is_allowed_at log edge x))
-      (λ x. implied_decided (instant ≤ x + age) (IsTrue (is_allowed_at log edge x)) (le_decided instant (x + age)) (test_decided (is_allowed_at log edge x)))
+      all_below (λ x. instant ≤ x + age → IsTrue (is_active_at log edge x))
+      (λ x. implied_decided (instant ≤ x + age) (IsTrue (is_active_at log edge x)) (le_decided instant (x + age)) (test_decided (is_active_at log edge x)))
       (suc instant)
 
   -- Whether the edge has an age is decided.
   age_decided : (age : ℕ) → IsDecided (HasAge log trace edge instant age)
   age_decided age =
       same_decided (((start : ℕ) × (time_of trace edge.source ≡ Some start) × (start + age ≤ instant)) × IsActiveSince age) (HasAge log trace edge instant age)
-      (λ is. record { start = is.0.0; source = is.0.1; since = is.0.2; allowed = λ x from upto. is.1 x (omega (arith, upto)) from })
-      (λ has. ((has.start, has.source, has.since), λ x below from. has.allowed x from (omega (arith, below))))
+      (λ is. record { start = is.0.0; source = is.0.1; since = is.0.2; active_since = λ x from upto. is.1 x (omega (arith, upto)) from })
+      (λ has. ((has.start, has.source, has.since), λ x below from. has.active_since x from (omega (arith, below))))
       (both_decided ((start : ℕ) × (time_of trace edge.source ≡ Some start) × (start + age ≤ instant)) (IsActiveSince age)
       (some_decided (λ start. start + age ≤ instant) (time_of trace edge.source) (λ start. le_decided (start + age) instant))
       (active_since_decided age))

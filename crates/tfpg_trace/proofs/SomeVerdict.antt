@@ -18,7 +18,7 @@ use Rattle.tfpg_trace.specs.inside.Shown.{IsNotShown}
 use Rattle.tfpg_trace.specs.Broken.{KeepRulesBefore}
 use Rattle.tfpg_base.proofs.lists.Decided.{IsDecided, first_below, same_decided, test_decided, le_decided, some_decided, some_member_decided}
 use Rattle.tfpg_trace.proofs.Explained.{explained}
-use Rattle.tfpg_trace.proofs.FailureModes.{member_by_place, no_failure}
+use Rattle.tfpg_trace.proofs.FailureModes.{member_by_position, no_failure}
 use Rattle.tfpg_trace.proofs.RulesDecided.{rules_decided}
 use Rattle.tfpg_trace.proofs.EventsDecided.{event_decided}
 
@@ -26,19 +26,19 @@ use Rattle.tfpg_trace.proofs.EventsDecided.{event_decided}
 member_decided : (graph : Tfpg) (set : List ℕ) (node : ℕ) → IsTrue (is_kind_at is_failure graph node) → IsDecided (IsMember graph set node)
 member_decided graph set node failure = by (position_of_failure graph node) refl
   where
-    is_here : (place number : ℕ) → IsDecided (number ≡ place)
-    is_here place number = elim (eqb_tells number place) [
+    is_here : (position number : ℕ) → IsDecided (number ≡ position)
+    is_here position number = elim (eqb_tells number position) [
       | inl same ↦ inl same.1
       | inr apart ↦ inr apart.1
     ]
 
-    by : (place : Option ℕ) → position_of_failure graph node ≡ place → IsDecided (IsMember graph set node)
+    by : (position : Option ℕ) → position_of_failure graph node ≡ position → IsDecided (IsMember graph set node)
     by None none = absurd (no_failure graph node none failure)
-    by (Some place) at =
-        let same = member_by_place graph set place node at in
-        same_decided ((number : ℕ) × Contains set number × (number ≡ place)) (IsMember graph set node)
-        (λ has. same.1 (subst (Contains set) has.2 has.1)) (λ member. (place, same.0 member, refl))
-        (some_member_decided (λ number. number ≡ place) (is_here place) set)
+    by (Some position) at =
+        let same = member_by_position graph set position node at in
+        same_decided ((number : ℕ) × Contains set number × (number ≡ position)) (IsMember graph set node)
+        (λ has. same.1 (subst (Contains set) has.2 has.1)) (λ member. (position, same.0 member, refl))
+        (some_member_decided (λ number. number ≡ position) (is_here position) set)
 
 module _ (graph : Tfpg) (log : Logbook) (set : List ℕ) (trace : List Activation) where
   -- ---- late nodes, and strangers
@@ -73,22 +73,22 @@ module _ (graph : Tfpg) (log : Logbook) (set : List ℕ) (trace : List Activatio
 
   -- ---- events
 
-  -- something is said of the event at this place
-  abbrev IsFaultAt : ℕ → Type 0
-  IsFaultAt place = (event : Event) × (slice_get log.events place ≡ Some event) × ((said : Verdict) × IsNotShown graph trace (take place log.events) event said)
+  -- something is said of the event at this index
+  abbrev IsNotShownAt : ℕ → Type 0
+  IsNotShownAt index = (event : Event) × (slice_get log.events index ≡ Some event) × ((said : Verdict) × IsNotShown graph trace (take index log.events) event said)
 
-  -- the event at this place is shown
+  -- the event at this index is shown
   abbrev IsShownAt : ℕ → Type 0
-  IsShownAt place = (event : Event) → slice_get log.events place ≡ Some event → Shows graph trace (take place log.events) event
+  IsShownAt index = (event : Event) → slice_get log.events index ≡ Some event → Shows graph trace (take index log.events) event
 
-  fault_or_shown : (place : ℕ) → IsFaultAt place ⊎ IsShownAt place
-  fault_or_shown place = by (slice_get log.events place) refl
+  fault_or_shown : (index : ℕ) → IsNotShownAt index ⊎ IsShownAt index
+  fault_or_shown index = by (slice_get log.events index) refl
     where
-      by : (found : Option Event) → slice_get log.events place ≡ found → IsFaultAt place ⊎ IsShownAt place
+      by : (found : Option Event) → slice_get log.events index ≡ found → IsNotShownAt index ⊎ IsShownAt index
       by None none = inr (λ event at. absurd cc)
-      by (Some event) at = elim (event_decided graph trace (take place log.events) event) [
+      by (Some event) at = elim (event_decided graph trace (take index log.events) event) [
         | inl fault ↦ inl (event, at, fault)
-        | inr shown ↦ inr (λ other also. (let same : event ≡ other = cc in subst (Shows graph trace (take place log.events)) same shown))
+        | inr shown ↦ inr (λ other also. (let same : event ≡ other = cc in subst (Shows graph trace (take index log.events)) same shown))
       ]
 
   -- ---- verdicts
@@ -98,17 +98,17 @@ module _ (graph : Tfpg) (log : Logbook) (set : List ℕ) (trace : List Activatio
   HasVerdict = (said : Verdict) × IsVerdict graph log set trace said
 
   -- What is said of the first event that is not shown is the verdict.
-  pub by_event : KeepsAllRules graph log set trace → (place : ℕ) (event : Event) → slice_get log.events place ≡ Some event → ShowsBefore graph trace log.events place
-      → (said : Verdict) → IsNotShown graph trace (take place log.events) event said → IsVerdict graph log set trace said
-  by_event rules place event at before said (inl alarm) =
+  pub by_event : KeepsAllRules graph log set trace → (index : ℕ) (event : Event) → slice_get log.events index ≡ Some event → ShowsBefore graph trace log.events index
+      → (said : Verdict) → IsNotShown graph trace (take index log.events) event said → IsVerdict graph log set trace said
+  by_event rules index event at before said (inl alarm) =
       let fault = alarm.3 in
       let is : IsAlarmFault graph log set trace alarm.0 alarm.1 =
-      record { rules = rules; place = place; event = at ∙ ap Some fault.alarm; before = before; not_shown = fault.not_shown } in
+      record { rules = rules; index = index; event = at ∙ ap Some fault.alarm; before = before; not_shown = fault.not_shown } in
       subst (IsVerdict graph log set trace) (sym alarm.2) is
-  by_event rules place event at before said (inr silence) =
+  by_event rules index event at before said (inr silence) =
       let fault = silence.3 in
       let is : IsSilenceFault graph log set trace silence.0 silence.1 =
-      record { rules = rules; place = place; event = event; at = at; before = before; silent = fault.silent; not_shown = fault.not_shown; first = fault.first } in
+      record { rules = rules; index = index; event = event; at = at; before = before; silent = fault.silent; not_shown = fault.not_shown; first = fault.first } in
       subst (IsVerdict graph log set trace) (sym silence.2) is
 
   -- what is said of the first node that breaks a rule is the verdict
@@ -124,15 +124,15 @@ module _ (graph : Tfpg) (log : Logbook) (set : List ℕ) (trace : List Activatio
 
   module _ (of : IsTraceOf graph trace) where
     of_events : KeepsAllRules graph log set trace → HasVerdict
-    of_events rules = elim (first_below IsFaultAt IsShownAt fault_or_shown (length log.events)) [
+    of_events rules = elim (first_below IsNotShownAt IsShownAt fault_or_shown (length log.events)) [
       | inl found ↦ (
         found.1.holds.2.0,
-        by_event rules found.0 found.1.holds.0 found.1.holds.1 (λ place event below at. found.1.before place below event at) found.1.holds.2.0 found.1.holds.2.1,
+        by_event rules found.0 found.1.holds.0 found.1.holds.1 (λ index event below at. found.1.before index below event at) found.1.holds.2.0 found.1.holds.2.1,
       )
       | inr shown ↦ (
         verdict.Yes,
         explained graph log set trace of.0 of.1 rules.own rules.rules
-            (λ place event at. shown place (slice_get_within log.events place event at) event at),
+            (λ index event at. shown index (slice_get_within log.events index event at) event at),
       )
     ]
 

@@ -44,8 +44,8 @@ pub record KeepsAllRules (graph : Tfpg) (log : Logbook) (set : List ℕ) (trace 
 -- the trace shows each event before this index
 abbrev pub ShowsBefore : Tfpg → List Activation → List Event → ℕ → Type 0
 ShowsBefore graph trace events end =
-    (place : ℕ) (event : Event) → place < end → slice_get events place ≡ Some event
-    → Shows graph trace (take place events) event
+    (index : ℕ) (event : Event) → index < end → slice_get events index ≡ Some event
+    → Shows graph trace (take index events) event
 
 -- the first node with a time after now
 pub record IsLateFault (graph : Tfpg) (log : Logbook) (trace : List Activation) (node time : ℕ) : Type 0 where
@@ -82,22 +82,22 @@ pub record IsMustFault (graph : Tfpg) (log : Logbook) (set : List ℕ) (trace : 
 pub record IsAlarmFault (graph : Tfpg) (log : Logbook) (set : List ℕ) (trace : List Activation)
     (node time : ℕ) : Type 0 where
   pub rules : KeepsAllRules graph log set trace
-  pub place : ℕ
-  pub event : slice_get log.events place ≡ Some (Alarm time node)
-  pub before : ShowsBefore graph trace log.events place
+  pub index : ℕ
+  pub event : slice_get log.events index ≡ Some (Alarm time node)
+  pub before : ShowsBefore graph trace log.events index
   pub not_shown : ShowsAlarm graph trace node time → ⊥
 
 -- The first event that is not shown, which says that the node is silent; of a sweep this is the first such node.
 pub record IsSilenceFault (graph : Tfpg) (log : Logbook) (set : List ℕ) (trace : List Activation)
     (node time : ℕ) : Type 0 where
   pub rules : KeepsAllRules graph log set trace
-  pub place : ℕ
+  pub index : ℕ
   pub event : Event
-  pub at : slice_get log.events place ≡ Some event
-  pub before : ShowsBefore graph trace log.events place
-  pub silent : quiet_time graph (take place log.events) event node ≡ Some time
+  pub at : slice_get log.events index ≡ Some event
+  pub before : ShowsBefore graph trace log.events index
+  pub silent : quiet_time graph (take index log.events) event node ≡ Some time
   pub not_shown : ShowsSilence trace node time → ⊥
-  pub first : (earlier : ℕ) → earlier < node → quiet_time graph (take place log.events) event earlier ≡ Some time
+  pub first : (earlier : ℕ) → earlier < node → quiet_time graph (take index log.events) event earlier ≡ Some time
       → ShowsSilence trace earlier time
 
 -- What is said of a trace: that it explains the log from the set, or its first fault.

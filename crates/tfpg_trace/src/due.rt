@@ -5,10 +5,10 @@
 ghost use Rattle.std.specs.Prelude.{◌≡◌, ◌<◌, ◌≤◌, ◌+◌, ℕ, length, Option, Some, None, min};
 ghost use Rattle.tfpg_log.specs.Log.{Logbook, now_of};
 ghost use Rattle.tfpg_log.specs.Spans.{span_at};
-ghost use Rattle.tfpg_trace.specs.inside.Due.{Begins, IsDueBy, SomeDue, AllDue, MustBeActive, earlier};
+ghost use Rattle.tfpg_trace.specs.inside.Due.{Begins, IsDueBy, SomeDue, AllDue, MustBeActive};
 ghost use Rattle.tfpg_trace.specs.inside.Gaps.{IsGapOf, HasGaps, StartsSpan, after_gap};
 
-use tfpg_base::Trace;
+use tfpg_base::{Trace, earlier};
 use tfpg_graph::{Graph, Kind};
 use tfpg_log::Span;
 
@@ -17,7 +17,7 @@ use tfpg_log::Span;
 pub(crate) struct SpanStart<'a> {
     pub(crate) node: u32,
     pub(crate) span: Span,
-    /// The gaps of the edges into the node, by their places.
+    /// The gaps of the edges into the node, by their indexes.
     pub(crate) gaps: &'a [Option<u64>],
 }
 
@@ -46,10 +46,10 @@ fn due_by_some(graph: &Graph, trace: &Trace, start: &SpanStart<'_>) -> Option<u6
 {
     let mut first = None;
     let incoming = graph.incoming(start.node);
-    for (place, edge) in incoming.iter().enumerate() {
+    for (index, edge) in incoming.iter().enumerate() {
         first = earlier(
             first,
-            due_by_edge(graph, trace, *edge, start.span, start.gaps[place]),
+            due_by_edge(graph, trace, *edge, start.span, start.gaps[index]),
         );
     }
     first
@@ -65,8 +65,8 @@ fn due_by_all(graph: &Graph, trace: &Trace, start: &SpanStart<'_>) -> Option<u64
 {
     let mut first = start.span.lo;
     let incoming = graph.incoming(start.node);
-    for (place, edge) in incoming.iter().enumerate() {
-        let due = due_by_edge(graph, trace, *edge, start.span, start.gaps[place])?;
+    for (index, edge) in incoming.iter().enumerate() {
+        let due = due_by_edge(graph, trace, *edge, start.span, start.gaps[index])?;
         first = first.max(due);
     }
     Some(first)
@@ -81,7 +81,7 @@ fn due_by_edge(graph: &Graph, trace: &Trace, edge: u32, span: Span, gap: Option<
         Begins (IsDueBy graph.now log trace.now edge) span.lo span.hi result }
 {
     let propagation = graph.edge(edge);
-    if !propagation.is_allowed(span.mode) {
+    if !propagation.is_active_in(span.mode) {
         return None;
     }
     let delay = propagation.tmax?;
@@ -95,26 +95,15 @@ fn first_after_gap(gap: Option<u64>, start: u64, delay: u64, span: Span) -> Opti
     ensures { Begins (λ instant. after_gap gap start + delay ≤ instant) span.lo span.hi result }
 {
     match gap {
-        Some(gap) => first_after(start.max(gap.checked_add(1)?), delay, span),
-        None => first_after(start, delay, span),
+        Some(gap) => first_in_span(start.max(gap.checked_add(1)?), delay, span),
+        None => first_in_span(start, delay, span),
     }
 }
 
 /// The first instant of the span that is at least `delay` after `begin`.
-fn first_after(begin: u64, delay: u64, span: Span) -> Option<u64>
+fn first_in_span(begin: u64, delay: u64, span: Span) -> Option<u64>
     ensures { Begins (λ instant. begin + delay ≤ instant) span.lo span.hi result }
 {
     let first = begin.checked_add(delay)?.max(span.lo);
     if first > span.hi { None } else { Some(first) }
-}
-
-/// The lesser of the two, where both are there, and else the one that is.
-fn earlier(one: Option<u64>, other: Option<u64>) -> Option<u64>
-    ensures { result ≡ earlier one other }
-{
-    match (one, other) {
-        (Some(first), Some(second)) => Some(first.min(second)),
-        (Some(first), None) => Some(first),
-        (None, _) => other,
-    }
 }

@@ -13,14 +13,14 @@ use tfpg_log::Span;
 pub(crate) fn pass_span(graph: &Graph, node: u32, span: Span, gaps: &mut [Option<u64>])
     requires node { node < length graph.now.nodes }
     requires room { length (incoming graph.now node) ≤ length gaps.old }
-    ensures { (place : ℕ) → place < length (incoming graph.now node) →
-        slice_index_or gaps.new place None
+    ensures { (index : ℕ) → index < length (incoming graph.now node) →
+        slice_index_or gaps.new index None
         ≡ gap_after graph.now span
-        (slice_index_or (incoming graph.now node) place 0) (slice_index_or gaps.old place None) }
+        (slice_index_or (incoming graph.now node) index 0) (slice_index_or gaps.old index None) }
 {
     let incoming = graph.incoming(node);
-    for (place, edge) in incoming.iter().enumerate() {
-        gaps[place] = gap_after(graph, *edge, span, gaps[place]);
+    for (index, edge) in incoming.iter().enumerate() {
+        gaps[index] = gap_after(graph, *edge, span, gaps[index]);
     }
 }
 
@@ -29,7 +29,7 @@ fn gap_after(graph: &Graph, edge: u32, span: Span, gap: Option<u64>) -> Option<u
     requires { edge < length graph.now.edges }
     ensures { result ≡ gap_after graph.now span edge gap }
 {
-    if graph.edge(edge).is_allowed(span.mode) {
+    if graph.edge(edge).is_active_in(span.mode) {
         gap
     } else {
         Some(span.hi)

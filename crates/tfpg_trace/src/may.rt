@@ -33,7 +33,7 @@ fn some_arrives(graph: &Graph, log: &Log, trace: &Trace, node: u32, time: u64) -
 {
     let incoming = graph.incoming(node);
     for number in incoming {
-        if arrives(graph, log, trace, *number, time) {
+        if has_carried(graph, log, trace, *number, time) {
             return true;
         }
     }
@@ -48,7 +48,7 @@ fn all_arrive(graph: &Graph, log: &Log, trace: &Trace, node: u32, time: u64) -> 
 {
     let incoming = graph.incoming(node);
     for number in incoming {
-        if !arrives(graph, log, trace, *number, time) {
+        if !has_carried(graph, log, trace, *number, time) {
             return false;
         }
     }
@@ -56,7 +56,7 @@ fn all_arrive(graph: &Graph, log: &Log, trace: &Trace, node: u32, time: u64) -> 
 }
 
 /// Whether the edge has carried the failure for its least delay.
-fn arrives(graph: &Graph, log: &Log, trace: &Trace, edge: u32, time: u64) -> bool
+fn has_carried(graph: &Graph, log: &Log, trace: &Trace, edge: u32, time: u64) -> bool
     requires edge { edge < length graph.now.edges }
     requires by_now { time ≤ now_of log.now }
     ensures { IsTrue result ↔ IsSomeAnd (slice_get graph.now.edges edge)

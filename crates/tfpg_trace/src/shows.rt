@@ -20,8 +20,8 @@ pub(crate) fn first_not_shown(graph: &Graph, log: &Log, trace: &Trace) -> Option
         (ShowsAll graph.now trace.now log.now.events)
         (IsFirstNotShown graph.now trace.now log.now.events) }
 {
-    for place in 0..log.len() {
-        let number = place + 1;
+    for index in 0..log.len() {
+        let number = index + 1;
         if let Some(fault) = not_shown(graph, log, trace, number, log.event(number)) {
             return Some(fault);
         }

@@ -67,7 +67,7 @@ fn is_outside(graph: &Graph, set: Set, node: u32) -> bool
     ensures { IsTrue result ↔ IsOutside graph.now set node }
 {
     match graph.position_of(node) {
-        Some(place) => !set.has(place),
+        Some(position) => !set.has(position),
         None => false,
     }
 }

@@ -11,48 +11,48 @@ use Rattle.tfpg_words.specs.Meaning.{Diagnose, Generate, NumberOption, within, n
 use Rattle.tfpg_words.specs.Words.{Parts, Use, Word, parts_of_words}
 
 -- a number within the limits of an option
-pub record IsWithin (option : NumberOption) (number : ℕ) : Type 0 where
+pub record IsInLimits (option : NumberOption) (number : ℕ) : Type 0 where
   pub low : option.least ≤ number
   pub high : number ≤ option.limit
 
 module _ (option : NumberOption) (n : ℕ) where
   value_within : (number : ℕ) (test : Bool) → (nat_le option.least number && nat_le number option.limit) ≡ test
-      → (if test then Ok number else Err OutOfRange) ≡ Ok n → IsWithin option n
+      → (if test then Ok number else Err OutOfRange) ≡ Ok n → IsInLimits option n
   value_within number true t e =
       let tests = and_parts (nat_le option.least number) (nat_le number option.limit) t in
       let same : number ≡ n = cc in
-      subst (IsWithin option) same (record { low = leb-true _ _ tests.0; high = leb-true _ _ tests.1 })
+      subst (IsInLimits option) same (record { low = leb-true _ _ tests.0; high = leb-true _ _ tests.1 })
   value_within number false t e = absurd cc
 
-  read_within : (value : Option ℕ) → within option.least option.limit value ≡ Ok n → IsWithin option n
+  read_within : (value : Option ℕ) → within option.least option.limit value ≡ Ok n → IsInLimits option n
   read_within None e = absurd cc
   read_within (Some number) e = value_within number _ refl e
 
   -- a number that an option gives
-  given_within : (used : Option Use) → IsWithin option option.default → number_in option used ≡ Ok n → IsWithin option n
-  given_within None default e = let same : option.default ≡ n = cc in subst (IsWithin option) same default
+  given_within : (used : Option Use) → IsInLimits option option.default → number_in option used ≡ Ok n → IsInLimits option n
+  given_within None default e = let same : option.default ≡ n = cc in subst (IsInLimits option) same default
   given_within (Some used) default e = read_within (number_of used.value) e
 
 -- ---- a diagnosis
 
 -- its two numbers
 pub record AreWithin (k budget : ℕ) : Type 0 where
-  pub k_is : IsWithin k_option k
-  pub budget_is : IsWithin budget_option budget
+  pub k_is : IsInLimits k_option k
+  pub budget_is : IsInLimits budget_option budget
 
-k_default : IsWithin k_option DEFAULT_K
+k_default : IsInLimits k_option DEFAULT_K
 k_default = record { low = omega arith; high = omega arith }
 
-budget_default : IsWithin budget_option DEFAULT_BUDGET
+budget_default : IsInLimits budget_option DEFAULT_BUDGET
 budget_default = record { low = omega arith; high = omega arith }
 
 module _ (k budget : ℕ) (name : Word) where
-  from_both : (graph : Word) (panels : List Word) (a b : Result ℕ UsageCause) → ((n : ℕ) → a ≡ Ok n → IsWithin k_option n) → ((n : ℕ) → b ≡ Ok n → IsWithin budget_option n)
+  from_both : (graph : Word) (panels : List Word) (a b : Result ℕ UsageCause) → ((n : ℕ) → a ≡ Ok n → IsInLimits k_option n) → ((n : ℕ) → b ≡ Ok n → IsInLimits budget_option n)
       → diagnose_with graph panels (both a b) ≡ Ok (Diagnose k budget name) → AreWithin k budget
   from_both graph [] (Ok x) (Ok y) f g e =
       let first : x ≡ k = cc in
       let second : y ≡ budget = cc in
-      record { k_is = subst (IsWithin k_option) first (f x refl); budget_is = subst (IsWithin budget_option) second (g y refl) }
+      record { k_is = subst (IsInLimits k_option) first (f x refl); budget_is = subst (IsInLimits budget_option) second (g y refl) }
   from_both graph (panel ∷ panels) (Ok x) (Ok y) f g e = absurd cc
   from_both graph [] (Ok x) (Err y) f g e = absurd cc
   from_both graph [] (Err x) (Ok y) f g e = absurd cc
@@ -127,21 +127,21 @@ module _ (k budget : ℕ) (name : Word) where
 
 -- ---- a generated case
 
-size_default : IsWithin size_option DEFAULT_SIZE
+size_default : IsInLimits size_option DEFAULT_SIZE
 size_default = record { low = omega arith; high = omega arith }
 
 module _ (draw size : ℕ) where
-  size_from_both : (a b : Result ℕ UsageCause) → ((n : ℕ) → b ≡ Ok n → IsWithin size_option n) → generate_with (both a b) ≡ Ok (Generate draw size) → IsWithin size_option size
-  size_from_both (Ok x) (Ok y) g e = let same : y ≡ size = cc in subst (IsWithin size_option) same (g y refl)
+  size_from_both : (a b : Result ℕ UsageCause) → ((n : ℕ) → b ≡ Ok n → IsInLimits size_option n) → generate_with (both a b) ≡ Ok (Generate draw size) → IsInLimits size_option size
+  size_from_both (Ok x) (Ok y) g e = let same : y ≡ size = cc in subst (IsInLimits size_option) same (g y refl)
   size_from_both (Ok x) (Err y) g e = absurd cc
   size_from_both (Err x) (Ok y) g e = absurd cc
   size_from_both (Err x) (Err y) g e = absurd cc
 
-  size_from_parts : (parts : Option Parts) → generate_of parts ≡ Ok (Generate draw size) → IsWithin size_option size
+  size_from_parts : (parts : Option Parts) → generate_of parts ≡ Ok (Generate draw size) → IsInLimits size_option size
   size_from_parts None e = absurd cc
   size_from_parts (Some parts) e = go parts.positional e
     where
-      go : (positional : List Word) → generate_on parts.uses positional ≡ Ok (Generate draw size) → IsWithin size_option size
+      go : (positional : List Word) → generate_on parts.uses positional ≡ Ok (Generate draw size) → IsInLimits size_option size
       go [] e = size_from_both (number_by draw_option parts.uses) (number_by size_option parts.uses) (λ n. given_within size_option n (use_of size_option.name parts.uses) size_default) e
       go (a ∷ others) e = absurd cc
 
@@ -189,7 +189,7 @@ module _ (draw size : ℕ) where
       else (if simulates then simulate_of (parts_of_words simulate_form words)
       else (if generates then generate_of (parts_of_words generate_form words)
       else Err UnknownCommand)))) ≡ Ok (Generate draw size)
-      → IsWithin size_option size
+      → IsInLimits size_option size
   size_from_command words true b c d e = absurd (not_diagnose (parts_of_words diagnose_form words) e)
   size_from_command words false true c d e = absurd (explain_is_none (parts_of_words explain_form words) e)
   size_from_command words false false true d e = absurd (simulate_is_none (parts_of_words simulate_form words) e)

@@ -2,7 +2,7 @@
 pub mod Words
 -- What a line of words means.
 pub mod Meaning
--- What the contracts say.
+-- What the public contracts say.
 pub mod Plans
--- What the code and its proofs need besides. Nothing above reaches it.
+-- What the code and its proofs need besides. No public clause reaches it.
 pub mod inside

@@ -19,7 +19,7 @@ is_option_word (first ∷ second ∷ others) = first == 45
 
 -- What stands before and after the first `=` of a word, where it has one.
 abbrev pub cut_at_equals : Word → Option (Word × Word)
-cut_at_equals word = option_map (λ place. (take place word, drop (place + 1) word)) (position (λ byte. byte == 61) word)
+cut_at_equals word = option_map (λ index. (take index word, drop (index + 1) word)) (position (λ byte. byte == 61) word)
 
 abbrev pub is_word_among : List Word → Word → Bool
 is_word_among names word = list_any (λ name. bytes_eq name word) names

@@ -25,7 +25,7 @@ pub enum Command {
         graph: Text,
         script: Text,
     },
-    /// `generate [--draw N] [--size N]`: a made case. `draw` is at most 10^12, 1 by default; `size` is 1 to 100, 10 by
+    /// `generate [--draw N] [--size N]`: the summary of a generated case. `draw` is at most 10^12, 1 by default; `size` is 1 to 100, 10 by
     /// default.
     Generate {
         draw: u64,

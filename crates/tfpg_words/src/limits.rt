@@ -18,5 +18,5 @@ pub const DEFAULT_BUDGET: u64 = 1000;
 /// The number of a draw where the words give none.
 pub const DEFAULT_DRAW: u64 = 1;
 
-/// The size of a drawn case where the words give none.
+/// The size of a generated case where the words give none.
 pub const DEFAULT_SIZE: u64 = 10;

@@ -80,20 +80,20 @@ fn command_of(alloc: Global, command: &str, words: &[String]) -> Result<Command,
     ensures { IsCommandOf (command_meaning command.now (map string_bytes words.now)) result }
 {
     if command == "diagnose" {
-        diagnose(alloc, words)
+        plan_diagnose(alloc, words)
     } else if command == "explain" {
-        explain(alloc, words)
+        plan_explain(alloc, words)
     } else if command == "simulate" {
-        simulate(alloc, words)
+        plan_simulate(alloc, words)
     } else if command == "generate" {
-        generate(alloc, words)
+        plan_generate(alloc, words)
     } else {
         Err(PlanFault::Usage(UsageCause::UnknownCommand))
     }
 }
 
 /// `diagnose [--k N] [--budget N] GRAPH [PANEL]..`
-fn diagnose(alloc: Global, words: &[String]) -> Result<Command, PlanFault>
+fn plan_diagnose(alloc: Global, words: &[String]) -> Result<Command, PlanFault>
     ensures { IsCommandOf (diagnose_of (parts_of_words diagnose_form (map string_bytes words.now))) result }
 {
     let form = Form {
@@ -101,10 +101,10 @@ fn diagnose(alloc: Global, words: &[String]) -> Result<Command, PlanFault>
         flags: &[],
     };
     let parts = Parts::of(alloc, &form, words)?;
-    diagnose_by(alloc, &parts)
+    plan_diagnose_by(alloc, &parts)
 }
 
-fn diagnose_by(alloc: Global, parts: &Parts) -> Result<Command, PlanFault>
+fn plan_diagnose_by(alloc: Global, parts: &Parts) -> Result<Command, PlanFault>
     ensures { IsCommandOf (diagnose_given (rows_in parts.now)) result }
 {
     let Some([graph, panels @ ..]) = parts.positional() else {
@@ -122,7 +122,7 @@ fn diagnose_by(alloc: Global, parts: &Parts) -> Result<Command, PlanFault>
 }
 
 /// `explain GRAPH LOG`
-fn explain(alloc: Global, words: &[String]) -> Result<Command, PlanFault>
+fn plan_explain(alloc: Global, words: &[String]) -> Result<Command, PlanFault>
     ensures { IsCommandOf (explain_of (parts_of_words explain_form (map string_bytes words.now))) result }
 {
     let form = Form {
@@ -130,10 +130,10 @@ fn explain(alloc: Global, words: &[String]) -> Result<Command, PlanFault>
         flags: &[],
     };
     let parts = Parts::of(alloc, &form, words)?;
-    explain_by(alloc, &parts)
+    plan_explain_by(alloc, &parts)
 }
 
-fn explain_by(alloc: Global, parts: &Parts) -> Result<Command, PlanFault>
+fn plan_explain_by(alloc: Global, parts: &Parts) -> Result<Command, PlanFault>
     ensures { IsCommandOf (explain_given (rows_in parts.now)) result }
 {
     let Some([graph, log]) = parts.positional() else {
@@ -146,7 +146,7 @@ fn explain_by(alloc: Global, parts: &Parts) -> Result<Command, PlanFault>
 }
 
 /// `simulate [--draw N] [--trace] GRAPH SCRIPT`
-fn simulate(alloc: Global, words: &[String]) -> Result<Command, PlanFault>
+fn plan_simulate(alloc: Global, words: &[String]) -> Result<Command, PlanFault>
     ensures { IsCommandOf (simulate_of (parts_of_words simulate_form (map string_bytes words.now))) result }
 {
     let form = Form {
@@ -154,10 +154,10 @@ fn simulate(alloc: Global, words: &[String]) -> Result<Command, PlanFault>
         flags: &["trace"],
     };
     let parts = Parts::of(alloc, &form, words)?;
-    simulate_by(alloc, &parts)
+    plan_simulate_by(alloc, &parts)
 }
 
-fn simulate_by(alloc: Global, parts: &Parts) -> Result<Command, PlanFault>
+fn plan_simulate_by(alloc: Global, parts: &Parts) -> Result<Command, PlanFault>
     ensures { IsCommandOf (simulate_given (rows_in parts.now)) result }
 {
     let Some([graph, script]) = parts.positional() else {
@@ -173,7 +173,7 @@ fn simulate_by(alloc: Global, parts: &Parts) -> Result<Command, PlanFault>
 }
 
 /// `generate [--draw N] [--size N]`
-fn generate(alloc: Global, words: &[String]) -> Result<Command, PlanFault>
+fn plan_generate(alloc: Global, words: &[String]) -> Result<Command, PlanFault>
     ensures { IsCommandOf (generate_of (parts_of_words generate_form (map string_bytes words.now))) result }
 {
     let form = Form {
@@ -181,10 +181,10 @@ fn generate(alloc: Global, words: &[String]) -> Result<Command, PlanFault>
         flags: &[],
     };
     let parts = Parts::of(alloc, &form, words)?;
-    generate_by(&parts)
+    plan_generate_by(&parts)
 }
 
-fn generate_by(parts: &Parts) -> Result<Command, PlanFault>
+fn plan_generate_by(parts: &Parts) -> Result<Command, PlanFault>
     ensures { IsCommandOf (generate_given (rows_in parts.now)) result }
 {
     if let Some([_, ..]) = parts.positional() {

@@ -13,7 +13,7 @@ use Rattle.tfpg.specs.declared.course.Turn.{Turn}
 use Rattle.tfpg.specs.declared.course.Turn.TheVariants.{Written, Ended}
 use Rattle.tfpg.specs.ForNow.{LosesNone}
 use Rattle.tfpg.specs.Saying.{RoundsSay}
-use Rattle.tfpg.specs.inside.Answering.{EngineReports}
+use Rattle.tfpg.specs.inside.LineBlocks.{EngineReports}
 use Rattle.tfpg.specs.Run.{Diagnoses}
 use Rattle.tfpg.specs.Streams.{Streams, HasNoFault}
 

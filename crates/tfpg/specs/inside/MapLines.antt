@@ -28,7 +28,7 @@ abbrev pub position_named : Tfpg → List ℕ → Option ℕ
 position_named graph name = option_and_then (position_of_failure graph) (node_named graph name)
 
 -- rising positions of failure modes, none before this one
-pub record AreFrom (graph : Tfpg) (least : ℕ) (positions : List ℕ) : Type 0 where
+pub record AreRisingFrom (graph : Tfpg) (least : ℕ) (positions : List ℕ) : Type 0 where
   pub rising : Rises positions
   pub not_before : All (λ position. least ≤ position) positions
   pub members : AreFailures graph positions

@@ -48,8 +48,8 @@ impl<'a, R: Files> Shelf for FileShelf<'a, R> {
 
     fn fetch(&mut self, _alloc: Global, name: &str, into: &mut Vec<u8>) -> Result<(), ShelfFault> {
         into.clear();
-        let answer = read_file(self.files, name, into);
-        match answer {
+        let result = read_file(self.files, name, into);
+        match result {
             Err(ShelfFault::Failed) => {
                 into.clear();
                 self.faults.raise();
@@ -57,7 +57,7 @@ impl<'a, R: Files> Shelf for FileShelf<'a, R> {
             Err(ShelfFault::NoMemory) => into.clear(),
             Err(ShelfFault::TooLong) | Ok(()) => {}
         }
-        answer
+        result
     }
 }
 
@@ -86,7 +86,7 @@ fn read_whole<R: Read>(reader: &mut R, into: &mut Vec<u8>) -> Result<(), ShelfFa
         (known ≡ into.new.items ++ more)) }
 {
     let mut room = [0; BLOCK];
-    // The bound lets the call be proved to return; no run comes near it.
+    // The limit lets the call be proved to return; no run comes near it.
     for _ in 0..u64::MAX {
         match read_uncut(reader, &mut room) {
             Ok(0) => return Ok(()),

@@ -13,11 +13,11 @@ pub(crate) fn read_uncut<R: Read>(reader: &mut R, room: &mut [u8]) -> io::Result
     ensures bytes { ReadConsumes (R.remaining reader.old) (R.remaining reader.new) result room.new }
     ensures uncut { IfErr result (λ error. error_kind error ≢ ErrorKind.Interrupted) }
 {
-    // The bound lets the call be proved to return; no run comes near it.
+    // The limit lets the call be proved to return; no run comes near it.
     for _ in 0..u64::MAX {
         match reader.read(room) {
             Err(error) if error.kind() == ErrorKind::Interrupted => {}
-            answer => return answer,
+            result => return result,
         }
     }
     Err(Error::from(ErrorKind::TimedOut))
@@ -30,12 +30,12 @@ pub(crate) fn write_uncut<W: Write>(writer: &mut W, piece: &[u8]) -> io::Result<
     ensures uncut { IfErr result (λ error. error_kind error ≢ ErrorKind.Interrupted) }
     ensures progress { 0 < length piece.now → IfOk result (λ count. 0 < count) }
 {
-    // The bound lets the call be proved to return; no run comes near it.
+    // The limit lets the call be proved to return; no run comes near it.
     for _ in 0..u64::MAX {
         match writer.write(piece) {
             Ok(0) if !piece.is_empty() => return Err(Error::from(ErrorKind::WriteZero)),
             Err(error) if error.kind() == ErrorKind::Interrupted => {}
-            answer => return answer,
+            result => return result,
         }
     }
     Err(Error::from(ErrorKind::TimedOut))

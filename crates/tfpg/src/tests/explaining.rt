@@ -220,7 +220,7 @@ const NO_MAPS: [(&str, &[u8], u64); 21] = [
 fn explained(
     alloc: Global,
     texts: (&[u8], &[u8], &[u8]),
-    most: usize,
+    piece_size: usize,
     input_fails: &[u64],
     output_fails: &[u64],
 ) -> Result<(End, Vec<u8>), AllocError> {
@@ -228,7 +228,7 @@ fn explained(
     let words = words_of(alloc, &["explain", "g", "l"], &[])?;
     let files = [("g", graph), ("l", log)];
     let memory = InMemory {
-        most,
+        piece_size,
         input_fails,
         output_fails,
         ..InMemory::of(&files, map)
@@ -257,10 +257,10 @@ fn over_files(
 fn first_wrong_verdict(
     alloc: Global,
     rows: &[VerdictRow],
-    most: usize,
+    piece_size: usize,
 ) -> Result<Option<&'static str>, AllocError> {
     for (name, graph, log, map, said) in rows {
-        let (end, written) = explained(alloc, (*graph, *log, *map), most, &[], &[])?;
+        let (end, written) = explained(alloc, (*graph, *log, *map), piece_size, &[], &[])?;
         if end != End::Done || written.as_slice() != *said {
             return Ok(Some(*name));
         }

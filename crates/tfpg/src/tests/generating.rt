@@ -40,7 +40,7 @@ fn generated(
 ) -> Result<(End, Vec<u8>), AllocError> {
     let words = words_of(alloc, &["generate"], options)?;
     let memory = InMemory {
-        most: 64,
+        piece_size: 64,
         output_fails,
         ..InMemory::of(&[], b"")
     };

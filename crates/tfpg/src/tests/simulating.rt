@@ -61,12 +61,12 @@ fn simulated<'a>(
     alloc: Global,
     files: &'a [(&'a str, &'a [u8])],
     options: &[&str],
-    most: usize,
+    piece_size: usize,
     output_fails: &'a [u64],
 ) -> Result<(End, Vec<u8>, usize), AllocError> {
     let words = words_of(alloc, &["simulate", "g", "s"], options)?;
     let memory = InMemory {
-        most,
+        piece_size,
         output_fails,
         ..InMemory::of(files, b"")
     };
@@ -77,12 +77,12 @@ fn simulated<'a>(
 fn first_wrong_text(
     alloc: Global,
     rows: &[(&'static str, &[u8], &[u8], &[u8])],
-    most: usize,
+    piece_size: usize,
 ) -> Result<Option<&'static str>, AllocError> {
     for (name, script, log, map) in rows {
         let files = [("g", TWO_MODES), ("s", *script)];
-        let (log_end, log_written, _) = simulated(alloc, &files, &[], most, &[])?;
-        let (map_end, map_written, _) = simulated(alloc, &files, &["--trace"], most, &[])?;
+        let (log_end, log_written, _) = simulated(alloc, &files, &[], piece_size, &[])?;
+        let (map_end, map_written, _) = simulated(alloc, &files, &["--trace"], piece_size, &[])?;
         if log_end != End::Done
             || map_end != End::Done
             || log_written.as_slice() != *log

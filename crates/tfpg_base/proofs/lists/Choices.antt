@@ -56,7 +56,7 @@ module _ {X : Type 0} where
   opened x None xs at = absurd cc
   opened x (Some rest) xs at = (rest, refl, cc)
 
-  -- where there is each, it stands at its place
+  -- where there is each, it stands at its index
   pub each_of-at : (options : List (Option X)) (xs : List X) (k : ℕ) → each_of options ≡ Some xs → slice_get options k ≡ option_map Some (slice_get xs k)
   each_of-at [] [] k at = refl
   each_of-at [] (y ∷ ys) k at = absurd cc
@@ -229,3 +229,8 @@ module _ {X Y : Type 0} where
       ap (λ (o : Option Y). each_of (o ∷ map g xs)) (stays x parts.0 parts.2)
       ∙ ap (option_map (λ (zs : List Y). parts.0 ∷ zs)) (each_of-weaker f g stays xs parts.1 parts.3)
       ∙ ap Some parts.4
+
+-- what a function gives of what another gives
+pub option_map-twice : {A B C : Type 0} (f : A → B) (g : B → C) (o : Option A) → option_map g (option_map f o) ≡ option_map (λ x. g (f x)) o
+option_map-twice f g None = refl
+option_map-twice f g (Some x) = refl

@@ -55,7 +55,7 @@ module _ {X : Type 0} where
   slice_get-take (suc n) (x ∷ xs) zero before = refl
   slice_get-take (suc n) (x ∷ xs) (suc i) before = slice_get-take n xs i (omega arith)
 
-  -- what there is among the first so many, there is among all, and its place is before so many
+  -- what there is among the first so many, there is among all, and its index is before so many
   pub slice_get-taken : (n : ℕ) (xs : List X) (i : ℕ) (x : X) → slice_get (take n xs) i ≡ Some x → (i < n) × (slice_get xs i ≡ Some x)
   slice_get-taken zero xs i x at = absurd (none-some x at)
   slice_get-taken (suc n) [] i x at = absurd (none-some x at)

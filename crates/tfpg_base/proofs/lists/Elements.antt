@@ -69,23 +69,23 @@ module _ {X : Type 0} where
       (subst (λ (b : X). R (get_or (front ++ rest) i d) b) at_j (pairs i j d before (omega (arith, within, length-append front rest))))
 
 module _ {X : Type 0} where
-  -- what is at a place of a list stands in it
-  pub Contains-at : (xs : List X) (place : ℕ) (x : X) → slice_get xs place ≡ Some x → Contains xs x
-  Contains-at xs place x at = (place, slice_get_within xs place x at, get_or_from_slice_get xs place x x at)
+  -- what is at an index of a list stands in it
+  pub Contains-at : (xs : List X) (index : ℕ) (x : X) → slice_get xs index ≡ Some x → Contains xs x
+  Contains-at xs index x at = (index, slice_get_within xs index x at, get_or_from_slice_get xs index x x at)
 
-  -- what a list contains is at its place
+  -- what a list contains is at its index
   pub slice_get-contains : (xs : List X) (x : X) (found : Contains xs x) → slice_get xs found.0 ≡ Some x
   slice_get-contains xs x found = slice_get-get_or xs found.0 x found.1 ∙ ap Some found.2
 
-  -- what relates each two relates those at two places
+  -- what relates each two relates those at two indexes
   pub AllPairs-at : (R : X → X → Type 0) (xs : List X) (i j : ℕ) (x y : X) → AllPairs R xs → slice_get xs i ≡ Some x → slice_get xs j ≡ Some y → i < j → R x y
   AllPairs-at R xs i j x y pairs at_i at_j before =
       let related = pairs i j x before (slice_get_within xs j y at_j) in
       subst (λ z. R z y) (get_or_from_slice_get xs i x x at_i) (subst (λ z. R (get_or xs i x) z) (get_or_from_slice_get xs j y x at_j) related)
 
-  -- what holds of the item of each place holds of all
-  pub All-from_places : (P : X → Type 0) (xs : List X) → ((place : ℕ) (x : X) → slice_get xs place ≡ Some x → P x) → All P xs
-  All-from_places P xs each = λ place d within. each place (get_or xs place d) (slice_get-get_or xs place d within)
+  -- what holds of the item of each index holds of all
+  pub All-from_indexes : (P : X → Type 0) (xs : List X) → ((index : ℕ) (x : X) → slice_get xs index ≡ Some x → P x) → All P xs
+  All-from_indexes P xs each = λ index d within. each index (get_or xs index d) (slice_get-get_or xs index d within)
 
   -- some item passes where the test passes some
   pub list_any-found : (p : X → Bool) (xs : List X) → list_any p xs ≡ true → (x : X) × Contains xs x × (p x ≡ true)
@@ -137,14 +137,23 @@ module _ {X : Type 0} where
     | inr rest ↦ AllPairs-across R zs ys x y (AllPairs-tail R z (zs ++ ys) pairs) rest in_ys
   ]
 
-  -- where there is no item at a place, the list ends before it
+  -- where there is no item at an index, the list ends before it
   pub slice_get-none : (xs : List X) (i : ℕ) → slice_get xs i ≡ None → length xs ≤ i
   slice_get-none [] i none = omega arith
   slice_get-none (x ∷ xs) zero none = absurd cc
   slice_get-none (x ∷ xs) (suc i) none = omega (arith, slice_get-none xs i none)
 
-  -- within a list there is an item at each place
+  -- within a list there is an item at each index
   pub slice_get-there : (xs : List X) (n : ℕ) → n < length xs → (x : X) × (slice_get xs n ≡ Some x)
   slice_get-there [] n within = absurd (omega arith)
   slice_get-there (x ∷ xs) zero within = (x, refl)
   slice_get-there (x ∷ xs) (suc n) within = slice_get-there xs n (omega arith)
+
+module _ {X : Type 0} (xs : List X) (y : X) (ys : List X) where
+  -- there are fewer items before one in the middle than there are
+  pub length-middle : length xs < length (xs ++ y ∷ ys)
+  length-middle = omega (arith, length-append xs (y ∷ ys))
+
+  -- what relates each two relates each before it to it
+  pub AllPairs-middle : (R : X → X → Type 0) → AllPairs R (xs ++ y ∷ ys) → All (λ x. R x y) xs
+  AllPairs-middle R pairs = All-from_members (λ x. R x y) xs (λ x member. AllPairs-across R xs (y ∷ ys) x y pairs member (Contains-head y ys))

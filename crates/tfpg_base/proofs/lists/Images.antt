@@ -60,7 +60,7 @@ pub map-map : {X Y Z : Type 0} (g : Y → Z) (f : X → Y) (xs : List X) → map
 map-map g f [] = refl
 map-map g f (x ∷ xs) = ap (λ zs. g (f x) ∷ zs) (map-map g f xs)
 
--- what an image at a place comes from
+-- what an image at an index comes from
 pub slice_get-map_only : {X Y : Type 0} (f : X → Y) (xs : List X) (n : ℕ) (y : Y) → slice_get (map f xs) n ≡ Some y → (x : X) × (slice_get xs n ≡ Some x) × (f x ≡ y)
 slice_get-map_only f xs n y at = option_map-some f (slice_get xs n) y (sym (slice_get-map f xs n) ∙ at)
 

@@ -62,40 +62,40 @@ module _ {X : Type 0} (p : X → Bool) where
 -- The item of a number that is counted from another one, and passes.
 pub record IsItemOf {X : Type 0} (p : X → Bool) (first : ℕ) (xs : List X) (number : ℕ) : Type 0 where
   pub item : X
-  pub place : ℕ
-  pub counted : number ≡ first + place
-  pub at : slice_get xs place ≡ Some item
+  pub index : ℕ
+  pub counted : number ≡ first + index
+  pub at : slice_get xs index ≡ Some item
   pub passes : p item ≡ true
 
 module _ {X : Type 0} (p : X → Bool) where
   -- an item of the rest is an item of the whole
   later : (first : ℕ) (x : X) (xs : List X) (number : ℕ) → IsItemOf p (first + 1) xs number → IsItemOf p first (x ∷ xs) number
-  later first x xs number of = record { item = of.item; place = suc of.place; counted = omega (arith, of.counted); at = of.at; passes = of.passes }
+  later first x xs number of = record { item = of.item; index = suc of.index; counted = omega (arith, of.counted); at = of.at; passes = of.passes }
 
   -- each of the numbers is that of an item that passes
   pub item_of : (first : ℕ) (xs : List X) (k number : ℕ) → slice_get (numbers_from first p xs) k ≡ Some number → IsItemOf p first xs number
   item_of first [] k number at = absurd (omega (arith, slice_get_within {A = ℕ} [] k number at))
-  item_of first (x ∷ xs) k number at = by (p x) refl k at (λ place there. later first x xs number (item_of (first + 1) xs place number there))
+  item_of first (x ∷ xs) k number at = by (p x) refl k at (λ index there. later first x xs number (item_of (first + 1) xs index number there))
     where
-      by : (b : Bool) → p x ≡ b → (place : ℕ) → slice_get (cond b (first ∷ numbers_from (first + 1) p xs) (numbers_from (first + 1) p xs)) place ≡ Some number
-          → ((place : ℕ) → slice_get (numbers_from (first + 1) p xs) place ≡ Some number → IsItemOf p first (x ∷ xs) number)
+      by : (b : Bool) → p x ≡ b → (index : ℕ) → slice_get (cond b (first ∷ numbers_from (first + 1) p xs) (numbers_from (first + 1) p xs)) index ≡ Some number
+          → ((index : ℕ) → slice_get (numbers_from (first + 1) p xs) index ≡ Some number → IsItemOf p first (x ∷ xs) number)
           → IsItemOf p first (x ∷ xs) number
       by true passes zero there rest =
           let same : first ≡ number = cc in
-          record { item = x; place = 0; counted = omega arith; at = refl; passes = passes }
-      by true passes (suc place) there rest = rest place there
-      by false fails place there rest = rest place there
+          record { item = x; index = 0; counted = omega arith; at = refl; passes = passes }
+      by true passes (suc index) there rest = rest index there
+      by false fails index there rest = rest index there
 
   -- no number stands twice
-  pub one_place : (first : ℕ) (xs : List X) (one other number : ℕ) → slice_get (numbers_from first p xs) one ≡ Some number
+  pub one_index : (first : ℕ) (xs : List X) (one other number : ℕ) → slice_get (numbers_from first p xs) one ≡ Some number
       → slice_get (numbers_from first p xs) other ≡ Some number → one ≡ other
-  one_place first [] one other number at there = absurd (omega (arith, slice_get_within {A = ℕ} [] one number at))
-  one_place first (x ∷ xs) one other number at there = by (p x) one other at there (one_place (first + 1) xs)
+  one_index first [] one other number at there = absurd (omega (arith, slice_get_within {A = ℕ} [] one number at))
+  one_index first (x ∷ xs) one other number at there = by (p x) one other at there (one_index (first + 1) xs)
     where
-      above : (place : ℕ) → slice_get (numbers_from (first + 1) p xs) place ≡ Some number → Some first ≡ Some number → ⊥
-      above place more is =
+      above : (index : ℕ) → slice_get (numbers_from (first + 1) p xs) index ≡ Some number → Some first ≡ Some number → ⊥
+      above index more is =
           let same : first ≡ number = cc in
-          let of = item_of (first + 1) xs place number more in
+          let of = item_of (first + 1) xs index number more in
           omega (arith, of.counted, same)
 
       by : (b : Bool) (one other : ℕ) → slice_get (cond b (first ∷ numbers_from (first + 1) p xs) (numbers_from (first + 1) p xs)) one ≡ Some number
@@ -109,9 +109,9 @@ module _ {X : Type 0} (p : X → Bool) where
       by false one other here there rest = rest one other number here there
 
   -- the number of each item that passes is among them
-  pub number_of : (first : ℕ) (xs : List X) (place : ℕ) (x : X) → slice_get xs place ≡ Some x → p x ≡ true
-      → (k : ℕ) × (slice_get (numbers_from first p xs) k ≡ Some (first + place))
-  number_of first [] place x at passes = absurd (omega (arith, slice_get_within {A = X} [] place x at))
+  pub number_of : (first : ℕ) (xs : List X) (index : ℕ) (x : X) → slice_get xs index ≡ Some x → p x ≡ true
+      → (k : ℕ) × (slice_get (numbers_from first p xs) k ≡ Some (first + index))
+  number_of first [] index x at passes = absurd (omega (arith, slice_get_within {A = X} [] index x at))
   number_of first (y ∷ ys) zero x at passes = by (p y) (ap p same ∙ passes)
     where
       same : y ≡ x
@@ -120,10 +120,10 @@ module _ {X : Type 0} (p : X → Bool) where
       by : (b : Bool) → b ≡ true → (k : ℕ) × (slice_get (cond b (first ∷ numbers_from (first + 1) p ys) (numbers_from (first + 1) p ys)) k ≡ Some (first + 0))
       by true is = (0, ap Some (omega arith))
       by false is = cc
-  number_of first (y ∷ ys) (suc place) x at passes = by (p y) (number_of (first + 1) ys place x at passes)
+  number_of first (y ∷ ys) (suc index) x at passes = by (p y) (number_of (first + 1) ys index x at passes)
     where
-      by : (b : Bool) → (k : ℕ) × (slice_get (numbers_from (first + 1) p ys) k ≡ Some (first + 1 + place))
-          → (k : ℕ) × (slice_get (cond b (first ∷ numbers_from (first + 1) p ys) (numbers_from (first + 1) p ys)) k ≡ Some (first + suc place))
+      by : (b : Bool) → (k : ℕ) × (slice_get (numbers_from (first + 1) p ys) k ≡ Some (first + 1 + index))
+          → (k : ℕ) × (slice_get (cond b (first ∷ numbers_from (first + 1) p ys) (numbers_from (first + 1) p ys)) k ≡ Some (first + suc index))
       by true more = (suc more.0, more.1 ∙ ap Some (omega arith))
       by false more = (more.0, more.1 ∙ ap Some (omega arith))
 
@@ -184,7 +184,7 @@ module _ {X : Type 0} (p : X → Bool) (xs : List X) where
   pub item_among : (number : ℕ) → Contains (numbers_from 0 p xs) number → (x : X) × Contains (filter p xs) x × (slice_get xs number ≡ Some x)
   item_among number member =
       let of = item_of p 0 xs member.0 number (slice_get-get_or (numbers_from 0 p xs) member.0 number member.1 ∙ ap Some member.2) in
-      let same : of.place ≡ number = omega (arith, of.counted) in
+      let same : of.index ≡ number = omega (arith, of.counted) in
       let at : slice_get xs number ≡ Some of.item = ap (slice_get xs) (sym same) ∙ of.at in
       (of.item, Contains-filter p xs number of.item at of.passes, at)
 
@@ -215,29 +215,43 @@ module _ {X : Type 0} (p : X → Bool) (xs : List X) where
         let found = item_among number member in
         subst (λ there. IsSomeAnd there P) (sym found.2) (All-contains P (filter p xs) found.0 all found.1)
 
-    -- A loop over the numbers, which goes by their places.
+    -- A loop over the numbers, which goes by their indexes.
     module _ (numbers : List ℕ) (own : numbers ≡ numbers_from 0 p xs) where
-      -- the number at a place is that of an item
-      pub number_within : (place : ℕ) → place < length numbers → get_or numbers place 0 < length xs
-      number_within place within =
-          All-get_or (λ number. number < length xs) numbers place 0 within (All-same (λ number. number < length xs) numbers (numbers_from 0 p xs) own (All-below-numbers_from p xs))
+      -- the number at an index is that of an item
+      pub number_within : (index : ℕ) → index < length numbers → get_or numbers index 0 < length xs
+      number_within index within =
+          All-get_or (λ number. number < length xs) numbers index 0 within (All-same (λ number. number < length xs) numbers (numbers_from 0 p xs) own (All-below-numbers_from p xs))
 
-      -- what holds at a place holds of some item
-      pub some_at_place : (place : ℕ) → place < length numbers → IsSomeAnd (slice_get xs (get_or numbers place 0)) P → (x : X) × Contains (filter p xs) x × P x
-      some_at_place place within holds =
-          some_by_number (get_or numbers place 0) (subst (λ ns. Contains ns (get_or numbers place 0)) own (Contains-get_or numbers place 0 within)) holds
+      -- what holds at an index holds of some item
+      pub some_at_index : (index : ℕ) → index < length numbers → IsSomeAnd (slice_get xs (get_or numbers index 0)) P → (x : X) × Contains (filter p xs) x × P x
+      some_at_index index within holds =
+          some_by_number (get_or numbers index 0) (subst (λ ns. Contains ns (get_or numbers index 0)) own (Contains-get_or numbers index 0 within)) holds
 
-      -- what holds at no place holds of no item
-      pub none_at_places : (place : ℕ) → length numbers ≤ place → All (λ number. IsSomeAnd (slice_get xs number) P → ⊥) (take place numbers)
+      -- what holds at no index holds of no item
+      pub none_at_indexes : (index : ℕ) → length numbers ≤ index → All (λ number. IsSomeAnd (slice_get xs number) P → ⊥) (take index numbers)
           → (x : X) × Contains (filter p xs) x × P x → ⊥
-      none_at_places place past none some =
-          none_by_numbers (subst (All (λ number. IsSomeAnd (slice_get xs number) P → ⊥)) (take_all place numbers past ∙ own) none) some.0 some.1 some.2
+      none_at_indexes index past none some =
+          none_by_numbers (subst (All (λ number. IsSomeAnd (slice_get xs number) P → ⊥)) (take_all index numbers past ∙ own) none) some.0 some.1 some.2
 
-      -- what fails at a place does not hold of all items
-      pub not_all_at_place : (place : ℕ) → place < length numbers → (IsSomeAnd (slice_get xs (get_or numbers place 0)) P → ⊥) → All P (filter p xs) → ⊥
-      not_all_at_place place within fails all =
-          fails (each_by_number all (get_or numbers place 0) (subst (λ ns. Contains ns (get_or numbers place 0)) own (Contains-get_or numbers place 0 within)))
+      -- what fails at an index does not hold of all items
+      pub not_all_at_index : (index : ℕ) → index < length numbers → (IsSomeAnd (slice_get xs (get_or numbers index 0)) P → ⊥) → All P (filter p xs) → ⊥
+      not_all_at_index index within fails all =
+          fails (each_by_number all (get_or numbers index 0) (subst (λ ns. Contains ns (get_or numbers index 0)) own (Contains-get_or numbers index 0 within)))
 
-      -- what holds at all places holds of all items
-      pub all_at_places : (place : ℕ) → length numbers ≤ place → All (λ number. IsSomeAnd (slice_get xs number) P) (take place numbers) → All P (filter p xs)
-      all_at_places place past all = all_by_numbers (subst (All (λ number. IsSomeAnd (slice_get xs number) P)) (take_all place numbers past ∙ own) all)
+      -- what holds at all indexes holds of all items
+      pub all_at_indexes : (index : ℕ) → length numbers ≤ index → All (λ number. IsSomeAnd (slice_get xs number) P) (take index numbers) → All P (filter p xs)
+      all_at_indexes index past all = all_by_numbers (subst (All (λ number. IsSomeAnd (slice_get xs number) P)) (take_all index numbers past ∙ own) all)
+
+-- where an item in the middle passes, fewer before it pass than do
+pub numbers_from-middle : {X : Type 0} (p : X → Bool) (n : ℕ) (xs : List X) (y : X) (ys : List X) → p y ≡ true
+    → length (numbers_from n p xs) < length (numbers_from n p (xs ++ y ∷ ys))
+numbers_from-middle p n [] y ys passes =
+    subst (λ b. 0 < length (cond b (n ∷ numbers_from (n + 1) p ys) (numbers_from (n + 1) p ys))) (sym passes)
+    (omega arith)
+numbers_from-middle p n (x ∷ xs) y ys passes = by (p x) (numbers_from-middle p (n + 1) xs y ys passes)
+  where
+    by : (b : Bool) → length (numbers_from (n + 1) p xs) < length (numbers_from (n + 1) p (xs ++ y ∷ ys))
+        → length (cond b (n ∷ numbers_from (n + 1) p xs) (numbers_from (n + 1) p xs))
+        < length (cond b (n ∷ numbers_from (n + 1) p (xs ++ y ∷ ys)) (numbers_from (n + 1) p (xs ++ y ∷ ys)))
+    by true fewer = omega arith
+    by false fewer = fewer

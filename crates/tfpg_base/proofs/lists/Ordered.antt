@@ -48,12 +48,12 @@ module _ {X : Type 0} (R : X → X → Type 0) where
         cc
 
 -- a member of a rising list is no less than its head
-pub least_first : (first : ℕ) (others : List ℕ) (place : ℕ) → Rises (first ∷ others) → Contains (first ∷ others) place → first ≤ place
-least_first first others place rising member =
-    ⊎_elim (λ is. omega (arith, is)) (λ after. omega (arith, All-contains (λ later. first < later) others place (AllPairs-head ◌<◌ first others rising) after)) (Contains-cons_cases first others place member)
+pub least_first : (first : ℕ) (others : List ℕ) (index : ℕ) → Rises (first ∷ others) → Contains (first ∷ others) index → first ≤ index
+least_first first others index rising member =
+    ⊎_elim (λ is. omega (arith, is)) (λ after. omega (arith, All-contains (λ later. first < later) others index (AllPairs-head ◌<◌ first others rising) after)) (Contains-cons_cases first others index member)
 
 -- Rising lists with the same members are equal.
-pub same_from_members : (xs ys : List ℕ) → Rises xs → Rises ys → ((place : ℕ) → Contains xs place → Contains ys place) → ((place : ℕ) → Contains ys place → Contains xs place) → xs ≡ ys
+pub same_from_members : (xs ys : List ℕ) → Rises xs → Rises ys → ((index : ℕ) → Contains xs index → Contains ys index) → ((index : ℕ) → Contains ys index → Contains xs index) → xs ≡ ys
 same_from_members xs ys rises_x rises_y to from = same_in_order (λ earlier later. earlier < later) (λ x y above below. omega arith) xs ys rises_x rises_y to from
 
 -- No two numbers of a rising list are the same.

@@ -5,9 +5,9 @@ use Rattle.std.proofs.lemmas.List.Elements.{All-nil, All-cons}
 use Rattle.std.proofs.lemmas.Option.{slice_get_within}
 use Rattle.tfpg_base.proofs.lists.Elements.{Contains-head, Contains-tail, Contains-nil, Contains-cons_cases}
 
--- an element at a place that passes is among those that pass
-pub Contains-filter : {X : Type 0} (p : X → Bool) (xs : List X) (place : ℕ) (x : X) → slice_get xs place ≡ Some x → p x ≡ true → Contains (filter p xs) x
-Contains-filter p [] place x at passes = absurd (omega (arith, slice_get_within [] place x at))
+-- an element at an index that passes is among those that pass
+pub Contains-filter : {X : Type 0} (p : X → Bool) (xs : List X) (index : ℕ) (x : X) → slice_get xs index ≡ Some x → p x ≡ true → Contains (filter p xs) x
+Contains-filter p [] index x at passes = absurd (omega (arith, slice_get_within [] index x at))
 Contains-filter p (y ∷ ys) zero x at passes = by (p y) (ap p same ∙ passes)
   where
     same : y ≡ x
@@ -16,20 +16,20 @@ Contains-filter p (y ∷ ys) zero x at passes = by (p y) (ap p same ∙ passes)
     by : (b : Bool) → b ≡ true → Contains (cond b (y ∷ filter p ys) (filter p ys)) x
     by true is = (0, omega arith, same)
     by false is = absurd cc
-Contains-filter p (y ∷ ys) (suc place) x at passes = by (p y) (Contains-filter p ys place x at passes)
+Contains-filter p (y ∷ ys) (suc index) x at passes = by (p y) (Contains-filter p ys index x at passes)
   where
     by : (b : Bool) → Contains (filter p ys) x → Contains (cond b (y ∷ filter p ys) (filter p ys)) x
     by true more = Contains-tail y (filter p ys) x more
     by false more = more
 
--- and each of those stands at a place and passes
-pub Contains-filter_only : {X : Type 0} (p : X → Bool) (xs : List X) (x : X) → Contains (filter p xs) x → (place : ℕ) × (slice_get xs place ≡ Some x) × (p x ≡ true)
+-- and each of those stands at an index and passes
+pub Contains-filter_only : {X : Type 0} (p : X → Bool) (xs : List X) (x : X) → Contains (filter p xs) x → (index : ℕ) × (slice_get xs index ≡ Some x) × (p x ≡ true)
 Contains-filter_only p [] x member = absurd (Contains-nil x member)
 Contains-filter_only p (y ∷ ys) x member = by (p y) refl member (Contains-filter_only p ys x)
   where
     by : (b : Bool) → p y ≡ b → Contains (cond b (y ∷ filter p ys) (filter p ys)) x
-        → (Contains (filter p ys) x → (place : ℕ) × (slice_get ys place ≡ Some x) × (p x ≡ true))
-        → (place : ℕ) × (slice_get (y ∷ ys) place ≡ Some x) × (p x ≡ true)
+        → (Contains (filter p ys) x → (index : ℕ) × (slice_get ys index ≡ Some x) × (p x ≡ true))
+        → (index : ℕ) × (slice_get (y ∷ ys) index ≡ Some x) × (p x ≡ true)
     by true passes among rest = elim (Contains-cons_cases y (filter p ys) x among) [
       | inl same ↦ (0, ap Some same, ap p (sym same) ∙ passes)
       | inr more ↦ (let found = rest more in (suc found.0, found.1, found.2))
@@ -66,21 +66,21 @@ module _ {X Y : Type 0} (f : X → Option Y) where
         | inr more ↦ (let found = rest more in (found.0, Contains-tail first others found.0 found.1, found.2))
       ]
 
-  -- the value of an element stands at a place among the values
-  pub slice_get-filter_map : (xs : List X) (x : X) (y : Y) → Contains xs x → f x ≡ Some y → (place : ℕ) × (slice_get (filter_map f xs) place ≡ Some y)
+  -- the value of an element stands at an index among the values
+  pub slice_get-filter_map : (xs : List X) (x : X) (y : Y) → Contains xs x → f x ≡ Some y → (index : ℕ) × (slice_get (filter_map f xs) index ≡ Some y)
   slice_get-filter_map [] x y member is = absurd (Contains-nil x member)
   slice_get-filter_map (first ∷ xs) x y member is =
       ⊎_elim (λ here. (0, ap (λ o. slice_get (cons_option o (filter_map f xs)) 0) (ap f here ∙ is)))
       (λ there. further (f first) (slice_get-filter_map xs x y there is)) (Contains-cons_cases first xs x member)
     where
-      further : (o : Option Y) → (place : ℕ) × (slice_get (filter_map f xs) place ≡ Some y) → (place : ℕ) × (slice_get (cons_option o (filter_map f xs)) place ≡ Some y)
+      further : (o : Option Y) → (index : ℕ) × (slice_get (filter_map f xs) index ≡ Some y) → (index : ℕ) × (slice_get (cons_option o (filter_map f xs)) index ≡ Some y)
       further None found = found
       further (Some z) found = (suc found.0, found.1)
 
-  -- and at each place stands the value of an element
-  pub slice_get-filter_map_only : (xs : List X) (place : ℕ) (y : Y) → slice_get (filter_map f xs) place ≡ Some y → (x : X) × Contains xs x × (f x ≡ Some y)
-  slice_get-filter_map_only [] place y is = absurd (cc)
-  slice_get-filter_map_only (first ∷ xs) place y is = by (f first) refl place is (λ n at. slice_get-filter_map_only xs n y at)
+  -- and at each index stands the value of an element
+  pub slice_get-filter_map_only : (xs : List X) (index : ℕ) (y : Y) → slice_get (filter_map f xs) index ≡ Some y → (x : X) × Contains xs x × (f x ≡ Some y)
+  slice_get-filter_map_only [] index y is = absurd (cc)
+  slice_get-filter_map_only (first ∷ xs) index y is = by (f first) refl index is (λ n at. slice_get-filter_map_only xs n y at)
     where
       by : (o : Option Y) → f first ≡ o → (n : ℕ) → slice_get (cons_option o (filter_map f xs)) n ≡ Some y
           → ((m : ℕ) → slice_get (filter_map f xs) m ≡ Some y → (x : X) × Contains xs x × (f x ≡ Some y)) → (x : X) × Contains (first ∷ xs) x × (f x ≡ Some y)

@@ -40,8 +40,8 @@ module _ {X : Type 0} where
   length-le_contained [] ys pairs has = omega arith
   length-le_contained (x ∷ xs) ys pairs has =
       let own = All-head (Contains ys) x xs has in
-      let place = around_at ys x own.0 own.1 own.2 in
-      let rest : length xs ≤ length (place.front ++ place.back) =
-      length-le_contained xs (place.front ++ place.back) (AllPairs-tail ◌≢◌ x xs pairs)
-      (within_others xs x place.front place.back (subst (λ (zs : List X). All (Contains zs) xs) place.is (All-tail (Contains ys) x xs has)) (AllPairs-head ◌≢◌ x xs pairs)) in
-      omega (arith, rest, ap length place.is, length-append place.front (x ∷ place.back), length-append place.front place.back)
+      let index = around_at ys x own.0 own.1 own.2 in
+      let rest : length xs ≤ length (index.front ++ index.back) =
+      length-le_contained xs (index.front ++ index.back) (AllPairs-tail ◌≢◌ x xs pairs)
+      (within_others xs x index.front index.back (subst (λ (zs : List X). All (Contains zs) xs) index.is (All-tail (Contains ys) x xs has)) (AllPairs-head ◌≢◌ x xs pairs)) in
+      omega (arith, rest, ap length index.is, length-append index.front (x ∷ index.back), length-append index.front index.back)

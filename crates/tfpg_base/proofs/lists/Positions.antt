@@ -1,4 +1,4 @@
--- The first place at which a test passes.
+-- The first index at which a test passes.
 use Rattle.std.proofs.Common.{◌≡◌, ℕ, zero, suc, ◌+◌, ◌<◌, Bool, true, false, cond, not, nat_lt, List, [], ◌∷◌, ◌++◌, length, map, get_or, Option, Some, None, position, All, refl, ap, sym, ◌∙◌, arith}
 use Rattle.std.specs.List.{position_or_len, AllByRecursion}
 use Rattle.std.specs.Option.{option_map}
@@ -12,7 +12,7 @@ cond_first m n some = grind (arith, nat_tests)
 cond_next : (n m : ℕ) → cond (nat_lt (1 + n) (suc m)) (Some (1 + n)) None ≡ option_map suc (cond (nat_lt n m) (Some n) None)
 cond_next n m = grind (arith, nat_tests)
 
--- the first place of a list with one more at its head
+-- the first index of a list with one more at its head
 pub position-cons : {X : Type 0} (p : X → Bool) (x : X) (xs : List X) → position p (x ∷ xs) ≡ cond (p x) (Some 0) (option_map suc (position p xs))
 position-cons p x xs = by (p x) (position_or_len p xs) (length xs)
   where
@@ -26,7 +26,7 @@ not_first false None e = (refl, refl)
 not_first false (Some n) e = cc
 
 module _ {X : Type 0} where
-  -- two tests that agree pass first at one place
+  -- two tests that agree pass first at one index
   pub position-agrees : (p q : X → Bool) → ((x : X) → p x ≡ q x) → (xs : List X) → position p xs ≡ position q xs
   position-agrees p q same xs = λ i. position (λ x. same x i) xs
 
@@ -34,7 +34,7 @@ module _ {X : Type 0} where
   position_or_len-map p f [] = refl
   position_or_len-map p f (x ∷ xs) = ap (λ n. cond (not (p (f x))) (1 + n) 0) (position_or_len-map p f xs)
 
-  -- the place of an image is the place of the first whose image passes
+  -- the index of an image is the index of the first whose image passes
   pub position-map : {Y : Type 0} (p : Y → Bool) (f : X → Y) (xs : List X) → position p (map f xs) ≡ position (λ x. p (f x)) xs
   position-map p f xs =
       λ i. cond (nat_lt (position_or_len-map p f xs i) (length-map xs f i)) (Some (position_or_len-map p f xs i)) None
@@ -52,7 +52,7 @@ module _ {X : Type 0} where
       let later = not_first (p x) (position p xs) (sym (position-cons p x xs) ∙ none) in
       position-cons p x (xs ++ y ∷ []) ∙ (λ i. cond (later.0 i) (Some 0) (option_map suc (position-push_yes p xs y later.1 passes i)))
 
--- where the first of a list fails and there is no place among the others, there is none
+-- where the first of a list fails and there is no index among the others, there is none
 pub position-cons_none : {X : Type 0} (p : X → Bool) (x : X) (xs : List X) → position p (x ∷ xs) ≡ None → (p x ≡ false) × (position p xs ≡ None)
 position-cons_none p x xs none = not_first (p x) (position p xs) (sym (position-cons p x xs) ∙ none)
 
@@ -60,11 +60,11 @@ each_fails : {X : Type 0} (p : X → Bool) (xs : List X) → position p xs ≡ N
 each_fails p [] none = tt
 each_fails p (x ∷ xs) none = let first = position-cons_none p x xs none in (first.0, each_fails p xs first.1)
 
--- where there is no place, each fails
+-- where there is no index, each fails
 pub All-none : {X : Type 0} (p : X → Bool) (xs : List X) → position p xs ≡ None → All (λ x. p x ≡ false) xs
 All-none p xs none = All-from_recursion _ xs (each_fails p xs none)
 
--- where each fails, there is no place
+-- where each fails, there is no index
 pub position-All_fail : {X : Type 0} (p : X → Bool) (xs : List X) → All (λ x. p x ≡ false) xs → position p xs ≡ None
 position-All_fail p [] fail = refl
 position-All_fail p (x ∷ xs) fail =

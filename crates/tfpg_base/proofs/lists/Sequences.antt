@@ -22,3 +22,7 @@ not_above a b never = grind arith
 -- two numbers of which neither is below the other are one
 pub same_from_neither : (a b : ℕ) → (a < b → ⊥) → (b < a → ⊥) → a ≡ b
 same_from_neither a b not_less not_greater = le_antisymm (not_above a b not_greater) (not_above b a not_less)
+
+-- more than the limit were taken only where one more was, and no further one
+pub only_one : (limit taken wanted count : ℕ) → taken ≤ limit → (taken < limit → taken + wanted ≤ limit) → (taken ≡ limit → wanted ≡ 1) → count ≤ wanted → limit < taken + count → count ≡ 1
+only_one limit taken wanted count within few one asked above = grind arith

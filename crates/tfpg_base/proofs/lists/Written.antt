@@ -6,7 +6,7 @@ use Rattle.std.proofs.Common.{inl, inr}
 use Rattle.std.proofs.lemmas.Option.{same_Some, none-some}
 
 module _ {X : Type 0} where
-  -- at another place than the one written nothing changed
+  -- at another index than the one written nothing changed
   pub slice_get-set_other : (xs : List X) (i j : ℕ) (y : X) → j ≢ i → slice_get (set xs i y) j ≡ slice_get xs j
   slice_get-set_other [] i j y other = refl
   slice_get-set_other (x ∷ xs) zero zero y other = absurd (other refl)
@@ -14,7 +14,7 @@ module _ {X : Type 0} where
   slice_get-set_other (x ∷ xs) (suc i) zero y other = refl
   slice_get-set_other (x ∷ xs) (suc i) (suc j) y other = slice_get-set_other xs i j y (λ same. other (ap suc same))
 
-  -- at the place written what was written is read
+  -- at the index written what was written is read
   pub slice_get-set_same : (xs : List X) (i : ℕ) (y : X) → i < length xs → slice_get (set xs i y) i ≡ Some y
   slice_get-set_same [] i y inside = absurd (omega arith)
   slice_get-set_same (x ∷ xs) zero y inside = refl
@@ -26,12 +26,12 @@ module _ {X : Type 0} where
   slice_get-push_before (x ∷ xs) y zero within = refl
   slice_get-push_before (x ∷ xs) y (suc i) within = slice_get-push_before xs y i (omega arith)
 
-  -- at its place the new last element is read
+  -- at its index the new last element is read
   pub slice_get-push_last : (xs : List X) (y : X) → slice_get (xs ++ y ∷ []) (length xs) ≡ Some y
   slice_get-push_last [] y = refl
   slice_get-push_last (x ∷ xs) y = slice_get-push_last xs y
 
-  -- also where its place is a number that the length equals
+  -- also where its index is a number that the length equals
   pub slice_get-push_at : (xs : List X) (y : X) (i : ℕ) → i ≡ length xs → slice_get (xs ++ y ∷ []) i ≡ Some y
   slice_get-push_at xs y i last = ap (slice_get (xs ++ y ∷ [])) last ∙ slice_get-push_last xs y
 
@@ -69,7 +69,7 @@ module _ {X : Type 0} where
       let same : suc (length xs) + i ≡ suc (length xs + i) = omega arith in
       ap (slice_get (x ∷ (xs ++ ys))) same ∙ slice_get-append_right xs ys i
 
-  -- what is at a place of the first list is there in both
+  -- what is at an index of the first list is there in both
   pub slice_get-append_some : (xs ys : List X) (i : ℕ) (x : X) → slice_get xs i ≡ Some x → slice_get (xs ++ ys) i ≡ Some x
   slice_get-append_some [] ys i x at = absurd (none-some x at)
   slice_get-append_some (z ∷ xs) ys zero x at = at

@@ -1,5 +1,5 @@
 -- What one call of a reader of lines finds, apart from its history: how the bytes after the lines given go on.
-use Rattle.std.specs.Prelude.{◌≡◌, ◌⊎◌, ℕ, ◌+◌, ◌<◌, ◌≤◌, List, [], ◌∷◌, ◌++◌, length, take, drop, nat_le, if◌then◌else◌, Some, None, Result, Ok, Err}
+use Rattle.std.specs.Prelude.{◌≡◌, ◌⊎◌, ℕ, ◌+◌, ◌<◌, ◌≤◌, List, [], ◌∷◌, ◌++◌, length, take, drop, nat_le, if◌then◌else◌, Bool, true, false, Some, None, Result, Ok, Err}
 use Rattle.tfpg_base.specs.declared.line.Line.{Line}
 use Rattle.tfpg_base.specs.declared.line.Line.TheVariants as line
 use Rattle.tfpg_base.specs.declared.line.LineFault.{LineFault}
@@ -15,8 +15,8 @@ pub record IsAtLineEnd (bytes : List ℕ) (count : ℕ) : Type 0 where
   pub whole : bytes ≡ take count bytes ++ 10 ∷ drop (count + 1) bytes
 
 -- what the result for a line is
-abbrev pub kind_of : List ℕ → Line
-kind_of bytes = if nat_le (length bytes) LONGEST_LINE then line.Text else line.TooLong
+abbrev pub returned_line : List ℕ → Line
+returned_line bytes = if nat_le (length bytes) LONGEST_LINE then line.Text else line.TooLong
 
 -- what is lent of a line
 abbrev pub lent_of : List ℕ → List ℕ
@@ -41,17 +41,16 @@ pub record IsGiven (bytes first : List ℕ) (lines : ℕ) (source_ended : Type 0
   pub number : now.number ≡ lines + 1
   pub few : now.taken ≤ MAX_BYTES
 
--- All that waited was given as the last line, or there was nothing.
-abbrev pub GivesLast : Buffered → Line → Buffered → Type 0
-GivesLast old line.Text now = (0 < length old.waiting) × (now.text ≡ old.waiting) × (now.number ≡ old.number + 1)
-GivesLast old line.TooLong now = ⊥
-GivesLast old line.End now = (old.waiting ≡ []) × (now.text ≡ []) × (now.number ≡ old.number)
+-- All that waited was given as the last line, or there was nothing to give.
+abbrev pub GivesLast : Buffered → Bool → Buffered → Type 0
+GivesLast old true now = (0 < length old.waiting) × (now.text ≡ old.waiting) × (now.number ≡ old.number + 1)
+GivesLast old false now = (old.waiting ≡ []) × (now.text ≡ []) × (now.number ≡ old.number)
 
 -- No line was returned, and the result ends the reader.
-pub record IsEnded (lines : ℕ) (answer : Result Line LineFault) (now : Buffered) : Type 0 where
+pub record IsEnded (lines : ℕ) (ending : Result Line LineFault) (now : Buffered) : Type 0 where
   pub number : now.number ≡ lines
   pub text : now.text ≡ []
-  pub ended : now.ended ≡ Some answer
+  pub ended : now.ended ≡ Some ending
 
 -- what a call found in these bytes
 abbrev pub FoundLine : List ℕ → ℕ → Type 0 → Result Line LineFault → Buffered → Type 0

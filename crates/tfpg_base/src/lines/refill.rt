@@ -6,7 +6,7 @@ ghost use Rattle.tfpg_base.specs.Lines.{CountsReadFault};
 ghost use Rattle.tfpg_base.specs.declared.limits.TheConstants.{LONGEST_LINE, MAX_BYTES};
 ghost use Rattle.tfpg_base.specs.inside.LineSearch.{Refilled};
 
-use super::{Lines, Places};
+use super::{Lines, Part};
 use crate::{BUFFER_SIZE, Failed, LineFault, MAX_BYTES, Source};
 
 impl Lines {
@@ -17,7 +17,7 @@ impl Lines {
         ensures refilled { Refilled self.old (S.state source.old) (S.state source.new) result self.new }
         ensures counted { CountsReadFault result (S.state source.old) (S.state source.new) }
     {
-        self.text = Places::NONE;
+        self.text = Part::NONE;
         self.waiting = with_room(&mut self.buffer, self.waiting);
         let from = self.waiting.end;
         let to = from + wanted(self.taken, BUFFER_SIZE - from);
@@ -39,9 +39,9 @@ impl Lines {
     }
 }
 
-/// The places of the bytes that wait, once there is a free place after them. They are moved to the front of the buffer
+/// The part with the bytes that wait, once there is a free byte after them. They are moved to the front of the buffer
 /// where there was none, and where no byte waits.
-fn with_room(buffer: &mut Vec<u8>, waiting: Places) -> Places
+fn with_room(buffer: &mut Vec<u8>, waiting: Part) -> Part
     requires room { vec_len buffer.old ≡ BUFFER_SIZE }
     requires order { waiting.start ≤ waiting.end }
     requires within { waiting.end ≤ BUFFER_SIZE }
@@ -56,7 +56,7 @@ fn with_room(buffer: &mut Vec<u8>, waiting: Places) -> Places
         return waiting;
     }
     buffer.copy_within(waiting.start..waiting.end, 0);
-    Places {
+    Part {
         start: 0,
         end: waiting.end - waiting.start,
     }
@@ -80,7 +80,7 @@ fn wanted(taken: u64, free: usize) -> usize
     }
 }
 
-/// Takes bytes into the places of the buffer from the one up to before the other, and returns how many.
+/// Takes bytes into the buffer from the one index up to before the other, and returns how many.
 fn take_into<S: Source>(
     source: &mut S,
     buffer: &mut Vec<u8>,

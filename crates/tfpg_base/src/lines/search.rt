@@ -5,7 +5,7 @@ ghost use Rattle.tfpg_base.specs.Lines.{HasNoLineEnd, CountsReadFault};
 ghost use Rattle.tfpg_base.specs.declared.limits.TheConstants.{LONGEST_LINE, MAX_BYTES};
 ghost use Rattle.tfpg_base.specs.inside.LineSearch.{GivesLast, Searched};
 
-use super::{Lines, Places, line_end};
+use super::{Lines, Part, line_end};
 use crate::{LONGEST_LINE, Line, LineFault, Source};
 
 impl Lines {
@@ -23,7 +23,10 @@ impl Lines {
                 return self.skip_line(source);
             }
             if self.refill(source)? == 0 {
-                return Ok(self.give_last());
+                if self.give_last() {
+                    return Ok(Line::Text);
+                }
+                return Ok(Line::End);
             }
             if let Some(more) = line_end(&self.waiting()[seen..]) {
                 return Ok(self.give_whole(seen + more));
@@ -53,8 +56,8 @@ impl Lines {
         }
     }
 
-    /// Returns the bytes that wait as the last line, if there are some. From then on the end is returned.
-    fn give_last(&mut self) -> Line
+    /// Gives the bytes that wait as the last line, and returns whether there were some. From then on the end is returned.
+    fn give_last(&mut self) -> bool
         requires { length self.old.waiting ≤ LONGEST_LINE }
         ensures given { GivesLast self.old result self.new }
         ensures taken { self.new.taken ≡ self.old.taken }
@@ -64,10 +67,10 @@ impl Lines {
         self.text = self.waiting;
         self.waiting.start = self.waiting.end;
         if self.text.start == self.text.end {
-            return Line::End;
+            return false;
         }
         self.number += 1;
-        Line::Text
+        true
     }
 
     /// Drops the bytes that wait: they are part of a line that is too long.
@@ -78,7 +81,7 @@ impl Lines {
         ensures ended { self.new.ended ≡ self.old.ended }
         ensures lines { self.old.number + length self.old.waiting ≤ self.old.taken }
     {
-        self.waiting = Places::NONE;
+        self.waiting = Part::NONE;
     }
 
     /// Passes so many of the bytes that wait and the line end after them, as the rest of a line that is too long.
@@ -90,7 +93,7 @@ impl Lines {
         ensures taken { self.new.taken ≡ self.old.taken }
         ensures ended { self.new.ended ≡ self.old.ended }
     {
-        self.text = Places::NONE;
+        self.text = Part::NONE;
         self.waiting.start += count + 1;
         self.number += 1;
     }
@@ -104,8 +107,8 @@ impl Lines {
         ensures ended { self.new.ended ≡ Some (Ok Line.End) }
     {
         self.ended = Some(Ok(Line::End));
-        self.text = Places::NONE;
-        self.waiting = Places::NONE;
+        self.text = Part::NONE;
+        self.waiting = Part::NONE;
         self.number += 1;
     }
 }

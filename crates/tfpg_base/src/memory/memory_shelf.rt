@@ -82,20 +82,20 @@ impl<'a> MemoryShelf<'a> {
     {
         into.clear();
         let fails = self.calls.next_fails();
-        note(&mut self.asked, alloc, name)?;
+        note_name(&mut self.asked, alloc, name)?;
         if fails {
             self.calls.raise();
             return Err(ShelfFault::Failed);
         }
-        let answer = copy_named(self.files, name, into);
-        match answer {
+        let fetched = copy_named(self.files, name, into);
+        match fetched {
             Err(ShelfFault::Failed) => self.calls.raise(),
             Err(ShelfFault::NoMemory) => {
                 let _ = self.asked.pop();
             }
             Err(ShelfFault::TooLong) | Ok(()) => {}
         }
-        answer
+        fetched
     }
 }
 
@@ -114,7 +114,7 @@ impl<'a> Shelf for MemoryShelf<'a> {
 }
 
 /// Notes that this name was asked for.
-fn note(asked: &mut Vec<String>, alloc: Global, name: &str) -> Result<(), NoMemory>
+fn note_name(asked: &mut Vec<String>, alloc: Global, name: &str) -> Result<(), NoMemory>
     ensures ok { OnOk result
         (map string_bytes asked.new.items ≡ map string_bytes asked.old.items ++ name.now ∷ []) }
     ensures err { OnErr result (asked.new.items ≡ asked.old.items) }
@@ -129,7 +129,7 @@ fn copy_named(files: &[(&str, &[u8])], name: &str, into: &mut Vec<u8>) -> Result
     ensures { Copies (file_of (map (λ file. (file.0.now, file.1.now)) files.now) name.now)
         into.new.items result }
 {
-    let Some(content) = find(files, name) else {
+    let Some(content) = content_named(files, name) else {
         return Err(ShelfFault::Failed);
     };
     if append_to_file(into, content)? {
@@ -140,7 +140,7 @@ fn copy_named(files: &[(&str, &[u8])], name: &str, into: &mut Vec<u8>) -> Result
 }
 
 /// The content of the first file of that name.
-fn find<'a>(files: &[(&str, &'a [u8])], name: &str) -> Option<&'a [u8]>
+fn content_named<'a>(files: &[(&str, &'a [u8])], name: &str) -> Option<&'a [u8]>
     ensures { option_copied result ≡ file_of (map (λ file. (file.0.now, file.1.now)) files.now) name.now }
 {
     for (file, content) in files {

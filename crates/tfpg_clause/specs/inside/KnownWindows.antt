@@ -14,14 +14,14 @@ window_over graph log number horizon edge =
 abbrev pub IsWindowOver : Tfpg → Logbook → ℕ → ℕ → Window → Type 0
 IsWindowOver graph log horizon edge window = (number : ℕ) × (window_over graph log number horizon edge ≡ Some window)
 
--- What is known at the place of an edge is a window of it.
+-- What is known at the index of an edge is a window of it.
 abbrev pub AreKnown : Tfpg → Logbook → ℕ → List ℕ → List (Option Window) → Type 0
 AreKnown graph log horizon edges known =
-    (place : ℕ) → place < length edges
-    → IfSome (slice_index_or known place None) (IsWindowOver graph log horizon (slice_index_or edges place 0))
+    (index : ℕ) → index < length edges
+    → IfSome (slice_index_or known index None) (IsWindowOver graph log horizon (slice_index_or edges index 0))
 
--- At the place of each edge stands its window round the span, or none where there is none.
+-- At the index of each edge stands its window round the span, or none where there is none.
 abbrev pub AreWindows : Tfpg → Logbook → ℕ → ℕ → List ℕ → List (Option Window) → Type 0
 AreWindows graph log number horizon edges windows =
-    (place : ℕ) → place < length edges
-    → slice_index_or windows place None ≡ window_over graph log number horizon (slice_index_or edges place 0)
+    (index : ℕ) → index < length edges
+    → slice_index_or windows index None ≡ window_over graph log number horizon (slice_index_or edges index 0)

@@ -12,7 +12,7 @@ use Rattle.tfpg_base.specs.declared.limits.TheConstants.{NEVER}
 
 -- the greatest value that the constraint allows its left side
 abbrev pub allowed_by : List ℕ → Demand → ℤ
-allowed_by values demand = pos (slice_index values demand.constraint.right) +ℤ demand.constraint.most
+allowed_by values demand = pos (slice_index values demand.constraint.right) +ℤ demand.constraint.bound
 
 -- The left side less the right side is at most the bound, where these are the values of the numbers from 0 on.
 abbrev pub IsMetBy : List ℕ → Demand → Type 0
@@ -77,8 +77,8 @@ MeetsPicks values picks = All (λ pick. IsMetBy values (demand_of_pick pick)) pi
 
 -- What testing one pick does to values: where it was broken they sum up to less, else they stay and meet it.
 abbrev pub Relaxes : List Pick → ℕ → List ℕ → Bool → List ℕ → Type 0
-Relaxes picks place before true after = sum after < sum before
-Relaxes picks place before false after = (after ≡ before) × HoldsAt (λ pick. IsMetBy after (demand_of_pick pick)) picks place
+Relaxes picks index before true after = sum after < sum before
+Relaxes picks index before false after = (after ≡ before) × HoldsAt (λ pick. IsMetBy after (demand_of_pick pick)) picks index
 
 -- What testing some picks does to values: where any was broken they sum up to less, else they stay and meet all.
 abbrev pub Passes : List Pick → List ℕ → Bool → List ℕ → Type 0
@@ -86,7 +86,7 @@ Passes picks before true after = sum after < sum before
 Passes picks before false after = (after ≡ before) × MeetsPicks after picks
 
 -- The variables below a number have their upper bounds as values and as links.
-pub record IsStart (bounds : List Bounds) (values : List ℕ) (links : List Demand) (count : ℕ) : Type 0 where
+pub record AreAtCeilings (bounds : List Bounds) (values : List ℕ) (links : List Demand) (count : ℕ) : Type 0 where
   pub values_len : length values ≡ length bounds + 1
   pub links_len : length links ≡ length bounds + 1
   pub zero_stays : slice_index values 0 ≡ 0

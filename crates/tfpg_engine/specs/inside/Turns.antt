@@ -9,9 +9,9 @@ use Rattle.tfpg_evidence.specs.declared.finding.Status.TheVariants as status
 use Rattle.tfpg_evidence.specs.RoundOf.{is_open}
 use Rattle.tfpg_clause.specs.Trees.{Judged}
 use Rattle.tfpg_hyp.specs.Hypotheses.{Hypotheses, AreReaches}
-use Rattle.tfpg_hyp.specs.declared.place.Fraction.{Fraction}
-use Rattle.tfpg_hyp.specs.declared.place.Place.{Place}
-use Rattle.tfpg_hyp.specs.Rounds.{HasEvidence, IsOrder, counts_of, place_of_status}
+use Rattle.tfpg_hyp.specs.declared.ranking_key.Fraction.{Fraction}
+use Rattle.tfpg_hyp.specs.declared.ranking_key.RankingKey.{RankingKey}
+use Rattle.tfpg_hyp.specs.Rounds.{HasEvidence, IsOrder, counts_of, key_of_status}
 use Rattle.tfpg_search.specs.Enough.{IsEnough}
 use Rattle.tfpg_search.specs.Searching.{Searching}
 use Rattle.tfpg_clause.specs.Paths.{with_steps}
@@ -21,7 +21,7 @@ use Rattle.tfpg_engine.specs.declared.slot.Slot.{Slot}
 use Rattle.tfpg_engine.specs.declared.slot.Slot.TheVariants.{Untouched, Searched, Rejected}
 use Rattle.tfpg_engine.specs.Engining.{SlotRepresents}
 use Rattle.tfpg_engine.specs.Earned.{IsEarned}
-use Rattle.tfpg_engine.specs.inside.Placed.{HasFraction}
+use Rattle.tfpg_engine.specs.inside.RankedKeys.{HasFraction}
 
 -- the test of a slot that is rejected
 abbrev pub is_rejected_slot : Slot → Bool
@@ -43,7 +43,7 @@ status_by cost robust found.Spent = status.Open
 
 -- Where the status ranks, its robustness is a fraction.
 abbrev pub RanksByFraction : ℕ → Status → Type 0
-RanksByFraction number status = (place : Place) → place_of_status number status ≡ Some place → HasFraction place
+RanksByFraction number status = (key : RankingKey) → key_of_status number status ≡ Some key → HasFraction key
 
 -- The finding goes on from these steps: what is kept represents the steps with those of the finding, which are its evidence
 -- and are earned.

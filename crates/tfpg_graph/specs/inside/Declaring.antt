@@ -27,7 +27,7 @@ pub record CanDeclareNode (graph : Tfpg) (name : List ℕ) (kind : Kind) : Type 
 -- these delays are in order and within the limit
 pub record AreDelays (tmin : ℕ) (tmax : Option ℕ) : Type 0 where
   pub least : tmin ≤ MAX_TIME
-  pub most : IfSome tmax (λ time. (tmin ≤ time) × (time ≤ MAX_TIME))
+  pub greatest : IfSome tmax (λ time. (tmin ≤ time) × (time ≤ MAX_TIME))
 
 -- An edge from the one node to the other is forbidden by none of the rules on its ends.
 pub record CanJoin (graph : Tfpg) (source target : ℕ) : Type 0 where

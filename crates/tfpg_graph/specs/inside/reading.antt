@@ -1,4 +1,4 @@
 pub mod Turns
-pub mod Answered
+pub mod TurnResults
 pub mod StatementSeen
 pub mod LineCauses

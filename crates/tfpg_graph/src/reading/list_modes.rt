@@ -1,7 +1,8 @@
 //! The word for the modes of an edge: `*` for all, `-` for none, or names with commas between.
 
-ghost use Rattle.std.specs.Prelude.{◌≡◌, ◌≤◌, ◌<◌, ◌^◌, ◌-◌, ◌==◌, map, length, drop, true, false, bytes_eq, codes, All, Contains, IfOk, is_none, filter_map, sum_by};
+ghost use Rattle.std.specs.Prelude.{◌≡◌, ◌≤◌, ◌<◌, ◌^◌, ◌-◌, ◌==◌, map, length, drop, true, false, bytes_eq, codes, All, Contains, IfOk, is_none, filter_map};
 ghost use Rattle.std.specs.List.{list_any};
+ghost use Rattle.tfpg_base.specs.SetBits.{bits_of};
 ghost use Rattle.tfpg_graph.specs.Graph.{mode_named};
 ghost use Rattle.tfpg_graph.specs.Declares.{modes_listed, modes_of_word};
 ghost use Rattle.tfpg_graph.specs.Causes.{has_twice};
@@ -23,12 +24,13 @@ pub(crate) fn listed_modes<'a>(alloc: Global, word: &'a [u8]) -> Result<Vec<&'a 
     parts_at_commas(alloc, word)
 }
 
-/// Whether a name stands twice. Takes time in the square of their number, which is at most 64 in a text without a fault.
+/// Whether a name stands twice. Takes time in the square of their number, which is at most [`MAX_MODES`] in a text
+/// without a fault.
 pub(crate) fn has_twice(names: &[&[u8]]) -> bool
     ensures { result ≡ has_twice (map (λ name. name.now) names.now) }
 {
-    for place in 0..names.len() {
-        if first_stands_again(&names[place..]) {
+    for index in 0..names.len() {
+        if first_stands_again(&names[index..]) {
             return true;
         }
     }
@@ -85,8 +87,8 @@ fn named_modes(declared: &Declared, names: &[&[u8]]) -> Set
     requires few { length declared.now.modes ≤ MAX_MODES }
     ensures named { All (Contains (filter_map (mode_named declared.now) (map (λ name. name.now) names.now)))
         result }
-    ensures worth { sum_by (λ mode. 2 ^ mode) result ≡ sum_by (λ mode. 2 ^ mode)
-        (filter_map (mode_named declared.now) (map (λ name. name.now) names.now)) }
+    ensures worth { bits_of result
+        ≡ bits_of (filter_map (mode_named declared.now) (map (λ name. name.now) names.now)) }
 {
     match names.split_first() {
         None => Set::empty(),

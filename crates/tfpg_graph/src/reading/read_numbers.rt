@@ -83,18 +83,18 @@ pub(crate) fn read_delays(tmin: &[u8], tmax: &[u8]) -> Result<(u64, Option<u64>)
         (_, Number::NotANumber) => Err(GraphCause::BadNumber),
         (Number::TooLarge, _) => Err(GraphCause::NumberTooLarge),
         (_, Number::TooLarge) => Err(GraphCause::NumberTooLarge),
-        (Number::Value(least), Number::Value(most)) => in_order(least, most),
+        (Number::Value(least), Number::Value(greatest)) => in_order(least, greatest),
     }
 }
 
 /// The delays, where they are in order.
-fn in_order(least: u64, most: u64) -> Result<(u64, Option<u64>), GraphCause>
-    requires { most ≤ MAX_TIME }
-    ensures delays { result ≡ (if nat_lt most least then Err MinOverMax else Ok (least, Some most)) }
+fn in_order(least: u64, greatest: u64) -> Result<(u64, Option<u64>), GraphCause>
+    requires { greatest ≤ MAX_TIME }
+    ensures delays { result ≡ (if nat_lt greatest least then Err MinOverMax else Ok (least, Some greatest)) }
     ensures valid { IfOk result (λ delays. AreDelays delays.0 delays.1) }
 {
-    if least > most {
+    if least > greatest {
         return Err(GraphCause::MinOverMax);
     }
-    Ok((least, Some(most)))
+    Ok((least, Some(greatest)))
 }

@@ -7,7 +7,7 @@ ghost use Rattle.tfpg_graph.specs.declared.reading.reader.LineRefusal.TheVariant
 ghost use Rattle.tfpg_graph.specs.Statements.{DeclaresMode, DeclaresNode, Ends};
 ghost use Rattle.tfpg_graph.specs.inside.reading.StatementSeen.{statement_seen, node_words_of, edge_said};
 ghost use Rattle.tfpg_graph.specs.inside.reading.Turns.{ReaderRepresents, turn, turn_said};
-ghost use Rattle.tfpg_graph.specs.inside.reading.Answered.{IsTurnAnswer, IsEndRefusal, refusal_at};
+ghost use Rattle.tfpg_graph.specs.inside.reading.TurnResults.{IsTurnResult, IsEndRefusal, refusal_at};
 
 use crate::cause::{GraphCause, GraphFault, GraphRefusal};
 use crate::declared::Declared;
@@ -101,9 +101,9 @@ impl Reader {
     }
 
     /// Reads one more line. Takes time in the length of the line, but for look-ups by name, and for an edge in the square of
-    /// the number of modes that it lists, which is at most 64, except in a line with a fault.
+    /// the number of modes that it lists, which is at most [`MAX_MODES`](crate::MAX_MODES), except in a line with a fault.
     pub(crate) fn take(self, alloc: Global, line: &[u8]) -> Result<Reader, LineRefusal>
-        ensures { IsTurnAnswer (turn self line.now) result }
+        ensures { IsTurnResult (turn self line.now) result }
     {
         match self.part {
             Part::Header => self.take_header(line),
@@ -148,7 +148,7 @@ impl Reader {
 
     fn take_header(self, line: &[u8]) -> Result<Reader, LineRefusal>
         requires { self.part ≡ Part.Header }
-        ensures { IsTurnAnswer (turn self line.now) result }
+        ensures { IsTurnResult (turn self line.now) result }
     {
         if line != b"tfpg 1".as_slice() {
             return Err(LineRefusal::Cause(GraphCause::BadHeader));
@@ -161,7 +161,7 @@ impl Reader {
 
     fn take_after_end(self, line: &[u8]) -> Result<Reader, LineRefusal>
         requires { self.part ≡ Part.Ended }
-        ensures { IsTurnAnswer (turn self line.now) result }
+        ensures { IsTurnResult (turn self line.now) result }
     {
         if !is_skipped(line) {
             return Err(LineRefusal::Cause(GraphCause::AfterEnd));
@@ -171,7 +171,7 @@ impl Reader {
 
     fn take_declaration(self, alloc: Global, line: &[u8]) -> Result<Reader, LineRefusal>
         requires { self.part ≡ Part.Declarations }
-        ensures { IsTurnAnswer (turn self line.now) result }
+        ensures { IsTurnResult (turn self line.now) result }
     {
         if is_skipped(line) {
             return Ok(self);
@@ -183,7 +183,7 @@ impl Reader {
     }
 
     fn with_statement(self, alloc: Global, statement: Statement<'_>) -> Result<Reader, LineRefusal>
-        ensures { IsTurnAnswer (turn_said self.declared (Some (statement_seen statement.entry))) result }
+        ensures { IsTurnResult (turn_said self.declared (Some (statement_seen statement.entry))) result }
     {
         match statement {
             Statement::Mode { name } => self.with_mode(alloc, name),
@@ -194,7 +194,7 @@ impl Reader {
     }
 
     fn with_mode(self, alloc: Global, name: &[u8]) -> Result<Reader, LineRefusal>
-        ensures { IsTurnAnswer (turn_said self.declared (Some (DeclaresMode name.now))) result }
+        ensures { IsTurnResult (turn_said self.declared (Some (DeclaresMode name.now))) result }
     {
         if let Some(cause) = mode_cause(&self.declared, name) {
             return Err(LineRefusal::Cause(cause));
@@ -212,7 +212,7 @@ impl Reader {
         name: &[u8],
         words: NodeWords<'_>,
     ) -> Result<Reader, LineRefusal>
-        ensures { IsTurnAnswer (turn_said self.declared
+        ensures { IsTurnResult (turn_said self.declared
             (Some (DeclaresNode name.now (node_words_of words.entry)))) result }
     {
         let kind = read_node(&self.declared, name, words)?;
@@ -224,7 +224,7 @@ impl Reader {
     }
 
     fn with_edge(self, alloc: Global, words: EdgeWords<'_>) -> Result<Reader, LineRefusal>
-        ensures { IsTurnAnswer (turn_said self.declared (Some (edge_said words.entry))) result }
+        ensures { IsTurnResult (turn_said self.declared (Some (edge_said words.entry))) result }
     {
         let modes = listed_modes(alloc, words.modes)?;
         let edge = read_edge(&self.declared, words, modes.as_slice())?;
@@ -236,7 +236,7 @@ impl Reader {
     }
 
     fn with_end(self) -> Result<Reader, LineRefusal>
-        ensures { IsTurnAnswer (turn_said self.declared (Some Ends)) result }
+        ensures { IsTurnResult (turn_said self.declared (Some Ends)) result }
     {
         if self.declared.mode_count() == 0 {
             return Err(LineRefusal::Cause(GraphCause::BadLine));

@@ -5,7 +5,7 @@ ghost use Rattle.tfpg_graph.specs.Text.{is_empty_or_comment};
 ghost use Rattle.tfpg_graph.specs.Statements.{statement_of, statement_in, mode_in, failure_in, or_in, and_in, edge_in, end_in, lag_in, is_skipped};
 ghost use Rattle.tfpg_graph.specs.inside.reading.StatementSeen.{statement_seen, word_seen};
 
-use tfpg_base::{LONGEST_LINE, Words, has_empty_word};
+use tfpg_base::{LONGEST_LINE, Words};
 
 /// What a line after the header says.
 #[derive(Clone, Copy)]
@@ -62,12 +62,8 @@ pub(crate) fn statement_of(line: &[u8]) -> Option<Statement<'_>>
     if line.len() > LONGEST_LINE {
         return None;
     }
-    let words = Words::of(line)?;
-    let words = words.as_slice();
-    if has_empty_word(words) {
-        return None;
-    }
-    statement_in(words)
+    let words = Words::filled(line)?;
+    statement_in(words.as_slice())
 }
 
 /// What a line of these words says.

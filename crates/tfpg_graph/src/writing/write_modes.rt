@@ -36,7 +36,7 @@ fn append_mode_names(graph: &Graph, edge: &Edge, into: &mut Vec<u8>) -> Result<(
 {
     let mut is_first = true;
     for mode in 0..graph.mode_count() {
-        if edge.is_allowed(mode) {
+        if edge.is_active_in(mode) {
             append_part(into, b',', is_first, graph.mode_name(mode))?;
             is_first = false;
         }

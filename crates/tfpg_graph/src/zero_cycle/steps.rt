@@ -18,13 +18,13 @@ pub(crate) struct ZeroSteps {
 
 impl Model for ZeroSteps {
     ghost use Rattle.std.specs.Prelude.{ℕ, List, map};
-    ghost use Rattle.tfpg_graph.specs.inside.zero_cycle.ZeroSearch.{AreWithin};
+    ghost use Rattle.tfpg_graph.specs.inside.zero_cycle.ZeroSearch.{AreStepsWithin};
 
     ghost Value = { List (List ℕ) };
 
     ghost view = { λ steps. map (λ row. row.items) steps.rows.items };
 
-    ghost invariant = { λ steps. AreWithin (map (λ row. row.items) steps.rows.items) };
+    ghost invariant = { λ steps. AreStepsWithin (map (λ row. row.items) steps.rows.items) };
 }
 
 impl ZeroSteps {

@@ -9,7 +9,7 @@ use Rattle.tfpg_kernel.specs.declared.taken.BadStep.{BadStep}
 use Rattle.tfpg_kernel.specs.declared.taken.BadStep.TheVariants.{Unchained, NotNegative}
 
 -- the number is not above the limit, and its opposite is not
-pub record IsWithin (limit : ℕ) (number : ℤ) : Type 0 where
+pub record HasMagnitudeUpTo (limit : ℕ) (number : ℤ) : Type 0 where
   pub low : neg_ℤ (pos limit) ≤ℤ number
   pub high : number ≤ℤ pos limit
 
@@ -32,7 +32,7 @@ abbrev pub with_constraint : Chain → Constraint → Chain
 with_constraint chain constraint = record {
   ends = Some (ends_with chain.ends constraint);
   unbroken = chain.unbroken && goes_on_from chain.ends constraint.left;
-  sum = chain.sum +ℤ constraint.most;
+  sum = chain.sum +ℤ constraint.bound;
 }
 
 -- the chain of some constraints

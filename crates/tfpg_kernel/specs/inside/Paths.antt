@@ -9,7 +9,7 @@ use Rattle.tfpg_clause.specs.Trees.{IsClosedBy}
 use Rattle.tfpg_clause.specs.Paths.{new_frame, path_after, stated_by}
 use Rattle.tfpg_clause.specs.declared.path.Frame.{Frame}
 use Rattle.tfpg_kernel.specs.declared.taken.Taken.{Taken}
-use Rattle.tfpg_kernel.specs.declared.taken.Taken.TheVariants.{Open, Closed, Bad}
+use Rattle.tfpg_kernel.specs.declared.taken.Taken.TheVariants.{Partial, Closed, Bad}
 use Rattle.tfpg_kernel.specs.declared.taken.BadStep.{BadStep}
 use Rattle.tfpg_kernel.specs.declared.taken.BadStep.TheVariants.{NotAClause}
 use Rattle.tfpg_kernel.specs.Checking.{Checking}
@@ -28,6 +28,6 @@ BreaksBy graph log reach frames (Cycle reasons) bad = CycleBreaks (stated_by gra
 
 -- what a checker that is not closed does at a step
 abbrev pub Moves : Tfpg → Logbook → Checking → Step → Taken → Checking → Type 0
-Moves graph log old step Open new = GoesTo graph log old.reach old.path step (Some new.path) × (new.closed ≡ false)
+Moves graph log old step Partial new = GoesTo graph log old.reach old.path step (Some new.path) × (new.closed ≡ false)
 Moves graph log old step Closed new = GoesTo graph log old.reach old.path step None × (new.closed ≡ true)
 Moves graph log old step (Bad bad) new = BreaksBy graph log old.reach old.path step bad × (new ≡ old)

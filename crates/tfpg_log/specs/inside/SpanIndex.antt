@@ -4,19 +4,19 @@ use Rattle.std.specs.Prelude.{◌≡◌, ℕ, zero, suc, ◌+◌, ◌-◌, ◌�
 use Rattle.tfpg_log.specs.declared.mode_change.ModeChange.{ModeChange}
 use Rattle.tfpg_log.specs.declared.span.Span.{Span}
 
--- the change at a place, counted from 0
+-- the change at an index
 abbrev pub change_at : List ModeChange → ℕ → ModeChange
-change_at changes place = slice_index_or changes place (record { time = 0; mode = 0 })
+change_at changes index = slice_index_or changes index (record { time = 0; mode = 0 })
 
 -- the first instant of the span of a number
 abbrev pub begin_of_span : List ModeChange → ℕ → ℕ
 begin_of_span changes zero = 0
-begin_of_span changes (suc place) = (change_at changes place).time + 1
+begin_of_span changes (suc index) = (change_at changes index).time + 1
 
 -- the mode of the span of a number
 abbrev pub mode_of_span : List ModeChange → ℕ → ℕ
 mode_of_span changes zero = 0
-mode_of_span changes (suc place) = (change_at changes place).mode
+mode_of_span changes (suc index) = (change_at changes index).mode
 
 -- the last instant, up to a horizon, of a span that begins by it: the next span begins after its change
 abbrev pub end_of_span : List ModeChange → ℕ → ℕ → ℕ

@@ -7,9 +7,9 @@ ghost use Rattle.tfpg_base.specs.Trace.{time_of};
 ghost use Rattle.tfpg_graph.specs.declared.edge.Edge.{Edge};
 ghost use Rattle.tfpg_graph.specs.Graph.{Tfpg, edges_into};
 ghost use Rattle.tfpg_log.specs.declared.span.Window.{Window};
-ghost use Rattle.tfpg_log.specs.Log.{Logbook, now_of, is_allowed_at};
+ghost use Rattle.tfpg_log.specs.Log.{Logbook, now_of, is_active_at};
 ghost use Rattle.tfpg_log.specs.Rules.{IsActive, HasAge, IsAge};
-ghost use Rattle.tfpg_log.specs.Spans.{span_number, are_allowed_at, window_of, joint_of};
+ghost use Rattle.tfpg_log.specs.Spans.{span_number, are_active_at, window_of, joint_of};
 ghost use Rattle.tfpg_log.specs.AgeInWindow.{HasAgeInWindow};
 
 /// An edge has one window round each instant at which it is active, and none round another.
@@ -20,12 +20,12 @@ ghost use Rattle.tfpg_log.specs.AgeInWindow.{HasAgeInWindow};
 /// - `begins`: at each horizon from the instant on, its window begins at the same instant.
 pub fn an_active_edge_has_one_window()
     ensures window { (log : Logbook) (edge : Edge) (instant horizon : ℕ) →
-        instant ≤ horizon → horizon ≤ now_of log → IsTrue (is_allowed_at log edge instant) →
+        instant ≤ horizon → horizon ≤ now_of log → IsTrue (is_active_at log edge instant) →
         (window : Window) × (window_of log edge (span_number log instant) horizon ≡ Some window)
         × (window.lo ≤ instant) × (instant ≤ window.hi) }
     ensures inside { (log : Logbook) (edge : Edge) (instant horizon : ℕ) (window : Window) →
         instant ≤ horizon → window_of log edge (span_number log instant) horizon ≡ Some window →
-        (window.lo ≤ instant) × (instant ≤ window.hi) × IsTrue (is_allowed_at log edge instant) }
+        (window.lo ≤ instant) × (instant ≤ window.hi) × IsTrue (is_active_at log edge instant) }
     ensures throughout { (log : Logbook) (edge : Edge) (number horizon instant : ℕ) (window : Window) →
         window_of log edge number horizon ≡ Some window → window.lo ≤ instant → instant ≤ window.hi →
         window_of log edge (span_number log instant) horizon ≡ Some window }
@@ -57,7 +57,7 @@ pub fn age_is_the_time_in_the_window()
         ↔ HasAgeInWindow log trace edge (span_number log instant) horizon instant age }
     ensures only_there { (log : Logbook) (trace : List Activation) (edge : Edge) (instant age : ℕ) →
         HasAge log trace edge instant age →
-        IsTrue (is_allowed_at log edge instant)
+        IsTrue (is_active_at log edge instant)
         × (start : ℕ) × (time_of trace edge.source ≡ Some start) × (start + age ≤ instant) }
     ensures age { (log : Logbook) (trace : List Activation) (edge : Edge)
         (number horizon instant start : ℕ) (window : Window) →
@@ -100,12 +100,12 @@ pub fn age_is_first_reached_in_each_window()
 /// - `ends`: it ends at the horizon, or with the window of some edge into the node.
 pub fn joint_window_is_what_all_have_in_common()
     ensures window { (graph : Tfpg) (log : Logbook) (node instant horizon : ℕ) →
-        instant ≤ horizon → horizon ≤ now_of log → IsTrue (are_allowed_at graph log node instant) →
+        instant ≤ horizon → horizon ≤ now_of log → IsTrue (are_active_at graph log node instant) →
         (joint : Window) × (joint_of graph log node (span_number log instant) horizon ≡ Some joint)
         × (joint.lo ≤ instant) × (instant ≤ joint.hi) }
     ensures inside { (graph : Tfpg) (log : Logbook) (node instant horizon : ℕ) (joint : Window) →
         instant ≤ horizon → joint_of graph log node (span_number log instant) horizon ≡ Some joint →
-        (joint.lo ≤ instant) × (instant ≤ joint.hi) × IsTrue (are_allowed_at graph log node instant) }
+        (joint.lo ≤ instant) × (instant ≤ joint.hi) × IsTrue (are_active_at graph log node instant) }
     ensures throughout { (graph : Tfpg) (log : Logbook) (node number horizon instant : ℕ) (joint : Window) →
         joint_of graph log node number horizon ≡ Some joint → joint.lo ≤ instant → instant ≤ joint.hi →
         joint_of graph log node (span_number log instant) horizon ≡ Some joint }

@@ -1,11 +1,11 @@
 -- What the laws of clauses and of refutations say that the proofs of this crate rest on.
-use Rattle.tfpg_clause.specs.Laws.{LeastBoundsHold, MostBoundsHold, AllowedClausesHaveAlternatives, AllowedClausesAreShort, AllowedClausesAreSmall, LogsGoOnFromTheirFirstEvents, AllowedClausesStay, FactsStay, FrontsOfPartialTreesArePartial, TreesBeginAtTheRoot, PartialTreesHaveAPresentLeaf, PresentLeavesAreAlone, PresentLeavesStay, RefutationsAreNotPartial, FramesBeginAtTheRoot, FramesFollowSplits, FramesFollowCycles, FramesEndInRefutations, FramesStayAtTheLeaf, FramesStateWhatPathsState}
+use Rattle.tfpg_clause.specs.Laws.{LowerBoundsHold, UpperBoundsHold, AllowedClausesHaveAlternatives, AllowedClausesAreShort, AllowedClausesAreSmall, LogsGoOnFromTheirFirstEvents, AllowedClausesStay, FactsStay, FrontsOfPartialTreesArePartial, TreesBeginAtTheRoot, PartialTreesHaveAPresentLeaf, PresentLeavesAreAlone, PresentLeavesStay, RefutationsAreNotPartial, FramesBeginAtTheRoot, FramesFollowSplits, FramesFollowCycles, FramesEndInRefutations, FramesStayAtTheLeaf, FramesStateWhatPathsState}
 
 -- What each law says, in the order of bounds, clauses, leaves and frames.
 pub record ClauseLaws : Type 0 where
   -- bounds hold of the times of nodes
-  pub least : LeastBoundsHold
-  pub most : MostBoundsHold
+  pub lower : LowerBoundsHold
+  pub upper : UpperBoundsHold
   -- an allowed clause has an alternative, and not many, each of which is small
   pub some : AllowedClausesHaveAlternatives
   pub few : AllowedClausesAreShort

@@ -10,11 +10,11 @@ use Rattle.tfpg_clause.specs.Paths.{stated_by}
 use Rattle.tfpg_clause.specs.declared.path.Frame.{Frame}
 use Rattle.tfpg_base.specs.Choice.{item_at}
 use Rattle.tfpg_search.specs.Leaf.{Leaf, IsStated, pick_reasons}
-use Rattle.tfpg_search.specs.Picks.{place_count}
+use Rattle.tfpg_search.specs.Picks.{constraint_count}
 
 -- how many constraints were picked at the split of this number
-abbrev pub places_at : Tfpg → Logbook → List Frame → ℕ → ℕ
-places_at graph log path split = option_map_or (place_count graph log) (item_at path split) 0
+abbrev pub constraint_count_at : Tfpg → Logbook → List Frame → ℕ → ℕ
+constraint_count_at graph log path split = option_map_or (constraint_count graph log) (item_at path split) 0
 
 -- The bounds are as they were, and so is all that is stated.
 pub record KeepsBounds (old new : Leaf) : Type 0 where

@@ -1,5 +1,5 @@
 -- What the steps of a search do to its path, by the frames that it keeps.
-use Rattle.std.specs.Prelude.{◌≡◌, ℕ, ◌<◌, ◌+◌, ◌-◌, ◌≤◌, List, [], ◌∷◌, ◌++◌, length, Bool, true, false, Option, Some, None, Result, Ok, Err}
+use Rattle.std.specs.Prelude.{◌≡◌, ℕ, ◌<◌, ◌+◌, ◌-◌, ◌≤◌, List, [], ◌∷◌, ◌++◌, Bool, true, false, Option, Some, None, Result, Ok, Err}
 use Rattle.tfpg_base.specs.declared.constraint.Constraint.{Constraint}
 use Rattle.tfpg_base.specs.Constraint.{Meets}
 use Rattle.tfpg_graph.specs.Graph.{Tfpg}
@@ -25,7 +25,7 @@ use Rattle.tfpg_search.specs.Searching.{Searching, IsAtItsLeaf, HasEnteredAll}
 use Rattle.tfpg_search.specs.declared.found.Found.{Found}
 use Rattle.tfpg_search.specs.declared.found.Found.TheVariants.{Shown as FoundShown, Closed as FoundClosed, Spent}
 use Rattle.tfpg_search.specs.declared.search.Look.{Look}
-use Rattle.tfpg_search.specs.declared.search.Look.TheVariants.{Violated, Shown, Closed}
+use Rattle.tfpg_search.specs.declared.search.Look.TheVariants.{Violated, Shown}
 
 -- The times solve what holds at the leaf of these frames.
 abbrev pub SolvesFramed : Tfpg → Logbook → List ℕ → List Frame → List ℕ → Type 0
@@ -43,11 +43,11 @@ pub record IsLiveFramed (graph : Tfpg) (log : Logbook) (reach : List ℕ) (frame
 
 -- A step goes from the leaf of these frames to the next leaf, where there is one: a live split enters its first alternative,
 -- and a cycle closes the leaf.
-abbrev pub Goes : Tfpg → Logbook → List ℕ → List Frame → Step → Option (List Frame) → Type 0
-Goes graph log reach frames (Split name) next =
+abbrev pub StepLeads : Tfpg → Logbook → List ℕ → List Frame → Step → Option (List Frame) → Type 0
+StepLeads graph log reach frames (Split name) next =
     (count : ℕ) × (count_of graph log name ≡ Some count) × IsLiveFramed graph log reach frames name
     × (next ≡ Some (frames ++ new_frame name count ∷ []))
-Goes graph log reach frames (Cycle reasons) next =
+StepLeads graph log reach frames (Cycle reasons) next =
     IsSimpleCycle (stated_by graph log reach frames) reasons × (next ≡ path_after frames)
 
 -- The steps lead from the leaf of these frames to that leaf, where there is one.
@@ -55,7 +55,7 @@ abbrev pub Leads : Tfpg → Logbook → List ℕ → Option (List Frame) → Lis
 Leads graph log reach start [] end = start ≡ end
 Leads graph log reach None (step ∷ steps) end = ⊥
 Leads graph log reach (Some frames) (step ∷ steps) end =
-    (next : Option (List Frame)) × Goes graph log reach frames step next × Leads graph log reach next steps end
+    (next : Option (List Frame)) × StepLeads graph log reach frames step next × Leads graph log reach next steps end
 
 -- The steps have led there: to a refutation where there is no leaf left, and else to the leaf of these frames, with no name twice
 -- on a path.
@@ -110,17 +110,13 @@ Settling graph log old new before after (Err no_memory) =
 abbrev pub Sees : Tfpg → Logbook → Searching → Look → Type 0
 Sees graph log search (Violated name) = IsLiveFramed graph log search.reach search.path name
 Sees graph log search (Shown trace) = Explains graph log search.set trace
-Sees graph log search Closed = ⊥
 
 -- What a look comes to: what is seen at a settled leaf; or no leaf.
-abbrev pub Looking : Tfpg → Logbook → Searching → Searching → List Step → List Step → Result Look NoMemory → Type 0
-Looking graph log old new before after (Ok (Violated name)) =
-    IsAtItsLeaf graph log new × HasEnteredAll new × IsLiveFramed graph log new.reach new.path name
+abbrev pub Looking : Tfpg → Logbook → Searching → Searching → List Step → List Step → Result (Option Look) NoMemory → Type 0
+Looking graph log old new before after (Ok (Some look)) =
+    IsAtItsLeaf graph log new × HasEnteredAll new × Sees graph log new look
     × Grows graph log old.reach old.path before after 0 (Some new.path)
-Looking graph log old new before after (Ok (Shown trace)) =
-    IsAtItsLeaf graph log new × HasEnteredAll new × Explains graph log new.set trace
-    × Grows graph log old.reach old.path before after 0 (Some new.path)
-Looking graph log old new before after (Ok Closed) = Grows graph log old.reach old.path before after 0 None
+Looking graph log old new before after (Ok None) = Grows graph log old.reach old.path before after 0 None
 Looking graph log old new before after (Err no_memory) =
     (end : Option (List Frame)) × Grows graph log old.reach old.path before after 0 end
 

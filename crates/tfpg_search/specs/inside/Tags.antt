@@ -8,17 +8,17 @@ use Rattle.tfpg_diff.specs.declared.bounds.Bounds.{Bounds}
 use Rattle.tfpg_diff.specs.declared.pick.Pick.{Pick}
 use Rattle.tfpg_diff.specs.Demands.{Demands, Bounded}
 
--- Each tag is the place of its reason: first the lower bounds of the nodes, then their upper bounds, then the picks.
+-- Each tag is the index of its reason: first the lower bounds of the nodes, then their upper bounds, then the picks.
 pub record IsTagged (demands : Demands) (reasons : List Reason) : Type 0 where
   pub one_each : length reasons ≡ 2 * length demands.bounds + length demands.picks
   pub floors : (node : ℕ) (bounds : Bounds) → Bounded demands node bounds →
       (bounds.floor_why ≡ Floor node) ⊎ (bounds.floor_why ≡ Given node)
   pub ceilings : (node : ℕ) (bounds : Bounds) → Bounded demands node bounds →
       (bounds.ceiling_why ≡ Ceiling node) ⊎ (bounds.ceiling_why ≡ Given (length demands.bounds + node))
-  pub picks : (place : ℕ) (pick : Pick) → slice_get demands.picks place ≡ Some pick →
-      pick.tag ≡ 2 * length demands.bounds + place
+  pub picks : (index : ℕ) (pick : Pick) → slice_get demands.picks index ≡ Some pick →
+      pick.tag ≡ 2 * length demands.bounds + index
 
--- The tag is the place of one of these reasons, or names a bound that no reason set.
+-- The tag is the index of one of these reasons, or names a bound that no reason set.
 abbrev pub HasReason : List Reason → Why → Type 0
 HasReason reasons (Floor node) = Unit {0}
 HasReason reasons (Ceiling node) = Unit {0}

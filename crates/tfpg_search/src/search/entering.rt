@@ -9,7 +9,7 @@ ghost use Rattle.tfpg_search.specs.Leaf.{pick_reasons, IsStated};
 ghost use Rattle.tfpg_search.specs.Picks.{picks_from};
 ghost use Rattle.tfpg_search.specs.Searching.{IsAtItsLeaf, HasEnteredAll};
 ghost use Rattle.tfpg_search.specs.inside.Closing.{Closes};
-ghost use Rattle.tfpg_search.specs.inside.Leaving.{places_at, Leaves, Pushing, PushesOne};
+ghost use Rattle.tfpg_search.specs.inside.Leaving.{constraint_count_at, Leaves, Pushing, PushesOne};
 ghost use Rattle.tfpg_search.specs.inside.Moves.{KeepsSet};
 
 use crate::add_fault::AddFault;
@@ -64,7 +64,7 @@ impl Search {
         Ok(())
     }
 
-    /// Adds the constraints of the alternative that was picked at the split of this number, counted from 1.
+    /// Adds the constraints of the alternative that is entered at this split, numbered from 1.
     fn push_all<L: Ledger>(
         &mut self,
         graph: &Graph,
@@ -79,7 +79,7 @@ impl Search {
         ensures pushing { Pushing graph.now log.now self.old.reach self.old.path self.old.leaf self.new.leaf }
         ensures ok { OnOk result (pick_reasons self.new.leaf
             ≡ pick_reasons self.old.leaf ++ picks_from split 1
-            (places_at graph.now log.now self.old.path split)) }
+            (constraint_count_at graph.now log.now self.old.path split)) }
         ensures closes { IfErr result (Closes (stated_by graph.now log.now self.old.reach self.old.path)) }
     {
         clause_laws();
@@ -94,14 +94,14 @@ impl Search {
         Ok(())
     }
 
-    /// Adds the constraint in this place of the alternative that was picked at the split of this number. Returns whether there
-    /// is one.
+    /// Adds the constraint with this number in the alternative that is entered at this split, both numbered from 1. Returns
+    /// whether there is one.
     fn push_one<L: Ledger>(
         &mut self,
         graph: &Graph,
         log: &Log,
         split: u64,
-        place: u32,
+        number: u32,
         work: &mut Steps<L>,
     ) -> Result<bool, AddFault>
         requires variables { length self.old.leaf.demands.bounds ≡ length graph.now.nodes }
@@ -110,19 +110,23 @@ impl Search {
         ensures same { self.new ≡ record self.old { leaf = self.new.leaf } }
         ensures pushing { Pushing graph.now log.now self.old.reach self.old.path self.old.leaf self.new.leaf }
         ensures ok { IfOk result
-            (PushesOne (framed graph.now log.now self.old.path split place) (Pick split place)
+            (PushesOne (framed graph.now log.now self.old.path split number) (Pick split number)
             self.old.leaf self.new.leaf) }
         ensures closes { IfErr result (Closes (stated_by graph.now log.now self.old.reach self.old.path)) }
     {
         clause_laws();
         let _valid = graph.node_count();
-        let Some(constraint) = framed(graph, log, &self.path, split, place) else {
+        let Some(constraint) = framed(graph, log, &self.path, split, number) else {
             return Ok(false);
         };
-        match self
-            .leaf
-            .push(constraint, Reason::Pick { split, place }, work)
-        {
+        match self.leaf.push(
+            constraint,
+            Reason::Pick {
+                split,
+                constraint: number,
+            },
+            work,
+        ) {
             Ok(()) => Ok(true),
             Err(fault) => Err(fault),
         }

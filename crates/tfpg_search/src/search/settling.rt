@@ -27,14 +27,15 @@ use tfpg_graph::Graph;
 use tfpg_log::Log;
 
 impl Search {
-    /// Settles the present leaf, and looks whether its latest solution keeps the rules.
+    /// Settles the present leaf, and looks whether its latest solution keeps the rules. Returns what was seen, or that no leaf
+    /// is left.
     pub(super) fn look<L: Ledger>(
         &mut self,
         graph: &Graph,
         log: &Log,
         steps: &mut StepList,
         work: &mut Steps<L>,
-    ) -> Result<Look, NoMemory>
+    ) -> Result<Option<Look>, NoMemory>
         requires of { IsOf graph.now log.now }
         requires stands { IsAtItsLeaf graph.now log.now self.old }
         ensures keeps { KeepsSet self.old self.new }
@@ -42,10 +43,13 @@ impl Search {
     {
         match self.settle(graph, log, steps, work) {
             Ok(true) => {}
-            Ok(false) => return Ok(Look::Closed),
+            Ok(false) => return Ok(None),
             Err(NoMemory) => return Err(NoMemory),
         }
-        self.judge(graph, log)
+        match self.judge(graph, log) {
+            Ok(look) => Ok(Some(look)),
+            Err(NoMemory) => Err(NoMemory),
+        }
     }
 
     /// Looks whether the latest solution at a settled leaf keeps the rules.

@@ -23,13 +23,13 @@ IsEntryOf graph (Stop time) = time ≤ MAX_TIME
 -- These are lines of a script: each names what the graph has, and may come after those before it.
 pub record IsScript (graph : Tfpg) (entries : List Entry) : Type 0 where
   pub own : All (IsEntryOf graph) entries
-  pub follows : (place : ℕ) (entry : Entry) → slice_get entries place ≡ Some entry
-      → may_follow (take place entries) entry ≡ true
+  pub follows : (index : ℕ) (entry : Entry) → slice_get entries index ≡ Some entry
+      → may_follow (take index entries) entry ≡ true
 
 -- The event names a node and a mode of the graph.
-abbrev pub IsNamed : Tfpg → Event → Type 0
-IsNamed graph (event.Alarm time node) = node < length graph.nodes
-IsNamed graph (event.Silent time node) = node < length graph.nodes
-IsNamed graph (event.Sweep time) = Unit {0}
-IsNamed graph (event.Tick time) = Unit {0}
-IsNamed graph (event.Mode time mode) = mode < length graph.modes
+abbrev pub HasNames : Tfpg → Event → Type 0
+HasNames graph (event.Alarm time node) = node < length graph.nodes
+HasNames graph (event.Silent time node) = node < length graph.nodes
+HasNames graph (event.Sweep time) = Unit {0}
+HasNames graph (event.Tick time) = Unit {0}
+HasNames graph (event.Mode time mode) = mode < length graph.modes

@@ -1,12 +1,11 @@
 -- The text of a generated graph, by the numbers of its nodes. No public contract cites this.
 use Rattle.std.specs.Prelude.{◌≡◌, ◌⊎◌, ℕ, List, [], ◌∷◌, ◌++◌, ◌==◌, if◌then◌else◌, codes, decimal}
 use Rattle.std.specs.List.{flat_map}
-use Rattle.tfpg_base.specs.Lines.{with_line_end}
 use Rattle.tfpg_base.specs.TextLine.{text_line}
 use Rattle.tfpg_graph.specs.declared.edge.Edge.{Edge}
 use Rattle.tfpg_graph.specs.declared.kind.Kind.{Kind}
-use Rattle.tfpg_graph.specs.Graph.{Node}
-use Rattle.tfpg_graph.specs.Text.{node_line, tmax_word}
+use Rattle.tfpg_graph.specs.Text.{tmax_word}
+use Rattle.tfpg_graph.specs.inside.writing.Written.{node_text}
 use Rattle.tfpg_sim.specs.Generated.{drawn_name, failure_kinds, named_nodes}
 use Rattle.tfpg_sim.specs.declared.limits.TheConstants.{FAILURE_COUNT}
 
@@ -20,10 +19,6 @@ drawn_head_text =
 abbrev pub drawn_modes_word : ℕ → List ℕ
 drawn_modes_word modes = if modes == 1 then codes "M0" else codes "*"
 
--- the line of a drawn node, with its line end
-abbrev pub drawn_node_text : Node → List ℕ
-drawn_node_text node = with_line_end (node_line node)
-
 -- the line of an edge, with its line end
 abbrev pub edge_text_by_number : Edge → List ℕ
 edge_text_by_number edge =
@@ -33,8 +28,8 @@ edge_text_by_number edge =
 -- the text of these discrepancies and edges
 abbrev pub draft_text : List Kind → List Edge → List ℕ
 draft_text kinds edges =
-    drawn_head_text ++ flat_map drawn_node_text (named_nodes 0 (failure_kinds FAILURE_COUNT))
-    ++ flat_map drawn_node_text (named_nodes FAILURE_COUNT kinds)
+    drawn_head_text ++ flat_map node_text (named_nodes 0 (failure_kinds FAILURE_COUNT))
+    ++ flat_map node_text (named_nodes FAILURE_COUNT kinds)
     ++ flat_map edge_text_by_number edges ++ text_line (codes "end" ∷ [])
 
 -- the edge is active in the first mode alone, or in both

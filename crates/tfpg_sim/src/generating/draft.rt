@@ -31,8 +31,8 @@ pub(crate) fn draw_draft(
 {
     let mut kinds = Vec::new(alloc);
     let mut edges = Vec::new(alloc);
-    for place in 0..count {
-        let kind = draw_discrepancy(FAILURE_COUNT + place, &mut edges, state)?;
+    for index in 0..count {
+        let kind = draw_discrepancy(FAILURE_COUNT + index, &mut edges, state)?;
         kinds.push(kind)?;
     }
     Ok(Draft { kinds, edges })
@@ -58,18 +58,18 @@ fn draw_discrepancy(
     if first != second {
         edges.push(draw_edge(second, node, state))?;
     }
-    Ok(kind(first != second && joins, monitor(is_hidden, lag)))
+    Ok(discrepancy_kind(first != second && joins, lag_unless(lag, is_hidden)))
 }
 
-/// The lag of a monitored node.
-fn monitor(is_hidden: bool, lag: u64) -> Option<u64>
+/// The lag, which a hidden node has not.
+fn lag_unless(lag: u64, is_hidden: bool) -> Option<u64>
     ensures { result ≡ (if is_hidden then None else Some lag) }
 {
     if is_hidden { None } else { Some(lag) }
 }
 
 /// An AND node or an OR node.
-fn kind(is_and: bool, lag: Option<u64>) -> Kind
+fn discrepancy_kind(is_and: bool, lag: Option<u64>) -> Kind
     ensures { result ≡ (if is_and then Kind.And lag else Kind.Or lag) }
 {
     if is_and {

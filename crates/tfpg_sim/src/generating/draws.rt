@@ -7,14 +7,14 @@ use rand_core::utils::NextWord;
 use rand_pcg::Lcg64Xsh32;
 use tfpg_graph::Edge;
 
-/// Draws a number below the bound.
-pub(crate) fn draw(state: &mut Lcg64Xsh32, bound: u32) -> u32
-    requires { 0 < bound }
-    ensures value { result ≡ draw bound 0 state.old }
-    ensures below { result < bound }
+/// Draws a number below the limit.
+pub(crate) fn draw(state: &mut Lcg64Xsh32, limit: u32) -> u32
+    requires { 0 < limit }
+    ensures value { result ≡ draw limit 0 state.old }
+    ensures below { result < limit }
     ensures after { state.new ≡ after_word state.old }
 {
-    state.next_word() % bound
+    state.next_word() % limit
 }
 
 /// Draws the delays and the modes of an edge between the nodes.
@@ -31,7 +31,7 @@ pub(crate) fn draw_edge(source: u32, target: u32, state: &mut Lcg64Xsh32) -> Edg
         target,
         tmin: least,
         tmax: tmax_unless(least + more, is_open),
-        modes: modes(is_in_first_alone),
+        modes: drawn_modes(is_in_first_alone),
     }
 }
 
@@ -43,7 +43,7 @@ fn tmax_unless(delay: u64, is_open: bool) -> Option<u64>
 }
 
 /// The bits of the first mode alone, or of both.
-fn modes(is_in_first_alone: bool) -> u64
+fn drawn_modes(is_in_first_alone: bool) -> u64
     ensures { result ≡ (if is_in_first_alone then 1 else 3) }
 {
     if is_in_first_alone { 0b01 } else { 0b11 }

@@ -7,9 +7,10 @@ ghost use Rattle.tfpg_base.specs.Append.{Appends};
 ghost use Rattle.tfpg_graph.specs.Valid.{IsValid};
 ghost use Rattle.tfpg_sim.specs.Generated.{discrepancy_count, drawn_graph, failure_kinds, named_nodes};
 ghost use Rattle.tfpg_sim.specs.declared.limits.TheConstants.{FAILURE_COUNT};
-ghost use Rattle.tfpg_sim.specs.inside.GraphText.{drawn_modes_word, drawn_node_text, edge_text_by_number, draft_text, HasDrawnModes};
+ghost use Rattle.tfpg_sim.specs.inside.GraphText.{drawn_modes_word, edge_text_by_number, draft_text, HasDrawnModes};
 ghost use Rattle.tfpg_base.specs.TextLine.{text_line};
 ghost use Rattle.tfpg_graph.specs.Text.{node_words};
+ghost use Rattle.tfpg_graph.specs.inside.writing.Written.{node_text};
 ghost use Rattle.tfpg_sim.specs.Generated.{drawn_name};
 
 use crate::generating::draft::Draft;
@@ -52,11 +53,11 @@ fn draft_text(alloc: Global, kinds: &[Kind], edges: &[Edge]) -> Result<Vec<u8>, 
 /// Appends the lines of the failure modes.
 fn append_failures(alloc: Global, into: &mut Vec<u8>) -> Result<(), NoMemory>
     ensures { Appends result into.old.items into.new.items
-        (flat_map drawn_node_text (named_nodes 0 (failure_kinds FAILURE_COUNT))) }
+        (flat_map node_text (named_nodes 0 (failure_kinds FAILURE_COUNT))) }
 {
-    for place in 0..FAILURE_COUNT {
-        let rarity = u64::from(place) + 1;
-        append_node_by_number(alloc, place, Kind::Failure { rarity }, into)?;
+    for index in 0..FAILURE_COUNT {
+        let rarity = u64::from(index) + 1;
+        append_node_by_number(alloc, index, Kind::Failure { rarity }, into)?;
     }
     Ok(())
 }
@@ -65,10 +66,10 @@ fn append_failures(alloc: Global, into: &mut Vec<u8>) -> Result<(), NoMemory>
 fn append_discrepancies(alloc: Global, kinds: &[Kind], into: &mut Vec<u8>) -> Result<(), NoMemory>
     requires { length kinds.now ≤ discrepancy_count MAX_CASE_SIZE }
     ensures { Appends result into.old.items into.new.items
-        (flat_map drawn_node_text (named_nodes FAILURE_COUNT kinds.now)) }
+        (flat_map node_text (named_nodes FAILURE_COUNT kinds.now)) }
 {
-    for place in 0..kinds.len() {
-        append_node_by_number(alloc, FAILURE_COUNT + place as u32, kinds[place], into)?;
+    for index in 0..kinds.len() {
+        append_node_by_number(alloc, FAILURE_COUNT + index as u32, kinds[index], into)?;
     }
     Ok(())
 }

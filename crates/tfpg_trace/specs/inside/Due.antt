@@ -1,5 +1,5 @@
 -- When a node must be active, and from which instant of a span on.
-use Rattle.std.specs.Prelude.{◌≡◌, ℕ, ◌<◌, ◌≤◌, ◌⊎◌, List, All, Contains, IsTrue, Option, Some, None, slice_get, min}
+use Rattle.std.specs.Prelude.{◌≡◌, ℕ, ◌<◌, ◌≤◌, ◌⊎◌, List, All, Contains, IsTrue, Option, Some, None, slice_get}
 use Rattle.tfpg_base.specs.declared.activation.Activation.{Activation}
 use Rattle.tfpg_graph.specs.declared.edge.Edge.{Edge}
 use Rattle.tfpg_graph.specs.Graph.{Tfpg, is_kind_at, is_or, is_and, edges_into}
@@ -17,12 +17,6 @@ pub record BeginsAt (Holds : ℕ → Type 0) (lo hi begin : ℕ) : Type 0 where
 abbrev pub Begins : (ℕ → Type 0) → ℕ → ℕ → Option ℕ → Type 0
 Begins Holds lo hi None = (instant : ℕ) → lo ≤ instant → instant ≤ hi → Holds instant → ⊥
 Begins Holds lo hi (Some begin) = BeginsAt Holds lo hi begin
-
--- the lesser of two, where both are there, and else the one that is
-abbrev pub earlier : Option ℕ → Option ℕ → Option ℕ
-earlier None other = other
-earlier (Some one) None = Some one
-earlier (Some one) (Some other) = Some (min one other)
 
 -- the edge of this number in the graph is due
 abbrev pub IsDueBy : Tfpg → Logbook → List Activation → ℕ → ℕ → Type 0

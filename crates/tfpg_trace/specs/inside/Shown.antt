@@ -37,8 +37,8 @@ IsNotShown graph trace before event said =
 
 -- This is said of the first event that is not shown.
 pub record IsFirstNotShown (graph : Tfpg) (trace : List Activation) (events : List Event) (said : Verdict) : Type 0 where
-  pub place : ℕ
+  pub index : ℕ
   pub event : Event
-  pub at : slice_get events place ≡ Some event
-  pub before : ShowsBefore graph trace events place
-  pub not_shown : IsNotShown graph trace (take place events) event said
+  pub at : slice_get events index ≡ Some event
+  pub before : ShowsBefore graph trace events index
+  pub not_shown : IsNotShown graph trace (take index events) event said

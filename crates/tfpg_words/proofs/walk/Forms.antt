@@ -27,24 +27,24 @@ abbrev by_name : Text → Rule → Bool
 by_name name a = not (is_some a.index) && has_long a name
 
 -- a search by name through the rules of options and of flags
-abbrev Searched : (Text → Rule) → Text → Bool → Option Rule → Option Rule → Type 0
-Searched rule name true found_rule rest = found_rule ≡ Some (rule name)
-Searched rule name false found_rule rest = found_rule ≡ rest
+abbrev FoundByName : (Text → Rule) → Text → Bool → Option Rule → Option Rule → Type 0
+FoundByName rule name true found_rule rest = found_rule ≡ Some (rule name)
+FoundByName rule name false found_rule rest = found_rule ≡ rest
 
 module _ (rule : Text → Rule) (test : Text → Rule → Bool) (tests : (n name : Text) → test name (rule n) ≡ bytes_eq n name) (rest : List Rule) (name : Text) where
-  searched : (names : List Text) → Searched rule name (is_word_among (map hyphened names) (hyphened name)) (find (test name) (map rule names ++ rest)) (find (test name) rest)
+  searched : (names : List Text) → FoundByName rule name (is_word_among (map hyphened names) (hyphened name)) (find (test name) (map rule names ++ rest)) (find (test name) rest)
   searched [] = refl
   searched (n ∷ names) = by (bytes_eq n name) refl (searched names)
     where
       by : (b : Bool) → bytes_eq n name ≡ b
-          → Searched rule name (is_word_among (map hyphened names) (hyphened name)) (find (test name) (map rule names ++ rest)) (find (test name) rest)
-          → Searched rule name (is_word_among (map hyphened (n ∷ names)) (hyphened name)) (find (test name) (map rule (n ∷ names) ++ rest)) (find (test name) rest)
+          → FoundByName rule name (is_word_among (map hyphened names) (hyphened name)) (find (test name) (map rule names ++ rest)) (find (test name) rest)
+          → FoundByName rule name (is_word_among (map hyphened (n ∷ names)) (hyphened name)) (find (test name) (map rule (n ∷ names) ++ rest)) (find (test name) rest)
       by true e more =
-          subst (λ (t : Bool). Searched rule name (t || is_word_among (map hyphened names) (hyphened name)) (find (test name) (map rule (n ∷ names) ++ rest)) (find (test name) rest)) (sym e)
+          subst (λ (t : Bool). FoundByName rule name (t || is_word_among (map hyphened names) (hyphened name)) (find (test name) (map rule (n ∷ names) ++ rest)) (find (test name) rest)) (sym e)
           ((λ i. cond ((tests n name ∙ e) i) (Some (rule n)) (find (test name) (map rule names ++ rest))) ∙ ap (λ (t : Text). Some (rule t)) (bytes_eq-true n name e))
       by false e more =
-          subst (λ (t : Bool). Searched rule name (t || is_word_among (map hyphened names) (hyphened name)) (find (test name) (map rule (n ∷ names) ++ rest)) (find (test name) rest)) (sym e)
-          (subst (λ (o : Option Rule). Searched rule name (is_word_among (map hyphened names) (hyphened name)) o (find (test name) rest))
+          subst (λ (t : Bool). FoundByName rule name (t || is_word_among (map hyphened names) (hyphened name)) (find (test name) (map rule (n ∷ names) ++ rest)) (find (test name) rest)) (sym e)
+          (subst (λ (o : Option Rule). FoundByName rule name (is_word_among (map hyphened names) (hyphened name)) o (find (test name) rest))
           (λ i. cond (sym (tests n name ∙ e) i) (Some (rule n)) (find (test name) (map rule names ++ rest))) more)
 
 -- a search that no rule of a name passes
@@ -69,22 +69,22 @@ module _ (options flags : List Text) (apart : Apart (form_for options flags)) wh
       (searched option_rule by_name (λ n t. or-false (bytes_eq n t)) (map flag_rule flags ++ words_rule ∷ []) name options)
       (searched flag_rule by_name (λ n t. or-false (bytes_eq n t)) (words_rule ∷ []) name flags)
     where
-      joined : (rules rest : Option Rule) (b f : Bool) → Searched option_rule name b rules rest → Searched flag_rule name f rest None → LongIs b f name rules
+      joined : (rules rest : Option Rule) (b f : Bool) → FoundByName option_rule name b rules rest → FoundByName flag_rule name f rest None → LongIs b f name rules
       joined rules rest true f here more = here
       joined rules rest false true here more = here ∙ more
       joined rules rest false false here more = here ∙ more
 
   among_option : (name : Text) → is_word_among (map hyphened options) (hyphened name) ≡ true → arg_by_id (rules_for options flags) name ≡ Some (option_rule name)
   among_option name is =
-      subst (λ (b : Bool). Searched option_rule name b (arg_by_id (rules_for options flags) name) (find (λ a. bytes_eq a.id name) (map flag_rule flags ++ words_rule ∷ []))) is
+      subst (λ (b : Bool). FoundByName option_rule name b (arg_by_id (rules_for options flags) name) (find (λ a. bytes_eq a.id name) (map flag_rule flags ++ words_rule ∷ []))) is
       (searched option_rule (λ t a. bytes_eq a.id t) (λ n t. refl) (map flag_rule flags ++ words_rule ∷ []) name options)
 
   words_are : arg_by_id (rules_for options flags) words_id ≡ Some words_rule
   words_are =
-      subst (λ (b : Bool). Searched option_rule words_id b (arg_by_id (rules_for options flags) words_id) (find (λ a. bytes_eq a.id words_id) (map flag_rule flags ++ words_rule ∷ [])))
+      subst (λ (b : Bool). FoundByName option_rule words_id b (arg_by_id (rules_for options flags) words_id) (find (λ a. bytes_eq a.id words_id) (map flag_rule flags ++ words_rule ∷ [])))
       (false_from_ne_true (is_word_among (map hyphened options) (hyphened words_id)) apart.no_option)
       (searched option_rule (λ t a. bytes_eq a.id t) (λ n t. refl) (map flag_rule flags ++ words_rule ∷ []) words_id options)
-      ∙ subst (λ (b : Bool). Searched flag_rule words_id b (find (λ a. bytes_eq a.id words_id) (map flag_rule flags ++ words_rule ∷ [])) (find (λ a. bytes_eq a.id words_id) (words_rule ∷ [])))
+      ∙ subst (λ (b : Bool). FoundByName flag_rule words_id b (find (λ a. bytes_eq a.id words_id) (map flag_rule flags ++ words_rule ∷ [])) (find (λ a. bytes_eq a.id words_id) (words_rule ∷ [])))
       (false_from_ne_true (is_word_among (map hyphened flags) (hyphened words_id)) apart.no_flag)
       (searched flag_rule (λ t a. bytes_eq a.id t) (λ n t. refl) (words_rule ∷ []) words_id flags)
 

@@ -6,7 +6,7 @@ use Rattle.std.specs.List.{after_first, position}
 use Rattle.std.specs.Str.{IsUtf8}
 use Rattle.std.proofs.lemmas.List.{append-nil, take_all}
 use Rattle.clap.specs.Lexer.{has_byte, name_and_value}
-use Rattle.clap.specs.Walk.{Row, Rule, Text, Waiting, Walk, arg_by_id, arg_by_index, arg_by_long, arg_by_short, idle, next, option, positional, settled_rows, subcommand_met, trailing, used, used_by_id, value, word_met}
+use Rattle.clap.specs.Walk.{Row, Rule, Text, Waiting, Walk, arg_by_id, arg_by_index, arg_by_long, arg_by_short, idle, next, option, positional, settled_rows, trailing, used, used_by_id, value, word_met}
 use Rattle.clap.specs.Kinds.{Kinds, or_else, value_kinds}
 use Rattle.clap.specs.Matches.{count_text}
 use Rattle.clap.specs.Values.{refused_kind}
@@ -20,8 +20,8 @@ use Rattle.tfpg_words.specs.Words.{Form, Next, Any, ValueOf, OnlyPositional, Par
 use Rattle.tfpg_words.specs.inside.Rows.{Apart, Holds, hyphened, joined_to}
 use Rattle.tfpg_words.specs.inside.Rules.{LongIs, between, flag_rule, option_rule, shape_with, words_id, words_rule}
 use Rattle.tfpg_words.proofs.walk.View.{View, plain, divider, long, short, view, cut_long, whole, named, parted}
-use Rattle.tfpg_words.proofs.walk.Turns.{held, quiet, turn_by, walked_by, words_fault, words_step, plain_met, plain_fault, divider_met, divider_fault, short_fault_is, value_met, lacks, settles, attached, attached_fault, waits, waits_fault, flag, flag_fault, unneeded_fault, unknown_fault}
-use Rattle.tfpg_words.proofs.walk.Walks.{Outcome, Settled, Stands, add_use, add_word, forward, left_nil, rest_fault, rest_rows, stuck, use_first, word_first}
+use Rattle.tfpg_words.proofs.walk.Turns.{held, quiet, no_subcommand, turn_by, walked_by, words_fault, words_step, plain_met, plain_fault, divider_met, divider_fault, short_fault_is, value_met, lacks, settles, attached, attached_fault, waits, waits_fault, flag, flag_fault, unneeded_fault, unknown_fault}
+use Rattle.tfpg_words.proofs.walk.Walks.{Outcome, Settled, WalkStands, add_use, add_word, forward, left_nil, rest_fault, rest_rows, stuck, use_first, word_first}
 use Rattle.tfpg_words.proofs.walk.Rows.{hold_option, hold_flag, hold_word}
 
 -- The rules represent the form: each name finds its rule, and no other finds any.
@@ -41,10 +41,6 @@ AreUtf8 (word ∷ words) = IsUtf8 word × AreUtf8 words
 
 nonempty : {X : Type 0} (x : X) (xs : List X) → x ∷ xs ≡ [] → ⊥
 nonempty x xs e = cc
-
-no_sub : (b : Bool) (word : Text) → subcommand_met [] (quiet b) word ≡ None
-no_sub true word = refl
-no_sub false word = refl
 
 -- a count of at most 255 is a number of the flag's
 counts_fine : (c : ℕ) → value_kinds false (vp.Signed (pos 0) (pos 255)) (count_text (min (c + 1) 255)) ≡ []
@@ -132,8 +128,8 @@ module _ (R : List Rule) (form : Form) (k : IsFor R form) where
         → Outcome form parts (option_map (with_use (hyphened n) v) others) (rest_fault R here (word ∷ words)) (rest_rows R here (word ∷ words))
     took_value n v others finds gives is rest =
         let h = held rows p in
-        let met = attached R k.by_index (quiet b) x xs h (no_sub b word) (arg_by_long R name) given refl refl n v finds gives in
-        let fault = attached_fault R k.by_index (quiet b) x xs h (no_sub b word) (arg_by_long R name) given refl refl n v finds gives
+        let met = attached R k.by_index (quiet b) x xs h (no_subcommand b word) (arg_by_long R name) given refl refl n v finds gives in
+        let fault = attached_fault R k.by_index (quiet b) x xs h (no_subcommand b word) (arg_by_long R name) given refl refl n v finds gives
         ∙ ap (λ (f : Kinds). or_else f []) s.fine in
         use_first form parts (hyphened n) v others _ _
         (forward R form (add_use parts (hyphened n) v) others here _ word words
@@ -146,8 +142,8 @@ module _ (R : List Rule) (form : Form) (k : IsFor R form) where
         → Outcome form parts others (rest_fault R here (word ∷ words)) (rest_rows R here (word ∷ words))
     now_waits n others finds gives rest =
         let h = held rows p in
-        let met = waits R k.by_index (quiet b) x xs h (no_sub b word) (arg_by_long R name) given refl refl n finds gives in
-        let fault = waits_fault R k.by_index (quiet b) x xs h (no_sub b word) (arg_by_long R name) given refl refl n finds gives ∙ s.fine in
+        let met = waits R k.by_index (quiet b) x xs h (no_subcommand b word) (arg_by_long R name) given refl refl n finds gives in
+        let fault = waits_fault R k.by_index (quiet b) x xs h (no_subcommand b word) (arg_by_long R name) given refl refl n finds gives ∙ s.fine in
         forward R form parts others here _ word words
         (turn_by R k.by_index rows p (quiet b) false word _ (next (option n)) [] met fault)
         (walked_by R k.by_index rows p (quiet b) false word _ (next (option n)) met)
@@ -158,8 +154,8 @@ module _ (R : List Rule) (form : Form) (k : IsFor R form) where
         → Outcome form parts (option_map (with_use (hyphened n) []) others) (rest_fault R here (word ∷ words)) (rest_rows R here (word ∷ words))
     took_flag n others finds gives rest =
         let h = held rows p in
-        let met = flag R k.by_index (quiet b) x xs h (no_sub b word) (arg_by_long R name) given refl refl n finds gives in
-        let fault = flag_fault R k.by_index (quiet b) x xs h (no_sub b word) (arg_by_long R name) given refl refl n finds gives
+        let met = flag R k.by_index (quiet b) x xs h (no_subcommand b word) (arg_by_long R name) given refl refl n finds gives in
+        let fault = flag_fault R k.by_index (quiet b) x xs h (no_subcommand b word) (arg_by_long R name) given refl refl n finds gives
         ∙ (ap (λ (f : Kinds). or_else f (value_kinds false (vp.Signed (pos 0) (pos 255)) (count_text (min (count_of n (settled_rows R p rows) + 1) 255)))) s.fine ∙ counts_fine (count_of n (settled_rows R p rows))) in
         use_first form parts (hyphened n) [] others _ _
         (forward R form (add_use parts (hyphened n) []) others here _ word words
@@ -172,23 +168,23 @@ module _ (R : List Rule) (form : Form) (k : IsFor R form) where
   after_flag_settled : (parts : Parts) (rows : List Row) → Holds form rows parts → Settled R form rows None parts
   after_flag_settled parts rows h = record { fine = refl; holds = h }
 
-  hyphen_second : (place first : ℕ) (rest : List ℕ) (n : Text) → take place (45 ∷ first ∷ rest) ≡ hyphened n → first ≡ 45
+  hyphen_second : (index first : ℕ) (rest : List ℕ) (n : Text) → take index (45 ∷ first ∷ rest) ≡ hyphened n → first ≡ 45
   hyphen_second zero first rest n e = absurd (nonempty 45 (45 ∷ n) (sym e))
   hyphen_second (suc zero) first rest n e = absurd (nonempty 45 n (sym (ap (drop 1) e)))
-  hyphen_second (suc (suc place)) first rest n e = ap (λ (l : List ℕ). slice_index l 1) e
+  hyphen_second (suc (suc index)) first rest n e = ap (λ (l : List ℕ). slice_index l 1) e
 
   apart_from_hyphens : (first : ℕ) → (first == 45) ≡ false → first ≡ 45 → ⊥
   apart_from_hyphens first other is =
       let same : (first == 45) ≡ true = ap (λ (n : ℕ). n == 45) is in
       absurd (true≢false (sym same ∙ other))
 
-  no_option : (first : ℕ) (rest : List ℕ) (place : ℕ) → (first == 45) ≡ false → is_word_among form.options (take place (45 ∷ first ∷ rest)) ≡ false
-  no_option first rest place other = by (is_word_among form.options (take place (45 ∷ first ∷ rest))) refl
+  no_option : (first : ℕ) (rest : List ℕ) (index : ℕ) → (first == 45) ≡ false → is_word_among form.options (take index (45 ∷ first ∷ rest)) ≡ false
+  no_option first rest index other = by (is_word_among form.options (take index (45 ∷ first ∷ rest))) refl
     where
-      by : (b : Bool) → is_word_among form.options (take place (45 ∷ first ∷ rest)) ≡ b → is_word_among form.options (take place (45 ∷ first ∷ rest)) ≡ false
+      by : (b : Bool) → is_word_among form.options (take index (45 ∷ first ∷ rest)) ≡ b → is_word_among form.options (take index (45 ∷ first ∷ rest)) ≡ false
       by true e =
-          let n = k.option_names (take place (45 ∷ first ∷ rest)) e in
-          absurd (apart_from_hyphens first other (hyphen_second place first rest n.0 n.1))
+          let n = k.option_names (take index (45 ∷ first ∷ rest)) e in
+          absurd (apart_from_hyphens first other (hyphen_second index first rest n.0 n.1))
       by false e = e
 
   whole_word : (first : ℕ) (rest : List ℕ) → take (suc (suc (length rest))) (45 ∷ first ∷ rest) ≡ 45 ∷ first ∷ rest
@@ -208,11 +204,11 @@ module _ (R : List Rule) (form : Form) (k : IsFor R form) where
       by false e = e
 
   cut_wrong : (first : ℕ) (rest : List ℕ) → (first == 45) ≡ false → (o : Option ℕ)
-      → option_turn form (45 ∷ first ∷ rest) (option_map (λ place. (take place (45 ∷ first ∷ rest), drop (place + 1) (45 ∷ first ∷ rest))) o) ≡ Wrong
+      → option_turn form (45 ∷ first ∷ rest) (option_map (λ index. (take index (45 ∷ first ∷ rest), drop (index + 1) (45 ∷ first ∷ rest))) o) ≡ Wrong
   cut_wrong first rest other None =
       (λ i. if no_option_whole first rest other i then Waits (45 ∷ first ∷ rest) else (if no_flag_whole first rest other i then Used (45 ∷ first ∷ rest) [] else Wrong))
-  cut_wrong first rest other (Some place) =
-      (λ i. if no_option first rest place other i then Used (take place (45 ∷ first ∷ rest)) (drop (place + 1) (45 ∷ first ∷ rest)) else Wrong)
+  cut_wrong first rest other (Some index) =
+      (λ i. if no_option first rest index other i then Used (take index (45 ∷ first ∷ rest)) (drop (index + 1) (45 ∷ first ∷ rest)) else Wrong)
 
   -- a word with one hyphen is wrong to the definition too
   short_wrong : (first : ℕ) (rest : List ℕ) → (first == 45) ≡ false → use_of_word form Any (45 ∷ first ∷ rest) ≡ Wrong
@@ -238,7 +234,7 @@ module _ (R : List Rule) (form : Form) (k : IsFor R form) where
 
   abbrev Goes : List Word → Type 0
   Goes words = (next_word : Next) (parts : Parts) (rows : List Row) (p : Option (Text × List Text)) (w : Waiting) (t : Bool)
-      → Stands R form next_word parts rows p w t
+      → WalkStands R form next_word parts rows p w t
       → Outcome form parts (parts_from form words next_word) (rest_fault R (between rows p w t) words) (rest_rows R (between rows p w t) words)
 
   no_more_parts : (parts : Parts) (rows : List Row) → Holds form rows parts → Holds form rows (joined_to parts no_parts)
@@ -294,13 +290,13 @@ module _ (R : List Rule) (form : Form) (k : IsFor R form) where
         let v = after_first (λ byte. byte == 61) (x ∷ xs) in
         as_turn parts rows p b x xs Wrong (cut_given x xs has ∙ (λ i. if opt i then Used (hyphened n) v else Wrong))
         (stuck R (between rows p (quiet b) false) (45 ∷ 45 ∷ x ∷ xs) words (word_bad rows p (quiet b) false (45 ∷ 45 ∷ x ∷ xs)
-        (λ e. nonempty _ _ (sym (unneeded_fault R k.by_index (quiet b) x xs (held rows p) (no_sub b (45 ∷ 45 ∷ x ∷ xs)) (arg_by_long R n) _ refl refl n v finds (λ i. if has i then Some v else None)) ∙ e))))
+        (λ e. nonempty _ _ (sym (unneeded_fault R k.by_index (quiet b) x xs (held rows p) (no_subcommand b (45 ∷ 45 ∷ x ∷ xs)) (arg_by_long R n) _ refl refl n v finds (λ i. if has i then Some v else None)) ∙ e))))
     any_long parts rows p b x xs s true false false has opt flag_is finds =
         let n = (name_and_value (x ∷ xs)).0 in
         let v = after_first (λ byte. byte == 61) (x ∷ xs) in
         as_turn parts rows p b x xs Wrong (cut_given x xs has ∙ (λ i. if opt i then Used (hyphened n) v else Wrong))
         (stuck R (between rows p (quiet b) false) (45 ∷ 45 ∷ x ∷ xs) words (word_bad rows p (quiet b) false (45 ∷ 45 ∷ x ∷ xs)
-        (λ e. nonempty _ _ (sym (unknown_fault R k.by_index (quiet b) x xs (held rows p) (no_sub b (45 ∷ 45 ∷ x ∷ xs)) (arg_by_long R n) _ refl refl finds) ∙ e))))
+        (λ e. nonempty _ _ (sym (unknown_fault R k.by_index (quiet b) x xs (held rows p) (no_subcommand b (45 ∷ 45 ∷ x ∷ xs)) (arg_by_long R n) _ refl refl finds) ∙ e))))
     any_long parts rows p b x xs s false true flg has opt flag_is finds =
         let n = (name_and_value (x ∷ xs)).0 in
         let v = after_first (λ byte. byte == 61) (x ∷ xs) in
@@ -318,7 +314,7 @@ module _ (R : List Rule) (form : Form) (k : IsFor R form) where
         let n = (name_and_value (x ∷ xs)).0 in
         as_turn parts rows p b x xs Wrong (cut_none x xs has ∙ (λ i. if opt i then Waits (hyphened n) else (if flag_is i then Used (hyphened n) [] else Wrong)))
         (stuck R (between rows p (quiet b) false) (45 ∷ 45 ∷ x ∷ xs) words (word_bad rows p (quiet b) false (45 ∷ 45 ∷ x ∷ xs)
-        (λ e. nonempty _ _ (sym (unknown_fault R k.by_index (quiet b) x xs (held rows p) (no_sub b (45 ∷ 45 ∷ x ∷ xs)) (arg_by_long R n) _ refl refl finds) ∙ e))))
+        (λ e. nonempty _ _ (sym (unknown_fault R k.by_index (quiet b) x xs (held rows p) (no_subcommand b (45 ∷ 45 ∷ x ∷ xs)) (arg_by_long R n) _ refl refl finds) ∙ e))))
 
     any_by : (word : Word) → View word → IsUtf8 word → (parts : Parts) (rows : List Row) (p : Option (Text × List Text)) (b : Bool) → Settled R form rows p parts
         → Outcome form parts (parts_from form (word ∷ words) Any)
@@ -328,13 +324,13 @@ module _ (R : List Rule) (form : Form) (k : IsFor R form) where
         (λ i. after_turn Any (if sym is_plain i then (if bytes_eq word (codes "--") then Divider else option_turn form word (cut_at_equals word)) else Positional word) (parts_from form words))
         (to_word parts rows p (quiet b) false word words (parts_from form words Any) s
         (plain_met R k.by_index b word (held rows p) not_divider not_long not_short)
-        (plain_fault R k.by_index (quiet b) word (held rows p) (no_sub b word) not_divider not_long not_short)
+        (plain_fault R k.by_index (quiet b) word (held rows p) (no_subcommand b word) not_divider not_long not_short)
         (again Any (add_word parts word) _ _ _ _ (word_settled parts (settled_rows R p rows) word s.holds, refl, (true, refl))))
     any_by _ divider utf8 parts rows p b s =
         forward R form parts (parts_from form words OnlyPositional) (between rows p (quiet b) false) (between rows p (quiet b) true) (45 ∷ 45 ∷ []) words
         (turn_by R k.by_index rows p (quiet b) false (45 ∷ 45 ∷ []) (held rows p) (trailing 1) []
-        (divider_met R k.by_index (quiet b) (held rows p) (no_sub b (45 ∷ 45 ∷ []))) (divider_fault R k.by_index (quiet b) (held rows p) (no_sub b (45 ∷ 45 ∷ []))))
-        (walked_by R k.by_index rows p (quiet b) false (45 ∷ 45 ∷ []) (held rows p) (trailing 1) (divider_met R k.by_index (quiet b) (held rows p) (no_sub b (45 ∷ 45 ∷ []))))
+        (divider_met R k.by_index (quiet b) (held rows p) (no_subcommand b (45 ∷ 45 ∷ []))) (divider_fault R k.by_index (quiet b) (held rows p) (no_subcommand b (45 ∷ 45 ∷ []))))
+        (walked_by R k.by_index rows p (quiet b) false (45 ∷ 45 ∷ []) (held rows p) (trailing 1) (divider_met R k.by_index (quiet b) (held rows p) (no_subcommand b (45 ∷ 45 ∷ []))))
         (again OnlyPositional parts rows p (quiet b) true (s, refl))
     any_by _ (long x xs) utf8 parts rows p b s = any_long parts rows p b x xs s _ _ _ refl refl refl (k.long_name (name_and_value (x ∷ xs)).0)
     any_by _ (short first rest other) utf8 parts rows p b s =
@@ -342,7 +338,7 @@ module _ (R : List Rule) (form : Form) (k : IsFor R form) where
         (λ i. after_turn Any (sym (short_wrong first rest other) i) (parts_from form words))
         (stuck R (between rows p (quiet b) false) (45 ∷ first ∷ rest) words
         (word_bad rows p (quiet b) false (45 ∷ first ∷ rest)
-        (λ e. nonempty _ _ (sym (short_fault_is R k.by_index k.by_short (quiet b) first rest rows p (no_sub b (45 ∷ first ∷ rest)) other utf8) ∙ e))))
+        (λ e. nonempty _ _ (sym (short_fault_is R k.by_index k.by_short (quiet b) first rest rows p (no_subcommand b (45 ∷ first ∷ rest)) other utf8) ∙ e))))
 
     -- ---- the value of an option
 

@@ -26,6 +26,11 @@ abbrev pub quiet : Bool → Waiting
 quiet true = positional
 quiet false = idle
 
+-- then no word is a command of its own
+pub no_subcommand : (b : Bool) (word : Text) → subcommand_met [] (quiet b) word ≡ None
+no_subcommand true word = refl
+no_subcommand false word = refl
+
 abbrev with_word : Text → Held → Bool → Walk
 with_word word h t = record {
   held = pushed words_id word h;
@@ -77,10 +82,6 @@ module _ (R : List Rule) (by_index : arg_by_index R 1 ≡ Some words_rule) where
       by false false = refl
 
   -- a word that is no option word, where none waits for a value
-  no_subcommand : (b : Bool) (word : Text) → subcommand_met [] (quiet b) word ≡ None
-  no_subcommand true word = refl
-  no_subcommand false word = refl
-
   pub plain_met : (b : Bool) (word : Text) (h : Held) → bytes_eq word (45 ∷ 45 ∷ []) ≡ false → long_of word ≡ None → short_of word ≡ None
       → word_met R [] false (quiet b) 1 word h ≡ (h, value)
   plain_met true word h divider long short = rw (divider, long, short) refl

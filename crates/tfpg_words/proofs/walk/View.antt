@@ -68,13 +68,13 @@ parted xs has = cond has (Some (before_first (λ x. x == 61) xs, after_first (λ
 pub cut_long : (xs : List ℕ) → cut_at_equals (45 ∷ 45 ∷ xs) ≡ named (parted xs (has_byte 61 xs))
 cut_long xs =
     let n = position_or_len (λ x. x == 61) xs in
-    let place : position (λ x. x == 61) (45 ∷ 45 ∷ xs) ≡ cond (nat_lt n (length xs)) (Some (1 + (1 + n))) None =
+    let index : position (λ x. x == 61) (45 ∷ 45 ∷ xs) ≡ cond (nat_lt n (length xs)) (Some (1 + (1 + n))) None =
     ap (λ b. cond b (Some (1 + (1 + n))) None) (one_more (1 + n) (suc (length xs)) ∙ one_more n (length xs)) in
-    ap (option_map (λ place. (take place (45 ∷ 45 ∷ xs), drop (place + 1) (45 ∷ 45 ∷ xs)))) place
-    ∙ ap (λ b. option_map (λ place. (take place (45 ∷ 45 ∷ xs), drop (place + 1) (45 ∷ 45 ∷ xs))) (cond b (Some (1 + (1 + n))) None)) (inside xs)
+    ap (option_map (λ index. (take index (45 ∷ 45 ∷ xs), drop (index + 1) (45 ∷ 45 ∷ xs)))) index
+    ∙ ap (λ b. option_map (λ index. (take index (45 ∷ 45 ∷ xs), drop (index + 1) (45 ∷ 45 ∷ xs))) (cond b (Some (1 + (1 + n))) None)) (inside xs)
     ∙ by (has_byte 61 xs)
   where
-    by : (b : Bool) → option_map (λ place. (take place (45 ∷ 45 ∷ xs), drop (place + 1) (45 ∷ 45 ∷ xs))) (cond b (Some (1 + (1 + position_or_len (λ x. x == 61) xs))) None) ≡ named (parted xs b)
+    by : (b : Bool) → option_map (λ index. (take index (45 ∷ 45 ∷ xs), drop (index + 1) (45 ∷ 45 ∷ xs))) (cond b (Some (1 + (1 + position_or_len (λ x. x == 61) xs))) None) ≡ named (parted xs b)
     by false = refl
     by true =
         let n = position_or_len (λ x. x == 61) xs in

@@ -72,9 +72,9 @@ pub record Settled (R : List Rule) (form : Form) (rows : List Row) (p : Option (
   pub holds : Holds form (settled_rows R p rows) parts
 
 -- where the walk stands, by what the next word may be
-abbrev pub Stands : List Rule → Form → Next → Parts → List Row → Option (Text × List Text) → Waiting → Bool → Type 0
-Stands R form Any parts rows p w t = Settled R form rows p parts × (t ≡ false) × ((b : Bool) × (w ≡ quiet b))
-Stands R form OnlyPositional parts rows p w t = Settled R form rows p parts × (t ≡ true)
-Stands R form (ValueOf option_word) parts rows p w t =
+abbrev pub WalkStands : List Rule → Form → Next → Parts → List Row → Option (Text × List Text) → Waiting → Bool → Type 0
+WalkStands R form Any parts rows p w t = Settled R form rows p parts × (t ≡ false) × ((b : Bool) × (w ≡ quiet b))
+WalkStands R form OnlyPositional parts rows p w t = Settled R form rows p parts × (t ≡ true)
+WalkStands R form (ValueOf option_word) parts rows p w t =
     (name : Text) × (option_word ≡ hyphened name) × (is_word_among form.options (hyphened name) ≡ true)
     × (p ≡ Some (name, [])) × (w ≡ option name) × (t ≡ false) × Holds form rows parts

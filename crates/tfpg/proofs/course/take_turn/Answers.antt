@@ -5,7 +5,7 @@ use Rattle.tfpg.specs.inside.Faults.{stream_fault_of_lines}
 use Rattle.tfpg.specs.inside.Course.{ComesTo}
 use Rattle.tfpg.proofs.Putting.{Puts-same}
 use Rattle.tfpg.proofs.Exits.{err_is}
-use Rattle.tfpg.proofs.Turns.{stopped_by, ends_by_fault, met_end, met_text, met_long, answered_text, answered_long, gave_without_memory, gave_block, gave_one_more, gave_front}
+use Rattle.tfpg.proofs.Turns.{stopped_by, ends_by_fault, met_end, met_text, met_long, block_of_text, block_of_long, gave_without_memory, gave_block, gave_one_more, gave_front}
 use Rattle.tfpg.proofs.course.take_turn.Goals as goal
 
 pub returns-in_err-next-clause-stopped : goal.returns-in_err-next-clause-stopped
@@ -25,22 +25,22 @@ returns-in_err-block-in-TooLong-clause-stopped g c graph k b before under =
 
 pub returns-in_ok-block-in-TooLong-clause-turn : goal.returns-in_ok-block-in-TooLong-clause-turn
 returns-in_ok-block-in-TooLong-clause-turn g c graph k b before under =
-    let answered = answered_long graph k b before _ c.args.lines.now c.args.engine.now _ c.next.new.self under c.in_ok-next.field-0 (c.in_ok-next.ensures under.reading under.represents)
+    let read = block_of_long graph k b before _ c.args.lines.now c.args.engine.now _ c.next.new.self under c.in_ok-next.field-0 (c.in_ok-next.ensures under.reading under.represents)
     c.number.result c.in_ok-block-in-TooLong.block.items c.in-TooLong.is c.in_ok-block-in-TooLong.ensures in
     IfOk-weaker c.write_block.result _ _ (λ turn h. subst (ComesTo graph k b before _ c.args.lines.now.number c.next.new.self c.args.engine.now) (sym h.0) (
-      gave_block graph k b before _ c.args.lines.now c.args.engine.now _ c.next.new.self under answered.gave
-          c.number.result c.in_ok-block-in-TooLong.block.items c.args.engine.now _ c.number.ensures answered.block c.a_report_goes_on_block_by_block.ensures.step (Puts-same (g.K.Sink.state c.args.out.now) (g.K.Sink.state c.write_block.new.out) _ _ c.deref.ensures.value h.1) h.2,
-      gave_one_more graph k b before _ c.args.lines.now c.args.engine.now _ c.next.new.self under answered.gave
-          c.number.result c.in_ok-block-in-TooLong.block.items c.args.engine.now (g.K.Sink.state c.write_block.new.out) c.number.ensures answered.block,
+      gave_block graph k b before _ c.args.lines.now c.args.engine.now _ c.next.new.self under read.gave
+          c.number.result c.in_ok-block-in-TooLong.block.items c.args.engine.now _ c.number.ensures read.block c.a_report_goes_on_block_by_block.ensures.step (Puts-same (g.K.Sink.state c.args.out.now) (g.K.Sink.state c.write_block.new.out) _ _ c.deref.ensures.value h.1) h.2,
+      gave_one_more graph k b before _ c.args.lines.now c.args.engine.now _ c.next.new.self under read.gave
+          c.number.result c.in_ok-block-in-TooLong.block.items c.args.engine.now (g.K.Sink.state c.write_block.new.out) c.number.ensures read.block,
     )) c.write_block.ensures.put
 
 pub returns-in_ok-block-in-TooLong-clause-stopped : goal.returns-in_ok-block-in-TooLong-clause-stopped
 returns-in_ok-block-in-TooLong-clause-stopped g c graph k b before under =
-    let answered = answered_long graph k b before _ c.args.lines.now c.args.engine.now _ c.next.new.self under c.in_ok-next.field-0 (c.in_ok-next.ensures under.reading under.represents)
+    let read = block_of_long graph k b before _ c.args.lines.now c.args.engine.now _ c.next.new.self under c.in_ok-next.field-0 (c.in_ok-next.ensures under.reading under.represents)
     c.number.result c.in_ok-block-in-TooLong.block.items c.in-TooLong.is c.in_ok-block-in-TooLong.ensures in
     stopped_by c.write_block.result _ _ _ c.write_block.ensures.cause c.write_block.ensures.front c.write_block.ensures.failed (λ front rose.
-    gave_front graph k b before _ c.args.lines.now c.args.engine.now _ c.next.new.self under answered.gave
-    c.number.result c.in_ok-block-in-TooLong.block.items c.args.engine.now _ c.number.ensures answered.block front.0 front.1 (sym c.deref.ensures.value ∙ front.2) front.3 rose)
+    gave_front graph k b before _ c.args.lines.now c.args.engine.now _ c.next.new.self under read.gave
+    c.number.result c.in_ok-block-in-TooLong.block.items c.args.engine.now _ c.number.ensures read.block front.0 front.1 (sym c.deref.ensures.value ∙ front.2) front.3 rose)
 
 pub returns-in_err-block-in-Text-clause-stopped : goal.returns-in_err-block-in-Text-clause-stopped
 returns-in_err-block-in-Text-clause-stopped g c graph k b before under =
@@ -50,19 +50,19 @@ returns-in_err-block-in-Text-clause-stopped g c graph k b before under =
 
 pub returns-in_ok-block-in-Text-clause-turn : goal.returns-in_ok-block-in-Text-clause-turn
 returns-in_ok-block-in-Text-clause-turn g c graph k b before under =
-    let answered = answered_text graph k b before _ c.args.lines.now c.args.engine.now _ c.next.new.self under c.in_ok-next.field-0 (c.in_ok-next.ensures under.reading under.represents)
-    c.number-in-Text.result c.text.result.now c.in_ok-block-in-Text.block.items c.answer.new.engine c.in-Text.is c.text.ensures (c.in_ok-block-in-Text.ensures graph k b) in
-    IfOk-weaker c.write_block-in-Text.result _ _ (λ turn h. subst (ComesTo graph k b before _ c.args.lines.now.number c.next.new.self c.answer.new.engine) (sym h.0) (
-      gave_block graph k b before _ c.args.lines.now c.args.engine.now _ c.next.new.self under answered.gave
-          c.number-in-Text.result c.in_ok-block-in-Text.block.items c.answer.new.engine _ c.number-in-Text.ensures answered.block c.a_report_goes_on_block_by_block.ensures.step (Puts-same (g.K.Sink.state c.args.out.now) (g.K.Sink.state c.write_block-in-Text.new.out) _ _ c.deref-in-Text.ensures.value h.1) h.2,
-      gave_one_more graph k b before _ c.args.lines.now c.args.engine.now _ c.next.new.self under answered.gave
-          c.number-in-Text.result c.in_ok-block-in-Text.block.items c.answer.new.engine (g.K.Sink.state c.write_block-in-Text.new.out) c.number-in-Text.ensures answered.block,
+    let read = block_of_text graph k b before _ c.args.lines.now c.args.engine.now _ c.next.new.self under c.in_ok-next.field-0 (c.in_ok-next.ensures under.reading under.represents)
+    c.number-in-Text.result c.text.result.now c.in_ok-block-in-Text.block.items c.line_block.new.engine c.in-Text.is c.text.ensures (c.in_ok-block-in-Text.ensures graph k b) in
+    IfOk-weaker c.write_block-in-Text.result _ _ (λ turn h. subst (ComesTo graph k b before _ c.args.lines.now.number c.next.new.self c.line_block.new.engine) (sym h.0) (
+      gave_block graph k b before _ c.args.lines.now c.args.engine.now _ c.next.new.self under read.gave
+          c.number-in-Text.result c.in_ok-block-in-Text.block.items c.line_block.new.engine _ c.number-in-Text.ensures read.block c.a_report_goes_on_block_by_block.ensures.step (Puts-same (g.K.Sink.state c.args.out.now) (g.K.Sink.state c.write_block-in-Text.new.out) _ _ c.deref-in-Text.ensures.value h.1) h.2,
+      gave_one_more graph k b before _ c.args.lines.now c.args.engine.now _ c.next.new.self under read.gave
+          c.number-in-Text.result c.in_ok-block-in-Text.block.items c.line_block.new.engine (g.K.Sink.state c.write_block-in-Text.new.out) c.number-in-Text.ensures read.block,
     )) c.write_block-in-Text.ensures.put
 
 pub returns-in_ok-block-in-Text-clause-stopped : goal.returns-in_ok-block-in-Text-clause-stopped
 returns-in_ok-block-in-Text-clause-stopped g c graph k b before under =
-    let answered = answered_text graph k b before _ c.args.lines.now c.args.engine.now _ c.next.new.self under c.in_ok-next.field-0 (c.in_ok-next.ensures under.reading under.represents)
-    c.number-in-Text.result c.text.result.now c.in_ok-block-in-Text.block.items c.answer.new.engine c.in-Text.is c.text.ensures (c.in_ok-block-in-Text.ensures graph k b) in
+    let read = block_of_text graph k b before _ c.args.lines.now c.args.engine.now _ c.next.new.self under c.in_ok-next.field-0 (c.in_ok-next.ensures under.reading under.represents)
+    c.number-in-Text.result c.text.result.now c.in_ok-block-in-Text.block.items c.line_block.new.engine c.in-Text.is c.text.ensures (c.in_ok-block-in-Text.ensures graph k b) in
     stopped_by c.write_block-in-Text.result _ _ _ c.write_block-in-Text.ensures.cause c.write_block-in-Text.ensures.front c.write_block-in-Text.ensures.failed (λ front rose.
-    gave_front graph k b before _ c.args.lines.now c.args.engine.now _ c.next.new.self under answered.gave
-    c.number-in-Text.result c.in_ok-block-in-Text.block.items c.answer.new.engine _ c.number-in-Text.ensures answered.block front.0 front.1 (sym c.deref-in-Text.ensures.value ∙ front.2) front.3 rose)
+    gave_front graph k b before _ c.args.lines.now c.args.engine.now _ c.next.new.self under read.gave
+    c.number-in-Text.result c.in_ok-block-in-Text.block.items c.line_block.new.engine _ c.number-in-Text.ensures read.block front.0 front.1 (sym c.deref-in-Text.ensures.value ∙ front.2) front.3 rose)

@@ -1,8 +1,8 @@
-use Rattle.std.proofs.Common.{List, ℕ, [], map, take, get_or, Bor, subst}
-use Rattle.std.proofs.lemmas.List.{take_all}
+use Rattle.std.proofs.Common.{List, ℕ, [], map, take, get_or, Bor, sym, subst}
+use Rattle.std.proofs.lemmas.List.{take_all, map_more}
 use Rattle.std.proofs.lemmas.Option.{slice_get-get_or}
 use Rattle.tfpg.specs.inside.Diagnosed.{HasDiagnosed}
-use Rattle.tfpg.proofs.Diagnosing.{line_accepted, lines_more}
+use Rattle.tfpg.proofs.Diagnosing.{line_accepted}
 use Rattle.tfpg.proofs.diagnosis.diagnose_lines.Goals as goal
 
 pub loop-line-preserved : goal.loop-line-preserved
@@ -13,7 +13,7 @@ loop-line-preserved g c =
     let line : Bor (List ℕ) = get_or lines number nothing in
     let at = slice_get-get_or lines number nothing c.loop-line-test.true in
     let accepted = line_accepted (λ (l : Bor (List ℕ)). l.now) lines number line at c.args.graph c.requires.accepted in
-    subst (λ (ls : List (List ℕ)). HasDiagnosed c.args.graph ls c.take.new.self) (lines_more (λ (l : Bor (List ℕ)). l.now) lines number line at)
+    subst (λ (ls : List (List ℕ)). HasDiagnosed c.args.graph ls c.take.new.self) (sym (map_more (λ (l : Bor (List ℕ)). l.now) lines number nothing c.loop-line-test.true))
     (c.in_ok-take.ensures c.args.graph (map (λ (l : Bor (List ℕ)). l.now) (take number lines)) c.loop-line.invariant accepted)
 
 pub returns : goal.returns

@@ -11,4 +11,4 @@ pub returns-clause-bad : goal.returns-clause-bad
 returns-clause-bad c bad set of e =
     let other : bytes_eq c.args.word.now (codes "-") ≡ false = search rules in
     let parts = set_parts c.args.graph.now c.node_count-valid.ensures.valid c.args.word.now set other of e in
-    c.rising_places.ensures.none (search rules) set parts.0 (parts.1 ∙ sym (ap (map (λ name. name.now)) c.deref.ensures.value ∙ c.in_ok-names.ensures))
+    c.rising_positions.ensures.none (search rules) set parts.0 (parts.1 ∙ sym (ap (map (λ name. name.now)) c.deref.ensures.value ∙ c.in_ok-names.ensures))

@@ -19,7 +19,7 @@ returns-in-End-clause-turn g c before under =
 pub returns-in-TooLong-clause-none : goal.returns-in-TooLong-clause-none
 returns-in-TooLong-clause-none g c before under =
     met_long c.args.graph.now before (g.S.Source.state c.args.input.now) c.args.lines.now c.next.new.self c.args.reader.now (g.S.Source.state c.next.new.source) under
-    c.in_ok-next.field-0 (c.in_ok-next.ensures under.reading under.represents) c.in-TooLong.is c.refused.result c.refused.ensures
+    c.in_ok-next.field-0 (c.in_ok-next.ensures under.reading under.represents) c.in-TooLong.is c.not_a_map.result c.not_a_map.ensures
 
 pub returns-in-Ok-clause-turn : goal.returns-in-Ok-clause-turn
 returns-in-Ok-clause-turn g c before under =
@@ -30,7 +30,7 @@ pub returns-in-Err-BadMap-clause-none : goal.returns-in-Err-BadMap-clause-none
 returns-in-Err-BadMap-clause-none g c before under =
     met_faulty c.args.graph.now before (g.S.Source.state c.args.input.now) c.args.lines.now c.next.new.self c.args.reader.now (g.S.Source.state c.next.new.source) under
     c.in_ok-next.field-0 (c.in_ok-next.ensures under.reading under.represents) c.text.result.now c.take.new.self c.in-Text.is c.text.ensures
-    (λ given read. c.in-Err-BadMap.ensures.bad given read (ap Err c.in-Err-BadMap.field-0-is)) c.refused-in-Err-BadMap.result c.refused-in-Err-BadMap.ensures
+    (λ given read. c.in-Err-BadMap.ensures.bad given read (ap Err c.in-Err-BadMap.field-0-is)) c.not_a_map-in-Err-BadMap.result c.not_a_map-in-Err-BadMap.ensures
 
 pub returns-in-Err-NoMemory-clause-none : goal.returns-in-Err-NoMemory-clause-none
 returns-in-Err-NoMemory-clause-none g c before under =

@@ -1,7 +1,7 @@
 use Rattle.std.proofs.Common.{◌<◌}
 use Rattle.tfpg_clause.specs.declared.clause_kind.ClauseKind.{ClauseKind}
-use Rattle.tfpg_clause.specs.inside.FirstSpan.{MeetsKind, place_of}
+use Rattle.tfpg_clause.specs.inside.FirstSpan.{MeetsKind, index_of_kind}
 use Rattle.tfpg_clause.proofs.first_clause.first_violated.Given as goal
 
 abbrev pub invariant-loop-kind : goal.invariant-loop-kind
-invariant-loop-kind l = (other : ClauseKind) → place_of other < l.kind-index → MeetsKind l.graph l.log l.times other
+invariant-loop-kind l = (other : ClauseKind) → index_of_kind other < l.kind-index → MeetsKind l.graph l.log l.times other

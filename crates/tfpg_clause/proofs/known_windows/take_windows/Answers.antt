@@ -2,16 +2,16 @@ use Rattle.std.proofs.Common.{◌<◌, length, length-set, get_or, ◌∙◌, ar
 use Rattle.tfpg_clause.proofs.KnownWindows.{is_over, more_known, more_windows}
 use Rattle.tfpg_clause.proofs.known_windows.take_windows.Goals as goal
 
-pub loop-place-preserved : goal.loop-place-preserved
-loop-place-preserved c =
+pub loop-index-preserved : goal.loop-index-preserved
+loop-index-preserved c =
     let graph = c.args.graph.now in
     let log = c.args.log.now in
-    let place = c.loop-place.place in
-    let within : place < length c.loop-place.known = omega (arith, c.loop-place-test.true, c.requires.room, c.loop-place.invariant.same) in
+    let index = c.loop-index.index in
+    let within : index < length c.loop-index.known = omega (arith, c.loop-index-test.true, c.requires.room, c.loop-index.invariant.same) in
     record {
-      taken = more_windows graph log c.args.number c.args.horizon c.args.edges.now c.loop-place.known place c.window_over.result within c.window_over.ensures.value c.loop-place.invariant.taken;
-      known = more_known graph log c.args.horizon c.args.edges.now c.loop-place.known place c.window_over.result within
-          (is_over graph log (get_or c.args.edges.now place 0) c.args.number c.args.horizon c.window_over.result c.window_over.ensures.value)
-          c.loop-place.invariant.known;
-      same = length-set c.loop-place.known place c.window_over.result ∙ c.loop-place.invariant.same;
+      taken = more_windows graph log c.args.number c.args.horizon c.args.edges.now c.loop-index.known index c.window_over.result within c.window_over.ensures.value c.loop-index.invariant.taken;
+      known = more_known graph log c.args.horizon c.args.edges.now c.loop-index.known index c.window_over.result within
+          (is_over graph log (get_or c.args.edges.now index 0) c.args.number c.args.horizon c.window_over.result c.window_over.ensures.value)
+          c.loop-index.invariant.known;
+      same = length-set c.loop-index.known index c.window_over.result ∙ c.loop-index.invariant.same;
     }

@@ -3,8 +3,8 @@ use Rattle.tfpg_clause.proofs.laws.bounds_hold_of_the_times_of_nodes.Goals as go
 
 pub returns : goal.returns
 returns c = record {
-  least = λ times node bound. (says_at_least times node bound, met_at_least times node bound);
-  most = λ times node bound. (says_at_most times node bound, met_at_most times node bound);
+  lower = λ times node bound. (says_at_least times node bound, met_at_least times node bound);
+  upper = λ times node bound. (says_at_most times node bound, met_at_most times node bound);
   least_after = λ times node source bound. (says_at_least_after times node source bound, met_at_least_after times node source bound);
   most_after = λ times node source bound. (says_at_most_after times node source bound, met_at_most_after times node source bound);
 }

@@ -3,10 +3,10 @@ use Rattle.std.proofs.lemmas.Bool.{false≢true}
 use Rattle.tfpg_clause.proofs.MaySpans.{arrived_by, none_arrived}
 use Rattle.tfpg_clause.proofs.may_violated.has_arrived.Goals as goal
 
-pub returns-then-arrives : goal.returns-then-arrives
-returns-then-arrives c = (
+pub returns-then-has_arrived_by : goal.returns-then-has_arrived_by
+returns-then-has_arrived_by c = (
   λ yes. arrived_by c.args.graph.now c.args.log.now c.args.times.now c.args.number c.args.horizon c.args.span c.args.edges.now c.loop-edge.edge-index c.loop-edge-test.true
-      (c.arrives.ensures.0 c.if-arrives.true),
+      (c.has_arrived_by.ensures.0 c.if-has_arrived_by.true),
   λ met. refl,
 )
 

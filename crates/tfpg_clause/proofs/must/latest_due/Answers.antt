@@ -6,15 +6,15 @@ use Rattle.tfpg_clause.proofs.must.latest_due.Goals as goal
 pub returns-in_err-due-clause-value : goal.returns-in_err-due-clause-value
 returns-in_err-due-clause-value c =
     let f = due_by_number c.args.graph.now c.args.log.now c.args.number c.args.horizon in
-    c.from_residual.ensures ∙ sym (latest_missing f c.args.edges.now c.loop-place.place c.args.hi c.loop-place-test.true c.in_err-due.ensures.value)
+    c.from_residual.ensures ∙ sym (latest_missing f c.args.edges.now c.loop-index.index c.args.hi c.loop-index-test.true c.in_err-due.ensures.value)
 
 pub returns-then-due-hi-clause-value : goal.returns-then-due-hi-clause-value
 returns-then-due-hi-clause-value c =
     let f = due_by_number c.args.graph.now c.args.log.now c.args.number c.args.horizon in
-    sym (latest_over f c.args.edges.now c.loop-place.place c.args.hi c.loop-place-test.true c.in_ok-due.due c.in_ok-due.ensures.value c.if-due-hi.true)
+    sym (latest_over f c.args.edges.now c.loop-index.index c.args.hi c.loop-index-test.true c.in_ok-due.due c.in_ok-due.ensures.value c.if-due-hi.true)
 
-pub loop-place-preserved : goal.loop-place-preserved
-loop-place-preserved c =
+pub loop-index-preserved : goal.loop-index-preserved
+loop-index-preserved c =
     let f = due_by_number c.args.graph.now c.args.log.now c.args.number c.args.horizon in
     rw c.max-latest.ensures
-    (latest_more f c.args.edges.now c.loop-place.place c.args.hi c.loop-place-test.true c.loop-place.latest c.in_ok-due.due c.in_ok-due.ensures.value c.if-due-hi.false c.loop-place.invariant)
+    (latest_more f c.args.edges.now c.loop-index.index c.args.hi c.loop-index-test.true c.loop-index.latest c.in_ok-due.due c.in_ok-due.ensures.value c.if-due-hi.false c.loop-index.invariant)

@@ -9,7 +9,7 @@ use Rattle.tfpg_clause.proofs.must_violated.is_excused.Goals as goal
 
 pub returns-then-is_excused_by : goal.returns-then-is_excused_by
 returns-then-is_excused_by c = (
-  λ yes. (get_or c.args.edges.now c.loop-place.place 0, Contains-get_or c.args.edges.now c.loop-place.place 0 c.loop-place-test.true, c.is_excused_by.ensures.0 c.if-is_excused_by.true),
+  λ yes. (get_or c.args.edges.now c.loop-index.index 0, Contains-get_or c.args.edges.now c.loop-index.index 0 c.loop-index-test.true, c.is_excused_by.ensures.0 c.if-is_excused_by.true),
   λ excuse. refl,
 )
 
@@ -17,9 +17,9 @@ pub returns : goal.returns
 returns c = (
   λ yes. absurd (false≢true yes),
   λ excuse.
-      let place = excuse.1 in
+      let index = excuse.1 in
       absurd
-      (c.loop-place.invariant place.0 (omega arith)
+      (c.loop-index.invariant index.0 (omega arith)
       (subst (λ edge. IsSomeAnd (due_by_number c.args.graph.now c.args.log.now c.args.number c.args.horizon edge) (IsExcused c.args.times.now c.args.hi))
-      (sym (get_or_default c.args.edges.now place.0 0 excuse.0 place.1 ∙ place.2)) excuse.2)),
+      (sym (get_or_default c.args.edges.now index.0 0 excuse.0 index.1 ∙ index.2)) excuse.2)),
 )

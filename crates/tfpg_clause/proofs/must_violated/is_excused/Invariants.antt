@@ -4,6 +4,6 @@ use Rattle.tfpg_clause.specs.inside.Alternatives.{due_by_number}
 use Rattle.tfpg_clause.specs.inside.FirstSpan.{IsExcused}
 use Rattle.tfpg_clause.proofs.must_violated.is_excused.Given as goal
 
-abbrev pub invariant-loop-place : goal.invariant-loop-place
-invariant-loop-place l =
-    (k : ℕ) → k < l.place → IsSomeAnd (due_by_number l.graph l.log l.number l.horizon (get_or l.edges k 0)) (IsExcused l.times l.hi) → ⊥
+abbrev pub invariant-loop-index : goal.invariant-loop-index
+invariant-loop-index l =
+    (k : ℕ) → k < l.index → IsSomeAnd (due_by_number l.graph l.log l.number l.horizon (get_or l.edges k 0)) (IsExcused l.times l.hi) → ⊥

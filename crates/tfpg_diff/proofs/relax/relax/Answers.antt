@@ -8,8 +8,8 @@ use Rattle.tfpg_diff.specs.declared.why.Why.{Why}
 use Rattle.tfpg_diff.specs.Demands.{demands_of}
 use Rattle.tfpg_diff.specs.inside.Kept.{IsRooted, IsLabelled, Walked}
 use Rattle.tfpg_base.specs.declared.limits.TheConstants.{NEVER}
-use Rattle.tfpg_diff.proofs.Lowering.{IsBroken, cycle_from_met, cycle_from_floor, IsKept-lowered, Labelled-kept}
-use Rattle.tfpg_diff.proofs.Relaxing.{small-kept, IsBroken-pick, Bounded-read, no_bounds, no_pick, length-cycle, floor-kept}
+use Rattle.tfpg_diff.proofs.Lowering.{IsBrokenDemand, cycle_from_met, cycle_from_floor, IsKept-lowered, Labelled-kept}
+use Rattle.tfpg_diff.proofs.Relaxing.{small-kept, IsBrokenDemand-pick, Bounded-read, no_bounds, no_pick, length-cycle, floor-kept}
 use Rattle.tfpg_diff.proofs.relax.relax.Goals as goal
 use Rattle.tfpg_diff.proofs.relax.relax.Goals.{Else-not-is_broken, Else-begin_cycle}
 
@@ -27,10 +27,10 @@ begin_cycle-requires-clause-labelled c =
     (Labelled-kept (demands_of c.args.bounds.now c.args.picks.now) c.args.labels.now.values.items c.args.labels.now.links.items c.requires.kept)
 
 -- the pick is broken
-broken : (c : Else-not-is_broken) → IsBroken (demands_of c.args.bounds.now c.args.picks.now) c.args.labels.now.values.items c.demand_of_pick-demand.result
+broken : (c : Else-not-is_broken) → IsBrokenDemand (demands_of c.args.bounds.now c.args.picks.now) c.args.labels.now.values.items c.demand_of_pick-demand.result
 broken c =
-    IsBroken-pick (demands_of c.args.bounds.now c.args.picks.now) c.requires.sound c.args.labels.now.values.items c.args.place no_pick
-    c.demand_of_pick-demand.result c.deref.result.now c.requires.place c.demand_of_pick-demand.ensures c.deref.ensures.value
+    IsBrokenDemand-pick (demands_of c.args.bounds.now c.args.picks.now) c.requires.sound c.args.labels.now.values.items c.args.index no_pick
+    c.demand_of_pick-demand.result c.deref.result.now c.requires.index c.demand_of_pick-demand.ensures c.deref.ensures.value
     (c.is_broken.ensures.broken c.if-not-is_broken.false)
 
 -- the walk that began the cycle was along the links
@@ -64,8 +64,8 @@ allowed-requires-clause-low c =
     floor-kept (demands_of c.args.bounds.now c.args.picks.now) c.requires.sound c.args.labels.now.values.items c.args.labels.now.links.items c.requires.kept
     (c.demand_of_pick-demand.result.constraint.left - 1) (get_or c.args.bounds.now (c.demand_of_pick-demand.result.constraint.left - 1) no_bounds) read.0
 
-pub note-requires : goal.note-requires
-note-requires c =
+pub push_tag-requires : goal.push_tag-requires
+push_tag-requires c =
     let few = length-cycle (demands_of c.args.bounds.now c.args.picks.now) c.args.labels.now.values.items c.args.labels.now.links.items c.requires.kept
     c.demand_of_pick-demand.result.constraint.right c.demand_of_pick-demand.result.constraint.left c.demand_of_pick-demand.result.why c.begin_cycle.new.cycle.items
     (walked c.args.labels.now.links.items c.deref-2.result.now c.demand_of_pick-demand.result.constraint.right c.demand_of_pick-demand.result.constraint.left 0
@@ -76,12 +76,12 @@ pub returns-in_default-clause-cycle : goal.returns-in_default-clause-cycle
 returns-in_default-clause-cycle c =
     let b = broken (goal.at.returns-in_default-clause-cycle c).Else-not-is_broken in
     let read = Bounded-read (demands_of c.args.bounds.now c.args.picks.now) c.demand_of_pick-demand.result.constraint.left (up (goal.at.returns-in_default-clause-cycle c).Else-begin_cycle) b.left in
-    rw c.note.ensures.items (cycle_from_floor (demands_of c.args.bounds.now c.args.picks.now) c.args.labels.now.values.items c.args.labels.now.links.items c.requires.kept
+    rw c.push_tag.ensures.items (cycle_from_floor (demands_of c.args.bounds.now c.args.picks.now) c.args.labels.now.values.items c.args.labels.now.links.items c.requires.kept
     c.demand_of_pick-demand.result c.begin_cycle.new.cycle.items (c.demand_of_pick-demand.result.constraint.left - 1) (get_or c.args.bounds.now (c.demand_of_pick-demand.result.constraint.left - 1) no_bounds) b
     (walked c.args.labels.now.links.items c.deref-2.result.now c.demand_of_pick-demand.result.constraint.right c.demand_of_pick-demand.result.constraint.left 0
     (c.demand_of_pick-demand.result.why ∷ []) c.begin_cycle.new.cycle.items c.deref-2.ensures.value c.if-begin_cycle.ensures.walked)
     read.0 read.1
-    (subst (λ (xs : List ℕ). (pos (slice_index xs c.demand_of_pick-demand.result.constraint.right) +ℤ c.demand_of_pick-demand.result.constraint.most) <ℤ pos (get_or c.args.bounds.now (c.demand_of_pick-demand.result.constraint.left - 1) no_bounds).floor)
+    (subst (λ (xs : List ℕ). (pos (slice_index xs c.demand_of_pick-demand.result.constraint.right) +ℤ c.demand_of_pick-demand.result.constraint.bound) <ℤ pos (get_or c.args.bounds.now (c.demand_of_pick-demand.result.constraint.left - 1) no_bounds).floor)
     c.deref-3.ensures.value (c.in_default.ensures.below refl)))
 
 pub returns-clause-kept : goal.returns-clause-kept
@@ -94,6 +94,6 @@ returns-clause-kept c =
     (walked c.args.labels.now.links.items c.deref-2.result.now c.demand_of_pick-demand.result.constraint.right c.demand_of_pick-demand.result.constraint.left 0
     (c.demand_of_pick-demand.result.why ∷ []) c.begin_cycle.new.cycle.items c.deref-2.ensures.value c.if-begin_cycle.ensures.walked)
     read.0 read.1
-    (subst (λ (xs : List ℕ). pos c.in-Some.value ≡ (pos (slice_index xs c.demand_of_pick-demand.result.constraint.right) +ℤ c.demand_of_pick-demand.result.constraint.most))
+    (subst (λ (xs : List ℕ). pos c.in-Some.value ≡ (pos (slice_index xs c.demand_of_pick-demand.result.constraint.right) +ℤ c.demand_of_pick-demand.result.constraint.bound))
     c.deref-3.ensures.value c.in-Some.ensures.value)
     c.in-Some.ensures.above

@@ -4,9 +4,9 @@ use Rattle.tfpg_diff.specs.Demands.{demands_of}
 use Rattle.tfpg_diff.specs.inside.Kept.{IsKept, Passes}
 use Rattle.tfpg_diff.proofs.settle.pass.Given as goal
 
-abbrev pub invariant-loop-place : goal.invariant-loop-place
-invariant-loop-place l = record {
+abbrev pub invariant-loop-index : goal.invariant-loop-index
+invariant-loop-index l = record {
   kept : IsKept (demands_of l.bounds l.picks) l.labels.values.items l.labels.links.items;
-  passes : Passes (take l.place l.picks) l.initial.labels.values.items l.lowered l.labels.values.items;
+  passes : Passes (take l.index l.picks) l.initial.labels.values.items l.lowered l.labels.values.items;
   capacity : vec_capacity l.initial.cycle ≤ vec_capacity l.cycle;
 }

@@ -4,8 +4,8 @@ use Rattle.std.proofs.Common.{arith, ap, ◌<◌, ◌≢◌, length, get_or}
 use Rattle.tfpg_diff.proofs.Walks.{Walked-more, length-walked, link_right, link_read, no_link}
 use Rattle.tfpg_diff.proofs.walk.walk.Goals as goal
 
-pub note-requires : goal.note-requires
-note-requires c =
+pub push_tag-requires : goal.push_tag-requires
+push_tag-requires c =
     let up : 0 < c.loop-stands.stands = omega arith in
     let few = length-walked c.args.links.now c.requires.labelled c.requires.rooted c.args.from c.args.sought c.loop-stands.stands
     c.args.cycle.now.items c.loop-stands.cycle.items c.loop-stands.invariant.walked up c.loop-stands.invariant.inside in
@@ -16,7 +16,7 @@ loop-stands-smaller c =
     let up : 0 < c.loop-stands.stands = omega arith in
     let few = length-walked c.args.links.now c.requires.labelled c.requires.rooted c.args.from c.args.sought c.loop-stands.stands
     c.args.cycle.now.items c.loop-stands.cycle.items c.loop-stands.invariant.walked up c.loop-stands.invariant.inside in
-    omega (arith, few, ap length c.note.ensures.items, length_push c.loop-stands.cycle.items (get_or c.args.links.now c.loop-stands.stands no_link).why)
+    omega (arith, few, ap length c.push_tag.ensures.items, length_push c.loop-stands.cycle.items (get_or c.args.links.now c.loop-stands.stands no_link).why)
 
 pub loop-stands-preserved : goal.loop-stands-preserved
 loop-stands-preserved c =
@@ -24,7 +24,7 @@ loop-stands-preserved c =
     let other : c.loop-stands.stands ≢ c.args.sought = omega arith in
     let at = link_read c.args.links.now c.loop-stands.stands c.loop-stands.invariant.inside in
     record {
-      walked = rw c.note.ensures.items (Walked-more c.args.links.now c.requires.labelled c.args.from c.args.sought c.loop-stands.stands
+      walked = rw c.push_tag.ensures.items (Walked-more c.args.links.now c.requires.labelled c.args.from c.args.sought c.loop-stands.stands
           c.args.cycle.now.items c.loop-stands.cycle.items (get_or c.args.links.now c.loop-stands.stands no_link)
           c.loop-stands.invariant.walked up other at);
       inside = link_right c.args.links.now c.requires.rooted c.loop-stands.stands (get_or c.args.links.now c.loop-stands.stands no_link) up at;

@@ -1,7 +1,7 @@
 -- A name that is new goes after the others.
-use Rattle.std.proofs.Common.{◌≡◌, ℕ, Bool, false, cond, ◌||◌, List, [], ◌∷◌, ◌++◌, map, None, position, refl, ap, ◌∙◌, Vec, Global}
+use Rattle.std.proofs.Common.{◌≡◌, ℕ, Bool, cond, List, [], ◌∷◌, ◌++◌, map, None, position, refl, ap, ◌∙◌, Vec, Global}
 use Rattle.std.proofs.lemmas.List.{map_push}
-use Rattle.std.specs.List.{list_any}
+use Rattle.std.proofs.lemmas.List.Folds.{list_any_none}
 use Rattle.std.specs.Map.{keys_of}
 use Rattle.std.specs.Str.{bytes_eq}
 use Rattle.indexmap.specs.IndexMap.{insert_entry}
@@ -10,15 +10,8 @@ use Rattle.tfpg_graph.specs.declared.declared.Declared.TheInside.{Inside}
 use Rattle.tfpg_graph.specs.declared.kind.Kind.{Kind}
 use Rattle.tfpg_graph.specs.Graph.{Tfpg, node_named, mode_named}
 use Rattle.tfpg_graph.specs.inside.Indexes.{graph_of, with_node, with_mode}
-use Rattle.tfpg_base.proofs.lists.Positions.{position-cons_none}
+use Rattle.tfpg_base.proofs.lists.Positions.{All-none, position-cons_none}
 use Rattle.tfpg_graph.proofs.lemmas.declared.Named.{index_of-node, index_of-mode}
-
--- where no place passes, none passes
-pub list_any-none : {X : Type 0} (p : X → Bool) (xs : List X) → position p xs ≡ None → list_any p xs ≡ false
-list_any-none p [] none = refl
-list_any-none p (x ∷ xs) none =
-    let first = position-cons_none p x xs none in
-    λ i. first.0 i || list_any-none p xs first.1 i
 
 -- a key that equals none goes last
 pub insert_entry-last : {K V : Type 0} (eq : K → K → Bool) (entries : List (K × V)) (key : K) (value : V)
@@ -43,6 +36,7 @@ module _ (d : Inside) (graph : Tfpg) (seen : graph_of d ≡ graph) (key : Vec �
   pub modes-insert : mode_named graph name ≡ None → map (λ mode. mode.items) (insert_key (λ a b. bytes_eq a.items b.items) d.modes.keys key) ≡ (with_mode graph name).modes
   modes-insert new =
       ap (λ b. map (λ mode. mode.items) (cond b d.modes.keys (d.modes.keys ++ key ∷ [])))
-      (list_any-none (λ other. bytes_eq key.items other.items) d.modes.keys (index_of-mode d key.items ∙ (λ i. mode_named (seen i) (named i)) ∙ new))
+      (list_any_none (λ other. bytes_eq key.items other.items) d.modes.keys
+      (All-none (λ other. bytes_eq key.items other.items) d.modes.keys (index_of-mode d key.items ∙ (λ i. mode_named (seen i) (named i)) ∙ new)))
       ∙ map_push (λ mode. mode.items) d.modes.keys key
       ∙ (λ i. (seen i).modes ++ named i ∷ [])

@@ -1,7 +1,6 @@
 -- The edge from one node to another, sought among the edges into the other.
-use Rattle.std.proofs.Common.{◌≡◌, ℕ, ◌+◌, ◌<◌, ◌==◌, Bool, true, false, cond, List, length, get_or, drop, find, Option, Some, None, slice_get, refl, ap, ◌∙◌, zero-add}
+use Rattle.std.proofs.Common.{◌≡◌, ℕ, ◌+◌, ◌==◌, Bool, false, find, Option, Some, None, slice_get, refl, ap, ◌∙◌, zero-add}
 use Rattle.std.specs.Option.{option_map, option_map_or}
-use Rattle.std.proofs.lemmas.List.{at_drop_more}
 use Rattle.tfpg_graph.specs.declared.edge.Edge.{Edge}
 use Rattle.tfpg_graph.specs.Graph.{Tfpg, incoming, edge_from_to}
 use Rattle.tfpg_base.proofs.lists.Numbered.{find-numbers_from}
@@ -23,12 +22,3 @@ find-leaving graph source target =
     find-numbers_from (λ edge. edge.target == target) (λ edge. edge.source == source) (is_leaving graph source) 0 graph.edges
     (λ i edge at. ap (is_leaving graph source) (zero-add i) ∙ is_leaving-edge graph source i edge at)
     ∙ option_map-zero (edge_from_to graph source target)
-
-module _ (test : ℕ → Bool) (xs : List ℕ) (i : ℕ) (within : i < length xs) where
-  -- what fails is skipped
-  pub find-past : test (get_or xs i 0) ≡ false → find test (drop i xs) ≡ find test (drop (i + 1) xs)
-  find-past fails = at_drop_more (find test) xs i 0 within ∙ ap (λ b. cond b (Some (get_or xs i 0)) (find test (drop (i + 1) xs))) fails
-
-  -- what passes is found
-  pub find-here : test (get_or xs i 0) ≡ true → find test (drop i xs) ≡ Some (get_or xs i 0)
-  find-here passes = at_drop_more (find test) xs i 0 within ∙ ap (λ b. cond b (Some (get_or xs i 0)) (find test (drop (i + 1) xs))) passes

@@ -9,6 +9,7 @@ use Rattle.tfpg_base.specs.Words.{is_name}
 use Rattle.tfpg_graph.specs.declared.declared.Declared.TheInside.{Inside}
 use Rattle.tfpg_graph.specs.declared.kind.Kind.{Kind}
 use Rattle.tfpg_graph.specs.declared.edge.Edge.{Edge}
+use Rattle.tfpg_graph.specs.declared.limits.TheConstants.{MAX_NODES, MAX_FAILURES, MAX_EDGES, MAX_INCOMING, MAX_MODES}
 use Rattle.tfpg_graph.specs.Graph.{Tfpg, Node, is_failure, failures, incoming, position_of_failure, node_named, mode_named, edge_from_to}
 use Rattle.tfpg_base.specs.Choice.{numbers_from}
 use Rattle.tfpg_graph.specs.Valid.{HasValidNumber, IsValidEdge, IsSamePair, IsValidSoFar}
@@ -42,7 +43,7 @@ HasIndexes-with_mode graph name rows failed positions is = record {
   position_is = is.position_is;
 }
 
-pub IsValidSoFar-with_mode : (graph : Tfpg) (name : List ℕ) → graph.edges ≡ [] → IsTrue (is_name name) → mode_named graph name ≡ None → length graph.modes < 64 → IsValidSoFar graph → IsValidSoFar (with_mode graph name)
+pub IsValidSoFar-with_mode : (graph : Tfpg) (name : List ℕ) → graph.edges ≡ [] → IsTrue (is_name name) → mode_named graph name ≡ None → length graph.modes < MAX_MODES → IsValidSoFar graph → IsValidSoFar (with_mode graph name)
 IsValidSoFar-with_mode graph name none named new room is = record {
   node_names = is.node_names;
   nodes_differ = is.nodes_differ;
@@ -85,9 +86,9 @@ new_position false node failed below =
     ap (position (λ f. f == node)) (append-nil failed)
     ∙ position-All_fail (λ f. f == node) failed (All-weaker (λ f. f < node) (λ f. (f == node) ≡ false) (λ f lt. ne_eqb f node (λ e. omega (arith, e, lt))) failed below)
 
-few_with_failure : (failure : Bool) (node : ℕ) (failed : List ℕ) → length failed ≤ 64 → (IsTrue failure → length failed < 64) → length (with_failure failure node failed) ≤ 64
+few_with_failure : (failure : Bool) (node : ℕ) (failed : List ℕ) → length failed ≤ MAX_FAILURES → (IsTrue failure → length failed < MAX_FAILURES) → length (with_failure failure node failed) ≤ MAX_FAILURES
 few_with_failure true node failed few room = omega (arith, length_push failed node, room refl)
-few_with_failure false node failed few room = subst (λ xs. length xs ≤ 64) (sym (append-nil failed)) few
+few_with_failure false node failed few room = subst (λ xs. length xs ≤ MAX_FAILURES) (sym (append-nil failed)) few
 
 module _ (graph : Tfpg) (name : List ℕ) (kind : Kind) where
   abbrev new_node : Node
@@ -117,8 +118,8 @@ module _ (graph : Tfpg) (name : List ℕ) (kind : Kind) where
           ∙ (λ i. position (λ f. f == sym last i) (with_failure (is_failure kind) (length graph.nodes) (failures graph)))
           ∙ sym (ap (position (λ f. f == node)) (failures-with_node graph name kind))
 
-  pub IsValidSoFar-with_node : graph.edges ≡ [] → IsTrue (is_name name) → node_named graph name ≡ None → HasValidNumber kind → length graph.nodes < 512
-      → (IsTrue (is_failure kind) → length (failures graph) < 64) → IsValidSoFar graph → IsValidSoFar (with_node graph name kind)
+  pub IsValidSoFar-with_node : graph.edges ≡ [] → IsTrue (is_name name) → node_named graph name ≡ None → HasValidNumber kind → length graph.nodes < MAX_NODES
+      → (IsTrue (is_failure kind) → length (failures graph) < MAX_FAILURES) → IsValidSoFar graph → IsValidSoFar (with_node graph name kind)
   IsValidSoFar-with_node none named new number room failure_room is =
       record {
         node_names = All-push (λ n. IsTrue (is_name n.name)) graph.nodes new_node is.node_names named;
@@ -130,7 +131,7 @@ module _ (graph : Tfpg) (name : List ℕ) (kind : Kind) where
         edges = All-same (IsValidEdge (with_node graph name kind)) graph.edges [] none (All-nil (IsValidEdge (with_node graph name kind)));
         edges_differ = is.edges_differ;
         few_nodes = omega (arith, length_push graph.nodes new_node);
-        few_failures = subst (λ xs. length xs ≤ 64) (sym (failures-with_node graph name kind)) (few_with_failure (is_failure kind) (length graph.nodes) (failures graph) is.few_failures failure_room);
+        few_failures = subst (λ xs. length xs ≤ MAX_FAILURES) (sym (failures-with_node graph name kind)) (few_with_failure (is_failure kind) (length graph.nodes) (failures graph) is.few_failures failure_room);
         few_edges = is.few_edges;
         few_modes = is.few_modes;
         few_incoming = is.few_incoming;
@@ -141,8 +142,8 @@ module _ (d e : Inside) (graph : Tfpg) (name : List ℕ) (kind : Kind) (before :
       → map (λ row. row.items) e.incoming.items ≡ map (λ row. row.items) d.incoming.items ++ [] ∷ []
       → e.failures.items ≡ with_failure (is_failure kind) (length graph.nodes) d.failures.items
       → e.positions.items ≡ d.positions.items ++ cond (is_failure kind) (Some (length d.failures.items)) None ∷ []
-      → graph.edges ≡ [] → IsTrue (is_name name) → node_named graph name ≡ None → HasValidNumber kind → length graph.nodes < 512
-      → (IsTrue (is_failure kind) → length (failures graph) < 64) → IsDeclared e
+      → graph.edges ≡ [] → IsTrue (is_name name) → node_named graph name ≡ None → HasValidNumber kind → length graph.nodes < MAX_NODES
+      → (IsTrue (is_failure kind) → length (failures graph) < MAX_FAILURES) → IsDeclared e
   IsDeclared-with_node is rows failed positions none named new number room failure_room =
       let was = IsDeclared-seen_as d graph before is in
       let more = HasIndexes-with_node graph name kind (map (λ row. row.items) d.incoming.items) d.failures.items d.positions.items none was.0 in
@@ -189,7 +190,7 @@ module _ (graph : Tfpg) (edge : Edge) where
     into_discrepancy = is.into_discrepancy;
     no_self_edge = is.no_self_edge;
     least = is.least;
-    most = is.most;
+    greatest = is.greatest;
     some_mode = is.some_mode;
     own_modes = is.own_modes;
   }
@@ -197,13 +198,13 @@ module _ (graph : Tfpg) (edge : Edge) where
   differs_from_new : (e : Edge) → ((e.source == edge.source) && (e.target == edge.target)) ≡ false → IsSamePair e edge → ⊥
   differs_from_new e fails same = false≢true (sym fails ∙ and_from _ _ (eq-eqb e.source edge.source same.0) (eq-eqb e.target edge.target same.1))
 
-  few_incoming_with_edge : length (incoming graph edge.target) < 32 → (node : ℕ) → length (incoming graph node) ≤ 32 → length (incoming (with_edge graph edge) node) ≤ 32
+  few_incoming_with_edge : length (incoming graph edge.target) < MAX_INCOMING → (node : ℕ) → length (incoming graph node) ≤ MAX_INCOMING → length (incoming (with_edge graph edge) node) ≤ MAX_INCOMING
   few_incoming_with_edge room node few = ⊎_elim
-      (λ same. subst (λ xs. length xs ≤ 32) (sym (incoming-target node same)) (omega (arith, length_push (incoming graph edge.target) (length graph.edges))))
-      (λ differs. subst (λ xs. length xs ≤ 32) (sym (incoming-other node differs)) few)
+      (λ same. subst (λ xs. length xs ≤ MAX_INCOMING) (sym (incoming-target node same)) (omega (arith, length_push (incoming graph edge.target) (length graph.edges))))
+      (λ differs. subst (λ xs. length xs ≤ MAX_INCOMING) (sym (incoming-other node differs)) few)
       (cases_eq node edge.target)
 
-  pub IsValidSoFar-with_edge : IsValidEdge graph edge → edge_from_to graph edge.source edge.target ≡ None → length graph.edges < 2048 → length (incoming graph edge.target) < 32
+  pub IsValidSoFar-with_edge : IsValidEdge graph edge → edge_from_to graph edge.source edge.target ≡ None → length graph.edges < MAX_EDGES → length (incoming graph edge.target) < MAX_INCOMING
       → IsValidSoFar graph → IsValidSoFar (with_edge graph edge)
   IsValidSoFar-with_edge valid new room incoming_room is = record {
     node_names = is.node_names;
@@ -227,7 +228,7 @@ module _ (d e : Inside) (graph : Tfpg) (edge : Edge) (before : graph_of d ≡ gr
   pub IsDeclared-with_edge : IsDeclared d
       → map (λ row. row.items) e.incoming.items ≡ set (map (λ row. row.items) d.incoming.items) edge.target (incoming graph edge.target ++ length graph.edges ∷ [])
       → e.failures.items ≡ d.failures.items → e.positions.items ≡ d.positions.items
-      → IsValidEdge graph edge → edge_from_to graph edge.source edge.target ≡ None → length graph.edges < 2048 → length (incoming graph edge.target) < 32 → IsDeclared e
+      → IsValidEdge graph edge → edge_from_to graph edge.source edge.target ≡ None → length graph.edges < MAX_EDGES → length (incoming graph edge.target) < MAX_INCOMING → IsDeclared e
   IsDeclared-with_edge is rows failed positions valid new room incoming_room =
       let was = IsDeclared-seen_as d graph before is in
       let more = HasIndexes-with_edge graph edge (map (λ row. row.items) d.incoming.items) d.failures.items d.positions.items valid.target was.0 in

@@ -12,12 +12,9 @@ use Rattle.tfpg_graph.specs.declared.kind.Kind.{Kind}
 use Rattle.tfpg_graph.specs.declared.kind.Kind.TheVariants.{Failure}
 use Rattle.tfpg_graph.specs.Graph.{Tfpg, Node, incoming, kind_at, name_at, node_named, mode_named}
 use Rattle.tfpg_graph.specs.inside.Indexes.{graph_of, HasIndexes}
+use Rattle.tfpg_base.proofs.lists.Choices.{option_map-twice}
 use Rattle.tfpg_base.proofs.lists.Positions.{position-agrees, position-map}
 use Rattle.tfpg_base.proofs.lists.SameBytes.{bytes_eq-swapped}
-
-option_map-twice : {A B C : Type 0} (f : A → B) (g : B → C) (o : Option A) → option_map g (option_map f o) ≡ option_map (λ x. g (f x)) o
-option_map-twice f g None = refl
-option_map-twice f g (Some x) = refl
 
 module _ (d : Inside) where
   -- a node is where its name stands among the keys

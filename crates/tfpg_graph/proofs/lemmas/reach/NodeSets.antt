@@ -7,84 +7,64 @@ use Rattle.std.proofs.lemmas.List.Elements.{All-nil, All-set, All-get_or, All-co
 use Rattle.std.proofs.lemmas.Nat.{or_lt, mod_below}
 use Rattle.tfpg_base.specs.Set.{with_member}
 use Rattle.tfpg_base.specs.SetBits.{members_of}
-use Rattle.tfpg_base.proofs.lists.Elements.{AllPairs-head, AllPairs-tail, AllPairs-cons, All-from_members, Contains-head, Contains-tail, Contains-nil}
-use Rattle.tfpg_base.proofs.lists.Ordered.{AllPairs-append, Rises-shifted}
+use Rattle.tfpg_base.proofs.lists.Distinct.{length-le_distinct}
+use Rattle.tfpg_base.proofs.lists.Elements.{All-from_members, Contains-head, Contains-tail, Contains-nil}
+use Rattle.tfpg_base.proofs.lists.Ordered.{AllPairs-append, Rises-differ, Rises-shifted}
 use Rattle.tfpg_base.proofs.Sets.{Rises, same_from_members, Contains-with_member, with_member-keeps, with_member-only, Rises-with_member, IsSet-members_of, members_of-is, members_of-zero, members_of-set, bit_says_member}
+use Rattle.tfpg_graph.specs.declared.limits.TheConstants.{MAX_NODES}
 use Rattle.tfpg_graph.specs.NodeSet.{IsNodeSet}
 use Rattle.tfpg_graph.specs.inside.reach.NodeWords.{nodes_from, nodes_of, AreWords}
 use Rattle.tfpg_base.proofs.lists.Images.{Contains-map, Contains-map_only}
 
--- ---- lists
-
--- what rises between two bounds is no longer than there is room
-rises_within : (xs : List ℕ) (low high : ℕ) → Rises xs → low ≤ high → ((x : ℕ) → Contains xs x → (low ≤ x) × (x < high))
-    → low + length xs ≤ high
-rises_within [] low high rising room within = omega arith
-rises_within (first ∷ others) low high rising room within =
-    let here = within first (Contains-head first others) in
-    let rest = rises_within others (suc first) high (AllPairs-tail ◌<◌ first others rising) (omega (arith, here.1))
-    (λ x member. (
-      omega (
-        arith,
-        All-contains (λ y. first < y) others x
-            (AllPairs-head ◌<◌ first others rising) member,
-      ),
-      (within x (Contains-tail first others x member)).1,
-    )) in
-    omega (arith, here.0, rest)
-
--- A set of nodes has at most 512.
-pub IsNodeSet-few : (nodes : List ℕ) → IsNodeSet nodes → length nodes ≤ 512
-IsNodeSet-few nodes set =
-    let few = rises_within nodes 0 512 set.rising (omega arith)
-    (λ x member. (omega arith, All-contains (λ node. node < 512) nodes x set.small member)) in
-    omega (arith, few)
+-- A set of nodes has at most as many as a graph.
+pub IsNodeSet-few : (nodes : List ℕ) → IsNodeSet nodes → length nodes ≤ MAX_NODES
+IsNodeSet-few nodes set = length-le_distinct nodes MAX_NODES (Rises-differ nodes set.rising) set.small
 
 -- the set without a node is a set of nodes
 pub IsNodeSet-nil : IsNodeSet []
-IsNodeSet-nil = record { rising = λ i j d before within. absurd (omega arith); small = All-nil (λ node. node < 512) }
+IsNodeSet-nil = record { rising = λ i j d before within. absurd (omega arith); small = All-nil (λ node. node < MAX_NODES) }
 
 -- a set of nodes with a node more is one
-pub IsNodeSet-with : (node : ℕ) (nodes : List ℕ) → node < 512 → IsNodeSet nodes → IsNodeSet (with_member node nodes)
+pub IsNodeSet-with : (node : ℕ) (nodes : List ℕ) → node < MAX_NODES → IsNodeSet nodes → IsNodeSet (with_member node nodes)
 IsNodeSet-with node nodes small set = record {
   rising = Rises-with_member node nodes set.rising;
-  small = All-from_members (λ n. n < 512) (with_member node nodes)
+  small = All-from_members (λ n. n < MAX_NODES) (with_member node nodes)
       (λ other member. ⊎_elim (λ is. omega (arith, small, is))
-      (λ old. All-contains (λ n. n < 512) nodes other set.small old) (with_member-only node nodes other member));
+      (λ old. All-contains (λ n. n < MAX_NODES) nodes other set.small old) (with_member-only node nodes other member));
 }
 
 -- a node that is new makes a set longer by one
-pub length-with_member : (node : ℕ) (nodes : List ℕ) → (Contains nodes node → ⊥)
+pub length-with_new_member : (node : ℕ) (nodes : List ℕ) → (Contains nodes node → ⊥)
     → length (with_member node nodes) ≡ suc (length nodes)
-length-with_member node [] new = refl
-length-with_member node (first ∷ others) new =
+length-with_new_member node [] new = refl
+length-with_new_member node (first ∷ others) new =
     cond_both (ltb node first) _ _ (λ more. length more ≡ suc (suc (length others))) (λ less. refl)
     (λ not_less. cond_both (eqb node first) _ _ (λ more. length more ≡ suc (suc (length others)))
     (λ equal. absurd (new (subst (λ (n : ℕ). Contains (first ∷ others) n) (sym (eqb-true node first equal))
     (Contains-head first others))))
-    (λ unequal. ap suc (length-with_member node others (λ member. new (Contains-tail first others node member)))))
+    (λ unequal. ap suc (length-with_new_member node others (λ member. new (Contains-tail first others node member)))))
 
 -- ---- the nodes that words keep
 
--- where words keep a node: in which word, and at which place
+-- where words keep a node: in which word, and at which index
 record KeptAt (first : ℕ) (words : List ℕ) (node : ℕ) : Type 0 where
   word : ℕ
-  place : ℕ
+  index : ℕ
   within : word < length words
-  small : place < 64
-  is : node ≡ first + (64 * word + place)
-  member : Contains (members_of (get_or words word 0)) place
+  small : index < 64
+  is : node ≡ first + (64 * word + index)
+  member : Contains (members_of (get_or words word 0)) index
 
--- what words keep stands at a place in a word
+-- what words keep stands at an index in a word
 nodes_from-only : (first : ℕ) (words : List ℕ) (node : ℕ) → Contains (nodes_from first words) node
     → KeptAt first words node
 unfolding nodes_from
 nodes_from-only first [] node kept = absurd (Contains-nil node kept)
 nodes_from-only first (word ∷ words) node kept =
-    ⊎_elim (λ here. let old = Contains-map_only (λ place. first + place) (members_of word) node here in
+    ⊎_elim (λ here. let old = Contains-map_only (λ index. first + index) (members_of word) node here in
     record {
       word = 0;
-      place = old.0;
+      index = old.0;
       within = omega arith;
       small = ((members_of-is word old.0).0 old.1).0;
       is = omega (arith, old.2);
@@ -93,36 +73,36 @@ nodes_from-only first (word ∷ words) node kept =
     (λ later. let old = nodes_from-only (first + 64) words node later in
     record {
       word = suc old.word;
-      place = old.place;
+      index = old.index;
       within = omega (arith, old.within);
       small = old.small;
       is = omega (arith, old.is);
       member = old.member;
     })
-    (Contains-append_cases (map (λ place. first + place) (members_of word)) (nodes_from (first + 64) words) node kept)
+    (Contains-append_cases (map (λ index. first + index) (members_of word)) (nodes_from (first + 64) words) node kept)
 
--- what stands at a place in a word is kept
-nodes_from-all : (first : ℕ) (words : List ℕ) (word place node : ℕ) → word < length words
-    → Contains (members_of (get_or words word 0)) place → node ≡ first + (64 * word + place)
+-- what stands at an index in a word is kept
+nodes_from-all : (first : ℕ) (words : List ℕ) (word index node : ℕ) → word < length words
+    → Contains (members_of (get_or words word 0)) index → node ≡ first + (64 * word + index)
     → Contains (nodes_from first words) node
 unfolding nodes_from
-nodes_from-all first [] word place node within member is = absurd (omega arith)
-nodes_from-all first (w ∷ words) zero place node within member is =
-    let here : node ≡ first + place = omega arith in
+nodes_from-all first [] word index node within member is = absurd (omega arith)
+nodes_from-all first (w ∷ words) zero index node within member is =
+    let here : node ≡ first + index = omega arith in
     Contains-append_left (map (λ p. first + p) (members_of w)) (nodes_from (first + 64) words) node
-    (rw here (Contains-map (λ p. first + p) (members_of w) place member))
-nodes_from-all first (w ∷ words) (suc word) place node within member is =
+    (rw here (Contains-map (λ p. first + p) (members_of w) index member))
+nodes_from-all first (w ∷ words) (suc word) index node within member is =
     Contains-append_right (map (λ p. first + p) (members_of w)) (nodes_from (first + 64) words) node
-    (nodes_from-all (first + 64) words word place node (omega arith) member (omega arith))
+    (nodes_from-all (first + 64) words word index node (omega arith) member (omega arith))
 
 -- the nodes that words keep rise
 Rises-nodes_from : (first : ℕ) (words : List ℕ) → Rises (nodes_from first words)
 unfolding nodes_from
 Rises-nodes_from first [] = λ i j d before within. absurd (omega arith)
 Rises-nodes_from first (word ∷ words) =
-    AllPairs-append ◌<◌ (map (λ place. first + place) (members_of word)) (nodes_from (first + 64) words)
+    AllPairs-append ◌<◌ (map (λ index. first + index) (members_of word)) (nodes_from (first + 64) words)
     (Rises-shifted first (members_of word) (IsSet-members_of word).rising) (Rises-nodes_from (first + 64) words)
-    (λ x y in_x in_y. let low = Contains-map_only (λ place. first + place) (members_of word) x in_x in
+    (λ x y in_x in_y. let low = Contains-map_only (λ index. first + index) (members_of word) x in_x in
     let high = nodes_from-only (first + 64) words y in_y in
     omega (arith, low.2, ((members_of-is word low.0).0 low.1).0, high.is))
 
@@ -130,7 +110,7 @@ Rises-nodes_from first (word ∷ words) =
 IsNodeSet-nodes_of : (words : List ℕ) → length words ≡ 8 → IsNodeSet (nodes_of words)
 IsNodeSet-nodes_of words count = record {
   rising = Rises-nodes_from 0 words;
-  small = All-from_members (λ node. node < 512) (nodes_of words)
+  small = All-from_members (λ node. node < MAX_NODES) (nodes_of words)
       (λ node kept. let at = nodes_from-only 0 words node kept in omega (arith, at.is, at.small, at.within, count));
 }
 
@@ -143,8 +123,8 @@ node_in_word : (words : List ℕ) (node : ℕ) → Contains (nodes_of words) nod
 node_in_word words node kept =
     let at = nodes_from-only 0 words node kept in
     let word : node / 64 ≡ at.word = omega (arith, at.is, at.small) in
-    let place : node % 64 ≡ at.place = omega (arith, at.is, at.small) in
-    rw (word, place) at.member
+    let index : node % 64 ≡ at.index = omega (arith, at.is, at.small) in
+    rw (word, index) at.member
 
 -- and that is one of the words
 word_within : (words : List ℕ) (node : ℕ) → Contains (nodes_of words) node → node / 64 < length words
@@ -159,7 +139,7 @@ node_from_word words node within member = nodes_from-all 0 words (node / 64) (no
 
 -- one word with one more bit
 abbrev with_bit : ℕ → ℕ → ℕ
-with_bit word place = bit_or word (1 * 2 ^ place % 2 ^ 64)
+with_bit word index = bit_or word (1 * 2 ^ index % 2 ^ 64)
 
 -- the words with the bit of one more node
 abbrev pub with_node_bit : List ℕ → ℕ → List ℕ
@@ -167,10 +147,6 @@ with_node_bit words node = set words (node / 64) (with_bit (get_or words (node /
 
 length-with_node_bit : (words : List ℕ) (node : ℕ) → length (with_node_bit words node) ≡ length words
 length-with_node_bit words node = length-set words (node / 64) (with_bit (get_or words (node / 64) 0) (node % 64))
-
--- what stands in a list stands in an equal one
-Contains-same : (xs ys : List ℕ) (x : ℕ) → xs ≡ ys → Contains xs x → Contains ys x
-Contains-same xs ys x same = subst (λ (zs : List ℕ). Contains zs x) same
 
 module _ (words : List ℕ) (node other : ℕ) (within : node / 64 < length words) where
   -- the word of the node has one member more
@@ -204,10 +180,8 @@ module _ (words : List ℕ) (node other : ℕ) (within : node / 64 < length word
       (Contains-with_member node (nodes_of words)))
       stays
       (with_member-only (node % 64) (word_of words other) (other % 64)
-      (Contains-same (word_of more other) (with_member (node % 64) (word_of words other)) (other % 64)
-      (word_of-same same) member)))
-      (λ differs. stays (Contains-same (word_of more other) (word_of words other) (other % 64)
-      (word_of-other differs) member))
+      (subst (λ (zs : List ℕ). Contains zs (other % 64)) (word_of-same same) member)))
+      (λ differs. stays (subst (λ (zs : List ℕ). Contains zs (other % 64)) (word_of-other differs) member))
       (cases_eq (other / 64) (node / 64))
 
   -- the node is kept then, and all that was
@@ -219,16 +193,16 @@ module _ (words : List ℕ) (node other : ℕ) (within : node / 64 < length word
       let new_word = with_member (node % 64) (word_of words other) in
       let in_same = λ (same : other / 64 ≡ node / 64) (there : Contains new_word (other % 64)).
       node_from_word more other (omega (arith, long, same, within))
-      (Contains-same new_word (word_of more other) (other % 64) (sym (word_of-same same)) there) in
+      (subst (λ (zs : List ℕ). Contains zs (other % 64)) (sym (word_of-same same)) there) in
       ⊎_elim
-      (λ is. let place : node % 64 ≡ other % 64 = omega (arith, is) in
-      in_same (omega (arith, is)) (subst (λ (p : ℕ). Contains new_word p) place
+      (λ is. let index : node % 64 ≡ other % 64 = omega (arith, is) in
+      in_same (omega (arith, is)) (subst (λ (p : ℕ). Contains new_word p) index
       (Contains-with_member (node % 64) (word_of words other))))
       (λ old. let there = node_in_word words other old in
       ⊎_elim
       (λ same. in_same same (with_member-keeps (node % 64) (word_of words other) (other % 64) there))
       (λ differs. node_from_word more other (omega (arith, long, word_within words other old))
-      (Contains-same (word_of words other) (word_of more other) (other % 64) (sym (word_of-other differs)) there))
+      (subst (λ (zs : List ℕ). Contains zs (other % 64)) (sym (word_of-other differs)) there))
       (cases_eq (other / 64) (node / 64)))
       (with_member-only node (nodes_of words) other member)
 
@@ -253,33 +227,33 @@ module _ (words nodes : List ℕ) (are : AreWords words) (view : nodes_of words 
   IsNodeSet-from_words = rw (← view) (IsNodeSet-nodes_of words are.count)
 
   -- the bit of a node says whether it is kept
-  pub bit_says_node : (node : ℕ) → node < 512
+  pub bit_says_node : (node : ℕ) → node < MAX_NODES
       → IsTrue (nat_eq (bit_and (get_or words (node / 64) 0 / 2 ^ (node % 64)) 1) 1) ↔ Contains nodes node
   bit_says_node node small =
       let by_bit = bit_says_member (get_or words (node / 64) 0) (node % 64) (word_of words node) refl (omega arith) in
       let within : node / 64 < length words = omega (arith, are.count) in
       rw (← view) (λ yes. node_from_word words node within (by_bit.0 yes), λ kept. by_bit.1 (node_in_word words node kept))
 
-  -- no node from 512 on is kept
-  pub beyond_no_node : (node : ℕ) → 512 ≤ node → Contains nodes node → ⊥
+  -- no node from the limit on is kept
+  pub beyond_no_node : (node : ℕ) → MAX_NODES ≤ node → Contains nodes node → ⊥
   beyond_no_node node beyond member = omega (
     arith,
     beyond,
     All-contains
-        (λ n. n < 512) nodes node IsNodeSet-from_words.small member,
+        (λ n. n < MAX_NODES) nodes node IsNodeSet-from_words.small member,
   )
 
   -- the words with the bit of a node keep the set with that node
-  pub with_bit_keeps_node : (node : ℕ) → node < 512 → nodes_of (with_node_bit words node) ≡ with_member node nodes
+  pub with_bit_keeps_node : (node : ℕ) → node < MAX_NODES → nodes_of (with_node_bit words node) ≡ with_member node nodes
   with_bit_keeps_node node small = nodes_of-set words node (omega (arith, are.count)) ∙ ap (with_member node) view
 
   -- which is a set of nodes
-  pub IsNodeSet-with_bit : (node : ℕ) → node < 512 → IsNodeSet (nodes_of (with_node_bit words node))
+  pub IsNodeSet-with_bit : (node : ℕ) → node < MAX_NODES → IsNodeSet (nodes_of (with_node_bit words node))
   IsNodeSet-with_bit node small = IsNodeSet-nodes_of (with_node_bit words node)
       (length-with_node_bit words node ∙ are.count)
 
 -- words stay words when a bit is set
-pub AreWords-with_bit : (words : List ℕ) (node : ℕ) → node < 512 → AreWords words → AreWords (with_node_bit words node)
+pub AreWords-with_bit : (words : List ℕ) (node : ℕ) → node < MAX_NODES → AreWords words → AreWords (with_node_bit words node)
 AreWords-with_bit words node small are = record {
   count = length-with_node_bit words node ∙ are.count;
   small =

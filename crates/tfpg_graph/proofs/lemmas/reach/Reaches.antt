@@ -13,6 +13,7 @@ use Rattle.tfpg_base.proofs.lists.Elements.{All-from_members}
 use Rattle.tfpg_base.proofs.Sets.{same_from_members, Contains-with_member, with_member-keeps, with_member-only}
 use Rattle.tfpg_graph.specs.declared.kind.Kind.{Kind}
 use Rattle.tfpg_graph.specs.declared.kind.Kind.TheVariants.{Failure, Or, And}
+use Rattle.tfpg_graph.specs.declared.limits.TheConstants.{MAX_NODES}
 use Rattle.tfpg_graph.specs.Graph.{Tfpg, is_failure, is_or, is_and, is_kind_at, kind_at, failures, failure_at, edges_into}
 use Rattle.tfpg_graph.specs.NodeSet.{IsNodeSet}
 use Rattle.tfpg_graph.specs.Reach.{IsClosed, Reaches, IsReach, is_among}
@@ -20,7 +21,7 @@ use Rattle.tfpg_graph.specs.Valid.{IsValid}
 use Rattle.tfpg_graph.specs.inside.reach.Reaching.{IsFedAs, IsFed, IsFullBefore, AreReached, Widens}
 use Rattle.tfpg_base.proofs.lists.Numbered.{All-below-numbers_from}
 use Rattle.tfpg_graph.proofs.NodeAt.{kind_test}
-use Rattle.tfpg_graph.proofs.lemmas.reach.NodeSets.{IsNodeSet-nil, IsNodeSet-with, length-with_member}
+use Rattle.tfpg_graph.proofs.lemmas.reach.NodeSets.{IsNodeSet-nil, IsNodeSet-with, length-with_new_member}
 
 -- ---- the kind of a node
 
@@ -49,8 +50,8 @@ module _ (graph : Tfpg) (node : ℕ) where
       by (Some (And lag)) is passes = (lag, is)
 
   -- what has a kind is a node
-  kind_within : (kind : Kind) → kind_at graph node ≡ Some kind → node < length graph.nodes
-  kind_within kind is =
+  kind_at-within : (kind : Kind) → kind_at graph node ≡ Some kind → node < length graph.nodes
+  kind_at-within kind is =
       let within = slice_get_within (map (λ n. n.kind) graph.nodes) node kind
       (slice_get-map (λ n. n.kind) graph.nodes node ∙ is) in
       omega (arith, within, length-map graph.nodes (λ n. n.kind))
@@ -118,13 +119,13 @@ Widens-along graph a b c first then = record {
 }
 
 -- a set with one node more that it feeds
-pub Widens-with : (graph : Tfpg) (nodes : List ℕ) (node : ℕ) → node < 512 → (Contains nodes node → ⊥)
+pub Widens-with : (graph : Tfpg) (nodes : List ℕ) (node : ℕ) → node < MAX_NODES → (Contains nodes node → ⊥)
     → IsFed graph nodes node → Widens graph nodes (with_member node nodes)
 Widens-with graph nodes node small new fed = record {
   is_set = IsNodeSet-with node nodes small;
   keeps = with_member-keeps node nodes;
   reached = λ set reached. reached-with graph set nodes reached node (fed_is_reached graph set nodes reached node fed);
-  longer = omega (arith, length-with_member node nodes new);
+  longer = omega (arith, length-with_new_member node nodes new);
 }
 
 -- what grows stays reached
@@ -137,11 +138,11 @@ AreReached-widened graph set old new widens are = record {
 }
 
 -- what a set becomes by a node that is new in it and that it feeds
-pub Widens-to : (graph : Tfpg) (old new : List ℕ) (node : ℕ) → new ≡ with_member node old → node < 512
+pub Widens-to : (graph : Tfpg) (old new : List ℕ) (node : ℕ) → new ≡ with_member node old → node < MAX_NODES
     → (Contains old node → ⊥) → IsFed graph old node → Widens graph old new × (length old < length new)
 Widens-to graph old new node is small lacks fed =
     subst (λ (nodes : List ℕ). Widens graph old nodes × (length old < length nodes)) (sym is)
-    (Widens-with graph old node small lacks fed, omega (arith, length-with_member node old lacks))
+    (Widens-with graph old node small lacks fed, omega (arith, length-with_new_member node old lacks))
 
 -- one node further up: where nothing is added, all before the next node that are fed are there
 pub IsFullBefore-more : (graph : Tfpg) (old new : List ℕ) (node : ℕ) → new ≡ old
@@ -178,7 +179,7 @@ module _ (graph : Tfpg) (set : List ℕ) where
       (All-contains (λ p. IfSome (failure_at graph p) (λ n. IsTrue (test n))) set position closed.members member)
 
   -- the number of such a node is small
-  pub own_small : IsValid graph → (position node : ℕ) → failure_at graph position ≡ Some node → node < 512
+  pub own_small : IsValid graph → (position node : ℕ) → failure_at graph position ≡ Some node → node < MAX_NODES
   own_small valid position node at =
       let within = slice_get_within (failures graph) position node at in
       let below : node < length graph.nodes = subst (λ (n : ℕ). n < length graph.nodes)
@@ -189,7 +190,7 @@ module _ (graph : Tfpg) (set : List ℕ) where
 
   module _ (end : ℕ) (nodes : List ℕ) (are : AreReachedBefore graph set end nodes) where
     -- one position on, with its node
-    pub AreReachedBefore-with : (node : ℕ) → node < 512 → Contains set end → failure_at graph end ≡ Some node
+    pub AreReachedBefore-with : (node : ℕ) → node < MAX_NODES → Contains set end → failure_at graph end ≡ Some node
         → AreReachedBefore graph set (end + 1) (with_member node nodes)
     AreReachedBefore-with node small member at = record {
       is_set = IsNodeSet-with node nodes small are.is_set;
@@ -246,7 +247,7 @@ module _ (graph : Tfpg) (set nodes : List ℕ) (are : AreReached graph set nodes
   fed_passes_too : (node : ℕ) (kind : Kind) → kind_at graph node ≡ Some kind → IsFedAs graph nodes node kind
       → IsTrue (is_among nodes node)
   fed_passes_too node kind is fed =
-      among-from_Contains nodes node (full node (kind_within graph node kind is)
+      among-from_Contains nodes node (full node (kind_at-within graph node kind is)
       (subst (λ (kind : Option Kind). IsSomeAnd kind (IsFedAs graph nodes node)) (sym is) fed))
 
   -- where nothing more is fed, the test of being one of the nodes is closed

@@ -13,7 +13,7 @@ use Rattle.tfpg_graph.specs.Causes.{cause_at}
 use Rattle.tfpg_graph.specs.declared.reading.reader.Part.{Part}
 use Rattle.tfpg_graph.specs.declared.reading.reader.Part.TheVariants.{Header, Declarations, Ended}
 use Rattle.tfpg_graph.specs.declared.reading.reader.Reader.{Reader}
-use Rattle.tfpg_graph.specs.inside.reading.Turns.{is_misplaced, progress_with, cause_or_value, turn_said, turn_of, turn, part_after, HasValue, ReaderRepresents}
+use Rattle.tfpg_graph.specs.inside.reading.Turns.{is_misplaced, reader_with, cause_or_value, turn_said, turn_of, turn, part_after, HasValue, ReaderRepresents}
 use Rattle.tfpg_base.proofs.lists.Valued.{is_some-option_map}
 use Rattle.tfpg_graph.proofs.lemmas.reading.DeclaredBy.{AllHaveValues}
 use Rattle.tfpg_graph.proofs.lemmas.reading.CauseAt.{cause-ended, cause-unended}
@@ -28,11 +28,11 @@ is_caused None (Some value) cause valued failed = absurd cc
 is_caused None None cause valued failed = absurd (false≢true (valued refl))
 
 -- a statement with its value takes the reader further
-progress-some : (graph : Tfpg) (said : Statement) → HasValue graph said → is_some (progress_with graph said) ≡ true
-progress-some graph (DeclaresMode name) value = refl
-progress-some graph (DeclaresNode name words) value = is_some-option_map _ (kind_of_words words) ∙ value
-progress-some graph (DeclaresEdge source target tmin tmax modes) value = is_some-option_map _ (edge_declared graph (DeclaresEdge source target tmin tmax modes)) ∙ value
-progress-some graph Ends value = refl
+reader_with-some : (graph : Tfpg) (said : Statement) → HasValue graph said → is_some (reader_with graph said) ≡ true
+reader_with-some graph (DeclaresMode name) value = refl
+reader_with-some graph (DeclaresNode name words) value = is_some-option_map _ (kind_of_words words) ∙ value
+reader_with-some graph (DeclaresEdge source target tmin tmax modes) value = is_some-option_map _ (edge_declared graph (DeclaresEdge source target tmin tmax modes)) ∙ value
+reader_with-some graph Ends value = refl
 
 module _ (cause : GraphCause) where
   -- the first line
@@ -54,36 +54,30 @@ module _ (cause : GraphCause) where
     caused_said None some unended read says failed = cause-unended lines line some None unended read says ∙ cc
     caused_said (Some said) some unended read says failed =
         cause-said lines line said values some unended read says
-        ∙ is_caused (cause_declared (declared_by lines) said) (progress_with (declared_by lines) said) cause
-        (λ none. progress-some (declared_by lines) said (HasValue-no_cause (is_misplaced (declared_by lines) said) (declared_by lines) said none)) failed
+        ∙ is_caused (cause_declared (declared_by lines) said) (reader_with (declared_by lines) said) cause
+        (λ none. reader_with-some (declared_by lines) said (HasValue-no_cause (is_misplaced (declared_by lines) said) (declared_by lines) said none)) failed
 
     -- a line before the end
     caused_declarations : Declarations ≡ part_after lines → turn_of Declarations (declared_by lines) line ≡ Err cause
         → cause_at (lines ++ line ∷ []) (length lines) ≡ Some cause
     caused_declarations at failed = by (is_skipped line) refl failed
       where
-        before : (0 < length lines) × (list_any ends_text (statements_of lines) ≡ false)
-        before = part-declarations lines at
-
         by : (passed : Bool) → is_skipped line ≡ passed
             → cond {A = Result Reader GraphCause} passed (Ok (record { part = Declarations; declared = declared_by lines })) (turn_said (declared_by lines) (statement_of line)) ≡ Err cause
             → cause_at (lines ++ line ∷ []) (length lines) ≡ Some cause
         by true passed failed_so = absurd cc
-        by false read failed_so = caused_said (statement_of line) before.0 before.1 read refl failed_so
+        by false read failed_so = let before = part-declarations lines at in caused_said (statement_of line) before.0 before.1 read refl failed_so
 
     -- a line after the end
     caused_ended : Ended ≡ part_after lines → turn_of Ended (declared_by lines) line ≡ Err cause
         → cause_at (lines ++ line ∷ []) (length lines) ≡ Some cause
     caused_ended at failed = by (is_skipped line) refl failed
       where
-        before : (0 < length lines) × (list_any ends_text (statements_of lines) ≡ true)
-        before = part-ended lines at
-
         by : (passed : Bool) → is_skipped line ≡ passed
             → cond {A = Result Reader GraphCause} passed (Ok (record { part = Ended; declared = declared_by lines })) (Err AfterEnd) ≡ Err cause
             → cause_at (lines ++ line ∷ []) (length lines) ≡ Some cause
         by true passed failed_so = absurd cc
-        by false read failed_so = cause-ended lines line before.0 before.1 read ∙ cc
+        by false read failed_so = let before = part-ended lines at in cause-ended lines line before.0 before.1 read ∙ cc
 
   -- a line of each part
   caused_after : (part : Part) (lines : List (List ℕ)) (line : List ℕ) → AllHaveValues (statements_of lines)

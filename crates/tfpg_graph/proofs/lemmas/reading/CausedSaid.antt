@@ -1,44 +1,22 @@
--- A statement that has no cause is in its order and has its value.
-use Rattle.std.proofs.Common.{◌≡◌, ℕ, zero, suc, ◌^◌, ◌<◌, Bool, true, false, cond, List, [], ◌∷◌, ◌++◌, length, get_or, Option, Some, None, is_some, is_none, option_map, option_and_then, codes, refl, ap, sym, ◌∙◌}
+-- A statement that has no cause has its value.
+use Rattle.std.proofs.Common.{◌≡◌, ℕ, ◌<◌, Bool, true, false, cond, List, [], ◌∷◌, ◌++◌, length, Option, Some, None, is_some, is_none, option_map, option_and_then, codes, refl, ap, sym, ◌∙◌}
 use Rattle.std.specs.List.{list_all, list_any}
 use Rattle.std.specs.Str.{bytes_eq}
 use Rattle.std.specs.Str.Parse.{digits_value}
 use Rattle.std.proofs.lemmas.Bool.{or_parts, and_parts, not-false, false≢true}
+use Rattle.tfpg_base.specs.declared.limits.TheConstants.{MAX_TIME}
 use Rattle.tfpg_base.specs.Words.{is_number, number_of}
 use Rattle.tfpg_graph.specs.declared.cause.GraphCause.{GraphCause}
-use Rattle.tfpg_graph.specs.declared.cause.GraphCause.TheVariants.{BadLine, UnknownName, BadNumber}
 use Rattle.tfpg_graph.specs.Graph.{Tfpg, node_named}
 use Rattle.tfpg_graph.specs.Statements.{NodeWords, FailureWords, OrWords, AndWords, Statement, DeclaresMode, DeclaresNode, DeclaresEdge, Ends, statement_of, statements_of, is_skipped, ends_text}
 use Rattle.tfpg_graph.specs.Declares.{lag_of_word, kind_of_words, tmax_of_word, delays_of_words, ends_named, declared_by}
-use Rattle.std.specs.Bool.{then_some}
 use Rattle.tfpg_base.specs.Choice.{first_of}
-use Rattle.tfpg_graph.specs.Causes.{causes, has_bad_number, has_unknown_name, numbers_in, cause_at}
+use Rattle.tfpg_graph.specs.Causes.{causes, numbers_in, cause_at}
 use Rattle.tfpg_graph.specs.inside.reading.Turns.{HasValue, is_misplaced}
 use Rattle.tfpg_base.proofs.lists.Valued.{is_some-option_map}
+use Rattle.tfpg_graph.proofs.lemmas.reading.WithoutCause.{HasNoCause-from_none}
 use Rattle.tfpg_graph.proofs.lemmas.reading.DeclaredBy.{AllHaveValues, is_misplaced-said}
 use Rattle.tfpg_graph.proofs.lemmas.reading.CauseAt.{cause-unended}
-
--- where no test of several finds a cause, each finds none
-each_none : (tests : List (Option GraphCause)) → first_of tests ≡ None → (index : ℕ) → get_or tests index None ≡ None
-each_none [] none index = refl
-each_none (Some cause ∷ others) none index = absurd cc
-each_none (None ∷ others) none zero = refl
-each_none (None ∷ others) none (suc index) = each_none others none index
-
-not_held : (holds : Bool) (cause : GraphCause) → then_some holds cause ≡ None → holds ≡ false
-not_held true cause none = absurd cc
-not_held false cause none = refl
-
-module _ (out_of_order : Bool) (graph : Tfpg) (said : Statement) (none : first_of (causes out_of_order graph said) ≡ None) where
-  -- A statement that has no cause is in its order.
-  pub in_order : out_of_order ≡ false
-  in_order = not_held out_of_order BadLine (each_none (causes out_of_order graph said) none 0)
-
-  known_names : has_unknown_name graph said ≡ false
-  known_names = not_held (has_unknown_name graph said) UnknownName (each_none (causes out_of_order graph said) none 3)
-
-  good_numbers : has_bad_number said ≡ false
-  good_numbers = not_held (has_bad_number said) BadNumber (each_none (causes out_of_order graph said) none 4)
 
 -- a word that has the form of a number is one
 number_of-some : (word : List ℕ) → is_number word ≡ true → is_some (number_of word) ≡ true
@@ -58,12 +36,12 @@ kind-some name (OrWords lag) numbers = is_some-option_map _ (lag_of_word lag) �
 kind-some name (AndWords lag) numbers = is_some-option_map _ (lag_of_word lag) ∙ lag-some lag numbers
 
 tmax-some : (word : List ℕ)
-    → list_all (λ (number : List ℕ × ℕ). is_number number.0) (cond (bytes_eq word (codes "inf")) [] ((word, 10 ^ 12) ∷ [])) ≡ true
+    → list_all (λ (number : List ℕ × ℕ). is_number number.0) (cond (bytes_eq word (codes "inf")) [] ((word, MAX_TIME) ∷ [])) ≡ true
     → is_some (tmax_of_word word) ≡ true
 tmax-some word = by (bytes_eq word (codes "inf"))
   where
     by : (is_inf : Bool)
-        → list_all (λ (number : List ℕ × ℕ). is_number number.0) (cond is_inf [] ((word, 10 ^ 12) ∷ [])) ≡ true
+        → list_all (λ (number : List ℕ × ℕ). is_number number.0) (cond is_inf [] ((word, MAX_TIME) ∷ [])) ≡ true
         → is_some (cond is_inf (Some None) (option_map Some (number_of word))) ≡ true
     by true numbers = refl
     by false numbers = is_some-option_map Some (number_of word) ∙ number_of-some word (and_parts (is_number word) true numbers).0
@@ -80,11 +58,11 @@ both_some f (Some x) (Some y) here there = refl
 pub HasValue-no_cause : (out_of_order : Bool) (graph : Tfpg) (said : Statement)
     → first_of (causes out_of_order graph said) ≡ None → HasValue graph said
 HasValue-no_cause out_of_order graph (DeclaresMode name) none = tt
-HasValue-no_cause out_of_order graph (DeclaresNode name words) none = kind-some name words (not-false _ (good_numbers out_of_order graph (DeclaresNode name words) none))
+HasValue-no_cause out_of_order graph (DeclaresNode name words) none = kind-some name words (not-false _ ((HasNoCause-from_none out_of_order graph (DeclaresNode name words) none).numbers))
 HasValue-no_cause out_of_order graph (DeclaresEdge source target tmin tmax modes) none =
     let said = DeclaresEdge source target tmin tmax modes in
-    let numbers = and_parts (is_number tmin) _ (not-false _ (good_numbers out_of_order graph said none)) in
-    let names = or_parts (is_none (node_named graph source)) _ (known_names out_of_order graph said none) in
+    let numbers = and_parts (is_number tmin) _ (not-false _ ((HasNoCause-from_none out_of_order graph said none).numbers)) in
+    let names = or_parts (is_none (node_named graph source)) _ ((HasNoCause-from_none out_of_order graph said none).known) in
     both_some _ (ends_named graph source target) (delays_of_words tmin tmax)
     (both_some _ (node_named graph source) (node_named graph target) (not-false _ names.0) (not-false _ (or_parts (is_none (node_named graph target)) _ names.1).0))
     (both_some _ (number_of tmin) (tmax_of_word tmax) (number_of-some tmin numbers.0) (tmax-some tmax numbers.1))

@@ -7,7 +7,8 @@ use Rattle.std.proofs.lemmas.List.{append-nil}
 use Rattle.std.proofs.lemmas.List.Elements.{All-nil, All-cons, All-weaker}
 use Rattle.tfpg_base.specs.Words.{is_name}
 use Rattle.tfpg_graph.specs.declared.edge.Edge.{Edge}
-use Rattle.tfpg_graph.specs.Graph.{Tfpg, Node, is_failure}
+use Rattle.tfpg_graph.specs.declared.limits.TheConstants.{MAX_NODES, MAX_FAILURES, MAX_EDGES, MAX_INCOMING, MAX_MODES}
+use Rattle.tfpg_graph.specs.Graph.{Tfpg, Node, name_word, is_failure}
 use Rattle.tfpg_base.specs.Choice.{numbers_from}
 use Rattle.tfpg_graph.specs.Text.{SpellsModes}
 use Rattle.tfpg_graph.specs.Valid.{IsValid, IsValidEdge, IsSamePair, HasValidNumber}
@@ -15,12 +16,15 @@ use Rattle.tfpg_graph.specs.Statements.{Statement, DeclaresMode, Ends, ends_text
 use Rattle.tfpg_graph.specs.Declares.{edge_declared, graph_said}
 use Rattle.tfpg_base.specs.Choice.{first_of}
 use Rattle.tfpg_graph.specs.Causes.{is_out_of_order, causes, cause_of_said}
-use Rattle.tfpg_base.proofs.lists.Elements.{All-front}
+use Rattle.tfpg_base.proofs.lists.Elements.{All-front, All-middle, AllPairs-middle, length-middle}
+use Rattle.tfpg_base.proofs.lists.LookedUp.{filter_map-related}
+use Rattle.tfpg_base.proofs.lists.Numbered.{numbers_from-middle}
 use Rattle.tfpg_base.proofs.lists.Positions.{position-All_fail}
-use Rattle.tfpg_graph.proofs.lemmas.reading.SpelledValues.{bytes_eq-differ}
-use Rattle.tfpg_graph.proofs.lemmas.reading.SpelledEdges.{name_of, edge_said, is_name-name_of, node_named-name_of, IsModesWord-spelled, edge_declared-said}
-use Rattle.tfpg_graph.proofs.lemmas.reading.NoCause.{HasNoCause, first_of-none, HasNoCause-mode, HasNoCause-node, HasNoCause-edge, HasNoCause-end, IsEdgeRight}
-use Rattle.tfpg_graph.proofs.lemmas.reading.SaidSoFar.{All-middle, AllPairs-middle, length-middle, numbers_from-middle, node_said, said_so_far, IsOfEdge, filter_map-related, not_ended-so_far, graph_said-so_far, modes_only-so_far, no_edges-so_far, has_mode-so_far, said_so_far-mode, said_so_far-node, said_so_far-edge}
+use Rattle.tfpg_base.proofs.lists.SameBytes.{bytes_eq-differ}
+use Rattle.tfpg_base.proofs.lists.Zipped.{AllZip-push}
+use Rattle.tfpg_graph.proofs.lemmas.reading.SpelledEdges.{edge_statement, is_name-name_word, node_named-name_word, IsModesWord-spelled, edge_declared-said}
+use Rattle.tfpg_graph.proofs.lemmas.reading.NoCause.{HasNoCause, no_first_cause, HasNoCause-mode, HasNoCause-node, HasNoCause-edge, HasNoCause-end, IsEdgeRight}
+use Rattle.tfpg_graph.proofs.lemmas.reading.SaidSoFar.{node_statement, said_so_far, IsOfEdge, not_ended-so_far, graph_said-so_far, modes_only-so_far, no_edges-so_far, has_mode-so_far, said_so_far-mode, said_so_far-node, said_so_far-edge}
 
 -- None of the later statements has a cause by those before it, and none of those ends the text.
 abbrev pub Runs : List Statement → List Statement → Type 0
@@ -43,7 +47,7 @@ cause-none : (before : List Statement) (graph : Tfpg) (said : Statement) → gra
     → HasNoCause (is_out_of_order before said) graph said → cause_of_said before (Some said) ≡ None
 cause-none before graph said declared has =
     ap (λ g. first_of (causes (is_out_of_order before said) g said)) declared
-    ∙ first_of-none (is_out_of_order before said) graph said has
+    ∙ no_first_cause (is_out_of_order before said) graph said has
 
 -- a name that differs from all is not found
 not_found : {X : Type 0} (name_in : X → List ℕ) (name : List ℕ) (xs : List X) → All (λ x. name_in x ≢ name) xs
@@ -58,7 +62,7 @@ not_found name_in name xs differ =
 record AreModes (modes : List (List ℕ)) : Type 0 where
   pub named : All (λ mode. IsTrue (is_name mode)) modes
   pub differ : AllPairs (λ a b. a ≢ b) modes
-  pub few : length modes ≤ 64
+  pub few : length modes ≤ MAX_MODES
 
 no_edge : All IsOfEdge []
 no_edge = All-nil IsOfEdge
@@ -72,7 +76,7 @@ Runs-modes modes (mode ∷ later) are = (
       (graph_said-so_far modes [] [] no_edge (All-nil (λ node. HasValidNumber node.kind)) [] refl)
       (HasNoCause-mode (is_out_of_order (said_so_far modes [] []) (DeclaresMode mode))
       (record { nodes = []; edges = []; modes = modes }) mode (modes_only-so_far modes)
-      (All-middle modes mode later (λ m. IsTrue (is_name m)) are.named)
+      (All-middle (λ m. IsTrue (is_name m)) modes mode later are.named)
       (not_found (λ m. m) mode modes (AllPairs-middle modes mode later (λ a b. a ≢ b) are.differ))
       (omega (arith, length-middle modes mode later, are.few))),
   subst (λ before. Runs before (map DeclaresMode later)) (sym (said_so_far-mode modes mode))
@@ -85,27 +89,27 @@ record AreNodes (nodes : List Node) : Type 0 where
   pub named : All (λ node. IsTrue (is_name node.name)) nodes
   pub differ : AllPairs (λ a b. a.name ≢ b.name) nodes
   pub numbers : All (λ node. HasValidNumber node.kind) nodes
-  pub few : length nodes ≤ 512
-  pub few_failures : length (numbers_from 0 (λ node. is_failure node.kind) nodes) ≤ 64
+  pub few : length nodes ≤ MAX_NODES
+  pub few_failures : length (numbers_from 0 (λ node. is_failure node.kind) nodes) ≤ MAX_FAILURES
 
 Runs-nodes : (modes : List (List ℕ)) (nodes later : List Node) → 0 < length modes → AreNodes (nodes ++ later)
-    → Runs (said_so_far modes nodes []) (map node_said later)
+    → Runs (said_so_far modes nodes []) (map node_statement later)
 Runs-nodes modes nodes [] some are = tt
 Runs-nodes modes nodes (node ∷ later) some are = (
   not_ended-so_far modes nodes [] no_edge,
-  cause-none (said_so_far modes nodes []) (record { nodes = nodes; edges = []; modes = modes }) (node_said node)
+  cause-none (said_so_far modes nodes []) (record { nodes = nodes; edges = []; modes = modes }) (node_statement node)
       (graph_said-so_far modes nodes [] no_edge
       (All-front (λ n. HasValidNumber n.kind) nodes (node ∷ later) are.numbers) [] refl)
-      (HasNoCause-node (is_out_of_order (said_so_far modes nodes []) (node_said node))
+      (HasNoCause-node (is_out_of_order (said_so_far modes nodes []) (node_statement node))
       (record { nodes = nodes; edges = []; modes = modes }) node.name node.kind
       (λ i. not (has_mode-so_far modes nodes [] some i) || no_edges-so_far modes nodes i)
-      (All-middle nodes node later (λ n. IsTrue (is_name n.name)) are.named)
+      (All-middle (λ n. IsTrue (is_name n.name)) nodes node later are.named)
       (not_found (λ n. n.name) node.name nodes (AllPairs-middle nodes node later (λ a b. a.name ≢ b.name) are.differ))
-      (All-middle nodes node later (λ n. HasValidNumber n.kind) are.numbers)
+      (All-middle (λ n. HasValidNumber n.kind) nodes node later are.numbers)
       (omega (arith, length-middle nodes node later, are.few))
       (λ failure. omega
       (arith, numbers_from-middle (λ n. is_failure n.kind) 0 nodes node later failure, are.few_failures))),
-  subst (λ before. Runs before (map node_said later)) (sym (said_so_far-node modes nodes node))
+  subst (λ before. Runs before (map node_statement later)) (sym (said_so_far-node modes nodes node))
       (Runs-nodes modes (nodes ++ node ∷ []) later some
       (subst AreNodes (sym (append_assoc nodes (node ∷ []) later)) are)),
 )
@@ -117,12 +121,12 @@ pub record IsEdgeSaid (graph : Tfpg) (edge : Edge) (said : Statement) : Type 0 w
   pub valid : IsValidEdge graph edge
   pub modes_word : List ℕ
   pub spells : SpellsModes graph edge.modes modes_word
-  pub is : said ≡ edge_said graph edge modes_word
+  pub is : said ≡ edge_statement graph edge modes_word
 
 record AreEdges (edges : List Edge) : Type 0 where
   pub differ : AllPairs (λ a b. IsSamePair a b → ⊥) edges
-  pub few : length edges ≤ 2048
-  pub few_incoming : (node : ℕ) → length (numbers_from 0 (λ edge. edge.target == node) edges) ≤ 32
+  pub few : length edges ≤ MAX_EDGES
+  pub few_incoming : (node : ℕ) → length (numbers_from 0 (λ edge. edge.target == node) edges) ≤ MAX_INCOMING
 
 module _ (graph : Tfpg) (valid : IsValid graph) where
   -- with the first edges alone
@@ -157,15 +161,15 @@ module _ (graph : Tfpg) (valid : IsValid graph) where
         differ (eqb-true other.source edge.source parts.0, eqb-true other.target edge.target parts.1))
 
     edge_right : (said : Statement) (is : IsEdgeSaid graph edge said)
-        → IsEdgeRight (with_edges edges) edge.source edge.target (name_of graph edge.source)
-        (name_of graph edge.target) is.modes_word
+        → IsEdgeRight (with_edges edges) edge.source edge.target (name_word graph edge.source)
+        (name_word graph edge.target) is.modes_word
     edge_right said is =
         let word = IsModesWord-spelled graph valid edge.modes is.modes_word is.spells in
         record {
-          source_name = is_name-name_of graph edge.source is.valid.source valid.so_far.node_names;
-          target_name = is_name-name_of graph edge.target is.valid.target valid.so_far.node_names;
-          source_is = node_named-name_of graph edge.source is.valid.source valid.so_far.nodes_differ;
-          target_is = node_named-name_of graph edge.target is.valid.target valid.so_far.nodes_differ;
+          source_name = is_name-name_word graph edge.source is.valid.source valid.so_far.node_names;
+          target_name = is_name-name_word graph edge.target is.valid.target valid.so_far.node_names;
+          source_is = node_named-name_word graph edge.source is.valid.source valid.so_far.nodes_differ;
+          target_is = node_named-name_word graph edge.target is.valid.target valid.so_far.nodes_differ;
           mode_names = word.names;
           modes_once = word.once;
           modes_known = word.known;
@@ -193,20 +197,12 @@ module _ (graph : Tfpg) (valid : IsValid graph) where
     edge_clean before said is are_said =
         subst (λ s. cause_of_said (said_so_far graph.modes graph.nodes before) (Some s) ≡ None) (sym is.is)
         (cause-none (said_so_far graph.modes graph.nodes before) (with_edges edges)
-        (edge_said graph edge is.modes_word) (edges_declared edges before are_said)
+        (edge_statement graph edge is.modes_word) (edges_declared edges before are_said)
         (HasNoCause-edge
-        (is_out_of_order (said_so_far graph.modes graph.nodes before) (edge_said graph edge is.modes_word))
+        (is_out_of_order (said_so_far graph.modes graph.nodes before) (edge_statement graph edge is.modes_word))
         (with_edges edges) edge.source edge.target
-        (name_of graph edge.source) (name_of graph edge.target) edge.tmin edge.tmax is.modes_word (edge_right said is)
-        (ap not (has_mode-so_far graph.modes graph.nodes before valid.has_mode)) (is.valid.least, is.valid.most)))
-
-  AllZip-more : (edges : List Edge) (said : List Statement) (edge : Edge) (s : Statement)
-      → AllZip (IsEdgeSaid graph) edges said → IsEdgeSaid graph edge s
-      → AllZip (IsEdgeSaid graph) (edges ++ edge ∷ []) (said ++ s ∷ [])
-  AllZip-more [] [] edge s are is = (is, tt)
-  AllZip-more [] (first ∷ others) edge s are is = absurd are
-  AllZip-more (first ∷ edges) [] edge s are is = absurd are
-  AllZip-more (first ∷ edges) (one ∷ others) edge s are is = (are.0, AllZip-more edges others edge s are.1 is)
+        (name_word graph edge.source) (name_word graph edge.target) edge.tmin edge.tmax is.modes_word (edge_right said is)
+        (ap not (has_mode-so_far graph.modes graph.nodes before valid.has_mode)) (record { least = is.valid.least; greatest = is.valid.greatest })))
 
   Runs-edges : (edges : List Edge) (said : List Statement) (later : List Edge) (others : List Statement)
       → AllZip (IsEdgeSaid graph) edges said → AllZip (IsEdgeSaid graph) later others
@@ -217,7 +213,7 @@ module _ (graph : Tfpg) (valid : IsValid graph) where
     not_ended-so_far graph.modes graph.nodes said (are_of_edges edges said are),
     edge_clean edges edge later all said s more.0 are,
     subst (λ before. Runs before others) (sym (said_so_far-edge graph.modes graph.nodes said s))
-        (Runs-edges (edges ++ edge ∷ []) (said ++ s ∷ []) later others (AllZip-more edges said edge s are more.0) more.1
+        (Runs-edges (edges ++ edge ∷ []) (said ++ s ∷ []) later others (AllZip-push (IsEdgeSaid graph) edges said edge s are more.0) more.1
         (subst AreEdges (sym (append_assoc edges (edge ∷ []) later)) all)),
   )
 
@@ -231,9 +227,9 @@ module _ (graph : Tfpg) (valid : IsValid graph) where
         Runs-modes [] graph.modes
         (record { named = valid.so_far.mode_names; differ = valid.so_far.modes_differ; few = valid.so_far.few_modes })
 
-    runs_nodes : Runs (map DeclaresMode graph.modes) (map node_said graph.nodes)
+    runs_nodes : Runs (map DeclaresMode graph.modes) (map node_statement graph.nodes)
     runs_nodes =
-        subst (λ before. Runs before (map node_said graph.nodes))
+        subst (λ before. Runs before (map node_statement graph.nodes))
         (append-nil (map DeclaresMode graph.modes ++ []) ∙ append-nil (map DeclaresMode graph.modes))
         (Runs-nodes graph.modes [] graph.nodes valid.has_mode
         (record {
@@ -244,9 +240,9 @@ module _ (graph : Tfpg) (valid : IsValid graph) where
           few_failures = valid.so_far.few_failures;
         }))
 
-    runs_edges : Runs (map DeclaresMode graph.modes ++ map node_said graph.nodes) said
+    runs_edges : Runs (map DeclaresMode graph.modes ++ map node_statement graph.nodes) said
     runs_edges =
-        subst (λ before. Runs before said) (append-nil (map DeclaresMode graph.modes ++ map node_said graph.nodes))
+        subst (λ before. Runs before said) (append-nil (map DeclaresMode graph.modes ++ map node_statement graph.nodes))
         (Runs-edges [] [] graph.edges said tt are
         (record { differ = valid.so_far.edges_differ; few = valid.so_far.few_edges; few_incoming = valid.so_far.few_incoming }))
 
@@ -263,6 +259,6 @@ module _ (graph : Tfpg) (valid : IsValid graph) where
     pub Runs-whole : Runs [] whole
     Runs-whole =
         Runs-append [] (said_so_far graph.modes graph.nodes said) (Ends ∷ [])
-        (Runs-append [] (map DeclaresMode graph.modes ++ map node_said graph.nodes) said
-        (Runs-append [] (map DeclaresMode graph.modes) (map node_said graph.nodes) runs_modes runs_nodes) runs_edges)
+        (Runs-append [] (map DeclaresMode graph.modes ++ map node_statement graph.nodes) said
+        (Runs-append [] (map DeclaresMode graph.modes) (map node_statement graph.nodes) runs_modes runs_nodes) runs_edges)
         runs_end

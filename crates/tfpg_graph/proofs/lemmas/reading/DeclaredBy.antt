@@ -1,6 +1,7 @@
 -- What statements declare that all have their values, and what one statement more declares.
-use Rattle.std.proofs.Common.{◌≡◌, ℕ, Bool, true, false, not, ◌||◌, nat_lt, ◌==◌, List, [], ◌∷◌, ◌++◌, length, All, is_some, count_by, IsTrue, refl, ap, sym, ◌∙◌}
+use Rattle.std.proofs.Common.{◌≡◌, ℕ, false, not, ◌||◌, nat_lt, ◌==◌, List, [], ◌∷◌, ◌++◌, length, All, is_some, count_by, IsTrue, refl, ap, sym, ◌∙◌}
 use Rattle.std.specs.List.{list_any}
+use Rattle.std.proofs.Math.Bool.{or-false}
 use Rattle.std.proofs.lemmas.Bool.{or_parts}
 use Rattle.std.proofs.lemmas.List.Elements.{All-weaker, All-push}
 use Rattle.tfpg_graph.specs.Graph.{Tfpg}
@@ -64,11 +65,6 @@ no_mode-any before =
     ∙ list_any-or declares_node (λ said. declares_edge said || ends_text said) before
     ∙ ap (λ b. list_any declares_node before || b) (list_any-or declares_edge ends_text before)
 
--- one disjunct that is false decides nothing
-or_false : (b c : Bool) → c ≡ false → (b || c) ≡ b
-or_false true c none = refl
-or_false false c none = none
-
 module _ (before : List Statement) (values : All (HasValue (graph_said before)) before) where
   -- there are as many modes as statements that declare one
   pub count-modes : count_by declares_mode before ≡ length (graph_said before).modes
@@ -103,7 +99,7 @@ module _ (before : List Statement) (values : All (HasValue (graph_said before)) 
       → is_misplaced (graph_said before) said ≡ is_out_of_order before said
   is_misplaced-said unended (DeclaresMode name) =
       (λ i. sym any_node i || sym any_edge i)
-      ∙ ap (λ b. list_any declares_node before || b) (sym (or_false (list_any declares_edge before) (list_any ends_text before) unended))
+      ∙ ap (λ b. list_any declares_node before || b) (sym (ap (λ b. list_any declares_edge before || b) unended ∙ or-false (list_any declares_edge before)))
       ∙ sym (no_mode-any before)
   is_misplaced-said unended (DeclaresNode name words) = λ i. no_modes i || sym any_edge i
   is_misplaced-said unended (DeclaresEdge source target tmin tmax modes) = no_modes

@@ -1,5 +1,5 @@
 -- The end of lines that are read: a valid graph, or what is wrong with the whole.
-use Rattle.std.proofs.Common.{◌≡◌, ◌≢◌, ℕ, ◌+◌, ◌<◌, List, [], ◌∷◌, length, ◌==◌, Option, Some, None, IfNone, refl, sym, ap, ◌∙◌, subst, arith}
+use Rattle.std.proofs.Common.{◌≡◌, ◌≢◌, ℕ, ◌+◌, ◌<◌, List, [], ◌∷◌, length, Option, Some, None, IfNone, refl, sym, ap, ◌∙◌, subst, arith}
 use Rattle.std.proofs.lemmas.Option.{slice_get_within}
 use Rattle.tfpg_base.specs.Lines.{parts_of}
 use Rattle.tfpg_base.proofs.LinesOf.{parts_of_some}
@@ -15,7 +15,7 @@ use Rattle.tfpg_graph.specs.declared.reading.reader.Part.{Part}
 use Rattle.tfpg_graph.specs.declared.reading.reader.Part.TheVariants.{Header, Declarations, Ended}
 use Rattle.tfpg_graph.specs.declared.reading.reader.Reader.{Reader}
 use Rattle.tfpg_graph.specs.inside.reading.Turns.{part_after, ReaderRepresents}
-use Rattle.tfpg_graph.specs.inside.reading.Answered.{refusal_at, IsEndRefusal}
+use Rattle.tfpg_graph.specs.inside.reading.TurnResults.{refusal_at, IsEndRefusal}
 use Rattle.tfpg_graph.proofs.lemmas.reading.PartAfter.{no_header}
 use Rattle.tfpg_graph.proofs.lemmas.zero_cycle.ZeroCycles.{HasZeroOrder-no_cycle, HasZeroOrder-none_lies}
 use Rattle.tfpg_graph.proofs.lemmas.reading.FirstFaults.{whole_fault-incoming, whole_fault-cycle, whole_fault-end}

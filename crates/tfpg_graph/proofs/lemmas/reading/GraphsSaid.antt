@@ -1,8 +1,9 @@
 -- The graph that statements declare, with one statement more in its order.
-use Rattle.std.proofs.Common.{◌≡◌, ℕ, ◌<◌, Bool, true, false, not, List, [], ◌∷◌, ◌++◌, length, Option, Some, None, refl, ap, sym, ◌∙◌, arith}
-use Rattle.std.specs.List.{list_any, filter_map, cons_option}
+use Rattle.std.proofs.Common.{◌≡◌, ℕ, ◌<◌, true, false, not, List, [], ◌∷◌, ◌++◌, length, Some, None, refl, ap, sym, ◌∙◌, arith}
+use Rattle.std.specs.List.{list_any, filter_map}
 use Rattle.std.specs.Option.{option_map}
 use Rattle.std.proofs.lemmas.Bool.{or_parts}
+use Rattle.tfpg_base.proofs.lists.LookedUp.{filter_map-unlike}
 use Rattle.tfpg_base.proofs.lists.Valued.{filter_map-push_some, filter_map-push_none}
 use Rattle.tfpg_graph.specs.declared.kind.Kind.{Kind}
 use Rattle.tfpg_graph.specs.declared.edge.Edge.{Edge}
@@ -11,17 +12,6 @@ use Rattle.tfpg_graph.specs.inside.Indexes.{with_mode, with_node, with_edge}
 use Rattle.tfpg_graph.specs.Statements.{NodeWords, Statement, DeclaresMode, DeclaresNode, DeclaresEdge, Ends, declares_mode, declares_edge}
 use Rattle.tfpg_graph.specs.Declares.{kind_of_words, mode_declared, node_declared, edge_declared, named_by, graph_said}
 use Rattle.tfpg_graph.specs.Causes.{is_out_of_order}
-
--- ---- laws of lists
-
-module _ {X Y : Type 0} (h : X → Option Y) where
-  -- items that all fail a test without which there is no value have none
-  filter_map-unlike : (p : X → Bool) → ((x : X) → p x ≡ false → h x ≡ None) → (xs : List X) → list_any p xs ≡ false
-      → filter_map h xs ≡ []
-  filter_map-unlike p fails [] all = refl
-  filter_map-unlike p fails (x ∷ xs) all =
-      let parts = or_parts (p x) (list_any p xs) all in
-      λ i. cons_option (fails x parts.0 i) (filter_map-unlike p fails xs parts.1 i)
 
 -- ---- what statements declare
 

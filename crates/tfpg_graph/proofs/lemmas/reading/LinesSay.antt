@@ -120,12 +120,12 @@ pub statement_of-edge : (source target : List ℕ) (tmin : ℕ) (tmax : Option �
     → length (line_of (codes "edge" ∷ source ∷ target ∷ decimal tmin ∷ tmax_word tmax ∷ modes ∷ [])) ≤ LONGEST_LINE
     → statement_of (line_of (codes "edge" ∷ source ∷ target ∷ decimal tmin ∷ tmax_word tmax ∷ modes ∷ []))
     ≡ Some (DeclaresEdge source target (decimal tmin) (tmax_word tmax) modes)
-statement_of-edge source target tmin tmax modes from to least most word short =
+statement_of-edge source target tmin tmax modes from to least greatest word short =
     short_line_says (codes "edge" ∷ source ∷ target ∷ decimal tmin ∷ tmax_word tmax ∷ modes ∷ []) (omega arith) (
       keyword (codes "edge") refl refl,
       (
         IsWord-name source from,
-        (IsWord-name target to, (IsWord-decimal tmin (omega arith), (IsWord-tmax tmax most, (word, tt)))),
+        (IsWord-name target to, (IsWord-decimal tmin (omega arith), (IsWord-tmax tmax greatest, (word, tt)))),
       ),
     )
     short

@@ -1,10 +1,9 @@
 -- The line that declares the node or the edge of a number, found by a count of those before it.
-use Rattle.std.proofs.Common.{◌≡◌, ℕ, zero, suc, ◌+◌, ◌<◌, ◌≤◌, Bool, true, false, cond, ⊎_elim, List, [], ◌∷◌, length, get_or, take, Option, Some, None, filter_map, count_by, refl, ap, sym, ◌∙◌, subst, arith}
-use Rattle.std.specs.List.{cons_option}
-use Rattle.std.specs.Option.{option_map_or}
+use Rattle.std.proofs.Common.{◌≡◌, ℕ, zero, suc, ◌+◌, ◌<◌, ◌≤◌, Bool, true, false, cond, ⊎_elim, List, [], ◌∷◌, length, get_or, take, count_by, refl, ap, sym, ◌∙◌, subst, arith}
 use Rattle.std.proofs.lemmas.Bool.{cases_lt}
 use Rattle.std.proofs.lemmas.List.{take_all}
 use Rattle.std.proofs.lemmas.List.Sums.{sum_by-cons, count_by_more_yes, count_by_more_no}
+use Rattle.tfpg_base.proofs.lists.LookedUp.{count_by-filter_map}
 use Rattle.tfpg_graph.specs.Statements.{Statement, statement_of, statements_of, declares_mode, declares_node, declares_edge}
 use Rattle.tfpg_graph.specs.Faults.{says, IsLineSaying}
 use Rattle.tfpg_graph.specs.declared.reading.reader.Reader.{Reader}
@@ -12,7 +11,7 @@ use Rattle.tfpg_graph.specs.inside.reading.Turns.{ReaderRepresents}
 use Rattle.tfpg_graph.proofs.lemmas.reading.DeclaredBy.{count-modes, count-nodes, count-edges}
 
 module _ {X : Type 0} (test : X → Bool) where
-  -- a index whose item passes, after so many that do
+  -- an index whose item passes, after so many that do
   abbrev PassesAfter : List X → ℕ → X → Type 0
   PassesAfter xs count default = (index : ℕ) × (index < length xs) × (test (get_or xs index default) ≡ true) × (count_by test (take index xs) ≡ count)
 
@@ -32,18 +31,6 @@ module _ {X : Type 0} (test : X → Bool) where
       by true is (suc before) more_so rest =
           subst (λ n. PassesAfter (x ∷ xs) n default) (omega arith) (later true is before (rest before (omega arith)))
       by false is before more_so rest = subst (λ n. PassesAfter (x ∷ xs) n default) (omega arith) (later false is before (rest before (omega arith)))
-
--- as many values pass as items whose value passes
-count_by-filter_map : {X Y : Type 0} (value : X → Option Y) (test : Y → Bool) (xs : List X)
-    → count_by (λ x. option_map_or test (value x) false) xs ≡ count_by test (filter_map value xs)
-count_by-filter_map value test [] = refl
-count_by-filter_map value test (x ∷ xs) =
-    sum_by-cons (λ y. cond (option_map_or test (value y) false) 1 0) x xs ∙ by (value x) (count_by-filter_map value test xs)
-  where
-    by : (o : Option _) → count_by (λ y. option_map_or test (value y) false) xs ≡ count_by test (filter_map value xs)
-        → cond (option_map_or test o false) 1 0 + count_by (λ y. option_map_or test (value y) false) xs ≡ count_by test (cons_option o (filter_map value xs))
-    by None rest = omega (arith, rest)
-    by (Some y) rest = ap (λ n. cond (test y) 1 0 + n) rest ∙ sym (sum_by-cons (λ z. cond (test z) 1 0) y (filter_map value xs))
 
 module _ (test : Statement → Bool) (lines : List (List ℕ)) where
   -- as many lines say such a thing as statements do

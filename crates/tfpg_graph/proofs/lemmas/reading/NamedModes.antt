@@ -13,12 +13,14 @@ use Rattle.std.specs.Option.{is_none}
 use Rattle.tfpg_graph.specs.Declares.{modes_listed}
 use Rattle.std.proofs.lemmas.List.Sums.{sum_by-cons}
 use Rattle.tfpg_base.specs.Set.{with_member}
+use Rattle.tfpg_base.specs.SetBits.{bits_of}
 use Rattle.tfpg_base.proofs.Sets.{with_member-only}
 use Rattle.tfpg_base.proofs.lists.Elements.{All-from_members, Contains-head, Contains-tail, AllPairs-head, AllPairs-tail}
+use Rattle.tfpg_base.proofs.lists.LookedUp.{filter_map-some}
 use Rattle.tfpg_graph.specs.Graph.{Tfpg, mode_named}
 use Rattle.tfpg_graph.specs.Causes.{has_twice}
 use Rattle.tfpg_graph.specs.inside.reading.LineCauses.{with_option}
-use Rattle.tfpg_graph.proofs.lemmas.reading.SaidModes.{mode_found, unlike_others, filter_map-some}
+use Rattle.tfpg_graph.proofs.lemmas.reading.SaidModes.{mode_found, unlike_others}
 use Rattle.tfpg_base.proofs.lists.Passing.{All-filter_map}
 
 -- one more member that is new is worth its own more
@@ -34,7 +36,7 @@ sum_by-with_member f index (first ∷ others) new = by (sum_by-with_member f ind
 
 module _ (graph : Tfpg) (name : List ℕ) (others : List (List ℕ)) (members : List ℕ) (once : has_twice (name ∷ others) ≡ false)
     (named : All (Contains (filter_map (mode_named graph) others)) members)
-    (worth : sum_by (λ mode. 2 ^ mode) members ≡ sum_by (λ mode. 2 ^ mode) (filter_map (mode_named graph) others)) where
+    (worth : bits_of members ≡ bits_of (filter_map (mode_named graph) others)) where
   -- a mode that is named is not among those that are named after it
   new_mode : (mode : ℕ) → mode_named graph name ≡ Some mode → Contains members mode → ⊥
   new_mode mode is member =
@@ -55,32 +57,32 @@ module _ (graph : Tfpg) (name : List ℕ) (others : List (List ℕ)) (members : 
           (with_member-only mode members other member))
 
   -- and are worth as much
-  pub worth_more : sum_by (λ mode. 2 ^ mode) (with_option (mode_named graph name) members) ≡ sum_by (λ mode. 2 ^ mode) (filter_map (mode_named graph) (name ∷ others))
+  pub worth_more : bits_of (with_option (mode_named graph name) members) ≡ bits_of (filter_map (mode_named graph) (name ∷ others))
   worth_more = by (mode_named graph name) refl
     where
-      by : (o : Option ℕ) → mode_named graph name ≡ o → sum_by (λ mode. 2 ^ mode) (with_option o members) ≡ sum_by (λ mode. 2 ^ mode) (cons_option o (filter_map (mode_named graph) others))
+      by : (o : Option ℕ) → mode_named graph name ≡ o → bits_of (with_option o members) ≡ bits_of (cons_option o (filter_map (mode_named graph) others))
       by None is = worth
       by (Some mode) is = sum_by-with_member (λ mode. 2 ^ mode) mode members (new_mode mode is) ∙ ap (λ rest. 2 ^ mode + rest) worth
           ∙ sym (sum_by-cons (λ mode. 2 ^ mode) mode (filter_map (mode_named graph) others))
 
--- rising places below a bound are worth less than the bit of the bound, by at least the bit of a index at or before the first
-below : (places : List ℕ) (first bound : ℕ) → AllPairs ◌<◌ places → All (λ index. first ≤ index) places → All (λ index. index < bound) places → first ≤ bound
-    → sum_by (λ index. 2 ^ index) places + 2 ^ first ≤ 2 ^ bound
-below [] first bound rises from to within = let bit : 2 ^ first ≤ 2 ^ bound = pow_mono within in omega (arith, bit)
-below (index ∷ others) first bound rises from to within =
+-- rising indexes below a bound are worth less than the bit of the bound, by at least the bit of an index at or before the first
+worth_within : (indexes : List ℕ) (first bound : ℕ) → AllPairs ◌<◌ indexes → All (λ index. first ≤ index) indexes → All (λ index. index < bound) indexes → first ≤ bound
+    → bits_of indexes + 2 ^ first ≤ 2 ^ bound
+worth_within [] first bound rises from to within = let bit : 2 ^ first ≤ 2 ^ bound = pow_mono within in omega (arith, bit)
+worth_within (index ∷ others) first bound rises from to within =
     let low : first ≤ index = All-head (λ p. first ≤ p) index others from in
     let high : index < bound = All-head (λ p. p < bound) index others to in
-    let rest : sum_by (λ p. 2 ^ p) others + 2 ^ suc index ≤ 2 ^ bound = below others (suc index) bound (AllPairs-tail ◌<◌ index others rises) (AllPairs-head ◌<◌ index others rises)
+    let rest : bits_of others + 2 ^ suc index ≤ 2 ^ bound = worth_within others (suc index) bound (AllPairs-tail ◌<◌ index others rises) (AllPairs-head ◌<◌ index others rises)
     (All-tail (λ p. p < bound) index others to) high in
     let bit : 2 ^ first ≤ 2 ^ index = pow_mono low in
     omega (arith, rest, bit, pow-suc 2 index, sum_by-cons (λ p. 2 ^ p) index others)
 
 -- the bits of a set of modes are below the bit of the number of modes
-pub worth_below : (places : List ℕ) (bound : ℕ) → AllPairs ◌<◌ places → All (λ index. index < bound) places → sum_by (λ index. 2 ^ index) places < 2 ^ bound
-worth_below places bound rises to = omega (arith, below places 0 bound rises (λ k d within. omega arith) to (omega arith))
+pub worth_below : (indexes : List ℕ) (bound : ℕ) → AllPairs ◌<◌ indexes → All (λ index. index < bound) indexes → bits_of indexes < 2 ^ bound
+worth_below indexes bound rises to = omega (arith, worth_within indexes 0 bound rises (λ k d within. omega arith) to (omega arith))
 
 -- a list with an item is worth something
-pub worth_some : (places : List ℕ) → places ≢ [] → 0 < sum_by (λ index. 2 ^ index) places
+pub worth_some : (indexes : List ℕ) → indexes ≢ [] → 0 < bits_of indexes
 worth_some [] some = absurd (some refl)
 worth_some (index ∷ others) some = omega (arith, sum_by-cons (λ p. 2 ^ p) index others, pow_pos index)
 

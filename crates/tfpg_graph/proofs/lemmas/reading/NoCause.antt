@@ -1,5 +1,5 @@
 -- A statement of what is valid has no cause.
-use Rattle.std.proofs.Common.{◌≡◌, ◌≢◌, ℕ, ◌<◌, ◌≤◌, ◌^◌, ◌||◌, ◌&&◌, Bool, true, false, cond, not, List, [], ◌∷◌, length, IsTrue, Option, Some, None, IfSome, is_none, is_some, nat_lt, nat_le, codes, refl, ap, sym, ◌∙◌, arith}
+use Rattle.std.proofs.Common.{◌≡◌, ◌≢◌, ℕ, ◌<◌, ◌≤◌, ◌^◌, ◌||◌, ◌&&◌, Bool, true, false, cond, not, List, [], ◌∷◌, length, IsTrue, Option, Some, None, is_none, is_some, nat_lt, nat_le, codes, refl, ap, sym, ◌∙◌, arith}
 use Rattle.std.specs.Prelude.{decimal}
 use Rattle.std.specs.Option.{option_map, option_map_or, option_and_then}
 use Rattle.std.specs.List.{list_any, list_all}
@@ -17,14 +17,16 @@ use Rattle.tfpg_graph.specs.Graph.{Tfpg, is_kind_at, is_failure, failures, incom
 use Rattle.tfpg_graph.specs.Text.{tmax_word}
 use Rattle.tfpg_base.specs.declared.limits.TheConstants.{MAX_TIME}
 use Rattle.tfpg_graph.specs.Valid.{HasValidNumber}
-use Rattle.tfpg_graph.specs.declared.limits.TheConstants.{MAX_RARITY}
+use Rattle.tfpg_graph.specs.declared.limits.TheConstants.{MAX_NODES, MAX_FAILURES, MAX_EDGES, MAX_INCOMING, MAX_MODES, MAX_RARITY}
 use Rattle.tfpg_graph.specs.Statements.{Statement, DeclaresMode, DeclaresNode, DeclaresEdge, Ends}
 use Rattle.tfpg_graph.specs.Declares.{modes_listed}
 use Rattle.std.specs.Bool.{then_some}
 use Rattle.tfpg_base.specs.Choice.{first_of}
 use Rattle.tfpg_graph.specs.Causes.{has_bad_name, has_duplicate_name, has_unknown_name, has_bad_number, has_large_number, has_min_over_max, enters_failure, is_self_edge, is_second_edge, names_no_mode, lacks_node_room, lacks_failure_room, lacks_edge_room, lacks_mode_room, lacks_incoming_room, are_failure_words, has_twice, causes}
 use Rattle.tfpg_graph.proofs.lemmas.reading.LinesSay.{words_of_kind}
-use Rattle.tfpg_graph.proofs.lemmas.reading.SpelledValues.{bytes_eq-differ, decimal-not_inf}
+use Rattle.tfpg_base.proofs.lists.SameBytes.{bytes_eq-differ}
+use Rattle.tfpg_graph.specs.inside.Declaring.{AreDelays}
+use Rattle.tfpg_graph.proofs.lemmas.reading.SpelledValues.{decimal-not_inf}
 
 -- none of the conditions holds
 pub record HasNoCause (out_of_order : Bool) (graph : Tfpg) (said : Statement) : Type 0 where
@@ -46,9 +48,9 @@ pub record HasNoCause (out_of_order : Bool) (graph : Tfpg) (said : Statement) : 
   pub incoming_room : lacks_incoming_room graph said ≡ false
 
 -- Where none of the conditions holds, there is no cause.
-pub first_of-none : (out_of_order : Bool) (graph : Tfpg) (said : Statement) → HasNoCause out_of_order graph said
+pub no_first_cause : (out_of_order : Bool) (graph : Tfpg) (said : Statement) → HasNoCause out_of_order graph said
     → first_of (causes out_of_order graph said) ≡ None
-first_of-none out_of_order graph said has =
+no_first_cause out_of_order graph said has =
     λ i. first_of (then_some (has.in_order i) BadLine
     ∷ then_some (has.named i) BadName
     ∷ then_some (has.new i) DuplicateName
@@ -70,7 +72,7 @@ first_of-none out_of_order graph said has =
 -- ---- a mode, and the end
 
 pub HasNoCause-mode : (out_of_order : Bool) (graph : Tfpg) (name : List ℕ) → out_of_order ≡ false
-    → IsTrue (is_name name) → mode_named graph name ≡ None → length graph.modes < 64
+    → IsTrue (is_name name) → mode_named graph name ≡ None → length graph.modes < MAX_MODES
     → HasNoCause out_of_order graph (DeclaresMode name)
 HasNoCause-mode out_of_order graph name in_order named new room = record {
   in_order = in_order;
@@ -87,7 +89,7 @@ HasNoCause-mode out_of_order graph name in_order named new room = record {
   node_room = refl;
   failure_room = refl;
   edge_room = refl;
-  mode_room = lt-leb 64 (length graph.modes) room;
+  mode_room = lt-leb MAX_MODES (length graph.modes) room;
   incoming_room = refl;
 }
 
@@ -113,12 +115,8 @@ HasNoCause-end out_of_order graph in_order = record {
 
 -- ---- a node
 
--- a decimal text is worth its number
-value : (number : ℕ) → number < 2 ^ 64 → digits_value 10 (decimal number) ≡ number
-value number fits = (decimal_is_IsNumeral number fits).1
-
-not_above : (most number : ℕ) → number ≤ most → number < 2 ^ 64 → nat_lt most (digits_value 10 (decimal number)) ≡ false
-not_above most number small fits = le-ltb most (digits_value 10 (decimal number)) (omega (arith, value number fits))
+within_limit : (limit number : ℕ) → number ≤ limit → number < 2 ^ 64 → nat_lt limit (digits_value 10 (decimal number)) ≡ false
+within_limit limit number small fits = le-ltb limit (digits_value 10 (decimal number)) (omega (arith, (decimal_is_IsNumeral number fits).1))
 
 module _ (name : List ℕ) where
   node_numbers : (kind : Kind) → HasValidNumber kind → has_bad_number (DeclaresNode name (words_of_kind kind)) ≡ false
@@ -129,21 +127,21 @@ module _ (name : List ℕ) where
   node_numbers (And (Some lag)) small = ap (λ b. not (b && true)) (is_number-decimal lag (omega arith))
 
   node_small : (kind : Kind) → HasValidNumber kind → has_large_number (DeclaresNode name (words_of_kind kind)) ≡ false
-  node_small (Failure rarity) small = ap (λ b. b || false) (not_above MAX_RARITY rarity small (omega arith))
+  node_small (Failure rarity) small = ap (λ b. b || false) (within_limit MAX_RARITY rarity small (omega arith))
   node_small (Or None) small = refl
-  node_small (Or (Some lag)) small = ap (λ b. b || false) (not_above MAX_TIME lag small (omega arith))
+  node_small (Or (Some lag)) small = ap (λ b. b || false) (within_limit MAX_TIME lag small (omega arith))
   node_small (And None) small = refl
-  node_small (And (Some lag)) small = ap (λ b. b || false) (not_above MAX_TIME lag small (omega arith))
+  node_small (And (Some lag)) small = ap (λ b. b || false) (within_limit MAX_TIME lag small (omega arith))
 
-failure_room_for : (kind : Kind) (count : ℕ) → (IsTrue (is_failure kind) → count < 64)
-    → (are_failure_words (words_of_kind kind) && nat_le 64 count) ≡ false
-failure_room_for (Failure rarity) count room = lt-leb 64 count (room refl)
+failure_room_for : (kind : Kind) (count : ℕ) → (IsTrue (is_failure kind) → count < MAX_FAILURES)
+    → (are_failure_words (words_of_kind kind) && nat_le MAX_FAILURES count) ≡ false
+failure_room_for (Failure rarity) count room = lt-leb MAX_FAILURES count (room refl)
 failure_room_for (Or lag) count room = refl
 failure_room_for (And lag) count room = refl
 
 pub HasNoCause-node : (out_of_order : Bool) (graph : Tfpg) (name : List ℕ) (kind : Kind) → out_of_order ≡ false
     → IsTrue (is_name name) → node_named graph name ≡ None → HasValidNumber kind
-    → length graph.nodes < 512 → (IsTrue (is_failure kind) → length (failures graph) < 64)
+    → length graph.nodes < MAX_NODES → (IsTrue (is_failure kind) → length (failures graph) < MAX_FAILURES)
     → HasNoCause out_of_order graph (DeclaresNode name (words_of_kind kind))
 HasNoCause-node out_of_order graph name kind in_order named new number room failure_room = record {
   in_order = in_order;
@@ -157,7 +155,7 @@ HasNoCause-node out_of_order graph name kind in_order named new number room fail
   onward = refl;
   first = refl;
   some_mode = refl;
-  node_room = lt-leb 512 (length graph.nodes) room;
+  node_room = lt-leb MAX_NODES (length graph.nodes) room;
   failure_room = failure_room_for kind (length (failures graph)) failure_room;
   edge_room = refl;
   mode_room = refl;
@@ -166,28 +164,24 @@ HasNoCause-node out_of_order graph name kind in_order named new number room fail
 
 -- ---- an edge
 
--- the delays of an edge are in order and within their limit
-abbrev pub AreDelays : ℕ → Option ℕ → Type 0
-AreDelays tmin tmax = (tmin ≤ MAX_TIME) × IfSome tmax (λ time. (tmin ≤ time) × (time ≤ MAX_TIME))
-
 module _ (source target : List ℕ) (tmin : ℕ) (word : List ℕ) where
   edge_numbers : (tmax : Option ℕ) → AreDelays tmin tmax
       → has_bad_number (DeclaresEdge source target (decimal tmin) (tmax_word tmax) word) ≡ false
-  edge_numbers None delays = ap (λ b. not (b && true)) (is_number-decimal tmin (omega (arith, delays.0)))
+  edge_numbers None delays = ap (λ b. not (b && true)) (is_number-decimal tmin (omega (arith, delays.least)))
   edge_numbers (Some time) delays =
-      (λ i. not (is_number-decimal tmin (omega (arith, delays.0)) i
+      (λ i. not (is_number-decimal tmin (omega (arith, delays.least)) i
       && list_all (λ (number : List ℕ × ℕ). is_number number.0)
-      (cond (decimal-not_inf time (omega (arith, delays.1)) i) [] ((decimal time, MAX_TIME) ∷ []))))
-      ∙ ap (λ b. not (b && true)) (is_number-decimal time (omega (arith, delays.1)))
+      (cond (decimal-not_inf time (omega (arith, delays.greatest)) i) [] ((decimal time, MAX_TIME) ∷ []))))
+      ∙ ap (λ b. not (b && true)) (is_number-decimal time (omega (arith, delays.greatest)))
 
   edge_small : (tmax : Option ℕ) → AreDelays tmin tmax
       → has_large_number (DeclaresEdge source target (decimal tmin) (tmax_word tmax) word) ≡ false
-  edge_small None delays = ap (λ b. b || false) (not_above MAX_TIME tmin delays.0 (omega (arith, delays.0)))
+  edge_small None delays = ap (λ b. b || false) (within_limit MAX_TIME tmin delays.least (omega (arith, delays.least)))
   edge_small (Some time) delays =
-      (λ i. not_above MAX_TIME tmin delays.0 (omega (arith, delays.0)) i
+      (λ i. within_limit MAX_TIME tmin delays.least (omega (arith, delays.least)) i
       || list_any (λ (number : List ℕ × ℕ). nat_lt number.1 (digits_value 10 number.0))
-      (cond (decimal-not_inf time (omega (arith, delays.1)) i) [] ((decimal time, MAX_TIME) ∷ [])))
-      ∙ ap (λ b. b || false) (not_above MAX_TIME time delays.1.1 (omega (arith, delays.1)))
+      (cond (decimal-not_inf time (omega (arith, delays.greatest)) i) [] ((decimal time, MAX_TIME) ∷ [])))
+      ∙ ap (λ b. b || false) (within_limit MAX_TIME time delays.greatest.1 (omega (arith, delays.greatest)))
 
   edge_in_order : (tmax : Option ℕ) → AreDelays tmin tmax
       → has_min_over_max (DeclaresEdge source target (decimal tmin) (tmax_word tmax) word) ≡ false
@@ -196,7 +190,7 @@ module _ (source target : List ℕ) (tmin : ℕ) (word : List ℕ) where
       and_right (not (bytes_eq (decimal time) (codes "inf")))
       (nat_lt (digits_value 10 (decimal time)) (digits_value 10 (decimal tmin)))
       (le-ltb (digits_value 10 (decimal time)) (digits_value 10 (decimal tmin))
-      (omega (arith, value time (omega (arith, delays.1)), value tmin (omega (arith, delays.0)), delays.1)))
+      (omega (arith, (decimal_is_IsNumeral time (omega (arith, delays.greatest))).1, (decimal_is_IsNumeral tmin (omega (arith, delays.least))).1, delays.greatest)))
 
 -- what is right of the words of an edge
 pub record IsEdgeRight (graph : Tfpg) (from to : ℕ) (source target word : List ℕ) : Type 0 where
@@ -211,8 +205,8 @@ pub record IsEdgeRight (graph : Tfpg) (from to : ℕ) (source target word : List
   pub into_discrepancy : is_kind_at is_failure graph to ≡ false
   pub onward : from ≢ to
   pub first : edge_from_to graph from to ≡ None
-  pub room : length graph.edges < 2048
-  pub incoming_room : length (incoming graph to) < 32
+  pub room : length graph.edges < MAX_EDGES
+  pub incoming_room : length (incoming graph to) < MAX_INCOMING
 
 module _ (out_of_order : Bool) (graph : Tfpg) (from to : ℕ) (source target : List ℕ) (tmin : ℕ) (tmax : Option ℕ)
     (word : List ℕ) (is : IsEdgeRight graph from to source target word) where
@@ -239,9 +233,9 @@ module _ (out_of_order : Bool) (graph : Tfpg) (from to : ℕ) (source target : L
     some_mode = is.some_mode;
     node_room = refl;
     failure_room = refl;
-    edge_room = lt-leb 2048 (length graph.edges) is.room;
+    edge_room = lt-leb MAX_EDGES (length graph.edges) is.room;
     mode_room = refl;
     incoming_room =
-        ap (λ o. option_map_or (λ node. nat_le 32 (length (incoming graph node))) o false) is.target_is
-        ∙ lt-leb 32 (length (incoming graph to)) is.incoming_room;
+        ap (λ o. option_map_or (λ node. nat_le MAX_INCOMING (length (incoming graph node))) o false) is.target_is
+        ∙ lt-leb MAX_INCOMING (length (incoming graph to)) is.incoming_room;
   }

@@ -1,5 +1,5 @@
 -- A text that spells a valid graph has no fault.
-use Rattle.std.proofs.Common.{◌≡◌, ℕ, suc, zero, ◌<◌, ◌≤◌, ◌&&◌, Bool, true, false, cond, not, nat_le, List, [], ◌∷◌, ◌++◌, length, map, get_or, take, filter, All, Some, None, codes, refl, ap, sym, ◌∙◌, subst, arith, append_assoc, ⊎_elim}
+use Rattle.std.proofs.Common.{◌≡◌, ℕ, suc, zero, ◌<◌, ◌≤◌, ◌&&◌, Bool, true, false, cond, not, nat_le, List, [], ◌∷◌, ◌++◌, length, map, get_or, take, All, Some, None, codes, refl, ap, sym, ◌∙◌, subst, arith, append_assoc, ⊎_elim}
 use Rattle.std.specs.List.{AllZip, list_any, cons_option}
 use Rattle.std.proofs.lemmas.Bool.{le-leb, or_right, false≢true}
 use Rattle.std.proofs.lemmas.List.{append-nil}
@@ -7,13 +7,14 @@ use Rattle.std.proofs.lemmas.List.Elements.{All-head, All-tail, All-same, All-fi
 use Rattle.std.proofs.lemmas.List.Folds.{list_any-append}
 use Rattle.std.proofs.lemmas.Option.{none-some}
 use Rattle.tfpg_base.proofs.lists.Elements.{All-front, All-back, Contains-at}
+use Rattle.tfpg_base.proofs.lists.Zipped.{AllZip-append, AllZip-maps}
 use Rattle.tfpg_base.specs.Lines.{lines_of}
 use Rattle.tfpg_base.specs.declared.limits.TheConstants.{LONGEST_LINE}
 use Rattle.tfpg_graph.specs.declared.cause.GraphCause.TheVariants.{AfterEnd}
 use Rattle.tfpg_graph.specs.declared.cause.GraphFault.{GraphFault}
 use Rattle.tfpg_graph.specs.declared.edge.Edge.{Edge}
 use Rattle.tfpg_graph.specs.Graph.{Tfpg}
-use Rattle.tfpg_graph.specs.Text.{header, mode_line, node_line, SpellsEdge, is_empty_or_comment, Spells}
+use Rattle.tfpg_graph.specs.Text.{header, mode_line, node_line, SpellsEdge, is_empty_or_comment, content_lines, Spells}
 use Rattle.tfpg_graph.specs.Valid.{IsValid, IsValidEdge}
 use Rattle.tfpg_graph.specs.ZeroCycle.{LiesOnZeroCycle}
 use Rattle.tfpg_graph.specs.Statements.{Statement, DeclaresMode, Ends, statement_of, statements_of, ends_text}
@@ -23,8 +24,8 @@ use Rattle.tfpg_graph.specs.Faults.{LacksIncoming, IsClean, IsLineFault, IsIncom
 use Rattle.tfpg_graph.proofs.lemmas.reading.GraphsSaid.{graph_said-end}
 use Rattle.tfpg_graph.proofs.lemmas.reading.SaidWords.{skipped_says_nothing}
 use Rattle.tfpg_graph.proofs.lemmas.reading.LinesSay.{statement_of-mode, statement_of-node, statement_of-end}
-use Rattle.tfpg_graph.proofs.lemmas.reading.SpelledEdges.{edge_said, statement_of-edge_line}
-use Rattle.tfpg_graph.proofs.lemmas.reading.SaidSoFar.{node_said, said_so_far}
+use Rattle.tfpg_graph.proofs.lemmas.reading.SpelledEdges.{edge_statement, statement_of-edge_line}
+use Rattle.tfpg_graph.proofs.lemmas.reading.SaidSoFar.{node_statement, said_so_far}
 use Rattle.tfpg_graph.proofs.lemmas.reading.CleanRuns.{Runs, IsEdgeSaid, edges_declared, Runs-whole}
 
 -- ---- lines that say what runs without a cause
@@ -33,25 +34,21 @@ use Rattle.tfpg_graph.proofs.lemmas.reading.CleanRuns.{Runs, IsEdgeSaid, edges_d
 abbrev pub Says : List ℕ → Statement → Type 0
 Says line said = statement_of line ≡ Some said
 
--- the lines that are not skipped
-abbrev kept : List (List ℕ) → List (List ℕ)
-kept lines = filter (λ line. not (is_empty_or_comment line)) lines
-
 -- with the line, where it is not skipped
-abbrev kept_with : Bool → List ℕ → List (List ℕ) → List (List ℕ)
-kept_with skipped line lines = cond (not skipped) (line ∷ kept lines) (kept lines)
+abbrev content_lines_with : Bool → List ℕ → List (List ℕ) → List (List ℕ)
+content_lines_with skipped line lines = cond (not skipped) (line ∷ content_lines lines) (content_lines lines)
 
 -- Lines say what those of them say that are not skipped.
-pub statements_of-kept : (lines : List (List ℕ)) (said : List Statement) → AllZip Says (kept lines) said
+pub statements_of-content_lines : (lines : List (List ℕ)) (said : List Statement) → AllZip Says (content_lines lines) said
     → statements_of lines ≡ said
-statements_of-kept [] [] says = refl
-statements_of-kept [] (s ∷ said) says = absurd says
-statements_of-kept (line ∷ lines) said says =
-    by (λ others says. statements_of-kept lines others says) (is_empty_or_comment line) refl said says
+statements_of-content_lines [] [] says = refl
+statements_of-content_lines [] (s ∷ said) says = absurd says
+statements_of-content_lines (line ∷ lines) said says =
+    by (λ others says. statements_of-content_lines lines others says) (is_empty_or_comment line) refl said says
   where
-    by : ((others : List Statement) → AllZip Says (kept lines) others → statements_of lines ≡ others)
+    by : ((others : List Statement) → AllZip Says (content_lines lines) others → statements_of lines ≡ others)
         → (skipped : Bool) → is_empty_or_comment line ≡ skipped → (said : List Statement)
-        → AllZip Says (kept_with skipped line lines) said → cons_option (statement_of line) (statements_of lines) ≡ said
+        → AllZip Says (content_lines_with skipped line lines) said → cons_option (statement_of line) (statements_of lines) ≡ said
     by rest true skipped said says =
         ap (λ s. cons_option s (statements_of lines)) (skipped_says_nothing line skipped) ∙ rest said says
     by rest false skipped [] says = absurd says
@@ -59,7 +56,7 @@ statements_of-kept (line ∷ lines) said says =
 
 -- Where what they say runs without a cause after other statements, no line has a cause.
 pub clean_after : (lines : List (List ℕ)) (before said : List Statement)
-    → All (λ line. length line ≤ LONGEST_LINE) lines → AllZip Says (kept lines) said → Runs before said
+    → All (λ line. length line ≤ LONGEST_LINE) lines → AllZip Says (content_lines lines) said → Runs before said
     → (index : ℕ) → index < length lines
     → cause_after (before ++ statements_of (take index lines)) (get_or lines index []) ≡ None
 clean_after [] before said short says runs index within = absurd (omega arith)
@@ -71,11 +68,11 @@ clean_after (line ∷ lines) before said short says runs index within =
     fits : nat_le (length line) LONGEST_LINE ≡ true
     fits = le-leb (length line) LONGEST_LINE (All-head (λ l. length l ≤ LONGEST_LINE) line lines short)
 
-    by : ((before others : List Statement) → AllZip Says (kept lines) others → Runs before others → (index : ℕ)
+    by : ((before others : List Statement) → AllZip Says (content_lines lines) others → Runs before others → (index : ℕ)
         → index < length lines
         → cause_after (before ++ statements_of (take index lines)) (get_or lines index []) ≡ None)
         → (skipped : Bool) → is_empty_or_comment line ≡ skipped → (said : List Statement)
-        → AllZip Says (kept_with skipped line lines) said → Runs before said
+        → AllZip Says (content_lines_with skipped line lines) said → Runs before said
         → (index : ℕ) → index < length (line ∷ lines)
         → cause_after (before ++ statements_of (take index (line ∷ lines))) (get_or (line ∷ lines) index []) ≡ None
     by rest true skipped said says runs zero within = λ i.
@@ -99,42 +96,29 @@ clean_after (line ∷ lines) before said short says runs index within =
 
 -- ---- the lines that spell a graph
 
-AllZip-append : {X Y : Type 0} (R : X → Y → Type 0) (xs : List X) (ys : List Y) (more : List X) (others : List Y)
-    → AllZip R xs ys → AllZip R more others → AllZip R (xs ++ more) (ys ++ others)
-AllZip-append R [] [] more others one other = other
-AllZip-append R [] (y ∷ ys) more others one other = absurd one
-AllZip-append R (x ∷ xs) [] more others one other = absurd one
-AllZip-append R (x ∷ xs) (y ∷ ys) more others one other = (one.0, AllZip-append R xs ys more others one.1 other)
-
-AllZip-maps : {X Y Z : Type 0} (R : X → Y → Type 0) (f : Z → X) (g : Z → Y) (zs : List Z) → All (λ z. R (f z) (g z)) zs
-    → AllZip R (map f zs) (map g zs)
-AllZip-maps R f g [] all = tt
-AllZip-maps R f g (z ∷ zs) all =
-    (All-head (λ y. R (f y) (g y)) z zs all, AllZip-maps R f g zs (All-tail (λ y. R (f y) (g y)) z zs all))
-
 -- the line is not too long
-abbrev IsShort : List ℕ → Type 0
-IsShort line = length line ≤ LONGEST_LINE
+abbrev IsShortLine : List ℕ → Type 0
+IsShortLine line = length line ≤ LONGEST_LINE
 
 module _ (graph : Tfpg) (valid : IsValid graph) where
   -- lines that spell edges and are short say what declares the edges
   edges_said : (edges : List Edge) (lines : List (List ℕ)) → AllZip (SpellsEdge graph) edges lines
-      → All (IsValidEdge graph) edges → All IsShort lines
+      → All (IsValidEdge graph) edges → All IsShortLine lines
       → (said : List Statement) × AllZip (IsEdgeSaid graph) edges said × AllZip Says lines said
   edges_said [] [] spelled are short = ([], tt, tt)
   edges_said [] (line ∷ lines) spelled are short = absurd spelled
   edges_said (edge ∷ edges) [] spelled are short = absurd spelled
   edges_said (edge ∷ edges) (line ∷ lines) spelled are short =
       let others = edges_said edges lines spelled.1 (All-tail (IsValidEdge graph) edge edges are)
-      (All-tail IsShort line lines short) in
+      (All-tail IsShortLine line lines short) in
       let is : IsValidEdge graph edge = All-head (IsValidEdge graph) edge edges are in
       let word = spelled.0.0 in (
-        edge_said graph edge word ∷ others.0,
+        edge_statement graph edge word ∷ others.0,
         (record { valid = is; modes_word = word; spells = spelled.0.1; is = refl }, others.1),
         (
           ap statement_of spelled.0.2
               ∙ statement_of-edge_line graph valid edge is word spelled.0.1
-              (subst IsShort spelled.0.2 (All-head IsShort line lines short)),
+              (subst IsShortLine spelled.0.2 (All-head IsShortLine line lines short)),
           others.2,
         ),
       )
@@ -147,12 +131,12 @@ module _ (graph : Tfpg) (valid : IsValid graph) where
       AllZip-append Says (map mode_line graph.modes ++ map node_line graph.nodes ++ lines)
       (said_so_far graph.modes graph.nodes said) (codes "end" ∷ []) (Ends ∷ [])
       (AllZip-append Says (map mode_line graph.modes ++ map node_line graph.nodes)
-      (map DeclaresMode graph.modes ++ map node_said graph.nodes) lines said
+      (map DeclaresMode graph.modes ++ map node_statement graph.nodes) lines said
       (AllZip-append Says (map mode_line graph.modes) (map DeclaresMode graph.modes) (map node_line graph.nodes)
-      (map node_said graph.nodes)
+      (map node_statement graph.nodes)
       (AllZip-maps Says mode_line DeclaresMode graph.modes
       (λ k d within. statement_of-mode (get_or graph.modes k d) (valid.so_far.mode_names k d within)))
-      (AllZip-maps Says node_line node_said graph.nodes
+      (AllZip-maps Says node_line node_statement graph.nodes
       (λ k d within. statement_of-node (get_or graph.nodes k d).name (get_or graph.nodes k d).kind
       (valid.so_far.node_names k d within) (valid.so_far.node_numbers k d within))))
       says)
@@ -162,9 +146,9 @@ module _ (graph : Tfpg) (valid : IsValid graph) where
 abbrev IsCleanText : Tfpg → List (List ℕ) → Type 0
 IsCleanText graph lines = IsClean lines × (declared_by lines ≡ graph) × (list_any ends_text (statements_of lines) ≡ true)
 
-module _ (graph : Tfpg) (valid : IsValid graph) (after : List (List ℕ)) (short : All IsShort after)
+module _ (graph : Tfpg) (valid : IsValid graph) (after : List (List ℕ)) (short : All IsShortLine after)
     (said : List Statement) (are : AllZip (IsEdgeSaid graph) graph.edges said)
-    (says : AllZip Says (kept after) (said_so_far graph.modes graph.nodes said ++ Ends ∷ [])) where
+    (says : AllZip Says (content_lines after) (said_so_far graph.modes graph.nodes said ++ Ends ∷ [])) where
   clean : IsClean (header ∷ after)
   clean zero tested = refl
   clean (suc index) tested =
@@ -173,7 +157,7 @@ module _ (graph : Tfpg) (valid : IsValid graph) (after : List (List ℕ)) (short
       (⊎_elim (λ first. absurd (omega (arith, first))) (λ within. omega (arith, within)) tested)
 
   all_said : statements_of (header ∷ after) ≡ said_so_far graph.modes graph.nodes said ++ Ends ∷ []
-  all_said = statements_of-kept after (said_so_far graph.modes graph.nodes said ++ Ends ∷ []) says
+  all_said = statements_of-content_lines after (said_so_far graph.modes graph.nodes said ++ Ends ∷ []) says
 
   clean_text : IsCleanText graph (header ∷ after)
   clean_text = (
@@ -185,19 +169,19 @@ module _ (graph : Tfpg) (valid : IsValid graph) (after : List (List ℕ)) (short
   )
 
 module _ (text : List ℕ) (graph : Tfpg) (spells : Spells text graph) (valid : IsValid graph) where
-  short_after : All IsShort spells.after
+  short_after : All IsShortLine spells.after
   short_after =
-      All-tail IsShort header spells.after
-      (All-same IsShort (header ∷ spells.after) (lines_of text) (sym spells.lines) spells.short)
+      All-tail IsShortLine header spells.after
+      (All-same IsShortLine (header ∷ spells.after) (lines_of text) (sym spells.lines) spells.short)
 
-  short_edges : All IsShort spells.said.edge_lines
+  short_edges : All IsShortLine spells.said.edge_lines
   short_edges =
       let modes_and_nodes = map mode_line graph.modes ++ map node_line graph.nodes in
-      All-back IsShort modes_and_nodes spells.said.edge_lines
-      (All-front IsShort (modes_and_nodes ++ spells.said.edge_lines) (codes "end" ∷ [])
-      (All-same IsShort (modes_and_nodes ++ spells.said.edge_lines ++ codes "end" ∷ []) (kept spells.after)
+      All-back IsShortLine modes_and_nodes spells.said.edge_lines
+      (All-front IsShortLine (modes_and_nodes ++ spells.said.edge_lines) (codes "end" ∷ [])
+      (All-same IsShortLine (modes_and_nodes ++ spells.said.edge_lines ++ codes "end" ∷ []) (content_lines spells.after)
       (sym spells.said.all)
-      (All-filter (λ line. not (is_empty_or_comment line)) IsShort spells.after short_after)))
+      (All-filter (λ line. not (is_empty_or_comment line)) IsShortLine spells.after short_after)))
 
   -- A text that spells a valid graph has no line with a cause, declares this graph, and has an end.
   pub Spells-clean : IsClean (lines_of text) × (declared_by (lines_of text) ≡ graph)

@@ -25,22 +25,22 @@ pub delays-no_greatest : (tmin tmax : List ℕ) (cause : GraphCause) → bytes_e
     → first_of (number_causes ((tmin, MAX_TIME) ∷ [])) ≡ Some cause → first_of (delay_causes tmin tmax) ≡ Some cause
 delays-no_greatest tmin tmax cause none e = rw none (one_word (is_number tmin) (nat_lt MAX_TIME (digits_value 10 tmin)) cause e)
 
-value_within : (most number value : ℕ) (within : Bool) → leb value most ≡ within → cond within (Value value) TooLarge ≡ Value number → (nat_lt most value ≡ false) × (value ≡ number)
-value_within most number value true at read = (grind (arith, nat_tests), cc)
-value_within most number value false at read = absurd cc
+value_within : (limit number value : ℕ) (within : Bool) → leb value limit ≡ within → cond within (Value value) TooLarge ≡ Value number → (nat_lt limit value ≡ false) × (value ≡ number)
+value_within limit number value true at read = (grind (arith, nat_tests), cc)
+value_within limit number value false at read = absurd cc
 
-value_read : (most number value : ℕ) (is : Bool) → number_up_to most (cond is (Some value) None) ≡ Value number → (is ≡ true) × (nat_lt most value ≡ false) × (value ≡ number)
-value_read most number value true read = let within = value_within most number value (leb value most) refl read in (refl, within.0, within.1)
-value_read most number value false read = absurd cc
+value_read : (limit number value : ℕ) (is : Bool) → number_up_to limit (cond is (Some value) None) ≡ Value number → (is ≡ true) × (nat_lt limit value ≡ false) × (value ≡ number)
+value_read limit number value true read = let within = value_within limit number value (leb value limit) refl read in (refl, within.0, within.1)
+value_read limit number value false read = absurd cc
 
-in_order : (over : Bool) (least most : ℕ) → ReadAs (first_of (None ∷ None ∷ then_some over MinOverMax ∷ [])) (Some (least, Some most)) (cond {A = Result (ℕ × Option ℕ) GraphCause} over (Err MinOverMax) (Ok (least, Some most)))
-in_order true least most = refl
-in_order false least most = (refl, refl)
+in_order : (over : Bool) (least greatest : ℕ) → ReadAs (first_of (None ∷ None ∷ then_some over MinOverMax ∷ [])) (Some (least, Some greatest)) (cond {A = Result (ℕ × Option ℕ) GraphCause} over (Err MinOverMax) (Ok (least, Some greatest)))
+in_order true least greatest = refl
+in_order false least greatest = (refl, refl)
 
 -- where both are numbers, their order decides
-pub delays-values : (tmin tmax : List ℕ) (least most : ℕ) → bytes_eq tmax (codes "inf") ≡ false → number_up_to MAX_TIME (number_of tmin) ≡ Value least → number_up_to MAX_TIME (number_of tmax) ≡ Value most
-    → ReadAs (first_of (delay_causes tmin tmax)) (delays_of_words tmin tmax) (cond {A = Result (ℕ × Option ℕ) GraphCause} (nat_lt most least) (Err MinOverMax) (Ok (least, Some most)))
-delays-values tmin tmax least most some first second =
+pub delays-values : (tmin tmax : List ℕ) (least greatest : ℕ) → bytes_eq tmax (codes "inf") ≡ false → number_up_to MAX_TIME (number_of tmin) ≡ Value least → number_up_to MAX_TIME (number_of tmax) ≡ Value greatest
+    → ReadAs (first_of (delay_causes tmin tmax)) (delays_of_words tmin tmax) (cond {A = Result (ℕ × Option ℕ) GraphCause} (nat_lt greatest least) (Err MinOverMax) (Ok (least, Some greatest)))
+delays-values tmin tmax least greatest some first second =
     let a = value_read MAX_TIME least (digits_value 10 tmin) (is_number tmin) first in
-    let b = value_read MAX_TIME most (digits_value 10 tmax) (is_number tmax) second in
-    rw (some, a.0, a.1, a.2, b.0, b.1, b.2) (in_order (nat_lt most least) least most)
+    let b = value_read MAX_TIME greatest (digits_value 10 tmax) (is_number tmax) second in
+    rw (some, a.0, a.1, a.2, b.0, b.1, b.2) (in_order (nat_lt greatest least) least greatest)

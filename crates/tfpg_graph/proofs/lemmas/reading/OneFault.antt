@@ -1,6 +1,5 @@
 -- A text has at most one first fault.
-use Rattle.std.proofs.Common.{◌≡◌, ◌⊎◌, ℕ, ◌+◌, ◌<◌, ◌≤◌, Bool, true, cond, ⊎_elim, inl, inr, List, [], length, get_or, take, Some, Result, Ok, Err, IfOk, IfErr, count_by, ap, sym, ◌∙◌, subst, arith}
-use Rattle.std.proofs.lemmas.Bool.{cases_lt}
+use Rattle.std.proofs.Common.{◌≡◌, ℕ, ◌+◌, ◌<◌, ◌≤◌, Bool, true, cond, inl, inr, List, [], length, get_or, take, Some, Result, Ok, Err, IfOk, IfErr, count_by, ap, refl, sym, ◌∙◌, subst, arith}
 use Rattle.std.proofs.lemmas.List.{take-take}
 use Rattle.std.proofs.lemmas.List.Sums.{count_by_more_yes, sum_by-take-le}
 use Rattle.std.proofs.lemmas.Option.{none-some}
@@ -13,23 +12,10 @@ use Rattle.tfpg_graph.specs.Valid.{IsValid, HasIncomingBefore}
 use Rattle.tfpg_graph.specs.Statements.{Statement}
 use Rattle.tfpg_graph.specs.Declares.{declared_by}
 use Rattle.tfpg_graph.specs.Causes.{cause_at}
-use Rattle.tfpg_graph.specs.Faults.{IsLineFault, IsLineSaying, IsIncomingFault, IsCycleFault, IsEndFault, IsWholeFault, IsFirstFault, IsRefusalOf, IsFaultAnswer, LacksIncoming, says}
+use Rattle.tfpg_graph.specs.Faults.{IsLineFault, IsLineSaying, IsIncomingFault, IsCycleFault, IsEndFault, IsWholeFault, IsFirstFault, IsRefusalOf, IsFaultResult, LacksIncoming, says}
 use Rattle.tfpg_base.specs.Lines.{lines_of}
+use Rattle.tfpg_base.proofs.lists.Sequences.{same_from_neither}
 use Rattle.tfpg_graph.proofs.lemmas.reading.NoFault.{no_line_fault, Spells-no_fault}
-
--- of two numbers one is less, or they are the same
-same_or_less : (a b : ℕ) → (a < b) ⊎ ((b < a) ⊎ (a ≡ b))
-same_or_less a b = by (cases_lt a b) (cases_lt b a)
-  where
-    by : (a < b) ⊎ (b ≤ a) → (b < a) ⊎ (a ≤ b) → (a < b) ⊎ ((b < a) ⊎ (a ≡ b))
-    by (inl less) other = inl less
-    by (inr most) (inl more) = inr (inl more)
-    by (inr most) (inr least) = inr (inr (omega arith))
-
--- numbers of which neither is less are the same
-same_unless_less : (a b : ℕ) → (a < b → ⊥) → (b < a → ⊥) → a ≡ b
-same_unless_less a b not_less not_more =
-    ⊎_elim (λ less. absurd (not_less less)) (⊎_elim (λ more. absurd (not_more more)) (λ same. same)) (same_or_less a b)
 
 -- two faults with the same line and the same cause are the same
 same_fault : (a b : GraphFault) → a.line ≡ b.line → a.cause ≡ b.cause → a ≡ b
@@ -50,7 +36,7 @@ module _ (test : Statement → Bool) (lines : List (List ℕ)) (count : ℕ) whe
   -- One line says such a thing after so many that do.
   one_line : (line other : ℕ) → IsLineSaying test lines count line → IsLineSaying test lines count other → line ≡ other
   one_line line other is so =
-      is.number ∙ ap (λ n. n + 1) (same_unless_less is.index so.index
+      is.number ∙ ap (λ n. n + 1) (same_from_neither is.index so.index
       (λ less. let more = counted_after (says test) lines [] is.index so.index less (omega (arith, so.within)) is.here in
       omega (arith, more, is.before, so.before))
       (λ less. let more = counted_after (says test) lines [] so.index is.index less (omega (arith, is.within)) so.here in
@@ -60,7 +46,7 @@ module _ (test : Statement → Bool) (lines : List (List ℕ)) (count : ℕ) whe
 module _ (lines : List (List ℕ)) (one other : GraphFault) where
   line_faults : IsLineFault lines one → IsLineFault lines other → one ≡ other
   line_faults is so =
-      let index : is.index ≡ so.index = same_unless_less is.index so.index
+      let index : is.index ≡ so.index = same_from_neither is.index so.index
       (λ less. none-some one.cause (sym (so.first is.index less) ∙ is.cause))
       (λ less. none-some other.cause (sym (is.first so.index less) ∙ so.cause)) in
       let cause : Some one.cause ≡ Some other.cause = sym is.cause ∙ ap (cause_at lines) index ∙ so.cause in
@@ -68,7 +54,7 @@ module _ (lines : List (List ℕ)) (one other : GraphFault) where
 
   incoming_faults : IsIncomingFault lines one → IsIncomingFault lines other → one ≡ other
   incoming_faults is so =
-      let node : is.node ≡ so.node = same_unless_less is.node so.node
+      let node : is.node ≡ so.node = same_from_neither is.node so.node
       (λ less. so.first is.node less is.lacks.1 is.lacks.2) (λ less. is.first so.node less so.lacks.1 so.lacks.2) in
       same_fault one other
       (one_line _ lines so.node one.line other.line (subst (λ n. IsLineSaying _ lines n one.line) node is.line) so.line)
@@ -76,7 +62,7 @@ module _ (lines : List (List ℕ)) (one other : GraphFault) where
 
   cycle_faults : IsCycleFault lines one → IsCycleFault lines other → one ≡ other
   cycle_faults is so =
-      let edge : is.edge ≡ so.edge = same_unless_less is.edge so.edge
+      let edge : is.edge ≡ so.edge = same_from_neither is.edge so.edge
       (λ less. so.first is.edge less is.lies) (λ less. is.first so.edge less so.lies) in
       same_fault one other
       (one_line _ lines so.edge one.line other.line (subst (λ n. IsLineSaying _ lines n one.line) edge is.line) so.line)
@@ -110,8 +96,9 @@ IsFirstFault-one text one other (inr is) (inl so) = absurd (no_line_fault (lines
 IsFirstFault-one text one other (inr is) (inr so) = whole_faults (lines_of text) one other is.1 so.1
 
 -- What is returned for a text with a first fault, where each result has its cause.
-pub IsFaultAnswer-from : (text : List ℕ) (result : Result Tfpg GraphRefusal) → IfOk result (Spells text) → IfOk result IsValid
-    → IfErr result (IsRefusalOf text) → (fault : GraphFault) → IsFirstFault text fault → IsFaultAnswer fault result
-IsFaultAnswer-from text (Ok graph) spelled valid refused fault is = Spells-no_fault text graph spelled valid fault is
-IsFaultAnswer-from text (Err (Fault reported)) spelled valid refused fault is = IsFirstFault-one text reported fault refused is
-IsFaultAnswer-from text (Err NoMemory) spelled valid refused fault is = tt
+pub IsFaultResult-from : (text : List ℕ) (result : Result Tfpg GraphRefusal) → IfOk result (Spells text) → IfOk result IsValid
+    → IfErr result (IsRefusalOf text) → (fault : GraphFault) → IsFirstFault text fault → IsFaultResult fault result
+IsFaultResult-from text (Ok graph) spelled valid refused fault is = absurd (Spells-no_fault text graph spelled valid fault is)
+IsFaultResult-from text (Err (Fault reported)) spelled valid refused fault is =
+    inl (ap (λ (one : GraphFault). Err (Fault one)) (IsFirstFault-one text reported fault refused is))
+IsFaultResult-from text (Err NoMemory) spelled valid refused fault is = inr refl

@@ -1,15 +1,16 @@
 -- A line says exactly the statement whose words it has.
-use Rattle.std.proofs.Common.{◌≡◌, ◌≢◌, ℕ, ◌<◌, ◌≤◌, ◌==◌, ◌↔◌, Bool, true, false, cond, List, [], ◌∷◌, length, All, Contains, Option, Some, None, refl, ap, sym, ◌∙◌, subst, arith}
+use Rattle.std.proofs.Common.{◌≡◌, ◌≢◌, ℕ, ◌<◌, ◌≤◌, ◌==◌, ◌↔◌, Bool, true, false, cond, List, [], ◌∷◌, length, All, Contains, Some, None, refl, ap, sym, ◌∙◌, subst, arith}
 use Rattle.std.specs.List.{AllByRecursion, list_any, onto_first}
 use Rattle.std.proofs.lemmas.Bool.{or_parts, ne_eqb, eq-eqb, false≢true}
 use Rattle.std.proofs.lemmas.List.{nil_from_length}
 use Rattle.std.proofs.lemmas.List.Elements.{All-nil, All-cons, All-head, All-tail, All-contains}
 use Rattle.tfpg_base.specs.Words.{words_of}
 use Rattle.tfpg_base.specs.declared.limits.TheConstants.{LONGEST_LINE}
+use Rattle.tfpg_base.proofs.lists.Choices.{cond-some_second}
 use Rattle.tfpg_base.proofs.lists.Elements.{All-from_members}
 use Rattle.tfpg_base.proofs.Separators.{Lacks}
-use Rattle.tfpg_graph.specs.Statements.{NodeWords, FailureWords, OrWords, AndWords, Statement, DeclaresMode, DeclaresNode, DeclaresEdge, Ends, words_of_watch, words_of_node, words_of_statement, IsLineWord, SaysStatement, lag_in, statement_in, statement_of}
-use Rattle.tfpg_graph.proofs.lemmas.reading.SaidWords.{cond_second, statement_in_words, said_by_words}
+use Rattle.tfpg_graph.specs.Statements.{NodeWords, FailureWords, OrWords, AndWords, Statement, DeclaresMode, DeclaresNode, DeclaresEdge, Ends, words_of_node, words_of_statement, IsLineWord, SaysStatement, statement_in, statement_of}
+use Rattle.tfpg_graph.proofs.lemmas.reading.SaidWords.{statement_in_words, said_by_words}
 use Rattle.tfpg_graph.proofs.lemmas.reading.LinesSay.{IsWord, short_line_says}
 
 -- no part of a line round its spaces has a space
@@ -27,8 +28,8 @@ parts_lack (byte ∷ line) = by (byte == 32) refl (words_of line) (parts_lack li
 has_byte : (word : List ℕ) → (length word == 0) ≡ false → word ≢ []
 has_byte word some is = false≢true (sym some ∙ eq-eqb (length word) 0 (ap length is))
 
-no_space : (word : List ℕ) → Lacks 32 word → Contains word 32 → ⊥
-no_space word lacks has =
+lacks_space : (word : List ℕ) → Lacks 32 word → Contains word 32 → ⊥
+lacks_space word lacks has =
     false≢true (sym (All-contains (λ other. (other == 32) ≡ false) word 32 lacks has) ∙ eq-eqb 32 32 refl)
 
 -- words of which none is empty, and none has a space
@@ -37,7 +38,7 @@ pub line_words : (words : List (List ℕ)) → list_any (λ word. length word ==
 line_words [] none lack = All-nil IsLineWord
 line_words (word ∷ words) none lack =
     let parts = or_parts (length word == 0) (list_any (λ other. length other == 0) words) none in
-    All-cons IsLineWord word words (has_byte word parts.0, no_space word lack.0) (line_words words parts.1 lack.1)
+    All-cons IsLineWord word words (has_byte word parts.0, lacks_space word lack.0) (line_words words parts.1 lack.1)
 
 -- and back
 is_word : (word : List ℕ) → IsLineWord word → IsWord word
@@ -52,10 +53,6 @@ are_words [] are = tt
 are_words (word ∷ words) are = (is_word word (All-head IsLineWord word words are), are_words words (All-tail IsLineWord word words are))
 
 -- the words of a statement say it
-lag_in-words : (lag : Option (List ℕ)) → lag_in (words_of_watch lag) ≡ Some lag
-lag_in-words None = refl
-lag_in-words (Some lag) = refl
-
 statement_in-node : (name : List ℕ) (words : NodeWords) → statement_in (words_of_node name words) ≡ Some (DeclaresNode name words)
 statement_in-node name (FailureWords rarity) = refl
 statement_in-node name (OrWords None) = refl
@@ -81,8 +78,8 @@ some_words Ends = omega arith
 pub SaysStatement-said : (line : List ℕ) (said : Statement) → statement_of line ≡ Some said → SaysStatement line said
 SaysStatement-said line said some =
     let whole = said_by_words line said some in
-    let short = cond_second _ _ said some in
-    let shaped = cond_second _ _ said short.1 in
+    let short = cond-some_second _ _ said some in
+    let shaped = cond-some_second _ _ said short.1 in
     record {
       words = whole.1;
       each = subst (All IsLineWord) (statement_in_words (words_of line) said shaped.1)

@@ -10,45 +10,13 @@ use Rattle.std.proofs.lemmas.List.Quantifiers.{position-Some}
 use Rattle.std.proofs.lemmas.Option.{slice_get-get_or, same_Some}
 use Rattle.std.proofs.lemmas.Slice.Eq.{bytes_eq-Decides}
 use Rattle.tfpg_base.proofs.lists.Elements.{AllPairs-cons}
+use Rattle.tfpg_base.proofs.lists.LookedUp.{filter_map-some, filter_map-back}
 use Rattle.tfpg_graph.specs.Graph.{Tfpg, mode_named}
 use Rattle.tfpg_graph.specs.Text.{SpellsModes}
 use Rattle.tfpg_graph.specs.Declares.{modes_listed, modes_of_word}
 use Rattle.tfpg_graph.specs.Causes.{has_twice}
 use Rattle.tfpg_base.proofs.lists.SameBytes.{bytes_eq-false}
 use Rattle.tfpg_base.proofs.lists.Passing.{All-filter_map}
-
--- ---- items that are looked up and found
-
-module _ {X Y : Type 0} (look : X → Option Y) where
-  -- an item that is not missed is found
-  pub found : (x : X) → is_none (look x) ≡ false → (y : Y) × (look x ≡ Some y)
-  found x here = by (look x) here
-    where
-      by : (o : Option Y) → is_none o ≡ false → (y : Y) × (o ≡ Some y)
-      by None here = absurd cc
-      by (Some y) here = (y, refl)
-
-  -- where an item is found, the values begin with its value
-  filter_map-found : (x : X) (y : Y) (xs : List X) → look x ≡ Some y → filter_map look (x ∷ xs) ≡ y ∷ filter_map look xs
-  filter_map-found x y xs is = ap (λ o. cons_option o (filter_map look xs)) is
-
-  -- items of which none is missed have values where there are any
-  pub filter_map-some : (xs : List X) → 0 < length xs → list_any (λ x. is_none (look x)) xs ≡ false → filter_map look xs ≢ []
-  filter_map-some [] some here empty = omega (arith, some)
-  filter_map-some (x ∷ xs) some here empty =
-      let first = found x (or_parts (is_none (look x)) _ here).0 in
-      let begins : filter_map look (x ∷ xs) ≡ first.0 ∷ filter_map look xs = filter_map-found x first.0 xs first.1 in
-      cc
-
-  -- where the values lead back to the items, no item is missed, and all are had back
-  filter_map-back : (read : Y → Option X) → ((x : X) (y : Y) → look x ≡ Some y → read y ≡ Some x) → (xs : List X)
-      → list_any (λ x. is_none (look x)) xs ≡ false → filter_map read (filter_map look xs) ≡ xs
-  filter_map-back read leads [] here = refl
-  filter_map-back read leads (x ∷ xs) here =
-      let parts = or_parts (is_none (look x)) _ here in
-      let first = found x parts.0 in
-      ap (filter_map read) (filter_map-found x first.0 xs first.1)
-      ∙ (λ i. cons_option (leads x first.0 first.1 i) (filter_map-back read leads xs parts.1 i))
 
 -- values that lead back to the words
 module _ {Y : Type 0} (look : List ℕ → Option Y) (read : Y → Option (List ℕ))

@@ -1,80 +1,28 @@
 -- What is declared by statements of modes, then of nodes, then of edges.
-use Rattle.std.proofs.Common.{◌≡◌, ℕ, ◌+◌, ◌<◌, Bool, true, false, cond, not, List, [], ◌∷◌, ◌++◌, length, map, get_or, All, AllPairs, Option, Some, None, refl, ap, sym, ◌∙◌, subst, arith, append_assoc}
+use Rattle.std.proofs.Common.{◌≡◌, ℕ, ◌<◌, true, false, not, List, [], ◌∷◌, ◌++◌, length, map, get_or, All, Option, None, refl, ap, sym, ◌∙◌, arith, append_assoc}
 use Rattle.std.specs.Option.{option_map}
-use Rattle.std.specs.List.{AllZip, list_any, filter_map, cons_option}
-use Rattle.std.proofs.lemmas.List.{append-nil, map_push, length-append, get_or_at, get_or_append_left}
-use Rattle.std.proofs.lemmas.List.Elements.{All-head, All-tail, All-nil, All-append, All-map, All-contains, Contains-append_right, filter_map-append}
+use Rattle.std.specs.List.{list_any, filter_map}
+use Rattle.std.proofs.lemmas.List.{append-nil, map_push}
+use Rattle.std.proofs.lemmas.List.Elements.{All-nil, All-append, All-map, filter_map-append}
 use Rattle.std.proofs.lemmas.List.Folds.{list_any_none}
-use Rattle.tfpg_base.proofs.lists.Elements.{Contains-head}
+use Rattle.tfpg_base.proofs.lists.LookedUp.{filter_map-made}
 use Rattle.tfpg_base.proofs.lists.Valued.{filter_map-none}
 use Rattle.tfpg_graph.specs.declared.edge.Edge.{Edge}
 use Rattle.tfpg_graph.specs.Graph.{Tfpg, Node}
-use Rattle.tfpg_base.specs.Choice.{numbers_from}
 use Rattle.tfpg_graph.specs.Valid.{HasValidNumber}
 use Rattle.tfpg_graph.specs.Statements.{Statement, DeclaresMode, DeclaresNode, declares_mode, declares_edge, ends_text}
 use Rattle.tfpg_graph.specs.Declares.{mode_declared, node_declared, edge_declared, graph_said}
 use Rattle.tfpg_graph.proofs.lemmas.reading.LinesSay.{words_of_kind}
 use Rattle.tfpg_graph.proofs.lemmas.reading.SpelledValues.{kind_of_words-kind}
 
--- ---- an item within a list
-
-module _ {X : Type 0} (xs : List X) (y : X) (ys : List X) where
-  -- what holds of each item holds of it
-  pub All-middle : (P : X → Type 0) → All P (xs ++ y ∷ ys) → P y
-  All-middle P all = All-contains P (xs ++ y ∷ ys) y all (Contains-append_right xs (y ∷ ys) y (Contains-head y ys))
-
-  -- there are fewer before it than there are
-  pub length-middle : length xs < length (xs ++ y ∷ ys)
-  length-middle = omega (arith, length-append xs (y ∷ ys))
-
-  -- what relates each two relates each before it to it
-  pub AllPairs-middle : (R : X → X → Type 0) → AllPairs R (xs ++ y ∷ ys) → All (λ x. R x y) xs
-  AllPairs-middle R pairs k d within =
-      coe 0 1 (i. R (get_or_append_left xs (y ∷ ys) d k within i) (get_or_at xs y ys d (length xs) refl i))
-      (pairs k (length xs) d within length-middle)
-
--- where it passes, fewer before it pass than do
-pub numbers_from-middle : {X : Type 0} (p : X → Bool) (n : ℕ) (xs : List X) (y : X) (ys : List X) → p y ≡ true
-    → length (numbers_from n p xs) < length (numbers_from n p (xs ++ y ∷ ys))
-numbers_from-middle p n [] y ys passes =
-    subst (λ b. 0 < length (cond b (n ∷ numbers_from (n + 1) p ys) (numbers_from (n + 1) p ys))) (sym passes)
-    (omega arith)
-numbers_from-middle p n (x ∷ xs) y ys passes = by (p x) (numbers_from-middle p (n + 1) xs y ys passes)
-  where
-    by : (b : Bool) → length (numbers_from (n + 1) p xs) < length (numbers_from (n + 1) p (xs ++ y ∷ ys))
-        → length (cond b (n ∷ numbers_from (n + 1) p xs) (numbers_from (n + 1) p xs))
-        < length (cond b (n ∷ numbers_from (n + 1) p (xs ++ y ∷ ys)) (numbers_from (n + 1) p (xs ++ y ∷ ys)))
-    by true fewer = omega arith
-    by false fewer = fewer
-
--- ---- what each of a list gives
-
-module _ {X Y : Type 0} (f : X → Option Y) where
-  -- where each gives what it was made of
-  pub filter_map-made : (make : Y → X) (ys : List Y) → All (λ y. f (make y) ≡ Some y) ys
-      → filter_map f (map make ys) ≡ ys
-  filter_map-made make [] gives = refl
-  filter_map-made make (y ∷ ys) gives =
-      λ i. cons_option (All-head (λ z. f (make z) ≡ Some z) y ys gives i)
-      (filter_map-made make ys (All-tail (λ z. f (make z) ≡ Some z) y ys gives) i)
-
-  -- where each gives what it is related to
-  pub filter_map-related : (R : Y → X → Type 0) → ((y : Y) (x : X) → R y x → f x ≡ Some y) → (ys : List Y) (xs : List X)
-      → AllZip R ys xs → filter_map f xs ≡ ys
-  filter_map-related R gives [] [] related = refl
-  filter_map-related R gives [] (x ∷ xs) related = absurd related
-  filter_map-related R gives (y ∷ ys) [] related = absurd related
-  filter_map-related R gives (y ∷ ys) (x ∷ xs) related =
-      λ i. cons_option (gives y x related.0 i) (filter_map-related R gives ys xs related.1 i)
-
 -- ---- statements of modes, then of nodes, then of edges
 
-abbrev pub node_said : Node → Statement
-node_said node = DeclaresNode node.name (words_of_kind node.kind)
+abbrev pub node_statement : Node → Statement
+node_statement node = DeclaresNode node.name (words_of_kind node.kind)
 
 -- the statements that declare these modes, and these nodes, and then these
 abbrev pub said_so_far : List (List ℕ) → List Node → List Statement → List Statement
-said_so_far modes nodes edges = map DeclaresMode modes ++ map node_said nodes ++ edges
+said_so_far modes nodes edges = map DeclaresMode modes ++ map node_statement nodes ++ edges
 
 -- what is seen of the statement of an edge
 pub record IsOfEdge (said : Statement) : Type 0 where
@@ -84,18 +32,18 @@ pub record IsOfEdge (said : Statement) : Type 0 where
 
 module _ (modes : List (List ℕ)) (nodes : List Node) (edges : List Statement) where
   All-so_far : (P : Statement → Type 0) → All (λ mode. P (DeclaresMode mode)) modes
-      → All (λ node. P (node_said node)) nodes → All P edges → All P (said_so_far modes nodes edges)
+      → All (λ node. P (node_statement node)) nodes → All P edges → All P (said_so_far modes nodes edges)
   All-so_far P of_modes of_nodes of_edges =
-      All-append P (map DeclaresMode modes ++ map node_said nodes) edges
-      (All-append P (map DeclaresMode modes) (map node_said nodes) (All-map P DeclaresMode modes of_modes)
-      (All-map P node_said nodes of_nodes)) of_edges
+      All-append P (map DeclaresMode modes ++ map node_statement nodes) edges
+      (All-append P (map DeclaresMode modes) (map node_statement nodes) (All-map P DeclaresMode modes of_modes)
+      (All-map P node_statement nodes of_nodes)) of_edges
 
   filter_map-so_far : {X : Type 0} (f : Statement → Option X) (a b c : List X)
-      → filter_map f (map DeclaresMode modes) ≡ a → filter_map f (map node_said nodes) ≡ b → filter_map f edges ≡ c
+      → filter_map f (map DeclaresMode modes) ≡ a → filter_map f (map node_statement nodes) ≡ b → filter_map f edges ≡ c
       → filter_map f (said_so_far modes nodes edges) ≡ a ++ b ++ c
   filter_map-so_far f a b c of_modes of_nodes of_edges =
-      filter_map-append f (map DeclaresMode modes ++ map node_said nodes) edges
-      ∙ ap (λ xs. xs ++ filter_map f edges) (filter_map-append f (map DeclaresMode modes) (map node_said nodes))
+      filter_map-append f (map DeclaresMode modes ++ map node_statement nodes) edges
+      ∙ ap (λ xs. xs ++ filter_map f edges) (filter_map-append f (map DeclaresMode modes) (map node_statement nodes))
       ∙ (λ i. of_modes i ++ of_nodes i ++ of_edges i)
 
   -- no statement ends the text
@@ -110,8 +58,8 @@ module _ (modes : List (List ℕ)) (nodes : List Node) (edges : List Statement) 
     modes-so_far =
         filter_map-so_far mode_declared modes [] []
         (filter_map-made mode_declared DeclaresMode modes (λ k d within. refl))
-        (filter_map-none mode_declared (map node_said nodes)
-        (All-map (λ said. mode_declared said ≡ None) node_said nodes (λ k d within. refl)))
+        (filter_map-none mode_declared (map node_statement nodes)
+        (All-map (λ said. mode_declared said ≡ None) node_statement nodes (λ k d within. refl)))
         (filter_map-none mode_declared edges (λ k d within. (are k d within).no_mode))
         ∙ append-nil (modes ++ []) ∙ append-nil modes
 
@@ -120,7 +68,7 @@ module _ (modes : List (List ℕ)) (nodes : List Node) (edges : List Statement) 
         filter_map-so_far node_declared [] nodes []
         (filter_map-none node_declared (map DeclaresMode modes)
         (All-map (λ said. node_declared said ≡ None) DeclaresMode modes (λ k d within. refl)))
-        (filter_map-made node_declared node_said nodes
+        (filter_map-made node_declared node_statement nodes
         (λ k d within. ap (option_map (λ kind. record { name = (get_or nodes k d).name; kind = kind }))
         (kind_of_words-kind (get_or nodes k d).kind (numbers k d within))))
         (filter_map-none node_declared edges (λ k d within. (are k d within).no_node))
@@ -132,8 +80,8 @@ module _ (modes : List (List ℕ)) (nodes : List Node) (edges : List Statement) 
         filter_map-so_far (edge_declared graph) [] [] declared
         (filter_map-none (edge_declared graph) (map DeclaresMode modes)
         (All-map (λ said. edge_declared graph said ≡ None) DeclaresMode modes (λ k d within. refl)))
-        (filter_map-none (edge_declared graph) (map node_said nodes)
-        (All-map (λ said. edge_declared graph said ≡ None) node_said nodes (λ k d within. refl)))
+        (filter_map-none (edge_declared graph) (map node_statement nodes)
+        (All-map (λ said. edge_declared graph said ≡ None) node_statement nodes (λ k d within. refl)))
         is
 
     -- The graph that they declare.
@@ -157,7 +105,7 @@ pub modes_only-so_far : (modes : List (List ℕ))
 modes_only-so_far modes =
     list_any_none (λ said. not (declares_mode said)) (said_so_far modes [] [])
     (All-so_far modes [] [] (λ said. not (declares_mode said) ≡ false) (λ k d within. refl)
-    (All-nil (λ node. not (declares_mode (node_said node)) ≡ false))
+    (All-nil (λ node. not (declares_mode (node_statement node)) ≡ false))
     (All-nil (λ said. not (declares_mode said) ≡ false)))
 
 -- no edge is declared before the nodes are
@@ -185,14 +133,14 @@ said_so_far-mode modes mode =
 
 -- one node more
 pub said_so_far-node : (modes : List (List ℕ)) (nodes : List Node) (node : Node)
-    → said_so_far modes nodes [] ++ node_said node ∷ [] ≡ said_so_far modes (nodes ++ node ∷ []) []
+    → said_so_far modes nodes [] ++ node_statement node ∷ [] ≡ said_so_far modes (nodes ++ node ∷ []) []
 said_so_far-node modes nodes node =
-    ap (λ said. said ++ node_said node ∷ []) (append-nil (map DeclaresMode modes ++ map node_said nodes))
-    ∙ append_assoc (map DeclaresMode modes) (map node_said nodes) (node_said node ∷ [])
-    ∙ ap (λ said. map DeclaresMode modes ++ said) (sym (map_push node_said nodes node))
-    ∙ sym (append-nil (map DeclaresMode modes ++ map node_said (nodes ++ node ∷ [])))
+    ap (λ said. said ++ node_statement node ∷ []) (append-nil (map DeclaresMode modes ++ map node_statement nodes))
+    ∙ append_assoc (map DeclaresMode modes) (map node_statement nodes) (node_statement node ∷ [])
+    ∙ ap (λ said. map DeclaresMode modes ++ said) (sym (map_push node_statement nodes node))
+    ∙ sym (append-nil (map DeclaresMode modes ++ map node_statement (nodes ++ node ∷ [])))
 
 -- one edge more
 pub said_so_far-edge : (modes : List (List ℕ)) (nodes : List Node) (edges : List Statement) (said : Statement)
     → said_so_far modes nodes edges ++ said ∷ [] ≡ said_so_far modes nodes (edges ++ said ∷ [])
-said_so_far-edge modes nodes edges said = append_assoc (map DeclaresMode modes ++ map node_said nodes) edges (said ∷ [])
+said_so_far-edge modes nodes edges said = append_assoc (map DeclaresMode modes ++ map node_statement nodes) edges (said ∷ [])

@@ -9,10 +9,11 @@ use Rattle.std.proofs.lemmas.Bool.{ltb-false, and_parts, or_parts, not-false, co
 use Rattle.std.proofs.lemmas.Slice.Eq.{bytes_eq-Decides}
 use Rattle.tfpg_base.specs.Words.{line_of, is_number, number_of}
 use Rattle.tfpg_base.proofs.Numbers.{decimal-number_of}
+use Rattle.tfpg_base.proofs.lists.LookedUp.{found}
 use Rattle.tfpg_graph.specs.declared.kind.Kind.{Kind}
 use Rattle.tfpg_graph.specs.declared.kind.Kind.TheVariants.{Failure, Or, And}
 use Rattle.tfpg_graph.specs.declared.edge.Edge.{Edge}
-use Rattle.tfpg_graph.specs.Graph.{Tfpg, name_at, node_named}
+use Rattle.tfpg_graph.specs.Graph.{Tfpg, name_word, node_named}
 use Rattle.tfpg_graph.specs.Text.{node_words, watch_words, tmax_word, SpellsEdge}
 use Rattle.tfpg_base.specs.declared.limits.TheConstants.{MAX_TIME}
 use Rattle.tfpg_graph.specs.declared.limits.TheConstants.{MAX_RARITY}
@@ -21,7 +22,7 @@ use Rattle.tfpg_graph.specs.Declares.{lag_of_word, kind_of_words, tmax_of_word, 
 use Rattle.tfpg_graph.specs.Causes.{has_bad_number, has_large_number, lag_number, node_number}
 use Rattle.tfpg_graph.proofs.lemmas.declared.Named.{named_found}
 use Rattle.tfpg_graph.proofs.lemmas.reading.NoCause.{HasNoCause}
-use Rattle.tfpg_graph.proofs.lemmas.reading.SaidModes.{found, SpellsModes-said}
+use Rattle.tfpg_graph.proofs.lemmas.reading.SaidModes.{SpellsModes-said}
 
 -- ---- numbers
 
@@ -34,12 +35,12 @@ abbrev has_large : List (List ℕ × ℕ) → Bool
 has_large numbers = list_any (λ number. nat_lt number.1 (digits_value 10 number.0)) numbers
 
 -- a word that is a number and not too large is the decimal text of its value
-number_said : (word : List ℕ) (most : ℕ) → most < 2 ^ 64 → is_number word ≡ true → nat_lt most (digits_value 10 word) ≡ false
+number_said : (word : List ℕ) (limit : ℕ) → limit < 2 ^ 64 → is_number word ≡ true → nat_lt limit (digits_value 10 word) ≡ false
     → (number_of word ≡ Some (digits_value 10 word)) × (word ≡ decimal (digits_value 10 word))
-number_said word most small number within =
+number_said word limit small number within =
     let value = digits_value 10 word in
     let read : number_of word ≡ Some value = cond-true (is_number word) (Some value) None number in
-    (read, decimal-number_of word value read (omega (arith, ltb-false most value within)))
+    (read, decimal-number_of word value read (omega (arith, ltb-false limit value within)))
 
 -- ---- nodes
 
@@ -63,10 +64,10 @@ kind_said name (AndWords lag) numbers small =
     (And is.0, ap (option_map And) is.1, ap (λ words. codes "and" ∷ name ∷ words) is.2)
 
 -- A node whose number has no cause is of a kind, and its words are those of this kind.
-pub node_said : (name : List ℕ) (words : NodeWords) → has_bad_number (DeclaresNode name words) ≡ false
+pub node_from_words : (name : List ℕ) (words : NodeWords) → has_bad_number (DeclaresNode name words) ≡ false
     → has_large_number (DeclaresNode name words) ≡ false
     → (kind : Kind) × (kind_of_words words ≡ Some kind) × (words_of_statement (DeclaresNode name words) ≡ node_words name kind)
-node_said name words numbers small = kind_said name words (not-false (are_numbers (node_number words)) numbers) small
+node_from_words name words numbers small = kind_said name words (not-false (are_numbers (node_number words)) numbers) small
 
 -- ---- edges
 
@@ -74,7 +75,7 @@ node_said name words numbers small = kind_said name words (not-false (are_number
 tmax_said : (tmax : List ℕ) (endless : Bool) → bytes_eq tmax (codes "inf") ≡ endless
     → are_numbers (cond endless [] ((tmax, MAX_TIME) ∷ [])) ≡ true
     → has_large (cond endless [] ((tmax, MAX_TIME) ∷ [])) ≡ false
-    → (most : Option ℕ) × (cond endless (Some None) (option_map Some (number_of tmax)) ≡ Some most) × (tmax ≡ tmax_word most)
+    → (greatest : Option ℕ) × (cond endless (Some None) (option_map Some (number_of tmax)) ≡ Some greatest) × (tmax ≡ tmax_word greatest)
 tmax_said tmax true is numbers small = (None, refl, (bytes_eq-Decides tmax (codes "inf")).0 is)
 tmax_said tmax false is numbers small =
     let value = number_said tmax MAX_TIME (omega arith) (and_parts (is_number tmax) true numbers).0 (or_parts _ false small).0 in
@@ -84,7 +85,7 @@ tmax_said tmax false is numbers small =
 delays_said : (source target tmin tmax modes : List ℕ)
     → has_bad_number (DeclaresEdge source target tmin tmax modes) ≡ false
     → has_large_number (DeclaresEdge source target tmin tmax modes) ≡ false
-    → (least : ℕ) × (most : Option ℕ) × (delays_of_words tmin tmax ≡ Some (least, most)) × (tmin ≡ decimal least) × (tmax ≡ tmax_word most)
+    → (least : ℕ) × (greatest : Option ℕ) × (delays_of_words tmin tmax ≡ Some (least, greatest)) × (tmin ≡ decimal least) × (tmax ≡ tmax_word greatest)
 delays_said source target tmin tmax modes numbers small =
     let right = and_parts (is_number tmin) _ (not-false _ numbers) in
     let within = or_parts _ _ small in
@@ -92,18 +93,18 @@ delays_said source target tmin tmax modes numbers small =
     let second = tmax_said tmax (bytes_eq tmax (codes "inf")) refl right.1 within.1 in (
       digits_value 10 tmin,
       second.0,
-      ap (option_and_then (λ least. option_map (λ most. (least, most)) (tmax_of_word tmax))) first.0
-          ∙ ap (option_map (λ most. (digits_value 10 tmin, most))) second.1,
+      ap (option_and_then (λ least. option_map (λ greatest. (least, greatest)) (tmax_of_word tmax))) first.0
+          ∙ ap (option_map (λ greatest. (digits_value 10 tmin, greatest))) second.1,
       first.1,
       second.2,
     )
 
 -- An edge without a cause has its value, and its words spell it.
-pub edge_said : (graph : Tfpg) (out_of_order : Bool) (source target tmin tmax modes : List ℕ)
+pub edge_from_words : (graph : Tfpg) (out_of_order : Bool) (source target tmin tmax modes : List ℕ)
     → HasNoCause out_of_order graph (DeclaresEdge source target tmin tmax modes)
     → (edge : Edge) × (edge_declared graph (DeclaresEdge source target tmin tmax modes) ≡ Some edge)
     × SpellsEdge graph edge (line_of (words_of_statement (DeclaresEdge source target tmin tmax modes)))
-edge_said graph out_of_order source target tmin tmax modes is =
+edge_from_words graph out_of_order source target tmin tmax modes is =
     let unknown = or_parts _ _ is.known in
     let unknown_target = or_parts _ _ unknown.1 in
     let from = found (node_named graph) source unknown.0 in
@@ -112,8 +113,8 @@ edge_said graph out_of_order source target tmin tmax modes is =
     let edge : Edge = edge_with (from.0, to.0) (delays.0, delays.1) in
     let ends : ends_named graph source target ≡ Some (from.0, to.0) =
     ap (option_and_then (λ a. option_map (λ b. (a, b)) (node_named graph target))) from.1 ∙ ap (option_map (λ b. (from.0, b))) to.1 in
-    let source_word : unwrap_or (name_at graph from.0) [] ≡ source = ap (λ o. unwrap_or o []) (named_found graph source from.0 from.1).1 in
-    let target_word : unwrap_or (name_at graph to.0) [] ≡ target = ap (λ o. unwrap_or o []) (named_found graph target to.0 to.1).1 in (
+    let source_word : name_word graph from.0 ≡ source = ap (λ o. unwrap_or o []) (named_found graph source from.0 from.1).1 in
+    let target_word : name_word graph to.0 ≡ target = ap (λ o. unwrap_or o []) (named_found graph target to.0 to.1).1 in (
       edge,
       (λ i. option_and_then (λ ends. option_map (edge_with ends) (delays.2 i)) (ends i)),
       (

@@ -4,7 +4,7 @@ use Rattle.std.specs.Str.{bytes_eq}
 use Rattle.std.specs.List.{onto_first}
 use Rattle.std.proofs.lemmas.Bool.{ltb-false, eqb-true}
 use Rattle.std.proofs.lemmas.Option.{cond_some}
-use Rattle.tfpg_base.proofs.lists.Choices.{option_map-some}
+use Rattle.tfpg_base.proofs.lists.Choices.{option_map-some, cond-some_second}
 use Rattle.std.proofs.lemmas.Slice.Eq.{bytes_eq-Decides}
 use Rattle.tfpg_base.specs.Words.{line_of, words_of}
 use Rattle.tfpg_base.specs.declared.limits.TheConstants.{LONGEST_LINE}
@@ -13,11 +13,6 @@ use Rattle.tfpg_graph.specs.Text.{is_empty_or_comment}
 use Rattle.tfpg_graph.specs.Statements.{FailureWords, OrWords, AndWords, Statement, DeclaresMode, DeclaresNode, DeclaresEdge, Ends, words_of_watch, words_of_statement, lag_in, mode_in, failure_in, or_in, and_in, edge_in, end_in, statement_in, statement_of}
 
 -- ---- laws of choices
-
--- where the first way gives nothing, a value comes from the second
-pub cond_second : {X : Type 0} (b : Bool) (o : Option X) (x : X) → cond b None o ≡ Some x → (b ≡ false) × (o ≡ Some x)
-cond_second true o x some = absurd cc
-cond_second false o x some = (refl, some)
 
 -- a choice by the first word: where the word is the key, its way gives the value, and else the other way
 keyword_chosen : (word key : List ℕ) (others : List (List ℕ)) (here other : Option Statement) (said : Statement)
@@ -95,8 +90,8 @@ statement_in_words (keyword ∷ others) said some =
 pub said_by_words : (line : List ℕ) (said : Statement) → statement_of line ≡ Some said
     → (length line ≤ LONGEST_LINE) × (line ≡ line_of (words_of_statement said))
 said_by_words line said some =
-    let short = cond_second _ _ said some in
-    let shaped = cond_second _ _ said short.1 in
+    let short = cond-some_second _ _ said some in
+    let shaped = cond-some_second _ _ said short.1 in
     let words = statement_in_words (words_of line) said shaped.1 in
     (ltb-false LONGEST_LINE (length line) short.0, sym (join_with_byte-words_of line) ∙ ap line_of words)
 

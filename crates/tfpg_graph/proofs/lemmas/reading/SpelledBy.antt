@@ -1,5 +1,5 @@
 -- The lines of a text that is read without a cause spell the graph that they declare.
-use Rattle.std.proofs.Common.{◌≡◌, ℕ, suc, ◌<◌, ◌≤◌, Bool, true, false, not, ◌||◌, cond, List, [], ◌∷◌, ◌++◌, length, filter, get_or, take, All, Option, Some, None, ◌⊎◌, inl, inr, ⊎_elim, refl, ap, sym, ◌∙◌, subst, arith, append_assoc}
+use Rattle.std.proofs.Common.{◌≡◌, ℕ, suc, ◌<◌, ◌≤◌, Bool, true, false, not, ◌||◌, cond, List, [], ◌∷◌, ◌++◌, length, get_or, take, All, Option, Some, None, ◌⊎◌, inl, inr, ⊎_elim, refl, ap, sym, ◌∙◌, subst, arith, append_assoc}
 use Rattle.std.specs.Str.{bytes_eq}
 use Rattle.std.specs.List.{list_any, cons_option}
 use Rattle.std.proofs.Math.Bool.{or-false}
@@ -15,7 +15,7 @@ use Rattle.tfpg_graph.specs.declared.cause.GraphCause.{GraphCause}
 use Rattle.tfpg_graph.specs.declared.cause.GraphCause.TheVariants.{BadHeader, AfterEnd}
 use Rattle.tfpg_graph.specs.Graph.{Tfpg}
 use Rattle.tfpg_base.specs.Words.{line_of}
-use Rattle.tfpg_graph.specs.Text.{header, Spells, is_empty_or_comment}
+use Rattle.tfpg_graph.specs.Text.{header, Spells, is_empty_or_comment, content_lines}
 use Rattle.tfpg_graph.specs.Statements.{Statement, statement_of, statements_of, is_skipped, ends_text, words_of_statement}
 use Rattle.tfpg_graph.specs.Declares.{graph_said}
 use Rattle.tfpg_graph.specs.Causes.{is_out_of_order, cause_of_said, cause_after}
@@ -69,13 +69,9 @@ line_short before line clean = ⊎_elim
     (λ saying. (said_by_words line saying.said saying.says).0)
     (line_cases before line clean)
 
--- the lines that are not skipped
-abbrev kept : List (List ℕ) → List (List ℕ)
-kept lines = filter (λ line. not (is_empty_or_comment line)) lines
-
 -- a line that says something is not skipped
-saying_kept : (line : List ℕ) (said : Statement) → statement_of line ≡ Some said → is_empty_or_comment line ≡ false
-saying_kept line said says =
+saying_is_content : (line : List ℕ) (said : Statement) → statement_of line ≡ Some said → is_empty_or_comment line ≡ false
+saying_is_content line said says =
     false_from_ne_true (is_empty_or_comment line) (λ skipped. none-some said (sym (skipped_says_nothing line skipped) ∙ says))
 
 -- whether statements that have not ended have ended with one more
@@ -85,28 +81,28 @@ ended_push before said unended =
 
 -- A line without a cause keeps what is declared spelled.
 line_spelled : (before : List Statement) (lines : List (List ℕ)) (line : List ℕ) → cause_after before line ≡ None
-    → AreSpelled before lines → AreSpelled (before ++ statements_of (line ∷ [])) (lines ++ kept (line ∷ []))
+    → AreSpelled before lines → AreSpelled (before ++ statements_of (line ∷ [])) (lines ++ content_lines (line ∷ []))
 line_spelled before lines line clean so_far = ⊎_elim passed spoken (line_cases before line clean)
   where
-    passed : is_skipped line ≡ true → AreSpelled (before ++ statements_of (line ∷ [])) (lines ++ kept (line ∷ []))
+    passed : is_skipped line ≡ true → AreSpelled (before ++ statements_of (line ∷ [])) (lines ++ content_lines (line ∷ []))
     passed is =
         let skipped = (and_parts (is_empty_or_comment line) _ is).0 in
         let same_said : before ++ statements_of (line ∷ []) ≡ before =
         ap (λ o. before ++ cons_option o []) (skipped_says_nothing line skipped) ∙ append-nil before in
-        let same_lines : lines ++ kept (line ∷ []) ≡ lines = ap (λ b. lines ++ cond (not b) (line ∷ []) []) skipped ∙ append-nil lines in
-        subst (λ said. AreSpelled said (lines ++ kept (line ∷ []))) (sym same_said) (subst (AreSpelled before) (sym same_lines) so_far)
+        let same_lines : lines ++ content_lines (line ∷ []) ≡ lines = ap (λ b. lines ++ cond (not b) (line ∷ []) []) skipped ∙ append-nil lines in
+        subst (λ said. AreSpelled said (lines ++ content_lines (line ∷ []))) (sym same_said) (subst (AreSpelled before) (sym same_lines) so_far)
 
-    spoken : SaysWithoutCause before line → AreSpelled (before ++ statements_of (line ∷ [])) (lines ++ kept (line ∷ []))
+    spoken : SaysWithoutCause before line → AreSpelled (before ++ statements_of (line ∷ [])) (lines ++ content_lines (line ∷ []))
     spoken is =
         let said = is.said in
         let words = said_by_words line said is.says in
         let more_said : before ++ said ∷ [] ≡ before ++ statements_of (line ∷ []) = ap (λ o. before ++ cons_option o []) (sym is.says) in
-        let more_lines : lines ++ line_of (words_of_statement said) ∷ [] ≡ lines ++ kept (line ∷ []) =
-        ap (λ l. lines ++ l ∷ []) (sym words.1) ∙ ap (λ b. lines ++ cond (not b) (line ∷ []) []) (sym (saying_kept line said is.says)) in
+        let more_lines : lines ++ line_of (words_of_statement said) ∷ [] ≡ lines ++ content_lines (line ∷ []) =
+        ap (λ l. lines ++ l ∷ []) (sym words.1) ∙ ap (λ b. lines ++ cond (not b) (line ∷ []) []) (sym (saying_is_content line said is.says)) in
         let ended : ends_text said ≡ list_any ends_text (before ++ said ∷ []) = sym (ended_push before said is.unended) in
         let spelled : SpellsSoFar (graph_said (before ++ said ∷ [])) (ends_text said) (lines ++ line_of (words_of_statement said) ∷ []) =
         statement_spelled before lines said (subst (λ b. SpellsSoFar (graph_said before) b lines) is.unended so_far) is.without in
-        subst (λ what. AreSpelled what (lines ++ kept (line ∷ []))) more_said
+        subst (λ what. AreSpelled what (lines ++ content_lines (line ∷ []))) more_said
         (subst (AreSpelled (before ++ said ∷ [])) more_lines
         (subst (λ b. SpellsSoFar (graph_said (before ++ said ∷ [])) b (lines ++ line_of (words_of_statement said) ∷ [])) ended spelled))
 
@@ -117,13 +113,13 @@ abbrev AreCleanAfter : List Statement → List (List ℕ) → Type 0
 AreCleanAfter before [] = Unit {0}
 AreCleanAfter before (line ∷ lines) = (cause_after before line ≡ None) × AreCleanAfter (before ++ statements_of (line ∷ [])) lines
 
-clean_after : (before : List Statement) (lines : List (List ℕ))
+are_clean_after : (before : List Statement) (lines : List (List ℕ))
     → ((index : ℕ) → index < length lines → cause_after (before ++ statements_of (take index lines)) (get_or lines index []) ≡ None)
     → AreCleanAfter before lines
-clean_after before [] clean = tt
-clean_after before (line ∷ lines) clean = (
+are_clean_after before [] clean = tt
+are_clean_after before (line ∷ lines) clean = (
   ap (λ said. cause_after said line) (sym (append-nil before)) ∙ clean 0 (omega arith),
-  clean_after (before ++ statements_of (line ∷ [])) lines
+  are_clean_after (before ++ statements_of (line ∷ [])) lines
       (λ index within. ap (λ said. cause_after said (get_or lines index [])) (more index) ∙ clean (suc index) (omega arith)),
 )
   where
@@ -143,23 +139,23 @@ lines_short before (line ∷ lines) clean =
 
 -- Lines without a cause keep what is declared spelled.
 lines_spelled : (before : List Statement) (after lines : List (List ℕ)) → AreSpelled before after
-    → AreCleanAfter before lines → AreSpelled (before ++ statements_of lines) (after ++ kept lines)
+    → AreCleanAfter before lines → AreSpelled (before ++ statements_of lines) (after ++ content_lines lines)
 lines_spelled before after [] so_far clean =
     subst (λ said. AreSpelled said (after ++ [])) (sym (append-nil before)) (subst (AreSpelled before) (sym (append-nil after)) so_far)
 lines_spelled before after (line ∷ lines) so_far clean =
     let first = line_spelled before after line clean.0 so_far in
-    let rest = lines_spelled (before ++ statements_of (line ∷ [])) (after ++ kept (line ∷ [])) lines first clean.1 in
+    let rest = lines_spelled (before ++ statements_of (line ∷ [])) (after ++ content_lines (line ∷ [])) lines first clean.1 in
     let same_said : before ++ statements_of (line ∷ []) ++ statements_of lines ≡ before ++ statements_of (line ∷ lines) =
     append_assoc before _ _ ∙ ap (λ said. before ++ said) (sym (filter_map-append statement_of (line ∷ []) lines)) in
-    let same_lines : after ++ kept (line ∷ []) ++ kept lines ≡ after ++ kept (line ∷ lines) =
+    let same_lines : after ++ content_lines (line ∷ []) ++ content_lines lines ≡ after ++ content_lines (line ∷ lines) =
     append_assoc after _ _ ∙ ap (λ more. after ++ more) (sym (filter-append (λ line. not (is_empty_or_comment line)) (line ∷ []) lines)) in
-    subst (λ said. AreSpelled said (after ++ kept (line ∷ lines))) same_said
+    subst (λ said. AreSpelled said (after ++ content_lines (line ∷ lines))) same_said
     (subst (AreSpelled (before ++ statements_of (line ∷ []) ++ statements_of lines)) same_lines rest)
 
 -- a value that a test lets through lets it through
-kept_by_test : (b : Bool) (fault : GraphCause) → cond b None (Some fault) ≡ None → b ≡ true
-kept_by_test true fault none = refl
-kept_by_test false fault none = absurd cc
+passed_by_test : (b : Bool) (fault : GraphCause) → cond b None (Some fault) ≡ None → b ≡ true
+passed_by_test true fault none = refl
+passed_by_test false fault none = absurd cc
 
 ended_by_test : (b : Bool) → cond b Ended Declarations ≡ Ended → b ≡ true
 ended_by_test true ended = refl
@@ -180,7 +176,7 @@ read_whole progress (first ∷ after) stands ended =
     record {
       after = after;
       begins = ap (λ line. line ∷ after) is_header;
-      clean = clean_after [] after
+      clean = are_clean_after [] after
           (λ index within. ap (λ said. cause_after said (get_or after index [])) (sym (says_nothing (take index after)))
           ∙ stands.clean (suc index) (omega arith));
       declared = stands.graph ∙ ap graph_said (says_nothing after);
@@ -189,7 +185,7 @@ read_whole progress (first ∷ after) stands ended =
     }
   where
     is_header : first ≡ header
-    is_header = (bytes_eq-Decides first header).0 (kept_by_test (bytes_eq first header) BadHeader (stands.clean 0 (omega arith)))
+    is_header = (bytes_eq-Decides first header).0 (passed_by_test (bytes_eq first header) BadHeader (stands.clean 0 (omega arith)))
 
     says_nothing : (lines : List (List ℕ)) → statements_of (first ∷ lines) ≡ statements_of lines
     says_nothing lines = ap (λ line. cons_option (statement_of line) (statements_of lines)) is_header
@@ -200,11 +196,11 @@ nothing_spelled = record { edge_lines = []; edges = tt; all = refl; some_mode = 
 
 -- the graph of a whole text is spelled by the lines after the header
 whole_spelled : (graph : Tfpg) (lines : List (List ℕ)) (whole : IsReadWhole graph lines)
-    → SpellsSoFar graph true (kept whole.after)
+    → SpellsSoFar graph true (content_lines whole.after)
 whole_spelled graph lines whole =
     let spelled = lines_spelled [] [] whole.after nothing_spelled whole.clean in
-    subst (λ g. SpellsSoFar g true (kept whole.after)) (sym whole.declared)
-    (subst (λ b. SpellsSoFar (graph_said (statements_of whole.after)) b (kept whole.after)) whole.ended spelled)
+    subst (λ g. SpellsSoFar g true (content_lines whole.after)) (sym whole.declared)
+    (subst (λ b. SpellsSoFar (graph_said (statements_of whole.after)) b (content_lines whole.after)) whole.ended spelled)
 
 -- A text that is read to its end without a cause spells its graph.
 pub Spells-read : (text : List ℕ) (progress : Reader) → ReaderRepresents progress (lines_of text) → progress.part ≡ Ended

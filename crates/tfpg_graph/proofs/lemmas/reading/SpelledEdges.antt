@@ -1,53 +1,52 @@
 -- What the line that spells an edge says, and the edge that it declares.
-use Rattle.std.proofs.Common.{◌≡◌, ◌≢◌, ℕ, ◌<◌, ◌≤◌, ◌^◌, true, false, cond, List, [], ◌∷◌, length, get_or, All, AllPairs, IsTrue, Option, Some, None, IfSome, is_none, unwrap_or, codes, refl, ap, ◌∙◌, arith, ⊎_elim}
+use Rattle.std.proofs.Common.{◌≡◌, ◌≢◌, ℕ, ◌<◌, ◌≤◌, true, false, cond, List, [], ◌∷◌, length, get_or, All, AllPairs, IsTrue, Option, Some, None, IfSome, is_none, unwrap_or, codes, refl, ap, ◌∙◌, arith, ⊎_elim}
 use Rattle.std.specs.Prelude.{decimal}
 use Rattle.std.specs.Option.{option_map, option_and_then}
-use Rattle.std.specs.List.{AllByRecursion, list_any, list_all, filter_map, join_with_byte, sum_by}
+use Rattle.std.specs.List.{AllByRecursion, list_any, list_all, filter_map, join_with_byte}
 use Rattle.std.specs.Str.{bytes_eq}
-use Rattle.std.proofs.lemmas.Bool.{and_from}
 use Rattle.std.proofs.lemmas.List.{length-map}
+use Rattle.std.proofs.lemmas.List.Elements.{All-from_recursion}
+use Rattle.std.proofs.lemmas.List.Sums.{list_all-from_AllPass}
 use Rattle.std.proofs.lemmas.Option.{slice_get-get_or}
+use Rattle.tfpg_base.specs.SetBits.{bits_of}
 use Rattle.tfpg_base.specs.Words.{is_name}
 use Rattle.tfpg_base.specs.declared.limits.TheConstants.{LONGEST_LINE, MAX_TIME}
 use Rattle.tfpg_base.proofs.Numbers.{number_of-decimal}
 use Rattle.tfpg_graph.specs.declared.kind.Kind.TheVariants.{Failure}
 use Rattle.tfpg_graph.specs.declared.edge.Edge.{Edge}
-use Rattle.tfpg_graph.specs.Graph.{Tfpg, Node, name_at, node_named, mode_named}
+use Rattle.tfpg_graph.specs.Graph.{Tfpg, Node, name_word, node_named, mode_named}
 use Rattle.tfpg_graph.specs.Text.{tmax_word, all_modes, SpellsModes, edge_line}
 use Rattle.tfpg_graph.specs.Valid.{IsValid, IsValidEdge}
 use Rattle.tfpg_graph.specs.Statements.{Statement, DeclaresEdge, statement_of}
 use Rattle.tfpg_graph.specs.Declares.{modes_listed, modes_of_word, edge_declared}
 use Rattle.tfpg_graph.specs.Causes.{has_twice}
 use Rattle.tfpg_graph.proofs.lemmas.reading.LinesSay.{IsWord, IsWord-star, IsWord-names, statement_of-edge}
-use Rattle.tfpg_graph.proofs.lemmas.reading.SpelledValues.{bytes_eq-same, bytes_eq-differ, tmax_of_word-tmax, names_at, filter_map-names, filter_map-numbers, all_named, has_twice-names, all_names, join-not, modes_listed-join}
+use Rattle.tfpg_graph.proofs.lemmas.reading.SpelledValues.{tmax_of_word-tmax, names_at, filter_map-names, filter_map-numbers, all_named, has_twice-names, all_names, join-not, modes_listed-join}
 use Rattle.tfpg_base.proofs.lists.Positions.{position-at}
-
--- the name of the node of this number
-abbrev pub name_of : Tfpg → ℕ → List ℕ
-name_of graph node = unwrap_or (name_at graph node) []
+use Rattle.tfpg_base.proofs.lists.SameBytes.{bytes_eq-differ, bytes_eq-same}
 
 -- What the line of an edge says, with the word for its modes.
-abbrev pub edge_said : Tfpg → Edge → List ℕ → Statement
-edge_said graph edge word =
-    DeclaresEdge (name_of graph edge.source) (name_of graph edge.target) (decimal edge.tmin) (tmax_word edge.tmax) word
+abbrev pub edge_statement : Tfpg → Edge → List ℕ → Statement
+edge_statement graph edge word =
+    DeclaresEdge (name_word graph edge.source) (name_word graph edge.target) (decimal edge.tmin) (tmax_word edge.tmax) word
 
 -- a node without a name
 abbrev nobody : Node
 nobody = record { name = []; kind = Failure 0 }
 
 module _ (graph : Tfpg) (node : ℕ) (within : node < length graph.nodes) where
-  name_of-node : name_of graph node ≡ (get_or graph.nodes node nobody).name
-  name_of-node = ap (λ o. unwrap_or (option_map (λ n. n.name) o) []) (slice_get-get_or graph.nodes node nobody within)
+  name_word-node : name_word graph node ≡ (get_or graph.nodes node nobody).name
+  name_word-node = ap (λ o. unwrap_or (option_map (λ n. n.name) o) []) (slice_get-get_or graph.nodes node nobody within)
 
   -- it is a name
-  pub is_name-name_of : All (λ n. IsTrue (is_name n.name)) graph.nodes → IsTrue (is_name (name_of graph node))
-  is_name-name_of named = ap is_name name_of-node ∙ named node nobody within
+  pub is_name-name_word : All (λ n. IsTrue (is_name n.name)) graph.nodes → IsTrue (is_name (name_word graph node))
+  is_name-name_word named = ap is_name name_word-node ∙ named node nobody within
 
   -- by which the node is found
-  pub node_named-name_of : AllPairs (λ a b. a.name ≢ b.name) graph.nodes
-      → node_named graph (name_of graph node) ≡ Some node
-  node_named-name_of differ =
-      ap (node_named graph) name_of-node
+  pub node_named-name_word : AllPairs (λ a b. a.name ≢ b.name) graph.nodes
+      → node_named graph (name_word graph node) ≡ Some node
+  node_named-name_word differ =
+      ap (node_named graph) name_word-node
       ∙ position-at (λ n. bytes_eq n.name (get_or graph.nodes node nobody).name) graph.nodes node nobody within
       (bytes_eq-same (get_or graph.nodes node nobody).name)
       (λ earlier before. bytes_eq-differ (get_or graph.nodes earlier nobody).name (get_or graph.nodes node nobody).name
@@ -72,11 +71,6 @@ IsModesWord-star graph = record {
   not_none = refl;
 }
 
-list_all-names : (names : List (List ℕ)) → AllByRecursion (λ name. IsTrue (is_name name)) names
-    → list_all is_name names ≡ true
-list_all-names [] are = refl
-list_all-names (name ∷ names) are = and_from _ _ are.0 (list_all-names names are.1)
-
 some_item : {X : Type 0} (xs : List X) → xs ≢ [] → 0 < length xs
 some_item [] some = absurd (some refl)
 some_item (x ∷ xs) some = omega arith
@@ -96,14 +90,14 @@ module _ (graph : Tfpg) (named : All (λ mode. IsTrue (is_name mode)) graph.mode
   listed : modes_listed (join_with_byte 44 names) ≡ names
   listed = modes_listed-join names some_name are_names
 
-  IsModesWord-names : IsModesWord graph (sum_by (λ mode. 2 ^ mode) modes) (join_with_byte 44 names)
+  IsModesWord-names : IsModesWord graph (bits_of modes) (join_with_byte 44 names)
   IsModesWord-names = record {
     is_word = IsWord-names names some_name are_names;
     read =
         (λ i. cond (join-not names some_name are_names (codes "*") refl i) (all_modes graph)
-        (sum_by (λ mode. 2 ^ mode) (filter_map (mode_named graph) (listed i))))
-        ∙ ap (sum_by (λ mode. 2 ^ mode)) (filter_map-numbers graph.modes differ modes below);
-    names = ap (list_all is_name) listed ∙ list_all-names names are_names;
+        (bits_of (filter_map (mode_named graph) (listed i))))
+        ∙ ap (bits_of) (filter_map-numbers graph.modes differ modes below);
+    names = ap (list_all is_name) listed ∙ list_all-from_AllPass is_name names (All-from_recursion (λ name. IsTrue (is_name name)) names are_names);
     once = ap has_twice listed ∙ has_twice-names graph.modes differ modes below apart;
     known = ap (list_any (λ name. is_none (mode_named graph name))) listed ∙ all_named graph.modes differ modes below;
     not_none = join-not names some_name are_names (codes "-") refl;
@@ -128,16 +122,16 @@ module _ (graph : Tfpg) (valid : IsValid graph) where
     -- The line of an edge that is short says that it declares the edge.
     pub statement_of-edge_line : (word : List ℕ) → SpellsModes graph edge.modes word
         → length (edge_line graph edge word) ≤ LONGEST_LINE
-        → statement_of (edge_line graph edge word) ≡ Some (edge_said graph edge word)
+        → statement_of (edge_line graph edge word) ≡ Some (edge_statement graph edge word)
     statement_of-edge_line word spells short =
-        statement_of-edge (name_of graph edge.source) (name_of graph edge.target) edge.tmin edge.tmax word
-        (is_name-name_of graph edge.source is.source valid.so_far.node_names)
-        (is_name-name_of graph edge.target is.target valid.so_far.node_names)
-        is.least (tmax_small edge.tmax is.most) (IsModesWord-spelled edge.modes word spells).is_word short
+        statement_of-edge (name_word graph edge.source) (name_word graph edge.target) edge.tmin edge.tmax word
+        (is_name-name_word graph edge.source is.source valid.so_far.node_names)
+        (is_name-name_word graph edge.target is.target valid.so_far.node_names)
+        is.least (tmax_small edge.tmax is.greatest) (IsModesWord-spelled edge.modes word spells).is_word short
 
     -- What it says declares the edge.
     pub edge_declared-said : (word : List ℕ) → SpellsModes graph edge.modes word
-        → edge_declared graph (edge_said graph edge word) ≡ Some edge
+        → edge_declared graph (edge_statement graph edge word) ≡ Some edge
     edge_declared-said word spells =
         λ i. option_and_then (λ (ends : ℕ × ℕ). option_map (λ (delays : ℕ × Option ℕ). record {
           source = ends.0;
@@ -145,9 +139,9 @@ module _ (graph : Tfpg) (valid : IsValid graph) where
           tmin = delays.0;
           tmax = delays.1;
           modes = (IsModesWord-spelled edge.modes word spells).read i;
-        }) (option_and_then (λ least. option_map (λ most. (least, most))
-        (tmax_of_word-tmax edge.tmax (tmax_small edge.tmax is.most) i)) (number_of-decimal edge.tmin
+        }) (option_and_then (λ least. option_map (λ greatest. (least, greatest))
+        (tmax_of_word-tmax edge.tmax (tmax_small edge.tmax is.greatest) i)) (number_of-decimal edge.tmin
         (omega (arith, is.least)) i)))
         (option_and_then
-        (λ from. option_map (λ to. (from, to)) (node_named-name_of graph edge.target is.target valid.so_far.nodes_differ i))
-        (node_named-name_of graph edge.source is.source valid.so_far.nodes_differ i))
+        (λ from. option_map (λ to. (from, to)) (node_named-name_word graph edge.target is.target valid.so_far.nodes_differ i))
+        (node_named-name_word graph edge.source is.source valid.so_far.nodes_differ i))

@@ -1,8 +1,9 @@
 -- The lines of what is declared so far, with one statement more.
-use Rattle.std.proofs.Common.{◌≡◌, ℕ, ◌<◌, Bool, true, false, List, [], ◌∷◌, ◌++◌, length, map, codes, refl, ap, sym, ◌∙◌, subst, append_assoc}
+use Rattle.std.proofs.Common.{◌≡◌, ℕ, ◌<◌, Bool, true, false, List, [], ◌∷◌, ◌++◌, length, map, codes, ap, sym, ◌∙◌, subst, append_assoc}
 use Rattle.std.specs.List.{AllZip, list_any}
 use Rattle.std.proofs.lemmas.Bool.{not-false}
 use Rattle.std.proofs.lemmas.List.{append-nil, map-append}
+use Rattle.tfpg_base.proofs.lists.Zipped.{AllZip-push, AllZip-none}
 use Rattle.tfpg_graph.specs.declared.kind.Kind.{Kind}
 use Rattle.tfpg_graph.specs.declared.edge.Edge.{Edge}
 use Rattle.tfpg_graph.specs.Graph.{Tfpg}
@@ -13,22 +14,8 @@ use Rattle.tfpg_graph.specs.Statements.{Statement, DeclaresMode, DeclaresNode, D
 use Rattle.tfpg_graph.specs.Declares.{graph_said}
 use Rattle.tfpg_graph.specs.Causes.{is_out_of_order}
 use Rattle.tfpg_graph.proofs.lemmas.reading.NoCause.{HasNoCause}
-use Rattle.tfpg_graph.proofs.lemmas.reading.SaidValues.{node_said, edge_said}
+use Rattle.tfpg_graph.proofs.lemmas.reading.SaidValues.{node_from_words, edge_from_words}
 use Rattle.tfpg_graph.proofs.lemmas.reading.GraphsSaid.{some_mode_declared, nothing_before_mode, no_edge_before_node, graph_said-mode, graph_said-node, graph_said-edge, graph_said-end}
-
--- ---- laws of lists that go along with each other
-
-module _ {X Y : Type 0} (R : X → Y → Type 0) where
-  AllZip-push : (xs : List X) (ys : List Y) (x : X) (y : Y) → AllZip R xs ys → R x y → AllZip R (xs ++ x ∷ []) (ys ++ y ∷ [])
-  AllZip-push [] [] x y all last = (last, tt)
-  AllZip-push [] (first ∷ ys) x y all last = absurd all
-  AllZip-push (first ∷ xs) [] x y all last = absurd all
-  AllZip-push (first ∷ xs) (other ∷ ys) x y all last = (all.0, AllZip-push xs ys x y all.1 last)
-
-  AllZip-none : (xs : List X) (ys : List Y) → xs ≡ [] → AllZip R xs ys → ys ≡ []
-  AllZip-none [] [] none all = refl
-  AllZip-none [] (y ∷ ys) none all = absurd all
-  AllZip-none (x ∷ xs) ys none all = absurd cc
 
 -- ---- the lines of what is declared so far
 
@@ -124,13 +111,13 @@ statement_spelled before lines (DeclaresMode name) so_far is =
     subst (λ graph. SpellsSoFar graph false (lines ++ mode_line name ∷ [])) (sym (graph_said-mode before name is.in_order))
     (spells-with_mode (graph_said before) lines so_far name nothing.0 nothing.1)
 statement_spelled before lines (DeclaresNode name words) so_far is =
-    let node = node_said name words is.numbers is.small in
+    let node = node_from_words name words is.numbers is.small in
     subst (λ shape. SpellsSoFar (graph_said (before ++ DeclaresNode name words ∷ [])) false (lines ++ line_of shape ∷ [])) (sym node.2)
     (subst (λ graph. SpellsSoFar graph false (lines ++ line_of (node_words name node.0) ∷ []))
     (sym (graph_said-node before name words node.0 is.in_order node.1))
     (spells-with_node (graph_said before) lines so_far name node.0 (no_edge_before_node before name words is.in_order)))
 statement_spelled before lines (DeclaresEdge source target tmin tmax modes) so_far is =
-    let edge = edge_said (graph_said before) _ source target tmin tmax modes is in
+    let edge = edge_from_words (graph_said before) _ source target tmin tmax modes is in
     let line : List ℕ = line_of (words_of_statement (DeclaresEdge source target tmin tmax modes)) in
     subst (λ graph. SpellsSoFar graph false (lines ++ line ∷ [])) (sym (graph_said-edge before source target tmin tmax modes edge.0 edge.1))
     (spells-with_edge (graph_said before) lines so_far edge.0 line edge.2)

@@ -4,11 +4,10 @@ use Rattle.std.specs.Prelude.{decimal}
 use Rattle.std.specs.Option.{option_map}
 use Rattle.std.specs.List.{AllByRecursion, list_any, filter_map, cons_option, join_with_byte}
 use Rattle.std.specs.Str.{bytes_eq}
-use Rattle.std.proofs.lemmas.Bool.{false≢true, false_from_ne_true, and_parts, or_from, cond-false}
+use Rattle.std.proofs.lemmas.Bool.{false≢true, and_parts, or_from, cond-false}
 use Rattle.std.proofs.lemmas.List.{append-nil}
 use Rattle.std.proofs.lemmas.List.Elements.{All-head, All-tail}
 use Rattle.std.proofs.lemmas.Option.{slice_get-get_or}
-use Rattle.std.proofs.lemmas.Slice.Eq.{bytes_eq-Decides}
 use Rattle.tfpg_base.specs.Words.{is_name, is_number, is_letter, number_of}
 use Rattle.tfpg_base.proofs.Numbers.{is_number-decimal, number_of-decimal}
 use Rattle.tfpg_base.proofs.Separators.{Lacks, name_lacks, slice_split-join}
@@ -21,15 +20,8 @@ use Rattle.tfpg_graph.specs.Valid.{HasValidNumber}
 use Rattle.tfpg_graph.specs.Declares.{kind_of_words, lag_of_word, tmax_of_word, modes_listed}
 use Rattle.tfpg_graph.specs.Causes.{has_twice}
 use Rattle.tfpg_base.proofs.lists.Positions.{position-at}
+use Rattle.tfpg_base.proofs.lists.SameBytes.{bytes_eq-differ, bytes_eq-same}
 use Rattle.tfpg_graph.proofs.lemmas.reading.LinesSay.{words_of_kind}
-
--- bytes that differ are not equal
-pub bytes_eq-differ : (xs ys : List ℕ) → xs ≢ ys → bytes_eq xs ys ≡ false
-bytes_eq-differ xs ys differ = false_from_ne_true (bytes_eq xs ys) (λ equal. differ ((bytes_eq-Decides xs ys).0 equal))
-
--- and bytes are equal to themselves
-pub bytes_eq-same : (xs : List ℕ) → bytes_eq xs xs ≡ true
-bytes_eq-same xs = (bytes_eq-Decides xs xs).1 refl
 
 lag_read : (lag : Option ℕ) → IfSome lag (λ l. l ≤ MAX_TIME) → lag_of_word (option_map decimal lag) ≡ Some lag
 lag_read None small = refl

@@ -15,12 +15,13 @@ use Rattle.tfpg_graph.specs.Causes.{cause_at, is_out_of_order}
 use Rattle.tfpg_graph.specs.declared.reading.reader.Part.{Part}
 use Rattle.tfpg_graph.specs.declared.reading.reader.Part.TheVariants.{Header, Declarations, Ended}
 use Rattle.tfpg_graph.specs.declared.reading.reader.Reader.{Reader}
-use Rattle.tfpg_graph.specs.inside.reading.Turns.{nothing_read, is_misplaced, progress_with, cause_or_value, turn_said, turn_of, turn, part_after, HasValue, ReaderRepresents}
+use Rattle.tfpg_graph.specs.inside.reading.Turns.{nothing_read, is_misplaced, reader_with, cause_or_value, turn_said, turn_of, turn, part_after, HasValue, ReaderRepresents}
 use Rattle.tfpg_graph.proofs.lemmas.reading.SaidBy.{statement_of-skipped, statement_of-header, statements_of-push, statements_of-silent}
 use Rattle.tfpg_graph.proofs.lemmas.reading.GraphsSaid.{graph_said-mode, graph_said-node, graph_said-edge, graph_said-end}
 use Rattle.tfpg_graph.proofs.lemmas.reading.DeclaredBy.{AllHaveValues, is_misplaced-said, values-mode, values-node, values-edge, values-end}
 use Rattle.tfpg_graph.proofs.lemmas.reading.CauseAt.{AllClean, clean-push, cause-skipped}
-use Rattle.tfpg_graph.proofs.lemmas.reading.CausedSaid.{in_order, cause_declared, cause-said}
+use Rattle.tfpg_graph.proofs.lemmas.reading.CausedSaid.{cause_declared, cause-said}
+use Rattle.tfpg_graph.proofs.lemmas.reading.WithoutCause.{HasNoCause-from_none}
 use Rattle.tfpg_graph.proofs.lemmas.reading.PartAfter.{part-declarations, part-ended, no_header, part_after-said, part_after-silent}
 
 -- no line has none
@@ -69,12 +70,12 @@ module _ (lines : List (List ℕ)) (line : List ℕ) (clean : AllClean lines) (v
         → cause_declared (declared_by lines) said ≡ None
         → is_out_of_order (statements_of lines) said ≡ false
     ordered said none =
-        sym (is_misplaced-said (statements_of lines) values unended said) ∙ in_order (is_misplaced (declared_by lines) said) (declared_by lines) said none
+        sym (is_misplaced-said (statements_of lines) values unended said) ∙ (HasNoCause-from_none (is_misplaced (declared_by lines) said) (declared_by lines) said none).in_order
 
     -- each statement that is taken
     stands_taken : (said : Statement) → statement_of line ≡ Some said
         → cause_declared (declared_by lines) said ≡ None
-        → progress_with (declared_by lines) said ≡ Some next → ReaderRepresents next (lines ++ line ∷ [])
+        → reader_with (declared_by lines) said ≡ Some next → ReaderRepresents next (lines ++ line ∷ [])
     stands_taken (DeclaresMode name) says none with_it =
         let in_turn = ordered (DeclaresMode name) none in
         stands_grown (DeclaresMode name) (record { part = Declarations; declared = with_mode (declared_by lines) name }) says none (cc) refl
@@ -107,7 +108,7 @@ module _ (lines : List (List ℕ)) (line : List ℕ) (clean : AllClean lines) (v
         → ReaderRepresents next (lines ++ line ∷ [])
     stands_said None says turned = absurd cc
     stands_said (Some said) says turned =
-        let taken = is_taken (cause_declared (declared_by lines) said) (progress_with (declared_by lines) said) next turned in
+        let taken = is_taken (cause_declared (declared_by lines) said) (reader_with (declared_by lines) said) next turned in
         stands_taken said says taken.0 taken.1
 
   -- a line that is skipped
@@ -122,27 +123,21 @@ module _ (lines : List (List ℕ)) (line : List ℕ) (clean : AllClean lines) (v
       → turn_of Declarations (declared_by lines) line ≡ Ok next → ReaderRepresents next (lines ++ line ∷ [])
   stands_declarations next at turned = by (is_skipped line) refl turned
     where
-      before : (0 < length lines) × (list_any ends_text (statements_of lines) ≡ false)
-      before = part-declarations lines at
-
       by : (passed : Bool) → is_skipped line ≡ passed
           → cond passed (Ok (record { part = Declarations; declared = declared_by lines })) (turn_said (declared_by lines) (statement_of line)) ≡ Ok next
           → ReaderRepresents next (lines ++ line ∷ [])
-      by true passed turned_so = stands_passed Declarations next before.0 passed (sym (part_after-silent lines line false (statement_of-skipped line passed) before.1)) cc
-      by false read turned_so = stands_said before.0 before.1 read next (statement_of line) refl turned_so
+      by true passed turned_so = let before = part-declarations lines at in stands_passed Declarations next before.0 passed (sym (part_after-silent lines line false (statement_of-skipped line passed) before.1)) cc
+      by false read turned_so = let before = part-declarations lines at in stands_said before.0 before.1 read next (statement_of line) refl turned_so
 
   -- a line after the end
   stands_ended : (next : Reader) → Ended ≡ part_after lines → turn_of Ended (declared_by lines) line ≡ Ok next
       → ReaderRepresents next (lines ++ line ∷ [])
   stands_ended next at turned = by (is_skipped line) refl turned
     where
-      before : (0 < length lines) × (list_any ends_text (statements_of lines) ≡ true)
-      before = part-ended lines at
-
       by : (passed : Bool) → is_skipped line ≡ passed
           → cond passed (Ok (record { part = Ended; declared = declared_by lines })) (Err AfterEnd) ≡ Ok next
           → ReaderRepresents next (lines ++ line ∷ [])
-      by true passed turned_so = stands_passed Ended next before.0 passed (sym (part_after-silent lines line true (statement_of-skipped line passed) before.1)) cc
+      by true passed turned_so = let before = part-ended lines at in stands_passed Ended next before.0 passed (sym (part_after-silent lines line true (statement_of-skipped line passed) before.1)) cc
       by false read turned_so = absurd cc
 
 -- the first line

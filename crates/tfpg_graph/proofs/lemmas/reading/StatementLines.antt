@@ -8,10 +8,6 @@ use Rattle.tfpg_graph.specs.Statements.{statement_of, statement_in}
 pub statement_of-long : (line : List ℕ) → is_too_long line ≡ true → statement_of line ≡ None
 statement_of-long line long = rw long refl
 
--- nor does one with an empty word
-pub statement_of-empty : (line : List ℕ) → is_too_long line ≡ false → has_empty_word (words_of line) ≡ true → statement_of line ≡ None
-statement_of-empty line short empty = rw (short, empty) refl
-
 -- and else its words decide
 pub statement_of-words : (line : List ℕ) → is_too_long line ≡ false → has_empty_word (words_of line) ≡ false → statement_of line ≡ statement_in (words_of line)
 statement_of-words line short none = rw (short, none) refl

@@ -1,7 +1,8 @@
 -- What the parts of a text that were read say of its lines, which are the same but for the empty text.
-use Rattle.std.proofs.Common.{◌≡◌, ℕ, zero, suc, ◌+◌, ◌<◌, ◌≤◌, ⊎_elim, inl, inr, List, [], ◌∷◌, ◌++◌, length, take, drop, get_or, append_assoc, Some, None, Result, Ok, Err, IfOk, IfErr, refl, sym, ap, ◌∙◌, subst, arith}
-use Rattle.std.proofs.lemmas.List.{take-append-drop, take_more}
+use Rattle.std.proofs.Common.{◌≡◌, ℕ, zero, suc, ◌+◌, ◌<◌, ◌≤◌, ⊎_elim, inl, inr, List, [], ◌∷◌, ◌++◌, length, take, drop, get_or, add-one, Some, None, Result, Ok, Err, IfOk, IfErr, refl, sym, ap, ◌∙◌, subst, arith}
+use Rattle.std.proofs.lemmas.Option.{slice_get_read}
 use Rattle.tfpg_base.specs.Lines.{lines_of, parts_of}
+use Rattle.tfpg_base.proofs.lists.Cuts.{cut_at}
 use Rattle.tfpg_graph.specs.declared.cause.GraphFault.{GraphFault}
 use Rattle.tfpg_graph.specs.declared.cause.GraphRefusal.{GraphRefusal}
 use Rattle.tfpg_graph.specs.declared.cause.GraphRefusal.TheVariants.{Fault, NoMemory}
@@ -11,11 +12,11 @@ use Rattle.tfpg_graph.specs.Graph.{Tfpg}
 use Rattle.tfpg_graph.specs.Text.{Spells}
 use Rattle.tfpg_graph.specs.Valid.{IsValid}
 use Rattle.tfpg_graph.specs.Causes.{cause_at}
-use Rattle.tfpg_graph.specs.Faults.{IsTested, IsClean, IsLineFault, IsWholeFault, IsRefusalOf, IsAnswerOf}
+use Rattle.tfpg_graph.specs.Faults.{IsTested, IsClean, IsLineFault, IsWholeFault, IsRefusalOf, IsGraphResult}
 use Rattle.tfpg_graph.specs.declared.reading.reader.Part.TheVariants.{Ended}
 use Rattle.tfpg_graph.specs.declared.reading.reader.Reader.{Reader}
 use Rattle.tfpg_graph.specs.inside.reading.Turns.{turn, ReaderRepresents}
-use Rattle.tfpg_graph.specs.inside.reading.Answered.{IsTurnAnswer, refusal_at, IsEndRefusal}
+use Rattle.tfpg_graph.specs.inside.reading.TurnResults.{IsTurnResult, refusal_at, IsEndRefusal}
 use Rattle.tfpg_graph.proofs.lemmas.reading.FirstFaults.{IsLineFault-err}
 use Rattle.tfpg_graph.proofs.lemmas.reading.SpelledBy.{Spells-read}
 use Rattle.tfpg_graph.proofs.lemmas.reading.NoFault.{Spells-clean, Spells-no_fault}
@@ -69,7 +70,7 @@ module _ (body : List ℕ) where
 module _ (text body : List ℕ) (is : IsBody text body) where
   -- The refusal of a line is that of the text.
   pub IsRefusalOf-line : (progress : Reader) (before after : List (List ℕ)) (line : List ℕ) (refusal : LineRefusal)
-      → ReaderRepresents progress before → IsTurnAnswer (turn progress line) (Err refusal)
+      → ReaderRepresents progress before → IsTurnResult (turn progress line) (Err refusal)
       → parts_of body ≡ before ++ line ∷ after
       → IsRefusalOf text (refusal_at refusal (length before + 1))
   IsRefusalOf-line progress before after line (line_refusal.Cause cause) stands failed parts =
@@ -86,10 +87,10 @@ module _ (text body : List ℕ) (is : IsBody text body) where
   IsRefusalOf-end NoMemory refused = tt
 
   -- A refused text spells no valid graph, unless memory ran out.
-  pub IsAnswerOf-refused : (graph : Tfpg) (refusal : GraphRefusal) → IsRefusalOf text refusal → Spells text graph
-      → IsValid graph → IsAnswerOf graph (Err refusal)
-  IsAnswerOf-refused graph (Fault fault) refused spells valid = Spells-no_fault text graph spells valid fault refused
-  IsAnswerOf-refused graph NoMemory refused spells valid = tt
+  pub IsGraphResult-refused : (graph : Tfpg) (refusal : GraphRefusal) → IsRefusalOf text refusal → Spells text graph
+      → IsValid graph → IsGraphResult graph (Err refusal)
+  IsGraphResult-refused graph (Fault fault) refused spells valid = absurd (Spells-no_fault text graph spells valid fault refused)
+  IsGraphResult-refused graph NoMemory refused spells valid = inr refl
 
   module _ (progress : Reader) (stands : ReaderRepresents progress (parts_of body)) (some : 0 < length (parts_of body)) where
     -- what represents the parts represents the lines
@@ -110,20 +111,18 @@ module _ (text body : List ℕ) (is : IsBody text body) where
     IfErr-refused (Err refusal) refused = IsRefusalOf-end refusal refused
 
     -- The result for a text that spells a valid graph is that graph.
-    pub IsAnswerOf-end : (result : Result Tfpg GraphRefusal)
+    pub IsGraphResult-end : (result : Result Tfpg GraphRefusal)
         → IfOk result (λ graph. (graph ≡ progress.declared) × (progress.part ≡ Ended))
         → IfErr result (IsEndRefusal (parts_of body)) → (graph : Tfpg) → Spells text graph → IsValid graph
-        → IsAnswerOf graph result
-    IsAnswerOf-end (Ok answer) read refused graph spells valid =
-        read.0 ∙ stands_lines.graph ∙ (Spells-clean text graph spells valid).1
-    IsAnswerOf-end (Err refusal) read refused graph spells valid =
-        IsAnswerOf-refused graph refusal (IsRefusalOf-end refusal refused) spells valid
+        → IsGraphResult graph result
+    IsGraphResult-end (Ok declared) read refused graph spells valid =
+        inl (ap Ok (read.0 ∙ stands_lines.graph ∙ (Spells-clean text graph spells valid).1))
+    IsGraphResult-end (Err refusal) read refused graph spells valid =
+        IsGraphResult-refused graph refusal (IsRefusalOf-end refusal refused) spells valid
 
--- The lines round the one at a index.
+-- The lines round the one at an index.
 pub lines_at : (lines before : List (List ℕ)) (index : ℕ) (line : List ℕ) → before ≡ take index lines
     → index < length lines → line ≡ get_or lines index line → lines ≡ before ++ line ∷ drop (index + 1) lines
 lines_at lines before index line are within at =
-    sym (take-append-drop (index + 1) lines)
-    ∙ ap (λ front. front ++ drop (index + 1) lines) (take_more lines index line within)
-    ∙ (λ i. (sym are i ++ sym at i ∷ []) ++ drop (index + 1) lines)
-    ∙ append_assoc before (line ∷ []) (drop (index + 1) lines)
+    cut_at lines index line (slice_get_read lines (length lines) index line refl within at)
+    ∙ (λ i. sym are i ++ line ∷ drop (sym (add-one index) i) lines)

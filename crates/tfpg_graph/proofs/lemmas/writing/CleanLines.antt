@@ -11,7 +11,7 @@ use Rattle.tfpg_base.proofs.Separators.{name_lacks, number_lacks, decimal_lacks}
 use Rattle.tfpg_graph.specs.declared.kind.Kind.{Kind}
 use Rattle.tfpg_graph.specs.declared.kind.Kind.TheVariants.{Failure, Or, And}
 use Rattle.tfpg_graph.specs.declared.edge.Edge.{Edge}
-use Rattle.tfpg_graph.specs.Graph.{Tfpg, Node, name_at}
+use Rattle.tfpg_graph.specs.Graph.{Tfpg, Node, name_word}
 use Rattle.tfpg_graph.specs.Text.{header, mode_line, node_words, watch_words, tmax_word, edge_line, modes_word, all_modes}
 use Rattle.tfpg_base.specs.declared.limits.TheConstants.{MAX_TIME}
 use Rattle.tfpg_graph.specs.Valid.{HasValidNumber, IsValidEdge}
@@ -35,7 +35,7 @@ clean_one word clean = All-cons HasNoLineEnd word [] clean (All-nil HasNoLineEnd
 pub clean_name : (name : List ℕ) → IsTrue (is_name name) → HasNoLineEnd name
 clean_name name named = name_lacks 10 name refl named
 
-clean_number : (number : ℕ) → number ≤ MAX_TIME → HasNoLineEnd (decimal number)
+pub clean_number : (number : ℕ) → number ≤ MAX_TIME → HasNoLineEnd (decimal number)
 clean_number number small = decimal_lacks 10 number refl (omega arith)
 
 -- a keyword and the other words
@@ -84,8 +84,8 @@ clean_modes graph bits named =
 pub clean_edge : (graph : Tfpg) (edge : Edge) → All (λ n. IsTrue (is_name n.name)) graph.nodes → All (λ mode. IsTrue (is_name mode)) graph.modes → IsValidEdge graph edge
     → HasNoLineEnd (edge_line graph edge (modes_word graph edge.modes))
 clean_edge graph edge nodes modes valid =
-    let source = unwrap_or (name_at graph edge.source) [] in
-    let target = unwrap_or (name_at graph edge.target) [] in
+    let source = name_word graph edge.source in
+    let target = name_word graph edge.target in
     let tmin = decimal edge.tmin in
     let tmax = tmax_word edge.tmax in
     let word = modes_word graph edge.modes in
@@ -93,4 +93,4 @@ clean_edge graph edge nodes modes valid =
     (All-cons HasNoLineEnd source (target ∷ tmin ∷ tmax ∷ word ∷ []) (clean_name_in graph.nodes edge.source nodes)
     (All-cons HasNoLineEnd target (tmin ∷ tmax ∷ word ∷ []) (clean_name_in graph.nodes edge.target nodes)
     (All-cons HasNoLineEnd tmin (tmax ∷ word ∷ []) (clean_number edge.tmin valid.least)
-    (All-cons HasNoLineEnd tmax (word ∷ []) (clean_tmax edge.tmax edge.tmin valid.most) (clean_one word (clean_modes graph edge.modes modes))))))
+    (All-cons HasNoLineEnd tmax (word ∷ []) (clean_tmax edge.tmax edge.tmin valid.greatest) (clean_one word (clean_modes graph edge.modes modes))))))

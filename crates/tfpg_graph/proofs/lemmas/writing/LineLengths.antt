@@ -7,12 +7,13 @@ use Rattle.std.proofs.lemmas.Bool.{cond_both}
 use Rattle.std.proofs.lemmas.List.{length-append}
 use Rattle.std.proofs.lemmas.List.Elements.{All-head, All-tail}
 use Rattle.tfpg_base.specs.Words.{is_name, line_of}
-use Rattle.tfpg_base.specs.declared.limits.TheConstants.{LONGEST_LINE, MAX_TIME}
+use Rattle.tfpg_base.specs.declared.limits.TheConstants.{LONGEST_LINE, LONGEST_NAME, MAX_TIME}
 use Rattle.tfpg_base.proofs.WordLengths.{name_short, number_short}
 use Rattle.tfpg_graph.specs.declared.kind.Kind.{Kind}
 use Rattle.tfpg_graph.specs.declared.kind.Kind.TheVariants.{Failure, Or, And}
 use Rattle.tfpg_graph.specs.declared.edge.Edge.{Edge}
-use Rattle.tfpg_graph.specs.Graph.{Tfpg, Node, name_at}
+use Rattle.tfpg_graph.specs.declared.limits.TheConstants.{MAX_MODES}
+use Rattle.tfpg_graph.specs.Graph.{Tfpg, Node, name_word}
 use Rattle.tfpg_graph.specs.Text.{mode_line, node_words, watch_words, tmax_word, edge_line, modes_word, all_modes}
 use Rattle.tfpg_graph.specs.Valid.{HasValidNumber, IsValidEdge}
 use Rattle.tfpg_graph.specs.inside.writing.Written.{modes_before, mode_names_before}
@@ -23,7 +24,7 @@ use Rattle.tfpg_graph.proofs.lemmas.writing.ModeNames.{All-named}
 pub short_mode : (name : List ℕ) → IsTrue (is_name name) → length (mode_line name) ≤ LONGEST_LINE
 short_mode name named = omega (arith, name_short name named)
 
-short_watch : (name : List ℕ) (lag : Option ℕ) → length name ≤ 32 → IfSome lag (λ l. l ≤ MAX_TIME) → length (line_of (name ∷ watch_words lag)) ≤ 100
+short_watch : (name : List ℕ) (lag : Option ℕ) → length name ≤ LONGEST_NAME → IfSome lag (λ l. l ≤ MAX_TIME) → length (line_of (name ∷ watch_words lag)) ≤ 100
 short_watch name None named small = omega (arith, length-append name (32 ∷ codes "hidden"))
 short_watch name (Some lag) named small = omega (arith, length-append name (32 ∷ codes "watch" ++ 32 ∷ decimal lag), number_short lag small)
 
@@ -32,7 +33,7 @@ short_node name (Failure rarity) named small = omega (arith, name_short name nam
 short_node name (Or lag) named small = omega (arith, short_watch name lag (name_short name named) small)
 short_node name (And lag) named small = omega (arith, short_watch name lag (name_short name named) small)
 
-short_name_in : (nodes : List Node) (node : ℕ) → All (λ n. IsTrue (is_name n.name)) nodes → length (unwrap_or (option_map (λ n. n.name) (slice_get nodes node)) []) ≤ 32
+short_name_in : (nodes : List Node) (node : ℕ) → All (λ n. IsTrue (is_name n.name)) nodes → length (unwrap_or (option_map (λ n. n.name) (slice_get nodes node)) []) ≤ LONGEST_NAME
 short_name_in [] node named = omega arith
 short_name_in (first ∷ others) zero named = name_short first.name (All-head (λ n. IsTrue (is_name n.name)) first others named)
 short_name_in (first ∷ others) (suc node) named = short_name_in others node (All-tail (λ n. IsTrue (is_name n.name)) first others named)
@@ -42,22 +43,22 @@ short_tmax None tmin small = omega arith
 short_tmax (Some tmax) tmin small = number_short tmax small.1
 
 -- names with a byte between each two
-length-joined : (separator : ℕ) (names : List (List ℕ)) → All (λ name. length name ≤ 32) names → length (join_with_byte separator names) ≤ 33 * length names
+length-joined : (separator : ℕ) (names : List (List ℕ)) → All (λ name. length name ≤ LONGEST_NAME) names → length (join_with_byte separator names) ≤ 33 * length names
 length-joined separator [] short = omega arith
-length-joined separator (name ∷ []) short = omega (arith, All-head (λ n. length n ≤ 32) name [] short)
+length-joined separator (name ∷ []) short = omega (arith, All-head (λ n. length n ≤ LONGEST_NAME) name [] short)
 length-joined separator (name ∷ next ∷ names) short =
     omega (
       arith,
       length-append name (separator ∷ join_with_byte separator (next ∷ names)),
-      All-head (λ n. length n ≤ 32) name (next ∷ names) short,
-      length-joined separator (next ∷ names) (All-tail (λ n. length n ≤ 32) name (next ∷ names) short),
+      All-head (λ n. length n ≤ LONGEST_NAME) name (next ∷ names) short,
+      length-joined separator (next ∷ names) (All-tail (λ n. length n ≤ LONGEST_NAME) name (next ∷ names) short),
     )
 
-pub short_modes : (graph : Tfpg) (bits : ℕ) → All (λ mode. IsTrue (is_name mode)) graph.modes → length graph.modes ≤ 64 → length (modes_word graph bits) ≤ 2112
+pub short_modes : (graph : Tfpg) (bits : ℕ) → All (λ mode. IsTrue (is_name mode)) graph.modes → length graph.modes ≤ MAX_MODES → length (modes_word graph bits) ≤ 2112
 short_modes graph bits named few =
     let end : ℕ = length graph.modes in
     let names : List (List ℕ) = mode_names_before graph bits end in
-    let short : All (λ name. length name ≤ 32) names = All-named (λ name. length name ≤ 32) graph.modes (λ k d within. name_short _ (named k d within)) (modes_before bits end) in
+    let short : All (λ name. length name ≤ LONGEST_NAME) names = All-named (λ name. length name ≤ LONGEST_NAME) graph.modes (λ k d within. name_short _ (named k d within)) (modes_before bits end) in
     cond_both (bits == all_modes graph) (codes "*") (join_with_byte 44 names) (λ word. length word ≤ 2112)
     (λ all. omega arith)
     (λ some. omega (arith, few, length-joined 44 names short, length-filter_map (slice_get graph.modes) (modes_before bits end), modes_before-few bits end))
@@ -65,8 +66,8 @@ short_modes graph bits named few =
 pub short_edge : (graph : Tfpg) (edge : Edge) (word : List ℕ) → All (λ n. IsTrue (is_name n.name)) graph.nodes → IsValidEdge graph edge → length word ≤ 2112
     → length (edge_line graph edge word) ≤ LONGEST_LINE
 short_edge graph edge word named valid short =
-    let source = unwrap_or (name_at graph edge.source) [] in
-    let target = unwrap_or (name_at graph edge.target) [] in
+    let source = name_word graph edge.source in
+    let target = name_word graph edge.target in
     let tail = tmax_word edge.tmax ++ 32 ∷ word in
     omega (
       arith,
@@ -77,5 +78,5 @@ short_edge graph edge word named valid short =
       length-append (decimal edge.tmin) (32 ∷ tail),
       number_short edge.tmin valid.least,
       length-append (tmax_word edge.tmax) (32 ∷ word),
-      short_tmax edge.tmax edge.tmin valid.most,
+      short_tmax edge.tmax edge.tmin valid.greatest,
     )

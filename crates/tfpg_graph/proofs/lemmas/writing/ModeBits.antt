@@ -1,15 +1,14 @@
 -- The modes whose bits are set.
-use Rattle.std.proofs.Common.{◌≡◌, ◌≢◌, ℕ, suc, zero, ◌+◌, ◌*◌, ◌%◌, ◌<◌, ◌≤◌, ◌^◌, ◌==◌, not, cond, List, [], ◌∷◌, ◌++◌, length, filter, All, refl, sym, ap, ◌∙◌, arith, zero-add, add-one}
-use Rattle.std.specs.List.{range_with_len, AllPairs, sum_by}
+use Rattle.std.proofs.Common.{◌≡◌, ◌≢◌, ℕ, suc, zero, ◌+◌, ◌<◌, ◌≤◌, ◌^◌, ◌==◌, not, cond, List, [], ◌∷◌, ◌++◌, length, filter, All, refl, sym, ap, ◌∙◌, arith, zero-add}
+use Rattle.std.specs.List.{range_with_len, AllPairs}
 use Rattle.std.specs.Int.{bit_at}
-use Rattle.std.proofs.Math.Nat.{add_comm, zero-mul, one-mul, mod-one, mod-eq_of_lt}
-use Rattle.std.proofs.Math.Pow.{mod-pow-add}
+use Rattle.std.proofs.Math.Nat.{mod-eq_of_lt}
 use Rattle.std.proofs.lemmas.List.Elements.{filter-append, All-filter}
 use Rattle.std.proofs.lemmas.List.Filters.{length-filter_both}
 use Rattle.std.proofs.lemmas.List.FromFn.{length-range_with_len, get_or-range_with_len}
 use Rattle.std.proofs.lemmas.List.Kept.{AllPairs-filter}
-use Rattle.std.proofs.lemmas.List.Sums.{sum_by-append}
-use Rattle.std.proofs.lemmas.Nat.Bits.{bit_at-lt}
+use Rattle.tfpg_base.specs.SetBits.{ones_below, bits_of}
+use Rattle.tfpg_base.proofs.Sets.{bits_of-ones_below}
 use Rattle.tfpg_graph.specs.inside.writing.Written.{modes_before}
 
 -- one number more
@@ -24,32 +23,22 @@ modes_before-more bits mode =
     ap (filter (λ m. bit_at bits m == 1)) (range_with_len-more 0 mode ∙ ap (λ (n : ℕ). range_with_len 0 mode ++ n ∷ []) (zero-add mode))
     ∙ filter-append (λ m. bit_at bits m == 1) (range_with_len 0 mode) (mode ∷ [])
 
--- one bit is worth the power of two of its mode
-worth-one : (bit mode : ℕ) → bit < 2 → sum_by (λ m. 2 ^ m) (cond (bit == 1) (mode ∷ []) []) ≡ bit * 2 ^ mode
-worth-one zero mode small = sym (zero-mul (2 ^ mode))
-worth-one (suc zero) mode small = zero-add (2 ^ mode) ∙ sym (one-mul (2 ^ mode))
-worth-one (suc (suc bit)) mode small = absurd (omega arith)
-
--- the modes are worth what the lowest bits are
-worth-modes_before : (bits end : ℕ) → sum_by (λ m. 2 ^ m) (modes_before bits end) ≡ bits % 2 ^ end
-worth-modes_before bits zero = sym (mod-one bits)
-worth-modes_before bits (suc mode) =
-    ap (sum_by (λ m. 2 ^ m)) (modes_before-more bits mode)
-    ∙ sum_by-append (λ m. 2 ^ m) (modes_before bits mode) (cond (bit_at bits mode == 1) (mode ∷ []) [])
-    ∙ ap (λ (low : ℕ). low + sum_by (λ m. 2 ^ m) (cond (bit_at bits mode == 1) (mode ∷ []) [])) (worth-modes_before bits mode)
-    ∙ ap (λ (high : ℕ). bits % 2 ^ mode + high) (worth-one (bit_at bits mode) mode (bit_at-lt bits mode))
-    ∙ add_comm (bits % 2 ^ mode) (bit_at bits mode * 2 ^ mode)
-    ∙ sym (mod-pow-add bits 1 mode)
-    ∙ ap (λ (upto : ℕ). bits % 2 ^ upto) (add_comm 1 mode ∙ add-one mode)
+-- they are the ones among the lowest bits
+modes_before-ones : (bits end : ℕ) → modes_before bits end ≡ ones_below end bits
+unfolding ones_below
+modes_before-ones bits zero = refl
+modes_before-ones bits (suc mode) =
+    modes_before-more bits mode
+    ∙ ap (λ (modes : List ℕ). modes ++ cond (bit_at bits mode == 1) (mode ∷ []) []) (modes_before-ones bits mode)
 
 module _ (bits end : ℕ) where
   -- bits that are all among these modes are worth what the modes are
-  pub worth-all : bits < 2 ^ end → bits ≡ sum_by (λ m. 2 ^ m) (modes_before bits end)
-  worth-all own = sym (worth-modes_before bits end ∙ mod-eq_of_lt own)
+  pub worth-all : bits < 2 ^ end → bits ≡ bits_of (modes_before bits end)
+  worth-all own = sym (ap bits_of (modes_before-ones bits end) ∙ bits_of-ones_below end bits ∙ mod-eq_of_lt own)
 
   -- where a bit is set there is a mode
   pub modes_before-some : 0 < bits → bits < 2 ^ end → modes_before bits end ≢ []
-  modes_before-some some own none = omega (arith, some, worth-all own, ap (sum_by (λ m. 2 ^ m)) none)
+  modes_before-some some own none = omega (arith, some, worth-all own, ap (bits_of) none)
 
   -- each mode is one of those before the end
   pub modes_before-within : All (λ m. m < end) (modes_before bits end)

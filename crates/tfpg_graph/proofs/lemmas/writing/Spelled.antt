@@ -1,30 +1,23 @@
 -- The canonical lines spell the graph.
-use Rattle.std.proofs.Common.{◌≡◌, ℕ, ◌<◌, ◌≤◌, ◌^◌, ◌==◌, Bool, true, false, cond, not, filter, List, [], ◌∷◌, ◌++◌, length, map, All, IsTrue, codes, refl, ap, sym, ◌∙◌, inl, inr, append-nil, arith}
+use Rattle.std.proofs.Common.{◌≡◌, ℕ, ◌<◌, ◌≤◌, ◌^◌, ◌==◌, Bool, true, false, cond, not, List, [], ◌∷◌, ◌++◌, length, map, All, IsTrue, codes, refl, ap, sym, ◌∙◌, inl, inr, append-nil, arith}
 use Rattle.std.specs.List.{AllZip, join_with_byte}
 use Rattle.std.proofs.lemmas.Bool.{eqb-true}
-use Rattle.std.proofs.lemmas.List.Elements.{All-head, All-tail, All-map, All-append, All-cons, All-nil, All-weaker, All-same}
+use Rattle.std.proofs.lemmas.List.Elements.{All-map, All-append, All-cons, All-nil, All-weaker, All-same}
 use Rattle.tfpg_base.specs.Words.{line_of, is_name}
 use Rattle.tfpg_base.specs.Lines.{lines_of, HasNoLineEnd}
 use Rattle.tfpg_base.specs.declared.limits.TheConstants.{LONGEST_LINE}
 use Rattle.tfpg_base.proofs.LinesOf.{lines_of-after}
+use Rattle.tfpg_base.proofs.lists.Filtered.{filter-all}
+use Rattle.tfpg_base.proofs.lists.Zipped.{AllZip-map}
 use Rattle.tfpg_graph.specs.declared.kind.Kind.{Kind}
 use Rattle.tfpg_graph.specs.declared.kind.Kind.TheVariants.{Failure, Or, And}
 use Rattle.tfpg_graph.specs.Graph.{Tfpg}
-use Rattle.tfpg_graph.specs.Text.{header, mode_line, node_words, node_line, edge_line, modes_word, all_modes, SpellsModes, SpellsEdge, Spells, is_empty_or_comment, canonical_lines, canonical_text}
+use Rattle.tfpg_graph.specs.Text.{header, mode_line, node_words, node_line, edge_line, modes_word, all_modes, SpellsModes, SpellsEdge, Spells, is_empty_or_comment, content_lines, canonical_lines, canonical_text}
 use Rattle.tfpg_graph.specs.Valid.{IsValid, IsValidEdge}
 use Rattle.tfpg_graph.specs.inside.writing.Written.{modes_before, mode_names_before}
 use Rattle.tfpg_graph.proofs.lemmas.writing.ModeBits.{worth-all, modes_before-some, modes_before-within, modes_before-differ}
 use Rattle.tfpg_graph.proofs.lemmas.writing.LineLengths.{short_mode, short_node, short_modes, short_edge}
 use Rattle.tfpg_graph.proofs.lemmas.writing.CleanLines.{clean_header, clean_mode, clean_node, clean_edge, clean_end}
-
-filter-all : {X : Type 0} (p : X → Bool) (xs : List X) → All (λ x. p x ≡ true) xs → filter p xs ≡ xs
-filter-all p [] all = refl
-filter-all p (x ∷ xs) all =
-    λ i. cond (All-head (λ y. p y ≡ true) x xs all i) (x ∷ filter-all p xs (All-tail (λ y. p y ≡ true) x xs all) i) (filter p xs)
-
-AllZip-map : {X Y : Type 0} (R : X → Y → Type 0) (f : X → Y) (xs : List X) → All (λ x. R x (f x)) xs → AllZip R xs (map f xs)
-AllZip-map R f [] all = tt
-AllZip-map R f (x ∷ xs) all = (All-head (λ y. R y (f y)) x xs all, AllZip-map R f xs (All-tail (λ y. R y (f y)) x xs all))
 
 -- the canonical word for some of the graph's modes spells them
 SpellsModes-modes_word : (graph : Tfpg) (bits : ℕ) → 0 < bits → bits < 2 ^ length graph.modes → SpellsModes graph bits (modes_word graph bits)
@@ -37,10 +30,10 @@ SpellsModes-modes_word graph bits some own = by (bits == all_modes graph) refl
         let end : ℕ = length graph.modes in
         inr (modes_before bits end, modes_before-some bits end some own, modes_before-differ bits end, modes_before-within bits end, refl, worth-all bits end own)
 
-kept_node : (name : List ℕ) (kind : Kind) → not (is_empty_or_comment (line_of (node_words name kind))) ≡ true
-kept_node name (Failure rarity) = refl
-kept_node name (Or lag) = refl
-kept_node name (And lag) = refl
+is_content-node : (name : List ℕ) (kind : Kind) → not (is_empty_or_comment (line_of (node_words name kind))) ≡ true
+is_content-node name (Failure rarity) = refl
+is_content-node name (Or lag) = refl
+is_content-node name (And lag) = refl
 
 -- the lines of the edges
 abbrev edge_lines_of : Tfpg → List (List ℕ)
@@ -61,9 +54,9 @@ All-after P graph modes nodes edges end =
     (All-cons P (codes "end") [] end (All-nil P))
 
 -- none of them is skipped
-kept : (graph : Tfpg) → filter (λ line. not (is_empty_or_comment line)) (lines_after graph) ≡ lines_after graph
-kept graph = filter-all (λ line. not (is_empty_or_comment line)) (lines_after graph)
-    (All-after (λ line. not (is_empty_or_comment line) ≡ true) graph (λ k d within. refl) (λ k d within. kept_node _ _) (λ k d within. refl) refl)
+content_lines-after : (graph : Tfpg) → content_lines (lines_after graph) ≡ lines_after graph
+content_lines-after graph = filter-all (λ line. not (is_empty_or_comment line)) (lines_after graph)
+    (All-after (λ line. not (is_empty_or_comment line) ≡ true) graph (λ k d within. refl) (λ k d within. is_content-node _ _) (λ k d within. refl) refl)
 
 module _ (graph : Tfpg) (valid : IsValid graph) where
   -- no line is too long
@@ -98,7 +91,7 @@ module _ (graph : Tfpg) (valid : IsValid graph) where
   Spells-lines text lines = record {
     after = lines_after graph;
     lines = lines;
-    said = record { edge_lines = edge_lines_of graph; edges = spelled_edges; all = kept graph };
+    said = record { edge_lines = edge_lines_of graph; edges = spelled_edges; all = content_lines-after graph };
     short = All-same (λ line. length line ≤ LONGEST_LINE) (lines_of text) (canonical_lines graph) lines short;
   }
 

@@ -10,7 +10,7 @@ use Rattle.tfpg_base.specs.Lines.{with_line_end}
 use Rattle.tfpg_base.specs.TextLine.{text_line}
 use Rattle.tfpg_base.specs.Words.{line_of}
 use Rattle.tfpg_base.proofs.Appended.{appended_after, Appends-after}
-use Rattle.tfpg_base.proofs.Joined.{join-push_later}
+use Rattle.tfpg_base.proofs.lists.Joined.{join-push_later}
 use Rattle.tfpg_graph.specs.Graph.{Tfpg}
 use Rattle.tfpg_graph.specs.Text.{header, mode_line, node_line, edge_line, modes_word, canonical_text}
 use Rattle.tfpg_graph.specs.inside.writing.Written.{mode_text, node_text, edge_text}

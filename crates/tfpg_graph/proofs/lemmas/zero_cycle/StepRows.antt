@@ -4,7 +4,7 @@ use Rattle.std.proofs.lemmas.Bool.{cases_lt, cases_eq}
 use Rattle.std.proofs.lemmas.List.{get_or-replicate, length-replicate, get_or_past, length-set}
 use Rattle.std.proofs.lemmas.List.Elements.{Contains-append_left, Contains-push, Contains-push_cases}
 use Rattle.tfpg_base.proofs.lists.Elements.{Contains-nil}
-use Rattle.tfpg_graph.specs.inside.zero_cycle.ZeroSearch.{row, IsStep, with_zero_step, AreWithin}
+use Rattle.tfpg_graph.specs.inside.zero_cycle.ZeroSearch.{row, IsStep, with_zero_step, AreStepsWithin}
 
 row_of_none : (count node : ℕ) → row (replicate count []) node ≡ []
 row_of_none count node = ⊎_elim
@@ -57,11 +57,11 @@ module _ (rows : List (List ℕ)) (from to : ℕ) (within : from < length rows) 
   pub length-with_zero_step : length (with_zero_step rows from to) ≡ length rows
   length-with_zero_step = length-set rows from (row rows from ++ to ∷ [])
 
-  pub AreWithin-more : to < length rows → AreWithin rows → AreWithin (with_zero_step rows from to)
-  AreWithin-more in_rows are = λ begin end leads. ⊎_elim
+  pub AreStepsWithin-more : to < length rows → AreStepsWithin rows → AreStepsWithin (with_zero_step rows from to)
+  AreStepsWithin-more in_rows are = λ begin end leads. ⊎_elim
       (λ old. let lt = are begin end old in omega (arith, lt, length-with_zero_step))
       (λ new. omega (arith, new.1, in_rows, length-with_zero_step))
       (IsStep-cases begin end leads)
 
-pub AreWithin-none : (count : ℕ) → AreWithin (replicate count [])
-AreWithin-none count = λ from to leads. absurd (no_step count from to leads)
+pub AreStepsWithin-none : (count : ℕ) → AreStepsWithin (replicate count [])
+AreStepsWithin-none count = λ from to leads. absurd (no_step count from to leads)

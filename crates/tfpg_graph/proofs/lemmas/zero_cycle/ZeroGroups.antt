@@ -19,7 +19,7 @@ pub IsVisited-none : (rows : List (List ℕ)) (marks : List (Option ℕ)) → Is
 IsVisited-none rows marks = record {
   marked = λ node has. absurd (omega (arith, has.1));
   followed = λ from to has leads. absurd (omega (arith, has.1));
-  settled = λ place within. absurd (omega (arith, within));
+  settled = λ index within. absurd (omega (arith, within));
 }
 
 module _ (rows : List (List ℕ)) (node mark : ℕ) (m₀ : List (Option ℕ)) (o₀ : List ℕ) (m₁ : List (Option ℕ))
@@ -98,28 +98,28 @@ IsGroupedFrom-none rows reversed order count same =
       searched = IsVisited-none rows (replicate count None);
     }
 
-module _ (rows reversed : List (List ℕ)) (order : List ℕ) (place : ℕ) (m₀ : List (Option ℕ)) (o₀ : List ℕ)
+module _ (rows reversed : List (List ℕ)) (order : List ℕ) (index : ℕ) (m₀ : List (Option ℕ)) (o₀ : List ℕ)
     (m₁ : List (Option ℕ)) (o₁ : List ℕ)
-    (round : AreReversed rows reversed) (finishing : IsFinishingOrder reversed order) (within : place < length order)
-    (was : IsGroupedFrom rows reversed order m₀ o₀ (place + 1))
-    (visited : HasVisited rows (get_or order place 0) place m₀ o₀ m₁ o₁) where
+    (round : AreReversed rows reversed) (finishing : IsFinishingOrder reversed order) (within : index < length order)
+    (was : IsGroupedFrom rows reversed order m₀ o₀ (index + 1))
+    (visited : HasVisited rows (get_or order index 0) index m₀ o₀ m₁ o₁) where
   abbrev root : ℕ
-  root = get_or order place 0
+  root = get_or order index 0
 
-  abbrev settled : ClosesGroup reversed order place
-  settled = finishing.settled place within
+  abbrev settled : ClosesGroup reversed order index
+  settled = finishing.settled index within
 
   -- what has no mark stands up to the root
   up_to_root : (node other : ℕ) → get_or order other 0 ≡ node → other < length order → mark_of m₀ node ≡ None
-      → other ≤ place
+      → other ≤ index
   up_to_root node other at in_order none = ⊎_elim
       (λ beyond. let given = was.later other (omega (arith, beyond)) in_order in
       absurd (not_both (mark_of m₀ node) (given.0) (ap (mark_of m₀) (sym at) ∙ given.1) none))
       (λ upto. upto)
-      (cases_lt place other)
+      (cases_lt index other)
 
   -- what steps to the root's part of the order is no earlier
-  from_start : (node next here other : ℕ) → get_or order here 0 ≡ node → settled.start ≤ here → here ≤ place
+  from_start : (node next here other : ℕ) → get_or order here 0 ≡ node → settled.start ≤ here → here ≤ index
       → get_or order other 0 ≡ next → IsStep reversed next node
       → settled.start ≤ other
   from_start node next here other at from upto at_other leads = ⊎_elim
@@ -130,9 +130,9 @@ module _ (rows reversed : List (List ℕ)) (order : List ℕ) (place : ℕ) (m�
       (cases_lt other settled.start)
 
   -- a walk past marks stays in the root's part of the order
-  walk_inside : (steps from to here : ℕ) → get_or order here 0 ≡ from → settled.start ≤ here → here ≤ place
+  walk_inside : (steps from to here : ℕ) → get_or order here 0 ≡ from → settled.start ≤ here → here ≤ index
       → WalksUnmarked rows m₀ from to steps
-      → (other : ℕ) × (settled.start ≤ other) × (other ≤ place) × (get_or order other 0 ≡ to)
+      → (other : ℕ) × (settled.start ≤ other) × (other ≤ index) × (get_or order other 0 ≡ to)
   walk_inside zero from to here at start_in upto walk = (here, start_in, upto, at ∙ walk)
   walk_inside (suc steps) from to here at start_in upto walk =
       let next : ℕ = walk.0 in
@@ -145,28 +145,28 @@ module _ (rows reversed : List (List ℕ)) (order : List ℕ) (place : ℕ) (m�
   -- what the search from the root reaches reaches the root
   new_back : (node : ℕ) → ReachesUnmarked rows m₀ root node → ReachesUnmarked reversed [] root node
   new_back node walk =
-      let inside = walk_inside walk.0 root node place refl settled.begins (omega arith) walk.1 in
+      let inside = walk_inside walk.0 root node index refl settled.begins (omega arith) walk.1 in
       subst (λ (x : ℕ). ReachesUnmarked reversed [] root x) inside.3 (settled.reached inside.0 inside.1 inside.2)
 
-  now_high : (node mark : ℕ) → mark_of m₁ node ≡ Some mark → place ≤ mark
+  now_high : (node mark : ℕ) → mark_of m₁ node ≡ Some mark → index ≤ mark
   now_high node mark e = ⊎_elim
       (λ old. let above = was.high node mark old in omega (arith, above))
       (λ new. omega (arith, new.same))
       (visited.grown.fresh node mark e)
 
   now_finished : (node : ℕ) → IsMarked m₁ node → Contains o₁ node
-  now_finished = HasVisited-finished rows root place m₀ o₀ m₁ o₁ visited was.finished
+  now_finished = HasVisited-finished rows root index m₀ o₀ m₁ o₁ visited was.finished
 
   -- one group more, or a search that finds nothing
-  pub IsGroupedFrom-more : IsGroupedFrom rows reversed order m₁ o₁ place
+  pub IsGroupedFrom-more : IsGroupedFrom rows reversed order m₁ o₁ index
   IsGroupedFrom-more = record {
     count = visited.grown.count ∙ was.count;
     later = λ other from in_order. ⊎_elim
-        (λ beyond. HasVisited-kept rows root place m₀ o₀ m₁ o₁ visited (get_or order other 0)
+        (λ beyond. HasVisited-kept rows root index m₀ o₀ m₁ o₁ visited (get_or order other 0)
         (was.later other (omega (arith, beyond)) in_order))
         (λ upto. subst (λ (at : ℕ). IsMarked m₁ (get_or order at 0))
-        (let same : place ≡ other = omega (arith, from, upto) in same) visited.marked)
-        (cases_lt place other);
+        (let same : index ≡ other = omega (arith, from, upto) in same) visited.marked)
+        (cases_lt index other);
     high = now_high;
     there = λ node mark e. ⊎_elim
         (was.there node mark)
@@ -226,21 +226,21 @@ IsGroupedFrom-begin rows reversed order count marks done same marks_are done_is 
     (IsGroupedFrom-none rows reversed order count same)))
 
 -- a turn of the second search, counted from the end of the order
-pub IsGroupedFrom-turn : (rows reversed : List (List ℕ)) (order : List ℕ) (turn place node : ℕ) (m₀ : List (Option ℕ))
+pub IsGroupedFrom-turn : (rows reversed : List (List ℕ)) (order : List ℕ) (turn index node : ℕ) (m₀ : List (Option ℕ))
     (o₀ : List ℕ) (m₁ : List (Option ℕ)) (o₁ : List ℕ)
-    → AreReversed rows reversed → IsFinishingOrder reversed order → place + turn + 1 ≡ length order
-    → node ≡ get_or order place node
-    → IsGroupedFrom rows reversed order m₀ o₀ (length order - turn) → HasVisited rows node place m₀ o₀ m₁ o₁
+    → AreReversed rows reversed → IsFinishingOrder reversed order → index + turn + 1 ≡ length order
+    → node ≡ get_or order index node
+    → IsGroupedFrom rows reversed order m₀ o₀ (length order - turn) → HasVisited rows node index m₀ o₀ m₁ o₁
     → IsGroupedFrom rows reversed order m₁ o₁ (length order - (turn + 1))
-IsGroupedFrom-turn rows reversed order turn place node m₀ o₀ m₁ o₁ round finishing stands at was visited =
-    let within : place < length order = omega (arith, stands) in
-    let before : length order - turn ≡ place + 1 = omega (arith, stands) in
-    let after : place ≡ length order - (turn + 1) = omega (arith, stands) in
-    let root_is : node ≡ get_or order place 0 = get_or_read order place node within at 0 in
+IsGroupedFrom-turn rows reversed order turn index node m₀ o₀ m₁ o₁ round finishing stands at was visited =
+    let within : index < length order = omega (arith, stands) in
+    let before : length order - turn ≡ index + 1 = omega (arith, stands) in
+    let after : index ≡ length order - (turn + 1) = omega (arith, stands) in
+    let root_is : node ≡ get_or order index 0 = get_or_read order index node within at 0 in
     subst (λ (from : ℕ). IsGroupedFrom rows reversed order m₁ o₁ from) after
-    (IsGroupedFrom-more rows reversed order place m₀ o₀ m₁ o₁ round finishing within
+    (IsGroupedFrom-more rows reversed order index m₀ o₀ m₁ o₁ round finishing within
     (subst (λ (from : ℕ). IsGroupedFrom rows reversed order m₀ o₀ from) before was)
-    (subst (λ (x : ℕ). HasVisited rows x place m₀ o₀ m₁ o₁) root_is visited))
+    (subst (λ (x : ℕ). HasVisited rows x index m₀ o₀ m₁ o₁) root_is visited))
 
 -- after the last turn
 pub AreGroups-end : (rows reversed : List (List ℕ)) (order : List ℕ) (marks : List (Option ℕ)) (done : List ℕ)

@@ -7,18 +7,18 @@ use Rattle.tfpg_graph.specs.inside.zero_cycle.ZeroSearch.{IsStep, mark_of, IsMar
 use Rattle.tfpg_graph.proofs.lemmas.zero_cycle.ZeroWalks.{mark_cases, not_both, unmarked_before, ReachesUnmarked-weaker, ReachesUnmarked-any, ReachesUnmarked-step}
 
 -- what is settled stays so when the order goes on
-pub ClosesGroup-append : (rows : List (List ℕ)) (order more : List ℕ) (place : ℕ) → place < length order
-    → ClosesGroup rows order place → ClosesGroup rows (order ++ more) place
-ClosesGroup-append rows order more place within is = record {
+pub ClosesGroup-append : (rows : List (List ℕ)) (order more : List ℕ) (index : ℕ) → index < length order
+    → ClosesGroup rows order index → ClosesGroup rows (order ++ more) index
+ClosesGroup-append rows order more index within is = record {
   start = is.start;
   begins = is.begins;
   reached = λ other from upto.
-      let there : get_or (order ++ more) place 0 ≡ get_or order place 0 =
-      get_or_append_left order more 0 place within in
+      let there : get_or (order ++ more) index 0 ≡ get_or order index 0 =
+      get_or_append_left order more 0 index within in
       let here : get_or (order ++ more) other 0 ≡ get_or order other 0 =
       get_or_append_left order more 0 other (omega arith) in
       subst (λ (node : ℕ). ReachesUnmarked rows [] node (get_or (order ++ more) other 0)) (sym there)
-      (subst (λ (node : ℕ). ReachesUnmarked rows [] (get_or order place 0) node) (sym here) (is.reached other from upto));
+      (subst (λ (node : ℕ). ReachesUnmarked rows [] (get_or order index 0) node) (sym here) (is.reached other from upto));
   apart = λ before other early from upto leads.
       let begins = is.begins in
       let there : get_or (order ++ more) before 0 ≡ get_or order before 0 =
@@ -158,31 +158,31 @@ module _ (rows : List (List ℕ)) (node mark : ℕ) (m₀ : List (Option ℕ)) (
   longer = ap length grown.order_is ∙ length-append o₀ grown.more
 
   -- the node stands last
-  last_is : (place : ℕ) → place ≡ length o₁ → get_or whole place 0 ≡ node
-  last_is place last = get_or_push o₁ node 0 place (sym last)
+  last_is : (index : ℕ) → index ≡ length o₁ → get_or whole index 0 ≡ node
+  last_is index last = get_or_push o₁ node 0 index (sym last)
 
   -- before it stand those that are new
-  new_at : (place : ℕ) → length o₀ ≤ place → place < length o₁ → Contains grown.more (get_or whole place 0)
-  new_at place from within =
-      let same : get_or whole place 0 ≡ get_or grown.more (place - length o₀) 0 =
-      get_or_append_left o₁ (node ∷ []) 0 place within ∙ ap (λ o. get_or o place 0) grown.order_is
-      ∙ get_or-append_right o₀ grown.more (length o₀) place 0 refl from in
+  new_at : (index : ℕ) → length o₀ ≤ index → index < length o₁ → Contains grown.more (get_or whole index 0)
+  new_at index from within =
+      let same : get_or whole index 0 ≡ get_or grown.more (index - length o₀) 0 =
+      get_or_append_left o₁ (node ∷ []) 0 index within ∙ ap (λ o. get_or o index 0) grown.order_is
+      ∙ get_or-append_right o₀ grown.more (length o₀) index 0 refl from in
       subst (λ (x : ℕ). Contains grown.more x) (sym same)
-      (Contains-get_or grown.more (place - length o₀) 0 (omega (arith, longer)))
+      (Contains-get_or grown.more (index - length o₀) 0 (omega (arith, longer)))
 
   -- and before these the old ones
-  old_at : (place : ℕ) → place < length o₀ → Contains o₀ (get_or whole place 0)
-  old_at place within =
-      let same : get_or whole place 0 ≡ get_or o₀ place 0 =
-      get_or_append_left o₁ (node ∷ []) 0 place (omega (arith, longer)) ∙ ap (λ o. get_or o place 0) grown.order_is
-      ∙ get_or_append_left o₀ grown.more 0 place within in
-      subst (λ (x : ℕ). Contains o₀ x) (sym same) (Contains-get_or o₀ place 0 within)
+  old_at : (index : ℕ) → index < length o₀ → Contains o₀ (get_or whole index 0)
+  old_at index within =
+      let same : get_or whole index 0 ≡ get_or o₀ index 0 =
+      get_or_append_left o₁ (node ∷ []) 0 index (omega (arith, longer)) ∙ ap (λ o. get_or o index 0) grown.order_is
+      ∙ get_or_append_left o₀ grown.more 0 index within in
+      subst (λ (x : ℕ). Contains o₀ x) (sym same) (Contains-get_or o₀ index 0 within)
 
-  unmarked_at : (place : ℕ) → length o₀ ≤ place → place ≤ length o₁ → mark_of m₀ (get_or whole place 0) ≡ None
-  unmarked_at place from upto = ⊎_elim
-      (λ within. grown.more_new (get_or whole place 0) (new_at place from within))
-      (λ past. ap (mark_of m₀) (last_is place (omega arith)) ∙ none)
-      (cases_lt place (length o₁))
+  unmarked_at : (index : ℕ) → length o₀ ≤ index → index ≤ length o₁ → mark_of m₀ (get_or whole index 0) ≡ None
+  unmarked_at index from upto = ⊎_elim
+      (λ within. grown.more_new (get_or whole index 0) (new_at index from within))
+      (λ past. ap (mark_of m₀) (last_is index (omega arith)) ∙ none)
+      (cases_lt index (length o₁))
 
   in_order : (other : ℕ) → Contains grown.more other → Contains o₁ other
   in_order other has = subst (λ (o : List ℕ). Contains o other) (sym grown.order_is)
@@ -196,18 +196,18 @@ module _ (rows : List (List ℕ)) (node mark : ℕ) (m₀ : List (Option ℕ)) (
       (λ new. ReachesUnmarked-any rows m₀ node other new.walk)
       (grown.fresh other given.0 given.1)
 
-  reached_at : (place : ℕ) → length o₀ ≤ place → place ≤ length o₁ → ReachesUnmarked rows [] node (get_or whole place 0)
-  reached_at place from upto = ⊎_elim
-      (λ within. new_reached (get_or whole place 0) (new_at place from within))
-      (λ past. (zero, sym (last_is place (omega arith))))
-      (cases_lt place (length o₁))
+  reached_at : (index : ℕ) → length o₀ ≤ index → index ≤ length o₁ → ReachesUnmarked rows [] node (get_or whole index 0)
+  reached_at index from upto = ⊎_elim
+      (λ within. new_reached (get_or whole index 0) (new_at index from within))
+      (λ past. (zero, sym (last_is index (omega arith))))
+      (cases_lt index (length o₁))
 
-  settled_last : (place : ℕ) → place ≡ length o₁ → ClosesGroup rows whole place
-  settled_last place last = record {
+  settled_last : (index : ℕ) → index ≡ length o₁ → ClosesGroup rows whole index
+  settled_last index last = record {
     start = length o₀;
     begins = omega (arith, longer);
     reached = λ other from upto. subst (λ (x : ℕ). ReachesUnmarked rows [] x (get_or whole other 0))
-        (sym (last_is place last)) (reached_at other from (omega arith));
+        (sym (last_is index last)) (reached_at other from (omega arith));
     apart = λ before other early from upto leads.
         let given = was.followed (get_or whole before 0) (get_or whole other 0) (old_at before early) leads in
         not_both (mark_of m₀ (get_or whole other 0)) given.0 given.1 (unmarked_at other from (omega arith));
@@ -221,10 +221,10 @@ module _ (rows : List (List ℕ)) (node mark : ℕ) (m₀ : List (Option ℕ)) (
         (λ early. grown.searched.followed from to early leads)
         (λ same. followed to (subst (λ (x : ℕ). IsStep rows x to) (sym same) leads))
         (Contains-push_cases o₁ node from has);
-    settled = λ place within. ⊎_elim
-        (λ early. ClosesGroup-append rows o₁ (node ∷ []) place early (grown.searched.settled place early))
-        (λ late. settled_last place (omega (arith, length_push o₁ node)))
-        (cases_lt place (length o₁));
+    settled = λ index within. ⊎_elim
+        (λ early. ClosesGroup-append rows o₁ (node ∷ []) index early (grown.searched.settled index early))
+        (λ late. settled_last index (omega (arith, length_push o₁ node)))
+        (cases_lt index (length o₁));
   }
 
   -- the search is done with the node

@@ -92,7 +92,7 @@ unmarked_read marks node read within at test = sym (get_or_read marks node read 
 
 -- what is marked up to the end of a list is all of it
 pub marked_all : (marks : List (Option ℕ)) (items : List ℕ) (end : ℕ) → length items ≤ end
-    → ((place : ℕ) → place < end → IsMarked marks (get_or items place 0))
+    → ((index : ℕ) → index < end → IsMarked marks (get_or items index 0))
     → (to : ℕ) → Contains items to → IsMarked marks to
 marked_all marks items end upto marked to has =
     subst (λ (node : ℕ). IsMarked marks node) (get_or_default items has.0 0 to has.1 ∙ has.2)

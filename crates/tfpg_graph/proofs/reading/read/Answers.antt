@@ -5,11 +5,11 @@ use Rattle.std.proofs.lemmas.Iterator.Splits.{YieldsList-from_slice_split}
 use Rattle.tfpg_base.specs.Lines.{parts_of}
 use Rattle.tfpg_graph.specs.Faults.{IsRefusalOf}
 use Rattle.tfpg_graph.specs.inside.reading.Turns.{ReaderRepresents}
-use Rattle.tfpg_graph.specs.inside.reading.Answered.{refusal_at}
+use Rattle.tfpg_graph.specs.inside.reading.TurnResults.{refusal_at}
 use Rattle.tfpg_graph.proofs.lemmas.reading.Standing.{ReaderRepresents-ok}
 use Rattle.tfpg_base.proofs.LinesOf.{parts_of_some}
-use Rattle.tfpg_graph.proofs.lemmas.reading.WholeText.{IsBody, lines_at, IsRefusalOf-line, IsAnswerOf-refused, IfOk-spelled, IfErr-refused, IsAnswerOf-end}
-use Rattle.tfpg_graph.proofs.lemmas.reading.OneFault.{IsFaultAnswer-from}
+use Rattle.tfpg_graph.proofs.lemmas.reading.WholeText.{IsBody, lines_at, IsRefusalOf-line, IsGraphResult-refused, IfOk-spelled, IfErr-refused, IsGraphResult-end}
+use Rattle.tfpg_graph.proofs.lemmas.reading.OneFault.{IsFaultResult-from}
 use Rattle.tfpg_graph.proofs.reading.read.Goals as goal
 use Rattle.tfpg_graph.proofs.reading.read.Goals.{After-next, In-Some, In-None}
 
@@ -61,12 +61,12 @@ returns-in-Err-clause-refused c =
 pub returns-in-Err-clause-exact : goal.returns-in-Err-clause-exact
 returns-in-Err-clause-exact c = λ graph spells valid.
     let at = goal.at.returns-in-Err-clause-exact c in
-    IsAnswerOf-refused c.args.text.now c.without_last_line_end-body.result.now (is_body at.After-next) graph
+    IsGraphResult-refused c.args.text.now c.without_last_line_end-body.result.now (is_body at.After-next) graph
     c.at.result (returns-in-Err-clause-refused c) spells valid
 
 pub returns-in-Err-clause-faulty : goal.returns-in-Err-clause-faulty
 returns-in-Err-clause-faulty c =
-    IsFaultAnswer-from c.args.text.now (Err c.at.result) tt tt (returns-in-Err-clause-refused c)
+    IsFaultResult-from c.args.text.now (Err c.at.result) tt tt (returns-in-Err-clause-refused c)
 
 pub loop-line-preserved : goal.loop-line-preserved
 loop-line-preserved c =
@@ -102,10 +102,10 @@ pub returns-clause-exact : goal.returns-clause-exact
 returns-clause-exact c =
     let body = c.without_last_line_end-body.result.now in
     let at = goal.at.returns-clause-exact c in
-    IsAnswerOf-end c.args.text.now body (is_body at.After-next) c.loop-line.reader (stands at.In-None) (parts_of_some body)
+    IsGraphResult-end c.args.text.now body (is_body at.After-next) c.loop-line.reader (stands at.In-None) (parts_of_some body)
     c.end.result c.end.ensures.graph c.end.ensures.fault
 
 pub returns-clause-faulty : goal.returns-clause-faulty
 returns-clause-faulty c =
-    IsFaultAnswer-from c.args.text.now c.end.result (returns-clause-spelled c) c.end.ensures.valid
+    IsFaultResult-from c.args.text.now c.end.result (returns-clause-spelled c) c.end.ensures.valid
     (returns-clause-refused c)

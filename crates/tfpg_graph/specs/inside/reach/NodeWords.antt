@@ -11,7 +11,7 @@ use Rattle.tfpg_base.proofs.Sets.{bits_of-members_of}
 -- the nodes that words keep, each word the next 64, where the first word begins with this node
 unfoldable pub nodes_from : ℕ → List ℕ → List ℕ
 nodes_from first [] = []
-nodes_from first (word ∷ words) = map (λ place. first + place) (members_of word) ++ nodes_from (first + 64) words
+nodes_from first (word ∷ words) = map (λ index. first + index) (members_of word) ++ nodes_from (first + 64) words
 
 -- the nodes that words keep
 abbrev pub nodes_of : List ℕ → List ℕ
@@ -38,14 +38,14 @@ words_keeping nodes = words_in 8 (bits_of nodes)
 
 -- members that begin further up are worth more by a power of two
 bits_of-shifted : (first : ℕ) (members : List ℕ)
-    → bits_of (map (λ place. first + place) members) ≡ 2 ^ first * bits_of members
+    → bits_of (map (λ index. first + index) members) ≡ 2 ^ first * bits_of members
 bits_of-shifted first [] = sym (mul-zero (2 ^ first))
-bits_of-shifted first (place ∷ places) =
-    sum_by-cons (λ p. 2 ^ p) (first + place) (map (λ p. first + p) places)
-    ∙ ap (λ low. low + bits_of (map (λ p. first + p) places)) (pow-add 2 first place)
-    ∙ ap (λ high. 2 ^ first * 2 ^ place + high) (bits_of-shifted first places)
-    ∙ sym (mul-add (2 ^ first) (2 ^ place) (bits_of places))
-    ∙ ap (λ bits. 2 ^ first * bits) (sym (sum_by-cons (λ p. 2 ^ p) place places))
+bits_of-shifted first (index ∷ indexes) =
+    sum_by-cons (λ p. 2 ^ p) (first + index) (map (λ p. first + p) indexes)
+    ∙ ap (λ low. low + bits_of (map (λ p. first + p) indexes)) (pow-add 2 first index)
+    ∙ ap (λ high. 2 ^ first * 2 ^ index + high) (bits_of-shifted first indexes)
+    ∙ sym (mul-add (2 ^ first) (2 ^ index) (bits_of indexes))
+    ∙ ap (λ bits. 2 ^ first * bits) (sym (sum_by-cons (λ p. 2 ^ p) index indexes))
 
 -- the nodes that words keep are worth what those words are
 bits_of-nodes_from : (first : ℕ) (words : List ℕ) → All (λ word. word < 2 ^ 64) words
@@ -53,7 +53,7 @@ bits_of-nodes_from : (first : ℕ) (words : List ℕ) → All (λ word. word < 2
 unfolding nodes_from digits_number
 bits_of-nodes_from first [] small = sym (mul-zero (2 ^ first))
 bits_of-nodes_from first (word ∷ words) small =
-    sum_by-append (λ place. 2 ^ place) (map (λ place. first + place) (members_of word)) (nodes_from (first + 64) words)
+    sum_by-append (λ index. 2 ^ index) (map (λ index. first + index) (members_of word)) (nodes_from (first + 64) words)
     ∙ ap (λ low. low + bits_of (nodes_from (first + 64) words))
     (bits_of-shifted first (members_of word) ∙ ap (λ bits. 2 ^ first * bits)
     (bits_of-members_of word (All-head (λ w. w < 2 ^ 64) word words small)))

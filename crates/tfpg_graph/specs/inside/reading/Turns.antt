@@ -25,13 +25,13 @@ is_misplaced graph (DeclaresNode name words) = (length graph.modes == 0) || nat_
 is_misplaced graph (DeclaresEdge source target tmin tmax modes) = length graph.modes == 0
 is_misplaced graph Ends = length graph.modes == 0
 
--- the progress with what a statement declares
-abbrev pub progress_with : Tfpg → Statement → Option Reader
-progress_with graph (DeclaresMode name) = Some (record { part = Declarations; declared = with_mode graph name })
-progress_with graph (DeclaresNode name words) = option_map (λ kind. record { part = Declarations; declared = with_node graph name kind }) (kind_of_words words)
-progress_with graph (DeclaresEdge source target tmin tmax modes) =
+-- the reader with what a statement declares
+abbrev pub reader_with : Tfpg → Statement → Option Reader
+reader_with graph (DeclaresMode name) = Some (record { part = Declarations; declared = with_mode graph name })
+reader_with graph (DeclaresNode name words) = option_map (λ kind. record { part = Declarations; declared = with_node graph name kind }) (kind_of_words words)
+reader_with graph (DeclaresEdge source target tmin tmax modes) =
     option_map (λ edge. record { part = Declarations; declared = with_edge graph edge }) (edge_declared graph (DeclaresEdge source target tmin tmax modes))
-progress_with graph Ends = Some (record { part = Ended; declared = graph })
+reader_with graph Ends = Some (record { part = Ended; declared = graph })
 
 -- The cause, or else the value. What has no cause has a value.
 abbrev pub cause_or_value : {X : Type 0} → Option GraphCause → Option X → Result X GraphCause
@@ -47,7 +47,7 @@ ReadAs first value (Err cause) = first ≡ Some cause
 -- a statement is taken where it has no cause
 abbrev pub turn_said : Tfpg → Option Statement → Result Reader GraphCause
 turn_said graph None = Err BadLine
-turn_said graph (Some said) = cause_or_value (first_of (causes (is_misplaced graph said) graph said)) (progress_with graph said)
+turn_said graph (Some said) = cause_or_value (first_of (causes (is_misplaced graph said) graph said)) (reader_with graph said)
 
 -- a line of each part
 abbrev pub turn_of : Part → Tfpg → List ℕ → Result Reader GraphCause

@@ -15,8 +15,8 @@ abbrev pub with_zero_step : List (List ℕ) → ℕ → ℕ → List (List ℕ)
 with_zero_step rows from to = set rows from (row rows from ++ to ∷ [])
 
 -- each step leads to a node
-abbrev pub AreWithin : List (List ℕ) → Type 0
-AreWithin rows = (from to : ℕ) → IsStep rows from to → to < length rows
+abbrev pub AreStepsWithin : List (List ℕ) → Type 0
+AreStepsWithin rows = (from to : ℕ) → IsStep rows from to → to < length rows
 
 -- the steps of the one list are those of the other, reversed
 pub record AreReversed (rows reversed : List (List ℕ)) : Type 0 where
@@ -46,21 +46,21 @@ WalksUnmarked rows marks from to (suc steps) =
 abbrev pub ReachesUnmarked : List (List ℕ) → List (Option ℕ) → ℕ → ℕ → Type 0
 ReachesUnmarked rows marks from to = (steps : ℕ) × WalksUnmarked rows marks from to steps
 
--- From some place on, the nodes of the order up to this one are all reached from this one, and no step leads to them
+-- From some index on, the nodes of the order up to this one are all reached from this one, and no step leads to them
 -- from a node before.
-pub record ClosesGroup (rows : List (List ℕ)) (order : List ℕ) (place : ℕ) : Type 0 where
+pub record ClosesGroup (rows : List (List ℕ)) (order : List ℕ) (index : ℕ) : Type 0 where
   pub start : ℕ
-  pub begins : start ≤ place
-  pub reached : (other : ℕ) → start ≤ other → other ≤ place
-      → ReachesUnmarked rows [] (slice_index order place) (slice_index order other)
-  pub apart : (before other : ℕ) → before < start → start ≤ other → other ≤ place
+  pub begins : start ≤ index
+  pub reached : (other : ℕ) → start ≤ other → other ≤ index
+      → ReachesUnmarked rows [] (slice_index order index) (slice_index order other)
+  pub apart : (before other : ℕ) → before < start → start ≤ other → other ≤ index
       → IsStep rows (slice_index order before) (slice_index order other) → ⊥
 
 -- The search is done with the nodes of the order, whose every step leads to a node with a mark.
 pub record IsVisited (rows : List (List ℕ)) (marks : List (Option ℕ)) (order : List ℕ) : Type 0 where
   pub marked : (node : ℕ) → Contains order node → IsMarked marks node
   pub followed : (from to : ℕ) → Contains order from → IsStep rows from to → IsMarked marks to
-  pub settled : (place : ℕ) → place < length order → ClosesGroup rows order place
+  pub settled : (index : ℕ) → index < length order → ClosesGroup rows order index
 
 -- A node got this mark in a search from a node that had none.
 pub record IsFresh (rows : List (List ℕ)) (node mark : ℕ) (old_marks : List (Option ℕ)) (other given : ℕ) : Type 0 where
@@ -101,14 +101,14 @@ pub record HasSwept (rows : List (List ℕ)) (marks : List (Option ℕ)) (order 
 pub record IsFinishingOrder (rows : List (List ℕ)) (order : List ℕ) : Type 0 where
   pub complete : (node : ℕ) → node < length rows → Contains order node
   pub inside : (node : ℕ) → Contains order node → node < length rows
-  pub settled : (place : ℕ) → place < length order → ClosesGroup rows order place
+  pub settled : (index : ℕ) → index < length order → ClosesGroup rows order index
 
--- Nodes have been marked by searches from the nodes of the order from this place on, each with the place as its mark.
+-- Nodes have been marked by searches from the nodes of the order from this index on, each with the index as its mark.
 pub record IsGroupedFrom (rows reversed : List (List ℕ)) (order : List ℕ) (marks : List (Option ℕ)) (done : List ℕ)
-    (place : ℕ) : Type 0 where
+    (index : ℕ) : Type 0 where
   pub count : length marks ≡ length rows
-  pub later : (other : ℕ) → place ≤ other → other < length order → IsMarked marks (slice_index order other)
-  pub high : (node mark : ℕ) → mark_of marks node ≡ Some mark → place ≤ mark
+  pub later : (other : ℕ) → index ≤ other → other < length order → IsMarked marks (slice_index order other)
+  pub high : (node mark : ℕ) → mark_of marks node ≡ Some mark → index ≤ mark
   pub there : (node mark : ℕ) → mark_of marks node ≡ Some mark → ReachesUnmarked rows [] (slice_index order mark) node
   pub back : (node mark : ℕ) → mark_of marks node ≡ Some mark → ReachesUnmarked reversed [] (slice_index order mark) node
   pub rises : (from to mark : ℕ) → mark_of marks from ≡ Some mark → IsStep rows from to

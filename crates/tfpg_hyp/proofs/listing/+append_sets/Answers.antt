@@ -11,7 +11,7 @@ returns-then-count-size t c =
 
 pub append_sets-requires : goal.append_sets-requires
 append_sets-requires t c =
-    (omega arith, (omega (arith, c.requires.room), subst (All (λ place. place < c.args.least + 1)) (sym c.with.ensures.list) (All-with_member c.args.least c.args.members c.requires.below)))
+    (omega arith, (omega (arith, c.requires.room), subst (All (λ index. index < c.args.least + 1)) (sym c.with.ensures.list) (All-with_member c.args.least c.args.members c.requires.below)))
 
 pub returns : goal.returns
 returns t c =

@@ -2,7 +2,7 @@ use Rattle.std.proofs.Common.{◌≡◌, ℕ, ◌<◌, ◌∙◌, List, ap, leng
 use Rattle.std.proofs.lemmas.List.{take_all}
 use Rattle.std.proofs.lemmas.List.Elements.{All-get_or, All-same}
 use Rattle.tfpg_base.proofs.lists.Numbered.{All-below-numbers_from}
-use Rattle.tfpg_log.proofs.ModesInto.{are_allowed, allowed_more, all_into}
+use Rattle.tfpg_log.proofs.ModesInto.{are_active_in, active_more, all_into}
 use Rattle.tfpg_log.proofs.active_modes.modes_into.Goals as goal
 
 pub edge-requires : goal.edge-requires
@@ -13,12 +13,12 @@ edge-requires c =
 
 pub loop-number-preserved : goal.loop-number-preserved
 loop-number-preserved c =
-    allowed_more c.args.graph.now.edges c.incoming-incoming.result.now c.loop-number.number-index c.edge.result c.loop-number.modes c.and-modes.result
+    active_more c.args.graph.now.edges c.incoming-incoming.result.now c.loop-number.number-index c.edge.result c.loop-number.modes c.and-modes.result
     c.loop-number-test.true c.edge.ensures c.loop-number.invariant c.and-modes.ensures
 
 pub returns : goal.returns
 returns c mode =
     let numbers = c.incoming-incoming.result.now in
     let all : take c.loop-number.number-index numbers ≡ numbers = take_all c.loop-number.number-index numbers c.loop-number-test.false in
-    c.loop-number.invariant mode ∙ ap (λ (taken : List ℕ). are_allowed c.args.graph.now.edges taken mode) (all ∙ c.incoming-incoming.ensures.edges)
+    c.loop-number.invariant mode ∙ ap (λ (taken : List ℕ). are_active_in c.args.graph.now.edges taken mode) (all ∙ c.incoming-incoming.ensures.edges)
     ∙ all_into c.args.graph.now c.args.node mode

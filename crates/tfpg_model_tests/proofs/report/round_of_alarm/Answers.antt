@@ -34,7 +34,7 @@ round_of_three sizes round a b d e o fa fb fd ab bd ranked =
 
 pub returns : goal.returns
 returns c =
-    round_of_three _ _ c.in_ok-rejected.field-0 c.in_ok-ranked.field-0 c.in_ok-unsettled.field-0
+    round_of_three _ _ c.in_ok-rejected.field-0 c.in_ok-ranked.field-0 c.in_ok-left_open.field-0
     (c.from_vec.ensures ∙ c.in_ok-findings.ensures.items)
     (c.from_vec-2.ensures ∙ c.in_ok-order.ensures.items ∙ ap (λ (n : ℕ). n ∷ []) (sym c.in_ok-ranked.ensures.1))
-    c.in_ok-rejected.ensures.0 c.in_ok-ranked.ensures.0 c.in_ok-unsettled.ensures.0 (omega (arith, c.in_ok-rejected.ensures.1, c.in_ok-ranked.ensures.1)) (omega (arith, c.in_ok-ranked.ensures.1, c.in_ok-unsettled.ensures.1)) c.in_ok-ranked.ensures.2
+    c.in_ok-rejected.ensures.0 c.in_ok-ranked.ensures.0 c.in_ok-left_open.ensures.0 (omega (arith, c.in_ok-rejected.ensures.1, c.in_ok-ranked.ensures.1)) (omega (arith, c.in_ok-ranked.ensures.1, c.in_ok-left_open.ensures.1)) c.in_ok-ranked.ensures.2

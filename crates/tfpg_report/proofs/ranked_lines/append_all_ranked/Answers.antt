@@ -1,9 +1,9 @@
 use Rattle.std.proofs.Common.{List, ℕ, ◌++◌, ◌∙◌, ap, sym}
 use Rattle.tfpg_base.proofs.Appended.{Appends-err_after, appended_all}
+use Rattle.tfpg_base.proofs.lists.LookedUp.{flat_map-filter_map}
 use Rattle.tfpg_evidence.specs.RoundOf.{finding_numbered}
 use Rattle.tfpg_report.specs.Blocks.{ranked_text}
 use Rattle.tfpg_report.specs.inside.Numbered.{numbered_text}
-use Rattle.tfpg_report.proofs.Findings.{flat_map-filter_map}
 use Rattle.tfpg_report.proofs.ranked_lines.append_all_ranked.Goals as goal
 
 pub returns-in_err-append_numbered : goal.returns-in_err-append_numbered

@@ -5,9 +5,9 @@ use Rattle.tfpg_report.proofs.ranked_lines.finding_of.Goals as goal
 
 pub returns-in-Ok : goal.returns-in-Ok
 returns-in-Ok c =
-    sym (finding_numbered-found c.args.findings.now c.args.number c.in-Ok.place _ c.requires c.in-Ok.ensures.bound
+    sym (finding_numbered-found c.args.findings.now c.args.number c.in-Ok.index _ c.requires c.in-Ok.ensures.bound
     (c.in-Ok.ensures.position (λ finding. finding.number) (answers_always _ _ _ (λ f a r g called. search rules)))
-    (sym c.index-findings-place.is))
+    (sym c.index-findings-index.is))
 
 pub returns-in-Err : goal.returns-in-Err
 returns-in-Err c =

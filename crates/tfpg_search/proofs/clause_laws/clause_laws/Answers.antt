@@ -6,8 +6,8 @@ returns c =
     let leaves = c.a_partial_tree_has_one_present_leaf.ensures in
     let frames = c.frames_are_at_the_present_leaf.ensures in
     record {
-      least = c.bounds_hold_of_the_times_of_nodes.ensures.least;
-      most = c.bounds_hold_of_the_times_of_nodes.ensures.most;
+      lower = c.bounds_hold_of_the_times_of_nodes.ensures.lower;
+      upper = c.bounds_hold_of_the_times_of_nodes.ensures.upper;
       some = clauses.some;
       few = clauses.few;
       small = clauses.small;

@@ -1,6 +1,6 @@
 use Rattle.tfpg_search.proofs.AllNames.{names_listed}
-use Rattle.tfpg_search.proofs.MostIncoming.{most_incoming}
+use Rattle.tfpg_search.proofs.MaximumIncoming.{maximum_incoming}
 use Rattle.tfpg_search.proofs.laws.there_is_a_budget_that_is_enough.Goals as goal
 
 pub returns : goal.returns
-returns c = record { names = names_listed; incoming = most_incoming }
+returns c = record { names = names_listed; incoming = maximum_incoming }

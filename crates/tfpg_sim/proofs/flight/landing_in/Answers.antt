@@ -18,7 +18,7 @@ loop-span-init c = record {
 
 pub loop-span-preserved : goal.loop-span-preserved
 loop-span-preserved c = record {
-  room = c.enter.auto.pendings ∙ c.loop-span.invariant.room;
+  room = c.begin_span.auto.pendings ∙ c.loop-span.invariant.room;
   before = λ log limit are.
       let before = c.loop-span.invariant.before log limit are in
       let spans = c.args.spans.now in
@@ -27,8 +27,8 @@ loop-span-preserved c = record {
       let now = subst (λ left. IsBefore log limit c.args.flights.now c.args.needs_all before.0 left c.loop-span.pendings)
       (drop-cons spans c.loop-span.span-index no_span c.loop-span-test.true ∙ ap (λ n. span ∷ drop n spans) (sym (add-one c.loop-span.span-index))) before.1 in (
         span.hi + 1,
-        goes_on log limit c.args.flights.now c.args.needs_all before.0 span rest c.loop-span.pendings c.enter.new.pendings
-            c.reached.result c.first_in-first.result now (c.enter.auto.pendings ∙ c.loop-span.invariant.room) c.enter.ensures c.reached.ensures c.first_in-first.ensures
+        goes_on log limit c.args.flights.now c.args.needs_all before.0 span rest c.loop-span.pendings c.begin_span.new.pendings
+            c.reached.result c.first_in-first.result now (c.begin_span.auto.pendings ∙ c.loop-span.invariant.room) c.begin_span.ensures c.reached.ensures c.first_in-first.ensures
             (is_some-none c.first_in-first.result (sym c.is_some.ensures ∙ c.if-is_some.false)),
       );
 }
@@ -42,8 +42,8 @@ returns-then-is_some c log limit are =
     let now = subst (λ left. IsBefore log limit c.args.flights.now c.args.needs_all before.0 left c.loop-span.pendings)
     (drop-cons spans c.loop-span.span-index no_span c.loop-span-test.true ∙ ap (λ n. span ∷ drop n spans) (sym (add-one c.loop-span.span-index))) before.1 in
     let some = is_some-there c.first_in-first.result (sym c.is_some.ensures ∙ c.if-is_some.true) in
-    ends_at log limit c.args.flights.now c.args.needs_all before.0 span rest c.loop-span.pendings c.enter.new.pendings
-    c.reached.result c.first_in-first.result now (c.enter.auto.pendings ∙ c.loop-span.invariant.room) c.enter.ensures c.reached.ensures c.first_in-first.ensures some.0 some.1
+    ends_at log limit c.args.flights.now c.args.needs_all before.0 span rest c.loop-span.pendings c.begin_span.new.pendings
+    c.reached.result c.first_in-first.result now (c.begin_span.auto.pendings ∙ c.loop-span.invariant.room) c.begin_span.ensures c.reached.ensures c.first_in-first.ensures some.0 some.1
 
 pub returns : goal.returns
 returns c log limit are =

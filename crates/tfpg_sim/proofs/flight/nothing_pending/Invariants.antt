@@ -3,6 +3,6 @@ use Rattle.tfpg_sim.proofs.flight.nothing_pending.Given as goal
 
 abbrev pub invariant-loop-flight : goal.invariant-loop-flight
 invariant-loop-flight l = record {
-  none : (place : ℕ) → get_or l.pendings.items place None ≡ None;
+  none : (index : ℕ) → get_or l.pendings.items index None ≡ None;
   len : vec_len l.pendings ≡ l.flight;
 }

@@ -1,12 +1,12 @@
 use Rattle.std.proofs.Common.{◌≡◌, ◌↔◌, length, refl, arith, subst}
 use Rattle.tfpg_sim.specs.inside.Flights.{IsReached}
-use Rattle.tfpg_sim.proofs.ReachedTimes.{SomeBelow, some_more}
+use Rattle.tfpg_sim.proofs.ReachedTimes.{SomeBelow, some_more, earlier-reached}
 use Rattle.tfpg_sim.proofs.flight.soonest.Goals as goal
 
 pub loop-pending-preserved : goal.loop-pending-preserved
 loop-pending-preserved c =
-    some_more c.args.pendings.now c.loop-pending.pending-index c.loop-pending.first _ c.sooner-first.result refl
-    c.loop-pending.invariant c.sooner-first.ensures
+    some_more c.args.pendings.now c.loop-pending.pending-index c.loop-pending.first _ c.earlier-first.result refl
+    c.loop-pending.invariant (earlier-reached c.loop-pending.first _ c.earlier-first.result c.earlier-first.ensures)
 
 pub returns : goal.returns
 returns c = λ x.

@@ -12,9 +12,9 @@ pub loop-entry-preserved : goal.loop-entry-preserved
 loop-entry-preserved c =
     let at = slice_get-get_or c.args.entries.now c.loop-entry.entry-index (Start 0 0) c.loop-entry-test.true in
     record {
-      times = λ graph script node. ap (λ trace. time_of trace node) c.in_ok-start.ensures
+      times = λ graph script node. ap (λ trace. time_of trace node) c.in_ok-set_start.ensures
           ∙ start_step graph c.args.entries.now script c.loop-entry.entry-index _ at c.loop-entry.trace (c.loop-entry.invariant.times graph script) node;
-      own = λ graph stop script all. subst (All (IsFailureStart graph stop)) (sym c.in_ok-start.ensures)
+      own = λ graph stop script all. subst (All (IsFailureStart graph stop)) (sym c.in_ok-set_start.ensures)
           (own_step graph c.args.entries.now script c.loop-entry.entry-index _ at c.loop-entry.trace stop all (c.loop-entry.invariant.own graph stop script all));
     }
 

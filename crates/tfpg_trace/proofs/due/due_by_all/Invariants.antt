@@ -6,7 +6,7 @@ use Rattle.tfpg_trace.proofs.Beginnings.{EachOf}
 use Rattle.tfpg_trace.proofs.DueInto.{DueAt}
 use Rattle.tfpg_trace.proofs.due.due_by_all.Given as goal
 
-abbrev pub invariant-loop-place : goal.invariant-loop-place
-invariant-loop-place l =
+abbrev pub invariant-loop-index : goal.invariant-loop-index
+invariant-loop-index l =
     (log : Logbook) (number : ℕ) → StartsSpan l.graph log l.start.node number l.start.span l.start.gaps.now
-    → Begins (EachOf (DueAt l.graph log l.trace l.incoming) l.place) l.start.span.lo l.start.span.hi (Some l.first)
+    → Begins (EachOf (DueAt l.graph log l.trace l.incoming) l.index) l.start.span.lo l.start.span.hi (Some l.first)

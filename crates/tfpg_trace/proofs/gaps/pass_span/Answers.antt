@@ -3,4 +3,4 @@ use Rattle.tfpg_trace.proofs.gaps.pass_span.Goals as goal
 
 pub gap_after-requires : goal.gap_after-requires
 gap_after-requires c =
-    in_graph c.args.graph.now c.args.node c.loop-place.place c.incoming-incoming.result.now c.incoming-incoming.ensures.edges c.loop-place-test.true
+    in_graph c.args.graph.now c.args.node c.loop-index.index c.incoming-incoming.result.now c.incoming-incoming.ensures.edges c.loop-index-test.true

@@ -10,7 +10,7 @@ returns-in-Some-first_not_shown c =
       own = record { on_time = c.in_default.ensures; from_set = c.in_default-first_stranger.ensures };
       rules = c.in_default-broken_rule.ensures;
     })
-    first.place first.event first.at first.before c.in-Some-first_not_shown.fault first.not_shown
+    first.index first.event first.at first.before c.in-Some-first_not_shown.fault first.not_shown
 
 pub returns : goal.returns
 returns c =

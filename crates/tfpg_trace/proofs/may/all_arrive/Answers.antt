@@ -1,28 +1,28 @@
 use Rattle.std.proofs.Common.{nat_eq, refl, sym, ◌∙◌}
 use Rattle.std.proofs.lemmas.Bool.{false≢true}
 use Rattle.tfpg_log.specs.Rules.{HasAge}
-use Rattle.tfpg_base.proofs.lists.Numbered.{number_within, not_all_at_place, all_at_places}
+use Rattle.tfpg_base.proofs.lists.Numbered.{number_within, not_all_at_index, all_at_indexes}
 use Rattle.tfpg_trace.proofs.may.all_arrive.Goals as goal
 
-pub arrives-requires-clause-edge : goal.arrives-requires-clause-edge
-arrives-requires-clause-edge c =
+pub has_carried-requires-clause-edge : goal.has_carried-requires-clause-edge
+has_carried-requires-clause-edge c =
     number_within (λ edge. nat_eq edge.target c.args.node) c.args.graph.now.edges (λ e. HasAge c.args.log.now c.args.trace.now e c.args.time e.tmin)
     c.incoming-incoming.result.now c.incoming-incoming.ensures.edges c.loop-number.number-index c.loop-number-test.true
 
-pub returns-then-not-arrives : goal.returns-then-not-arrives
-returns-then-not-arrives c = (
+pub returns-then-not-has_carried : goal.returns-then-not-has_carried
+returns-then-not-has_carried c = (
   λ no. absurd (false≢true no),
   λ all.
       absurd
-      (not_all_at_place (λ edge. nat_eq edge.target c.args.node) c.args.graph.now.edges (λ e. HasAge c.args.log.now c.args.trace.now e c.args.time e.tmin)
+      (not_all_at_index (λ edge. nat_eq edge.target c.args.node) c.args.graph.now.edges (λ e. HasAge c.args.log.now c.args.trace.now e c.args.time e.tmin)
       c.incoming-incoming.result.now c.incoming-incoming.ensures.edges c.loop-number.number-index c.loop-number-test.true
-      (λ arrived. false≢true (sym c.if-not-arrives.true ∙ c.arrives.ensures.1 arrived)) all),
+      (λ arrived. false≢true (sym c.if-not-has_carried.true ∙ c.has_carried.ensures.1 arrived)) all),
 )
 
 pub returns : goal.returns
 returns c = (
   λ yes.
-      all_at_places (λ edge. nat_eq edge.target c.args.node) c.args.graph.now.edges (λ e. HasAge c.args.log.now c.args.trace.now e c.args.time e.tmin)
+      all_at_indexes (λ edge. nat_eq edge.target c.args.node) c.args.graph.now.edges (λ e. HasAge c.args.log.now c.args.trace.now e c.args.time e.tmin)
       c.incoming-incoming.result.now c.incoming-incoming.ensures.edges c.loop-number.number-index c.loop-number-test.false c.loop-number.invariant,
   λ all. refl,
 )

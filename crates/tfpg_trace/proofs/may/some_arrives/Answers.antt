@@ -3,19 +3,19 @@ use Rattle.std.specs.Prelude.{IsSomeAnd}
 use Rattle.std.proofs.lemmas.List.Elements.{All-more}
 use Rattle.std.proofs.lemmas.Bool.{false≢true}
 use Rattle.tfpg_log.specs.Rules.{HasAge}
-use Rattle.tfpg_base.proofs.lists.Numbered.{number_within, some_at_place, none_at_places}
+use Rattle.tfpg_base.proofs.lists.Numbered.{number_within, some_at_index, none_at_indexes}
 use Rattle.tfpg_trace.proofs.may.some_arrives.Goals as goal
 
-pub arrives-requires-clause-edge : goal.arrives-requires-clause-edge
-arrives-requires-clause-edge c =
+pub has_carried-requires-clause-edge : goal.has_carried-requires-clause-edge
+has_carried-requires-clause-edge c =
     number_within (λ edge. nat_eq edge.target c.args.node) c.args.graph.now.edges (λ e. HasAge c.args.log.now c.args.trace.now e c.args.time e.tmin)
     c.incoming-incoming.result.now c.incoming-incoming.ensures.edges c.loop-number.number-index c.loop-number-test.true
 
-pub returns-then-arrives : goal.returns-then-arrives
-returns-then-arrives c = (
+pub returns-then-has_carried : goal.returns-then-has_carried
+returns-then-has_carried c = (
   λ yes.
-      some_at_place (λ edge. nat_eq edge.target c.args.node) c.args.graph.now.edges (λ e. HasAge c.args.log.now c.args.trace.now e c.args.time e.tmin)
-      c.incoming-incoming.result.now c.incoming-incoming.ensures.edges c.loop-number.number-index c.loop-number-test.true (c.arrives.ensures.0 c.if-arrives.true),
+      some_at_index (λ edge. nat_eq edge.target c.args.node) c.args.graph.now.edges (λ e. HasAge c.args.log.now c.args.trace.now e c.args.time e.tmin)
+      c.incoming-incoming.result.now c.incoming-incoming.ensures.edges c.loop-number.number-index c.loop-number-test.true (c.has_carried.ensures.0 c.if-has_carried.true),
   λ some. refl,
 )
 
@@ -23,13 +23,13 @@ pub loop-number-preserved : goal.loop-number-preserved
 loop-number-preserved c =
     All-more (λ number. IsSomeAnd (slice_get c.args.graph.now.edges number) (λ e. HasAge c.args.log.now c.args.trace.now e c.args.time e.tmin) → ⊥)
     c.incoming-incoming.result.now c.loop-number.number-index 0 c.loop-number-test.true c.loop-number.invariant
-    (λ arrived. false≢true (sym c.if-arrives.false ∙ c.arrives.ensures.1 arrived))
+    (λ arrived. false≢true (sym c.if-has_carried.false ∙ c.has_carried.ensures.1 arrived))
 
 pub returns : goal.returns
 returns c = (
   λ no. absurd (false≢true no),
   λ some.
       absurd
-      (none_at_places (λ edge. nat_eq edge.target c.args.node) c.args.graph.now.edges (λ e. HasAge c.args.log.now c.args.trace.now e c.args.time e.tmin)
+      (none_at_indexes (λ edge. nat_eq edge.target c.args.node) c.args.graph.now.edges (λ e. HasAge c.args.log.now c.args.trace.now e c.args.time e.tmin)
       c.incoming-incoming.result.now c.incoming-incoming.ensures.edges c.loop-number.number-index c.loop-number-test.false c.loop-number.invariant some),
 )

@@ -1,6 +1,7 @@
 use Rattle.std.proofs.Common.{Ok, sym, ap, subst, ◌∙◌, arith}
 use Rattle.std.specs.Io.KnownBytes.{Consumes}
-use Rattle.tfpg.proofs.Whole.{consumes_both, more_is_known}
+use Rattle.std.proofs.KnownBytes.{Consumes-trans}
+use Rattle.tfpg.proofs.Whole.{more_is_known}
 use Rattle.tfpg.proofs.real.file_shelf.read_whole.Goals as goal
 
 pub returns-then-not-branch-clause-front : goal.returns-then-not-branch-clause-front
@@ -14,5 +15,5 @@ loop-preserved g c =
     record {
       small = whole.1;
       room = omega (arith, c.loop.invariant.room, c.append_to_file.ensures.capacity);
-      given = subst (Consumes (g.R.Read.remaining c.args.reader.now) (g.R.Read.remaining c.read_uncut.new.reader)) (sym whole.0) (consumes_both _ _ _ c.loop.into.items _ c.loop.invariant.given c.in-Ok.ensures.bytes.0);
+      given = subst (Consumes (g.R.Read.remaining c.args.reader.now) (g.R.Read.remaining c.read_uncut.new.reader)) (sym whole.0) (Consumes-trans _ _ _ c.loop.into.items _ c.loop.invariant.given c.in-Ok.ensures.bytes.0);
     }

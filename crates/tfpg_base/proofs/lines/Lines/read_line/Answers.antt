@@ -1,9 +1,9 @@
-use Rattle.std.proofs.Common.{◌≡◌, ℕ, length, Result, Err, ap, ◌∙◌, sym, subst, refl, arith}
+use Rattle.std.proofs.Common.{◌≡◌, ℕ, true, false, length, Result, Err, ap, ◌∙◌, sym, subst, refl, arith}
 use Rattle.std.proofs.lemmas.Result.{err_from_is_err_and}
 use Rattle.tfpg_base.specs.declared.line.Line.{Line}
 use Rattle.tfpg_base.specs.declared.line.LineFault.{LineFault}
 use Rattle.tfpg_base.specs.Lines.{HasNoLineEnd, CountsReadFault}
-use Rattle.tfpg_base.specs.inside.LineSearch.{IsAtLineEnd, Searched}
+use Rattle.tfpg_base.specs.inside.LineSearch.{IsAtLineEnd, GivesLast, Searched}
 use Rattle.tfpg_base.proofs.Searches.{IsReading-start, IsReading-more, Searched-read, Searched-given_last, Searched-fault, Searched-further, after_seen}
 use Rattle.tfpg_base.proofs.Taking.{CountsReadFault-later}
 use Rattle.tfpg_base.proofs.lines.Lines.read_line.Goals as goal
@@ -26,8 +26,8 @@ returns-in_err-refill-clause-searched g c =
     let mid = g.S.Source.state c.loop-self.source in
     let after = g.S.Source.state c.refill.new.source in
     let reading = c.loop-self.invariant in
-    let is : c.from_residual.result ≡ Err c.in_err-refill.field-0.0 = p.1 ∙ ap (λ (why : LineFault). let answer : Result Line LineFault = Err why in answer) p.2 in
-    subst (λ (answer : Result Line LineFault). Searched c.args.self.now before after answer c.refill.new.self) (sym is)
+    let is : c.from_residual.result ≡ Err c.in_err-refill.field-0.0 = p.1 ∙ ap (λ (why : LineFault). let ending : Result Line LineFault = Err why in ending) p.2 in
+    subst (λ (ending : Result Line LineFault). Searched c.args.self.now before after ending c.refill.new.self) (sym is)
     (Searched-fault c.args.self.now c.loop-self.self c.refill.new.self before mid after c.loop-self.self.taken reading.so_far
     refl reading.number c.in_err-refill.field-0.0 c.in_err-refill.ensures.refilled)
 
@@ -37,16 +37,25 @@ returns-in_err-refill-clause-counted g c =
     let before = g.S.Source.state c.args.source.now in
     let mid = g.S.Source.state c.loop-self.source in
     let after = g.S.Source.state c.refill.new.source in
-    let is : c.from_residual.result ≡ Err c.in_err-refill.field-0.0 = p.1 ∙ ap (λ (why : LineFault). let answer : Result Line LineFault = Err why in answer) p.2 in
-    subst (λ (answer : Result Line LineFault). CountsReadFault answer before after) (sym is)
+    let is : c.from_residual.result ≡ Err c.in_err-refill.field-0.0 = p.1 ∙ ap (λ (why : LineFault). let ending : Result Line LineFault = Err why in ending) p.2 in
+    subst (λ (ending : Result Line LineFault). CountsReadFault ending before after) (sym is)
     (CountsReadFault-later ℕ Line c.in_err-refill.field-0.0 before mid after c.loop-self.invariant.so_far.faults c.in_err-refill.ensures.counted)
+
+pub returns-then-give_last-clause-searched : goal.returns-then-give_last-clause-searched
+returns-then-give_last-clause-searched g c =
+    let state = g.S.Source.state in
+    Searched-given_last c.args.self.now c.loop-self.self (state c.args.source.now) (state c.loop-self.source) c.loop-self.invariant c.refill.new.self (state c.refill.new.source)
+    c.in_ok-refill.field-0 c.in_ok-refill.ensures.refilled c.in_ok-refill.ensures.counted c.give_last.new.self true
+    c.if-branch-eq0.true (omega (arith, c.if-seen-gt-LONGEST_LINE.false, ap length c.waiting-seen.ensures))
+    (subst (λ some. GivesLast c.refill.new.self some c.give_last.new.self) c.if-give_last.true c.give_last.ensures.given) c.give_last.ensures.taken c.give_last.ensures.ended
 
 pub returns-then-branch-eq0-clause-searched : goal.returns-then-branch-eq0-clause-searched
 returns-then-branch-eq0-clause-searched g c =
     let state = g.S.Source.state in
     Searched-given_last c.args.self.now c.loop-self.self (state c.args.source.now) (state c.loop-self.source) c.loop-self.invariant c.refill.new.self (state c.refill.new.source)
-    c.in_ok-refill.field-0 c.in_ok-refill.ensures.refilled c.in_ok-refill.ensures.counted c.give_last.new.self c.give_last.result
-    c.if-branch-eq0.true (omega (arith, c.if-seen-gt-LONGEST_LINE.false, ap length c.waiting-seen.ensures)) c.give_last.ensures.given c.give_last.ensures.taken c.give_last.ensures.ended
+    c.in_ok-refill.field-0 c.in_ok-refill.ensures.refilled c.in_ok-refill.ensures.counted c.give_last.new.self false
+    c.if-branch-eq0.true (omega (arith, c.if-seen-gt-LONGEST_LINE.false, ap length c.waiting-seen.ensures))
+    (subst (λ some. GivesLast c.refill.new.self some c.give_last.new.self) c.if-give_last.false c.give_last.ensures.given) c.give_last.ensures.taken c.give_last.ensures.ended
 
 pub returns-in-Some-clause-searched : goal.returns-in-Some-clause-searched
 returns-in-Some-clause-searched g c =

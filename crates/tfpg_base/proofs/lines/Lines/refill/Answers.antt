@@ -3,7 +3,8 @@ use Rattle.tfpg_base.specs.declared.outside.Failed.{Failed}
 use Rattle.tfpg_base.specs.Lines.{Buffered}
 use Rattle.tfpg_base.specs.declared.limits.TheConstants.{MAX_BYTES}
 use Rattle.tfpg_base.proofs.Taking.{Takes-same}
-use Rattle.tfpg_base.proofs.Ranges.{slice_range-longer, length-slice_range-written, one_element, only_one}
+use Rattle.tfpg_base.proofs.lists.Ranges.{slice_range-longer, length-slice_range-written, one_element}
+use Rattle.tfpg_base.proofs.lists.Sequences.{only_one}
 use Rattle.tfpg_base.proofs.lines.Lines.refill.Goals as goal
 
 pub returns-then-self-gt-MAX_BYTES-clause-refilled : goal.returns-then-self-gt-MAX_BYTES-clause-refilled

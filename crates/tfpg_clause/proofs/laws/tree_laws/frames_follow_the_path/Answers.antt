@@ -1,9 +1,11 @@
-use Rattle.tfpg_clause.proofs.FramePaths.{frames_push, goes_too, ends_too, frames_stay, states_same}
+use Rattle.tfpg_base.proofs.lists.Zipped.{AllZip-push}
+use Rattle.tfpg_clause.specs.Paths.{IsFrameOf}
+use Rattle.tfpg_clause.proofs.FramePaths.{goes_too, ends_too, frames_stay, states_same}
 use Rattle.tfpg_clause.proofs.laws.tree_laws.frames_follow_the_path.Goals as goal
 
 pub returns : goal.returns
 returns c = record {
-  frames_push = frames_push;
+  frames_push = λ graph log. AllZip-push (IsFrameOf graph log);
   both_go = goes_too;
   both_end = ends_too;
   frames_stay = λ graph earlier later path frames ordered goes_on. frames_stay graph earlier later ordered goes_on path frames;

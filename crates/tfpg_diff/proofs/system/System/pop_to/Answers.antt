@@ -4,7 +4,7 @@ use Rattle.std.specs.Prelude.{vec_capacity}
 use Rattle.tfpg_diff.specs.declared.bounds.Bounds.{Bounds}
 use Rattle.tfpg_diff.specs.Demands.{Demands}
 use Rattle.tfpg_diff.specs.Cycle.{NamesNegativeCycle}
-use Rattle.tfpg_diff.specs.inside.Kept.{IsKept, IsStart}
+use Rattle.tfpg_diff.specs.inside.Kept.{IsKept, AreAtCeilings}
 use Rattle.tfpg_diff.proofs.Outcomes.{demands_read}
 use Rattle.tfpg_diff.proofs.Fresh.{IsKept-fresh, no_cycle-fewer}
 use Rattle.tfpg_diff.proofs.system.System.pop_to.Goals as goal
@@ -16,7 +16,7 @@ settle-requires-clause-kept c =
     (IsKept-fresh c.self.inside.bounds.items c.self.inside.picks.items c.self.inside.labels.values.items c.self.inside.labels.links.items
     c.self.inside.backup.values.items c.self.inside.backup.links.items (vec_capacity c.self.inside.cycle) c.self.invariant
     c.truncate.new.self.items c.start.new.labels.values.items c.start.new.labels.links.items
-    (subst (λ (bs : List Bounds). IsStart bs c.start.new.labels.values.items c.start.new.labels.links.items (length bs)) c.deref.ensures.value c.start.ensures))
+    (subst (λ (bs : List Bounds). AreAtCeilings bs c.start.new.labels.values.items c.start.new.labels.links.items (length bs)) c.deref.ensures.value c.start.ensures))
 
 pub unreachable-requires : goal.unreachable-requires
 unreachable-requires c =

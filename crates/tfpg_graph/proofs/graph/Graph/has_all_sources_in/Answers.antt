@@ -1,10 +1,10 @@
 use Rattle.std.proofs.Common.{refl, sym, ◌∙◌}
 use Rattle.std.proofs.lemmas.Bool.{false≢true}
-use Rattle.tfpg_graph.proofs.lemmas.reach.Sources.{number_within, source_lacks, source_more, all_sources_at_end}
+use Rattle.tfpg_graph.proofs.lemmas.reach.Sources.{incoming_within, source_lacks, source_more, all_sources_at_end}
 use Rattle.tfpg_graph.proofs.graph.Graph.has_all_sources_in.Goals as goal
 
 pub edge-requires : goal.edge-requires
-edge-requires c = number_within c.args.self.now c.args.nodes.now c.args.node _ c.incoming-number-items.ensures.edges _ c.loop-number-test.true
+edge-requires c = incoming_within c.args.self.now c.args.nodes.now c.args.node _ c.incoming-number-items.ensures.edges _ c.loop-number-test.true
 
 pub returns : goal.returns
 returns c =

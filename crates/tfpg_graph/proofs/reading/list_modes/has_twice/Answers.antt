@@ -8,18 +8,18 @@ use Rattle.tfpg_graph.proofs.reading.list_modes.has_twice.Goals as goal
 abbrev twice : List (Bor (List ℕ)) → Bool
 twice names = has_twice (map (λ name. name.now) names)
 
--- from a place on, as the slice has the names
-as_slice : (names : List (Bor (List ℕ))) (place : ℕ) → twice (drop place names) ≡ twice (take (length names - place) (drop place names))
-as_slice names place = ap twice (sym (take_rest names place))
+-- from an index on, as the slice has the names
+as_slice : (names : List (Bor (List ℕ))) (index : ℕ) → twice (drop index names) ≡ twice (take (length names - index) (drop index names))
+as_slice names index = ap twice (sym (take_rest names index))
 
 pub returns-then-first_stands_again : goal.returns-then-first_stands_again
 returns-then-first_stands_again c =
-    sym (c.loop-place.invariant ∙ as_slice c.args.names.now c.loop-place.place
+    sym (c.loop-index.invariant ∙ as_slice c.args.names.now c.loop-index.index
     ∙ c.first_stands_again.ensures.again c.if-first_stands_again.true)
 
-pub loop-place-preserved : goal.loop-place-preserved
-loop-place-preserved c =
+pub loop-index-preserved : goal.loop-index-preserved
+loop-index-preserved c =
     let names = c.args.names.now in
-    let place = c.loop-place.place in
-    c.loop-place.invariant ∙ as_slice names place ∙ c.first_stands_again.ensures.once c.if-first_stands_again.false
-    ∙ ap (λ rest. twice (drop 1 rest)) (take_rest names place) ∙ ap twice (drop-drop 1 place names)
+    let index = c.loop-index.index in
+    c.loop-index.invariant ∙ as_slice names index ∙ c.first_stands_again.ensures.once c.if-first_stands_again.false
+    ∙ ap (λ rest. twice (drop 1 rest)) (take_rest names index) ∙ ap twice (drop-drop 1 index names)

@@ -4,7 +4,7 @@ use Rattle.tfpg_base.proofs.Appended.{Appends-err_after}
 use Rattle.tfpg_graph.specs.inside.writing.Written.{mode_names_before}
 use Rattle.tfpg_graph.proofs.lemmas.writing.ModeNames.{AreListed-none, AreListed-more, AreListed-same}
 use Rattle.tfpg_graph.proofs.writing.write_modes.append_mode_names.Goals as goal
-use Rattle.tfpg_graph.proofs.writing.write_modes.append_mode_names.Goals.{then-is_allowed+in_ok-append_part, else-is_allowed}
+use Rattle.tfpg_graph.proofs.writing.write_modes.append_mode_names.Goals.{then-is_active_in+in_ok-append_part, else-is_active_in}
 
 pub loop-mode-init : goal.loop-mode-init
 loop-mode-init c = AreListed-none c.args.graph.now c.args.edge.now.modes c.args.into.now.items
@@ -14,14 +14,14 @@ returns-in_err-append_part c = Appends-err_after _ _ _ _ _ _ c.from_residual.ens
 
 pub loop-mode-preserved : goal.loop-mode-preserved
 loop-mode-preserved c =
-    elim c.if-is_allowed.branch [
-      | then-is_allowed+in_ok-append_part w ↦
+    elim c.if-is_active_in.branch [
+      | then-is_active_in+in_ok-append_part w ↦
           rw (w.into-is, w.is_first-is)
           (AreListed-more c.args.graph.now c.args.edge.now.modes _ _ _ c.loop-mode.mode c.loop-mode.invariant _ _
-          (sym c.is_allowed.ensures ∙ w.if-is_allowed.true) w.mode_name.ensures w.in_ok-append_part.ensures)
-      | else-is_allowed w ↦
+          (sym c.is_active_in.ensures ∙ w.if-is_active_in.true) w.mode_name.ensures w.in_ok-append_part.ensures)
+      | else-is_active_in w ↦
           rw (w.into-is, w.is_first-is)
-          (AreListed-same c.args.graph.now c.args.edge.now.modes _ _ _ c.loop-mode.mode c.loop-mode.invariant (sym c.is_allowed.ensures ∙ w.if-is_allowed.false))
+          (AreListed-same c.args.graph.now c.args.edge.now.modes _ _ _ c.loop-mode.mode c.loop-mode.invariant (sym c.is_active_in.ensures ∙ w.if-is_active_in.false))
     ]
 
 pub returns : goal.returns

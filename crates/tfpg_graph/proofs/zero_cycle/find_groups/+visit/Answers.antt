@@ -23,7 +23,7 @@ loop-next-init t c =
     record {
       grown = HasGrown-begin c.args.steps.now c.args.node c.args.mark marks order within none c.requires.searched;
       marked = begin_marked c.args.steps.now c.args.node c.args.mark marks order within none;
-      followed = λ place lt. absurd (omega arith);
+      followed = λ index lt. absurd (omega arith);
       fewer = fewer-set marks c.args.node c.args.mark within none;
     }
 
@@ -63,8 +63,8 @@ loop-next-preserved t c =
       grown = HasGrown-next steps node c.args.mark next marks order seen.marks.items seen.order.items now.marks.items
           now.order.items was.grown visited none leads;
       marked = kept node was.marked;
-      followed = below_more (λ place. IsMarked now.marks.items (get_or items place 0)) c.loop-next.next-index
-          (λ place lt. kept (get_or items place 0) (was.followed place lt)) visited.marked;
+      followed = below_more (λ index. IsMarked now.marks.items (get_or items index 0)) c.loop-next.next-index
+          (λ index lt. kept (get_or items index 0) (was.followed index lt)) visited.marked;
       fewer = omega (arith, visited.fewer, was.fewer);
     }
 

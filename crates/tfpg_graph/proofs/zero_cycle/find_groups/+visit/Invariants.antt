@@ -11,6 +11,6 @@ invariant-loop-next l = record {
   grown : HasGrown l.steps l.node l.mark l.fn.search.marks.items l.fn.search.order.items l.search.marks.items
       l.search.order.items;
   marked : IsMarked l.search.marks.items l.node;
-  followed : (place : ℕ) → place < l.next-index → IsMarked l.search.marks.items (get_or l.next-items place 0);
+  followed : (index : ℕ) → index < l.next-index → IsMarked l.search.marks.items (get_or l.next-items index 0);
   fewer : unmarked_count l.search.marks.items < unmarked_count l.fn.search.marks.items;
 }

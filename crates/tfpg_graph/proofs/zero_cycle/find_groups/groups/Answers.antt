@@ -12,19 +12,19 @@ loop-turn-init c =
 pub visit-requires-clause-node : goal.visit-requires-clause-node
 visit-requires-clause-node c =
     let order = c.in_ok-order.order.items in
-    let place = c.len.result - 1 - c.loop-turn.turn in
-    let within : place < length order = omega arith in
-    let has : Contains order c.index.result.now = (place, within, sym c.index.ensures) in
+    let index = c.len.result - 1 - c.loop-turn.turn in
+    let within : index < length order = omega arith in
+    let has : Contains order c.index.result.now = (index, within, sym c.index.ensures) in
     omega (arith, c.in_ok-order.ensures.inside c.index.result.now has, c.requires.reversed.count)
 
 pub loop-turn-preserved : goal.loop-turn-preserved
 loop-turn-preserved c =
     let order = c.in_ok-order.order.items in
-    let place = c.len.result - 1 - c.loop-turn.turn in
+    let index = c.len.result - 1 - c.loop-turn.turn in
     let was = c.loop-turn.search in
     let now = c.visit.new.search in
-    let stands : place + c.loop-turn.turn + 1 ≡ length order = omega arith in
-    IsGroupedFrom-turn c.args.steps.now c.args.reversed.now order c.loop-turn.turn place c.index.result.now
+    let stands : index + c.loop-turn.turn + 1 ≡ length order = omega arith in
+    IsGroupedFrom-turn c.args.steps.now c.args.reversed.now order c.loop-turn.turn index c.index.result.now
     was.marks.items was.order.items now.marks.items now.order.items
     c.requires.reversed c.in_ok-order.ensures stands c.index.ensures c.loop-turn.invariant c.in_ok-visit.ensures
 

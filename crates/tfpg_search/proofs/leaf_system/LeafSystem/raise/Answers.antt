@@ -1,4 +1,4 @@
--- The new reason stands in the place of the node's lower bound.
+-- The new reason stands at the index of the node's lower bound.
 use Rattle.std.proofs.Common.{set, sym, subst}
 use Rattle.tfpg_diff.specs.Demands.{Demands}
 use Rattle.tfpg_diff.specs.State.{with_floor}

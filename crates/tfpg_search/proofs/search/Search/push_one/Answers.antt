@@ -13,27 +13,27 @@ use Rattle.tfpg_search.proofs.search.Search.push_one.Goals as goal
 pub push-requires-clause-left : goal.push-requires-clause-left
 push-requires-clause-left g c =
     let path = c.deref.ensures.value ∙ ap (λ (s : Searching). s.path) c.self.view_is in
-    let states : framed c.args.graph.now c.args.log.now c.args.self.now.path c.args.split c.args.place ≡ Some c.in-Some.constraint =
-    sym (c.in-Some.ensures ∙ ap (λ (fs : List Frame). framed c.args.graph.now c.args.log.now fs c.args.split c.args.place) path) in
-    let small = framed_small c.clause_laws.ensures c.args.graph.now c.args.log.now c.node_count-valid.ensures.valid c.args.self.now.path c.args.split c.args.place c.in-Some.constraint states in
+    let states : framed c.args.graph.now c.args.log.now c.args.self.now.path c.args.split c.args.number ≡ Some c.in-Some.constraint =
+    sym (c.in-Some.ensures ∙ ap (λ (fs : List Frame). framed c.args.graph.now c.args.log.now fs c.args.split c.args.number) path) in
+    let small = framed_small c.clause_laws.ensures c.args.graph.now c.args.log.now c.node_count-valid.ensures.valid c.args.self.now.path c.args.split c.args.number c.in-Some.constraint states in
     subst (λ (n : ℕ). c.in-Some.constraint.left ≤ n) (sym (ap (λ (s : Searching). length s.leaf.demands.bounds) c.self.view_is ∙ c.requires.variables)) small.left
 
 pub push-requires-clause-right : goal.push-requires-clause-right
 push-requires-clause-right g c =
     let path = c.deref.ensures.value ∙ ap (λ (s : Searching). s.path) c.self.view_is in
-    let states : framed c.args.graph.now c.args.log.now c.args.self.now.path c.args.split c.args.place ≡ Some c.in-Some.constraint =
-    sym (c.in-Some.ensures ∙ ap (λ (fs : List Frame). framed c.args.graph.now c.args.log.now fs c.args.split c.args.place) path) in
-    let small = framed_small c.clause_laws.ensures c.args.graph.now c.args.log.now c.node_count-valid.ensures.valid c.args.self.now.path c.args.split c.args.place c.in-Some.constraint states in
+    let states : framed c.args.graph.now c.args.log.now c.args.self.now.path c.args.split c.args.number ≡ Some c.in-Some.constraint =
+    sym (c.in-Some.ensures ∙ ap (λ (fs : List Frame). framed c.args.graph.now c.args.log.now fs c.args.split c.args.number) path) in
+    let small = framed_small c.clause_laws.ensures c.args.graph.now c.args.log.now c.node_count-valid.ensures.valid c.args.self.now.path c.args.split c.args.number c.in-Some.constraint states in
     subst (λ (n : ℕ). c.in-Some.constraint.right ≤ n) (sym (ap (λ (s : Searching). length s.leaf.demands.bounds) c.self.view_is ∙ c.requires.variables)) small.right
 
 pub returns-clause-pushing : goal.returns-clause-pushing
 returns-clause-pushing g c =
     let path = c.deref.ensures.value ∙ ap (λ (s : Searching). s.path) c.self.view_is in
     let leaf = ap (λ (s : Searching). s.leaf) c.self.view_is in
-    let states : framed c.args.graph.now c.args.log.now c.args.self.now.path c.args.split c.args.place ≡ Some c.in-Some.constraint =
-    sym (c.in-Some.ensures ∙ ap (λ (fs : List Frame). framed c.args.graph.now c.args.log.now fs c.args.split c.args.place) path) in
+    let states : framed c.args.graph.now c.args.log.now c.args.self.now.path c.args.split c.args.number ≡ Some c.in-Some.constraint =
+    sym (c.in-Some.ensures ∙ ap (λ (fs : List Frame). framed c.args.graph.now c.args.log.now fs c.args.split c.args.number) path) in
     subst (λ (l : Leaf). Pushing c.args.graph.now c.args.log.now c.args.self.now.reach c.args.self.now.path l c.push.new.self) leaf
-    (pushing_by c.args.graph.now c.args.log.now c.args.self.now.reach c.args.self.now.path c.self.inside.leaf c.push.new.self (Pick c.args.split c.args.place) c.in-Some.constraint c.push.result
+    (pushing_by c.args.graph.now c.args.log.now c.args.self.now.reach c.args.self.now.path c.self.inside.leaf c.push.new.self (Pick c.args.split c.args.number) c.in-Some.constraint c.push.result
     (subst (λ (l : Leaf). IsStated (fact c.args.graph.now c.args.log.now c.args.self.now.reach) (stated_by c.args.graph.now c.args.log.now c.args.self.now.reach c.args.self.now.path) l) (sym leaf)
     c.requires.stated)
     c.push.ensures.bounds c.push.ensures.stated c.push.ensures.reasons c.push.ensures.err states)
@@ -42,8 +42,8 @@ pub returns-clause-closes : goal.returns-clause-closes
 returns-clause-closes g c =
     let path = c.deref.ensures.value ∙ ap (λ (s : Searching). s.path) c.self.view_is in
     let leaf = ap (λ (s : Searching). s.leaf) c.self.view_is in
-    let states : framed c.args.graph.now c.args.log.now c.args.self.now.path c.args.split c.args.place ≡ Some c.in-Some.constraint =
-    sym (c.in-Some.ensures ∙ ap (λ (fs : List Frame). framed c.args.graph.now c.args.log.now fs c.args.split c.args.place) path) in
+    let states : framed c.args.graph.now c.args.log.now c.args.self.now.path c.args.split c.args.number ≡ Some c.in-Some.constraint =
+    sym (c.in-Some.ensures ∙ ap (λ (fs : List Frame). framed c.args.graph.now c.args.log.now fs c.args.split c.args.number) path) in
     let stated =
     subst (λ (l : Leaf). IsStated (fact c.args.graph.now c.args.log.now c.args.self.now.reach) (stated_by c.args.graph.now c.args.log.now c.args.self.now.reach c.args.self.now.path) l) (sym leaf)
     c.requires.stated in

@@ -5,7 +5,7 @@ use Rattle.tfpg_sim.proofs.generating.draws.draw.Goals as goal
 
 pub returns-clause-value : goal.returns-clause-value
 unfolding next_word
-returns-clause-value c = ap (λ (p : ℕ × Lcg). p.0 % c.args.bound) c.next_word.ensures
+returns-clause-value c = ap (λ (p : ℕ × Lcg). p.0 % c.args.limit) c.next_word.ensures
 
 pub returns-clause-after : goal.returns-clause-after
 unfolding after_word

@@ -20,5 +20,5 @@ pub returns-else-fails-clause-fetched : goal.returns-else-fails-clause-fetched
 returns-else-fails-clause-fetched c =
     let goes : FailsNext c.args.self.now.failing c.args.self.now.calls → ⊥ =
     λ fails. let to_fail = c.next_fails-fails.ensures.fails.1 (subst (λ (shelf : HasFiles). FailsNext shelf.failing shelf.calls) (sym c.self.view_is) fails) in cc (c.if-fails.false) in
-    Fetches-copied (FailsNext c.args.self.now.failing c.args.self.now.calls) (file_of c.args.self.now.files c.args.name.now) c.copy_named-answer.new.into.items c.copy_named-answer.result goes
-    (subst (λ (shelf : HasFiles). Copies (file_of shelf.files c.args.name.now) c.copy_named-answer.new.into.items c.copy_named-answer.result) c.self.view_is c.copy_named-answer.ensures)
+    Fetches-copied (FailsNext c.args.self.now.failing c.args.self.now.calls) (file_of c.args.self.now.files c.args.name.now) c.copy_named-fetched.new.into.items c.copy_named-fetched.result goes
+    (subst (λ (shelf : HasFiles). Copies (file_of shelf.files c.args.name.now) c.copy_named-fetched.new.into.items c.copy_named-fetched.result) c.self.view_is c.copy_named-fetched.ensures)

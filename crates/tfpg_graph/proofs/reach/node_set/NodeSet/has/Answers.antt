@@ -1,5 +1,6 @@
 use Rattle.std.proofs.Common.{arith}
 use Rattle.std.proofs.lemmas.Bool.{ltb-true}
+use Rattle.tfpg_graph.specs.declared.limits.TheConstants.{MAX_NODES}
 use Rattle.tfpg_graph.proofs.lemmas.reach.NodeSets.{IsNodeSet-from_words, bit_says_node, beyond_no_node}
 use Rattle.tfpg_graph.proofs.reach.node_set.NodeSet.has.Goals as goal
 
@@ -12,7 +13,7 @@ returns-then-node-lt-MAX_NODES-clause-set c = IsNodeSet-from_words c.self.inside
 
 pub returns-else-node-lt-MAX_NODES-clause-node : goal.returns-else-node-lt-MAX_NODES-clause-node
 returns-else-node-lt-MAX_NODES-clause-node c = (
-  λ below. absurd (omega (arith, ltb-true c.args.node 512 below, c.if-node-lt-MAX_NODES.false)),
+  λ below. absurd (omega (arith, ltb-true c.args.node MAX_NODES below, c.if-node-lt-MAX_NODES.false)),
   λ member. absurd (beyond_no_node c.self.inside.words c.args.self.now c.self.invariant c.self.view_is c.args.node c.if-node-lt-MAX_NODES.false member),
 )
 

@@ -1,7 +1,7 @@
 use Rattle.std.proofs.Common.{◌≡◌, ◌∙◌, ◌<◌, ℕ, List, [], length, get_or, Contains, ap, sym, subst, arith}
 use Rattle.std.proofs.lemmas.List.{get_or-map, length-map}
 use Rattle.std.proofs.lemmas.List.Elements.{Contains-get_or}
-use Rattle.tfpg_graph.specs.inside.zero_cycle.ZeroSearch.{row, AreWithin}
+use Rattle.tfpg_graph.specs.inside.zero_cycle.ZeroSearch.{row, AreStepsWithin}
 use Rattle.tfpg_graph.proofs.zero_cycle.steps.ZeroSteps.row.Goals as goal
 use Rattle.tfpg_graph.proofs.zero_cycle.steps.ZeroSteps.row.Goals.{After-as_slice}
 
@@ -20,8 +20,8 @@ returns-clause-row c = row_is c
 
 pub returns-clause-within : goal.returns-clause-within
 returns-clause-within c =
-    let within : AreWithin c.args.self.now =
-    subst (λ (rows : List (List ℕ)). AreWithin rows) c.self.view_is c.self.invariant in
+    let within : AreStepsWithin c.args.self.now =
+    subst (λ (rows : List (List ℕ)). AreStepsWithin rows) c.self.view_is c.self.invariant in
     λ k d lt. within c.args.node (get_or c.as_slice.result.now k d)
     (subst (λ (nodes : List ℕ). Contains nodes (get_or c.as_slice.result.now k d)) (row_is c)
     (Contains-get_or c.as_slice.result.now k d lt))

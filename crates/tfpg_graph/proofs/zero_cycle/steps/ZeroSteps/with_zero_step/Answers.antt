@@ -1,7 +1,7 @@
 use Rattle.std.proofs.Common.{◌≡◌, ◌∙◌, ◌<◌, ℕ, List, [], ◌∷◌, ◌++◌, length, map, set, ap, sym, subst, arith}
 use Rattle.std.proofs.lemmas.List.{get_or-map, length-map, map-set}
-use Rattle.tfpg_graph.specs.inside.zero_cycle.ZeroSearch.{row, with_zero_step, AreWithin}
-use Rattle.tfpg_graph.proofs.lemmas.zero_cycle.StepRows.{AreWithin-more}
+use Rattle.tfpg_graph.specs.inside.zero_cycle.ZeroSearch.{row, with_zero_step, AreStepsWithin}
+use Rattle.tfpg_graph.proofs.lemmas.zero_cycle.StepRows.{AreStepsWithin-more}
 use Rattle.tfpg_graph.proofs.zero_cycle.steps.ZeroSteps.with_zero_step.Goals as goal
 use Rattle.tfpg_graph.proofs.zero_cycle.steps.ZeroSteps.with_zero_step.Goals.{In_ok-push}
 
@@ -25,10 +25,10 @@ seen_is c =
 
 pub invariant_of-steps : goal.invariant_of-steps
 invariant_of-steps c =
-    let within : AreWithin c.args.self =
-    subst (λ (rows : List (List ℕ)). AreWithin rows) c.steps.view_is c.steps.invariant in
-    subst (λ (rows : List (List ℕ)). AreWithin rows) (sym (seen_is c))
-    (AreWithin-more c.args.self c.args.from c.args.to c.requires.from c.requires.to within)
+    let within : AreStepsWithin c.args.self =
+    subst (λ (rows : List (List ℕ)). AreStepsWithin rows) c.steps.view_is c.steps.invariant in
+    subst (λ (rows : List (List ℕ)). AreStepsWithin rows) (sym (seen_is c))
+    (AreStepsWithin-more c.args.self c.args.from c.args.to c.requires.from c.requires.to within)
 
 pub returns : goal.returns
 returns c = seen_is c

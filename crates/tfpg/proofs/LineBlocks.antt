@@ -1,0 +1,167 @@
+-- The block of a line, from what the engine gives for it.
+use Rattle.std.proofs.Common.{◌≡◌, ℕ, ◌<◌, ◌≤◌, true, false, List, [], ◌++◌, length, Ok, Err, refl, sym, ap, subst, ◌∙◌, arith}
+use Rattle.std.proofs.lemmas.Bool.{le-ltb, lt-ltb}
+use Rattle.std.proofs.lemmas.List.{append-nil}
+use Rattle.tfpg_graph.specs.Graph.{Tfpg, sizes_of}
+use Rattle.tfpg_graph.specs.Valid.{IsValid}
+use Rattle.tfpg_log.specs.declared.event.Offered.{Offered}
+use Rattle.tfpg_log.specs.declared.event.Offered.TheVariants.{Accepted, Refused}
+use Rattle.tfpg_log.specs.declared.refusal.Refusal.{Refusal}
+use Rattle.tfpg_log.specs.Log.{Logbook, with_event, IsOf, IsOrdered}
+use Rattle.tfpg_log.specs.Accepted.{reply_to}
+use Rattle.tfpg_log.specs.LogOfLines.{log_after_reply, log_after}
+use Rattle.tfpg_base.specs.Lines.{is_too_long}
+use Rattle.tfpg_base.specs.declared.limits.TheConstants.{LONGEST_LINE}
+use Rattle.tfpg_evidence.specs.declared.round.Round.{Round}
+use Rattle.tfpg_evidence.specs.RoundOf.{IsRoundOf}
+use Rattle.tfpg_hyp.specs.Rounds.{IsRound, HasNoneOpen}
+use Rattle.tfpg_hyp.specs.Fitting.{SayWhichSetsFit, AreThoseOfMinimalSets}
+use Rattle.tfpg_engine.specs.Engining.{Engining, GivesRound, Brings}
+use Rattle.tfpg_engine.specs.declared.told.Told.{Told}
+use Rattle.tfpg_engine.specs.declared.told.Told.TheVariants as told
+use Rattle.tfpg_report.specs.declared.refused_line.RefusedLine.TheVariants.{TooLong, Offer}
+use Rattle.tfpg_report.specs.Blocks.{RefusedBlock, RoundBlock, refused_text, round_text}
+use Rattle.tfpg_check.specs.Report.{Progress, IsBlockOf, event_of_line, event_of_reply}
+use Rattle.tfpg_check.proofs.Progressing.{progress_with}
+use Rattle.tfpg.specs.Saying.{RoundSays}
+use Rattle.tfpg.specs.inside.LineBlocks.{EngineReports, HasBlock}
+
+-- what a line gives that is not too long
+short_line : (graph : Tfpg) (log : Logbook) (line : List ℕ) (reply : Offered) → length line ≤ LONGEST_LINE → reply_to graph log line ≡ reply → event_of_line graph log line ≡ event_of_reply reply
+short_line graph log line reply le e = let short : is_too_long line ≡ false = le-ltb _ _ le in rw (short, e) refl
+
+short_log : (graph : Tfpg) (log : Logbook) (line : List ℕ) → length line ≤ LONGEST_LINE → log_after graph log line ≡ log_after_reply log (reply_to graph log line)
+short_log graph log line le = let short : is_too_long line ≡ false = le-ltb _ _ le in rw short refl
+
+-- ---- from what is said of the engine to what is said of the report
+
+-- what holds of an engine's graph and log holds of those of the report
+of_report : (P : Tfpg → Logbook → Type 0) (g graph : Tfpg) (l log : Logbook) → g ≡ graph → l ≡ log → P g l → P graph log
+of_report P g graph l log a b h = subst (P graph) b (subst (λ (x : Tfpg). P x l) a h)
+
+-- the same with its numbers
+along : (P : Tfpg → ℕ → ℕ → Logbook → Type 0) (g graph : Tfpg) (k' k b' b : ℕ) (l log : Logbook) → g ≡ graph → k' ≡ k → b' ≡ b → l ≡ log → P g k' b' l → P graph k b log
+along P g graph k' k b' b l log e f h i holds =
+    subst (P graph k b) i (subst (λ (x : ℕ). P graph k x l) h (subst (λ (x : ℕ). P graph x b' l) f (subst (λ (x : Tfpg). P x k' b' l) e holds)))
+
+progress_same : (rounds rounds' : List Round) (log log' : Logbook) → rounds ≡ rounds' → log ≡ log' → progress_with rounds log ≡ progress_with rounds' log'
+progress_same rounds rounds' log log' r l = ap (λ (x : List Round). progress_with x log) r ∙ ap (progress_with rounds') l
+
+-- ---- what an event brought
+
+module _ (number : ℕ) (line : List ℕ) (rounds : List Round) where
+  -- a refusal
+  pub brings_refusal : (refusal : Refusal) (old new : Engining) (t : Told) → t ≡ told.Refused refusal → Brings number line rounds old new (Ok t)
+      → (reply_to old.graph old.log line ≡ Refused refusal) × (new ≡ old)
+  brings_refusal refusal old new t e brings = subst (λ (x : Told). Brings number line rounds old new (Ok x)) e brings
+
+  -- a round
+  pub brings_round : (round : Round) (old new : Engining) (t : Told) → t ≡ told.Round round → Brings number line rounds old new (Ok t) → GivesRound number line rounds round old new
+  brings_round round old new t e brings = subst (λ (x : Told). Brings number line rounds old new (Ok x)) e brings
+
+-- ---- what a round says
+
+-- the laws on rounds
+abbrev NamesOfRounds : Type 0
+NamesOfRounds = (graph : Tfpg) (k b line : ℕ) (rounds : List Round) (log : Logbook) (round : Round) → IsOf graph log → IsRound graph k b rounds log line round → IsRoundOf (sizes_of graph) round
+
+abbrev FitsOfRounds : Type 0
+FitsOfRounds = (graph : Tfpg) (k b line : ℕ) (rounds : List Round) (log : Logbook) (round : Round) → IsValid graph → IsOf graph log → IsOrdered log → IsRound graph k b rounds log line round
+    → SayWhichSetsFit graph log k round.findings
+
+abbrev MinimalOfRounds : Type 0
+MinimalOfRounds = (graph : Tfpg) (k b line : ℕ) (rounds : List Round) (log : Logbook) (round : Round) → IsValid graph → IsOf graph log → IsOrdered log → IsRound graph k b rounds log line round
+    → HasNoneOpen round → AreThoseOfMinimalSets graph log k round.findings
+
+module _ (number : ℕ) (line : List ℕ) (rounds : List Round) (round : Round) (old new : Engining) (gives : GivesRound number line rounds round old new) (same_graph : new.graph ≡ old.graph)
+    (log : Logbook) (log_is : log ≡ new.log) (of : IsOf new.graph log) where
+  -- the log is of the graph
+  is_of : IsOf old.graph new.log
+  is_of = of_report IsOf new.graph old.graph log new.log same_graph log_is of
+
+  -- the round names only what the graph has
+  pub round_is_of_graph : (lent : Tfpg) → lent ≡ new.graph → NamesOfRounds → IsRoundOf (sizes_of lent) round
+  round_is_of_graph lent lent_is law =
+      subst (λ (g : Tfpg). IsRoundOf (sizes_of g) round) (sym (lent_is ∙ same_graph))
+      (law old.graph old.k old.budget number rounds new.log round is_of gives.round_is)
+
+  -- it says which sets fit, and whether it is settled
+  pub round_says : IsValid old.graph → IsOrdered log → FitsOfRounds → MinimalOfRounds → RoundSays old.graph old.k old.budget rounds new.log round
+  round_says valid ordered fit minimal =
+      let in_order : IsOrdered new.log = subst IsOrdered log_is ordered in
+      record {
+        earned = gives.earned;
+        fitting = fit old.graph old.k old.budget number rounds new.log round valid is_of in_order gives.round_is;
+        minimal = minimal old.graph old.k old.budget number rounds new.log round valid is_of in_order gives.round_is;
+        settled = gives.settled;
+      }
+
+-- ---- the blocks
+
+module _ (graph : Tfpg) (k b : ℕ) (before : Progress) (number : ℕ) (line bytes : List ℕ) where
+  -- the block of a line that is too long
+  pub block_of_long_line : (engine : Engining) → LONGEST_LINE < length line → EngineReports graph k b engine before → bytes ≡ refused_text number TooLong
+      → HasBlock graph k b before number line bytes engine
+  block_of_long_line engine lt reports text =
+      let long : is_too_long line ≡ true = lt-ltb _ _ lt in
+      let block = RefusedBlock number TooLong in
+      let none : event_of_line graph before.log line ≡ Err TooLong = rw long refl in
+      let log_same : log_after graph before.log line ≡ before.log = rw long refl in
+      record {
+        block = block;
+        is_block = subst (IsBlockOf graph k b before number block) (sym none) refl;
+        no_losses = tt;
+        says = tt;
+        text = text;
+        reports = subst (EngineReports graph k b engine) (sym (progress_same (before.rounds ++ []) before.rounds (log_after graph before.log line) before.log (append-nil before.rounds) log_same)) reports;
+      }
+
+  module _ (old new : Engining) (short : length line ≤ LONGEST_LINE) (reports : EngineReports graph k b old before) where
+    -- the block of a line that the log refused
+    pub block_of_refusal : (refusal : Refusal) → reply_to old.graph old.log line ≡ Refused refusal → new ≡ old → bytes ≡ refused_text number (Offer refusal)
+        → HasBlock graph k b before number line bytes new
+    block_of_refusal refusal refuses same text =
+        let refused : reply_to graph before.log line ≡ Refused refusal =
+        of_report (λ (g : Tfpg) (l : Logbook). reply_to g l line ≡ Refused refusal) old.graph graph old.log before.log reports.graph_is reports.log_is refuses in
+        let block = RefusedBlock number (Offer refusal) in
+        record {
+          block = block;
+          is_block = subst (IsBlockOf graph k b before number block) (sym (short_line graph before.log line (Refused refusal) short refused)) refl;
+          no_losses = tt;
+          says = tt;
+          text = text;
+          reports = subst (λ (e : Engining). EngineReports graph k b e (progress_with (before.rounds ++ []) (log_after graph before.log line))) (sym same)
+              (subst (EngineReports graph k b old) (sym (progress_same (before.rounds ++ []) before.rounds (log_after graph before.log line) before.log
+              (append-nil before.rounds) (short_log graph before.log line short ∙ ap (log_after_reply before.log) refused))) reports);
+        }
+
+    -- the block of a round
+    pub block_of_round : (round : Round) → GivesRound number line before.rounds round old new → RoundSays old.graph old.k old.budget before.rounds new.log round
+        → new.graph ≡ old.graph → new.k ≡ old.k → new.budget ≡ old.budget → bytes ≡ round_text new.graph round
+        → HasBlock graph k b before number line bytes new
+    block_of_round round gives says same_graph same_k same_budget text =
+        let event = gives.event in
+        let accepted : reply_to graph before.log line ≡ Accepted event =
+        of_report (λ (g : Tfpg) (l : Logbook). reply_to g l line ≡ Accepted event) old.graph graph old.log before.log reports.graph_is reports.log_is gives.accepted in
+        let log_is : new.log ≡ with_event before.log event = gives.log ∙ ap (λ (l : Logbook). with_event l event) reports.log_is in
+        let after_is : log_after graph before.log line ≡ with_event before.log event = short_log graph before.log line short ∙ ap (log_after_reply before.log) accepted in
+        let block = RoundBlock round [] in
+        let is_round : IsRound graph k b before.rounds (with_event before.log event) number round =
+        along (λ (g : Tfpg) (x y : ℕ) (l : Logbook). IsRound g x y before.rounds l number round) old.graph graph old.k k old.budget b new.log (with_event before.log event)
+        reports.graph_is reports.k_is reports.budget_is log_is gives.round_is in
+        record {
+          block = block;
+          is_block = subst (IsBlockOf graph k b before number block) (sym (short_line graph before.log line (Accepted event) short accepted))
+              (round, [], refl, is_round, λ i j d lt below. absurd (omega arith));
+          no_losses = refl;
+          says = along (λ (g : Tfpg) (x y : ℕ) (l : Logbook). RoundSays g x y before.rounds l round) old.graph graph old.k k old.budget b new.log (log_after graph before.log line)
+              reports.graph_is reports.k_is reports.budget_is (log_is ∙ sym after_is) says;
+          text = text ∙ ap (λ (g : Tfpg). round_text g round) (same_graph ∙ reports.graph_is) ∙ sym (append-nil (round_text graph round));
+          reports = record {
+            graph_is = same_graph ∙ reports.graph_is;
+            k_is = same_k ∙ reports.k_is;
+            budget_is = same_budget ∙ reports.budget_is;
+            log_is = log_is ∙ sym after_is;
+            represents = gives.represents;
+          };
+        }

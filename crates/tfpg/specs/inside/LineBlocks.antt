@@ -1,0 +1,35 @@
+-- What the engine of a diagnosis represents, and the block of a line that it was given.
+use Rattle.std.specs.Prelude.{◌≡◌, ℕ, List}
+use Rattle.tfpg_graph.specs.Graph.{Tfpg}
+use Rattle.tfpg_graph.specs.Valid.{IsValid}
+use Rattle.tfpg_evidence.specs.declared.round.Round.{Round}
+use Rattle.tfpg_engine.specs.Engining.{Engining, EngineRepresents}
+use Rattle.tfpg_report.specs.Blocks.{Block, block_text}
+use Rattle.tfpg_check.specs.Report.{Progress, IsBlock, progress_after}
+use Rattle.tfpg.specs.ForNow.{LosesNone}
+use Rattle.tfpg.specs.Saying.{BlockSays}
+
+-- The engine is of this graph, of sets of at most k failure modes and of this budget. It has the log of this progress,
+-- and has returned its rounds.
+pub record EngineReports (graph : Tfpg) (k budget : ℕ) (engine : Engining) (progress : Progress) : Type 0 where
+  pub graph_is : engine.graph ≡ graph
+  pub k_is : engine.k ≡ k
+  pub budget_is : engine.budget ≡ budget
+  pub log_is : engine.log ≡ progress.log
+  pub represents : EngineRepresents engine progress.rounds
+
+-- the engine is of a valid graph, and represents some rounds
+pub record IsEngineReady (engine : Engining) : Type 0 where
+  pub valid : IsValid engine.graph
+  pub rounds : List Round
+  pub represents : EngineRepresents engine rounds
+
+-- The bytes are the block of a line, and the engine represents the progress after it.
+pub record HasBlock (graph : Tfpg) (k budget : ℕ) (before : Progress) (number : ℕ) (line bytes : List ℕ)
+    (engine : Engining) : Type 0 where
+  pub block : Block
+  pub is_block : IsBlock graph k budget before number line block
+  pub no_losses : LosesNone block
+  pub says : BlockSays graph k budget before line block
+  pub text : bytes ≡ block_text graph block
+  pub reports : EngineReports graph k budget engine (progress_after graph before line block)

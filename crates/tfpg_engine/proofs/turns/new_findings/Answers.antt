@@ -1,0 +1,41 @@
+use Rattle.std.proofs.Common.{◌<◌, length, ap, sym, subst, arith}
+use Rattle.tfpg_graph.specs.Graph.{AreFailures}
+use Rattle.tfpg_base.proofs.lists.Elements.{All-at}
+use Rattle.tfpg_engine.specs.inside.Turns.{AreFirstTurns}
+use Rattle.tfpg_engine.proofs.Turning.{none_turned, turned_by, slot_before}
+use Rattle.tfpg_engine.proofs.turns.new_findings.Goals as goal
+
+pub loop-number-init : goal.loop-number-init
+loop-number-init g c =
+    subst (λ fs. AreFirstTurns c.args.asked.now.graph.now c.args.asked.now.log.now c.args.asked.now.budget c.args.table.now c.args.slots.now c.args.slots.now fs 0) (sym c.in_ok-findings.ensures.items)
+    (none_turned c.args.asked.now.graph.now c.args.asked.now.log.now c.args.asked.now.budget c.args.table.now c.args.slots.now)
+
+pub new_finding-requires-clause-hypothesis : goal.new_finding-requires-clause-hypothesis
+new_finding-requires-clause-hypothesis g c = record {
+  members = All-at (AreFailures c.args.asked.now.graph.now) c.args.table.now.sets c.loop-number.number c.set.result c.requires.table.members c.set.ensures;
+  reach = c.requires.table.reached.exact c.loop-number.number c.set.result c.reach.result.now c.set.ensures c.reach.ensures;
+}
+
+pub new_finding-requires-clause-few : goal.new_finding-requires-clause-few
+new_finding-requires-clause-few g c =
+    omega (arith, ap length c.deref.ensures.value, c.loop-number.invariant.counted, c.loop-number-test.true, c.len-number-end.type_inv)
+
+pub new_finding-requires-clause-goes_on : goal.new_finding-requires-clause-goes_on
+new_finding-requires-clause-goes_on g c =
+    let within : c.loop-number.number < length c.args.table.now.sets = omega (arith, c.loop-number-test.true, c.len-number-end.ensures.count) in
+    c.requires.go_on c.loop-number.number c.set.result c.reach.result.now _ c.set.ensures c.reach.ensures
+    (slot_before c.args.asked.now.graph.now c.args.asked.now.log.now c.args.asked.now.budget c.args.table.now c.args.slots.now c.loop-number.slots c.loop-number.findings.items c.loop-number.number c.loop-number.invariant
+    c.requires.one_each within c.index-slots-number.result)
+
+pub loop-number-preserved : goal.loop-number-preserved
+loop-number-preserved g c =
+    let within : c.loop-number.number < length c.args.table.now.sets = omega (arith, c.loop-number-test.true, c.len-number-end.ensures.count) in
+    turned_by c.args.asked.now.graph.now c.args.asked.now.log.now c.args.asked.now.budget c.args.table.now c.args.slots.now c.loop-number.slots c.loop-number.findings.items c.loop-number.number c.loop-number.invariant
+    c.requires.one_each within c.set.result c.reach.result.now c.index-slots-number.result c.new_finding.new.slot c.in_ok-finding.finding c.deref.result.now c.push.new.self.items
+    c.set.ensures c.reach.ensures c.deref.ensures.value c.in_ok-push.ensures.items c.in_ok-finding.ensures
+
+pub returns-clause-turns : goal.returns-clause-turns
+returns-clause-turns g c = (
+  omega (arith, c.loop-number.invariant.counted, c.loop-number-test.false, c.loop-number.auto.number-end, c.len-number-end.ensures.count),
+  c.loop-number.invariant.turns,
+)
