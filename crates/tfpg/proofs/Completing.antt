@@ -20,7 +20,7 @@ use Rattle.tfpg.specs.declared.end.End.TheVariants as ends
 use Rattle.tfpg.specs.declared.fault.FetchFault.{FetchFault}
 use Rattle.tfpg.specs.declared.fault.FetchFault.TheVariants.{Failed, TooLong, Graph, NoMemory}
 use Rattle.tfpg.specs.declared.fault.StreamFault.{StreamFault}
-use Rattle.tfpg.specs.declared.fault.StreamFault.TheVariants as faults
+use Rattle.tfpg.specs.declared.fault.StreamFault.TheVariants as streams
 use Rattle.tfpg.specs.declared.fault.JudgeFault.{JudgeFault}
 use Rattle.tfpg.specs.declared.fault.JudgeFault.TheVariants as judge
 use Rattle.tfpg.specs.declared.fault.SimulateFault.{SimulateFault}
@@ -28,14 +28,13 @@ use Rattle.tfpg.specs.declared.fault.SimulateFault.TheVariants as simulate
 use Rattle.tfpg.specs.declared.fault.GenerateFault.{GenerateFault}
 use Rattle.tfpg.specs.declared.fault.GenerateFault.TheVariants as generate
 use Rattle.tfpg.specs.Completeness.{CanDiagnose, CanExplain, CanSimulate, CanBeDone, NothingFails, IsShort, IsCompleted}
-use Rattle.tfpg.specs.EndsOf.{end_of_fetch_fault, end_of_stream_fault, end_of_diagnosis, end_of_judging, end_of_simulation, end_of_generation}
+use Rattle.tfpg.specs.EndsOf.{end_of_fetch_fault, end_of_stream_fault, end_of_judge_fault, end_of_simulate_fault, end_of_generate_fault, end_of_result}
 use Rattle.tfpg.specs.Fetch.{HasFile, IsTooLong, GivesGraph, HasFaultyGraph, IsFetchFault, IsFilesFault}
 use Rattle.tfpg.specs.Generating.{GenerateEnds, GenerationEnds}
 use Rattle.tfpg.specs.Judging.{JudgesMap, JudgingEnds}
-use Rattle.tfpg.specs.Run.{CommandEnds, RunEnds, DiagnoseEnds, ExplainEnds, IsShown, DiagnosisEnds}
+use Rattle.tfpg.specs.Run.{CommandEnds, RunEnds, DiagnoseEnds, ExplainEnds, IsStreamFault, DiagnosisEnds}
 use Rattle.tfpg.specs.Simulating.{SimulateEnds, SimulationEnds}
 use Rattle.tfpg.specs.Streams.{Streams}
-use Rattle.tfpg.specs.inside.Faults.{end_of_work}
 
 -- no text of a valid graph has a fault
 abbrev NoFaultOfValid : Type 0
@@ -92,18 +91,17 @@ few_taken before now taken short takes =
 without_memory : (end : End) (fault : FetchFault) → fault ≡ NoMemory → end ≡ end_of_fetch_fault fault → end ≡ ends.NoMemory
 without_memory end fault is e = e ∙ ap end_of_fetch_fault is
 
-not_more : (count : ℕ) → count ≤ MAX_BYTES → count ≡ MAX_BYTES + 1 → ⊥
-not_more count few more = omega (arith, few, more)
-
 -- ---- each command
 
 module _ (law : NoFaultOfValid) (shelf_before shelf_now : ShelfState) (before now : Streams) (calm : NothingFails shelf_before shelf_now before now) where
   -- a diagnosis has no fault but that memory ran out
-  no_stream_fault : IsShort before.input → (taken : List ℕ) → Takes before.input now.input taken → (fault : StreamFault) → IsShown before now taken fault → fault ≡ faults.NoMemory
-  no_stream_fault short taken takes faults.ReadFault is = absurd (calm.input is)
-  no_stream_fault short taken takes faults.WriteFault is = absurd (calm.output is)
-  no_stream_fault short taken takes faults.TooMuchInput is = absurd (not_more (length taken) (few_taken before.input now.input taken short takes) is)
-  no_stream_fault short taken takes faults.NoMemory is = refl
+  no_stream_fault : IsShort before.input → (taken : List ℕ) → Takes before.input now.input taken → (fault : StreamFault) → IsStreamFault before now taken fault → fault ≡ streams.NoMemory
+  no_stream_fault short taken takes streams.ReadFault is = absurd (calm.input is)
+  no_stream_fault short taken takes streams.WriteFault is = absurd (calm.output is)
+  no_stream_fault short taken takes streams.TooMuchInput is =
+      let more : length taken ≡ MAX_BYTES + 1 = is in
+      absurd (omega (arith, few_taken before.input now.input taken short takes, more))
+  no_stream_fault short taken takes streams.NoMemory is = refl
 
   -- a diagnosis
   diagnosed : IsShort before.input → (end : End) (k budget : ℕ) (name : List ℕ) → CanDiagnose shelf_before k name → DiagnoseEnds shelf_before shelf_now k budget name before now end
@@ -114,33 +112,35 @@ module _ (law : NoFaultOfValid) (shelf_before shelf_now : ShelfState) (before no
   diagnosed short end k budget name can (inr (inr file)) = go file.result file.diagnoses.ends file.end_is
     where
       go : (result : Result (Unit {0}) StreamFault) → DiagnosisEnds file.graph k budget before now file.diagnoses.taken file.diagnoses.blocks file.diagnoses.written result
-          → end ≡ end_of_diagnosis result → (end ≡ ends.Done) ⊎ (end ≡ ends.NoMemory)
+          → end ≡ end_of_result end_of_stream_fault result → (end ≡ ends.Done) ⊎ (end ≡ ends.NoMemory)
       go (Ok done) is e = inl e
       go (Err fault) is e = inr (e ∙ ap end_of_stream_fault (no_stream_fault short file.diagnoses.taken file.diagnoses.takes fault is.0))
 
   -- a map that is judged
   judged : IsShort before.input → (graph : Tfpg) (log : Logbook) (taken : List ℕ) → Takes before.input now.input taken → (result : Result (Unit {0}) JudgeFault) → JudgingEnds graph log before now taken result
-      → (end_of_judging result ≡ ends.Done) ⊎ ((end_of_judging result ≡ ends.NoMemory) ⊎ ((line : ℕ) × (end_of_judging result ≡ ends.NotAccepted line BadMap)))
+      → (end_of_result end_of_judge_fault result ≡ ends.Done) ⊎ ((end_of_result end_of_judge_fault result ≡ ends.NoMemory) ⊎ ((line : ℕ) × (end_of_result end_of_judge_fault result ≡ ends.NotAccepted line BadMap)))
   judged short graph log taken takes (Ok done) is = inl refl
   judged short graph log taken takes (Err (judge.BadMap line)) is = inr (inr (line, refl))
-  judged short graph log taken takes (Err judge.ReadFault) is = absurd (calm.input is.0)
-  judged short graph log taken takes (Err judge.WriteFault) is = absurd (calm.output is.rose)
-  judged short graph log taken takes (Err judge.TooMuchInput) is = absurd (not_more (length taken) (few_taken before.input now.input taken short takes) is.0)
-  judged short graph log taken takes (Err judge.NoMemory) is = inr (inl refl)
+  judged short graph log taken takes (Err (judge.Stream streams.ReadFault)) is = absurd (calm.input is.0)
+  judged short graph log taken takes (Err (judge.Stream streams.WriteFault)) is = absurd (calm.output is.rose)
+  judged short graph log taken takes (Err (judge.Stream streams.TooMuchInput)) is =
+      let more : length taken ≡ MAX_BYTES + 1 = is.0 in
+      absurd (omega (arith, few_taken before.input now.input taken short takes, more))
+  judged short graph log taken takes (Err (judge.Stream streams.NoMemory)) is = inr (inl refl)
 
   explained : IsShort before.input → (end : End) (graph_name log_name : List ℕ) → CanExplain shelf_before graph_name log_name → ExplainEnds shelf_before shelf_now graph_name log_name before now end
       → (end ≡ ends.Done) ⊎ ((end ≡ ends.NoMemory) ⊎ ((line : ℕ) × (end ≡ ends.NotAccepted line BadMap)))
   explained short end graph_name log_name can (inl lacks) =
-      let file : HasFile shelf_before log_name can.gives.text = can.gives.file in
+      let file : HasFile shelf_before log_name can.gives.text = can.gives.gives.file in
       inr (inl (without_memory end lacks.fault
-      (both_fetched shelf_before can.files can.known law graph_name can.graph can.gives.of_graph shelf_now log_name can.gives.text file lacks.fault calm.shelf lacks.is_fault) lacks.end_is))
+      (both_fetched shelf_before can.files can.known law graph_name can.graph can.gives.gives.of_graph shelf_now log_name can.gives.text file lacks.fault calm.shelf lacks.is_fault) lacks.end_is))
   explained short end graph_name log_name can (inr judges) =
       subst (λ (e : End). (e ≡ ends.Done) ⊎ ((e ≡ ends.NoMemory) ⊎ ((line : ℕ) × (e ≡ ends.NotAccepted line BadMap)))) (sym judges.end_is)
       (judged short judges.graph judges.log judges.judges.taken judges.judges.takes judges.result judges.judges.ends)
 
   -- a script that is simulated
   simulated : (graph : Tfpg) (script : List ℕ) (draw : ℕ) (trace : Bool) → ((line : ℕ) → script_of graph script ≡ Err line → ⊥) → (result : Result (Unit {0}) SimulateFault)
-      → SimulationEnds graph script draw trace before.output now.output result → (end_of_simulation result ≡ ends.Done) ⊎ (end_of_simulation result ≡ ends.NoMemory)
+      → SimulationEnds graph script draw trace before.output now.output result → (end_of_result end_of_simulate_fault result ≡ ends.Done) ⊎ (end_of_result end_of_simulate_fault result ≡ ends.NoMemory)
   simulated graph script draw trace right (Ok done) is = inl refl
   simulated graph script draw trace right (Err (simulate.BadScript line)) is = absurd (right line is.0)
   simulated graph script draw trace right (Err simulate.WriteFault) is = absurd (calm.output is.rose)
@@ -157,7 +157,7 @@ module _ (law : NoFaultOfValid) (shelf_before shelf_now : ShelfState) (before no
 
   -- what is drawn
   drawn : (draw size : ℕ) (result : Result (Unit {0}) GenerateFault) → GenerationEnds draw size before.output now.output result
-      → (end_of_generation result ≡ ends.Done) ⊎ (end_of_generation result ≡ ends.NoMemory)
+      → (end_of_result end_of_generate_fault result ≡ ends.Done) ⊎ (end_of_result end_of_generate_fault result ≡ ends.NoMemory)
   drawn draw size (Ok done) is = inl refl
   drawn draw size (Err generate.WriteFault) is = absurd (calm.output is.rose)
   drawn draw size (Err generate.NoMemory) is = inr refl
@@ -186,7 +186,7 @@ module _ (law : NoFaultOfValid) (shelf_before shelf_now : ShelfState) (before no
 
 -- how a run ends whose work had this result
 pub by_work : (words : Result Meaning UsageCause) (meant : Meaning) (shelf_before shelf_now : ShelfState) (before now : Streams) (work : Result (Unit {0}) End) (end : End) → words ≡ Ok meant
-    → end ≡ end_of_work work → OnOk work (CommandEnds (Ok meant) shelf_before shelf_now before now ends.Done) → IfErr work (CommandEnds (Ok meant) shelf_before shelf_now before now)
+    → end ≡ end_of_result (λ (end : End). end) work → OnOk work (CommandEnds (Ok meant) shelf_before shelf_now before now ends.Done) → IfErr work (CommandEnds (Ok meant) shelf_before shelf_now before now)
     → RunEnds words shelf_before shelf_now before now end
 by_work words meant shelf_before shelf_now before now (Ok done) end e f is stopped =
     subst (λ (w : Result Meaning UsageCause). RunEnds w shelf_before shelf_now before now end) (sym e) (inl (subst (CommandEnds (Ok meant) shelf_before shelf_now before now) (sym f) is))

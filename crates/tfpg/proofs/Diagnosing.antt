@@ -14,7 +14,7 @@ use Rattle.tfpg_log.proofs.LogsOfLines.{log_of_lines-push}
 use Rattle.tfpg_evidence.specs.declared.round.Round.{Round}
 use Rattle.tfpg_hyp.specs.Rounds.{IsRound}
 use Rattle.tfpg_engine.specs.Earned.{AreEarned}
-use Rattle.tfpg_engine.specs.Engining.{EngineRepresents, GivesRound}
+use Rattle.tfpg_engine.specs.EngineState.{EngineRepresents, GivesRound}
 use Rattle.tfpg_sim.specs.AcceptedLog.{AreAccepted, IsAccepted}
 use Rattle.tfpg.specs.declared.diagnosis.Diagnosis.{Diagnosis}
 use Rattle.tfpg.specs.declared.limits.TheConstants.{GENERATED_K, GENERATED_BUDGET}

@@ -1,5 +1,5 @@
 -- The lines of the input, as a reader of lines comes to them.
-use Rattle.std.proofs.Common.{◌-◌, ◌^◌, ◌≡◌, ◌⊎◌, ℕ, ◌+◌, ◌<◌, ◌≤◌, List, [], ◌∷◌, ◌++◌, length, take, Option, Some, None, Result, Ok, refl, sym, ap, subst, ◌∙◌, arith, inl, inr}
+use Rattle.std.proofs.Common.{◌-◌, ◌≡◌, ◌⊎◌, ℕ, ◌+◌, ◌<◌, ◌≤◌, List, [], ◌∷◌, ◌++◌, length, take, Option, Some, None, Result, Ok, refl, sym, ap, subst, ◌∙◌, arith, inl, inr}
 use Rattle.std.specs.Prelude.{IfSome, unwrap_or, slice_get}
 use Rattle.std.specs.List.{slice_split}
 use Rattle.std.proofs.lemmas.List.Splits.{length-slice_split}
@@ -10,7 +10,7 @@ use Rattle.tfpg_base.specs.declared.line.Line.{Line}
 use Rattle.tfpg_base.specs.declared.line.Line.TheVariants as line
 use Rattle.tfpg_base.specs.declared.line.LineFault.{LineFault}
 use Rattle.tfpg_base.specs.Outside.{SourceState, Takes, IsAtEnd}
-use Rattle.tfpg_base.specs.Lines.{Reading, Buffered, LinesRepresent, Continues, IsNext, next_whole, lines_of, whole_lines, line_of_part, last_part, ends_line}
+use Rattle.tfpg_base.specs.Lines.{Reading, LinesState, LinesRepresent, Continues, IsNext, next_whole, lines_of, whole_lines, line_of_part, last_part, ends_line}
 use Rattle.tfpg_base.specs.declared.limits.TheConstants.{MAX_BYTES}
 use Rattle.tfpg_base.proofs.LinesOf.{lines_of-append}
 use Rattle.tfpg_base.proofs.Taking.{Takes-nothing}
@@ -68,7 +68,7 @@ pub record FoundEnd (reading : Reading) (before after : SourceState) : Type 0 wh
   pub end : IsAtEnd after
   pub no_fault : after.faults ≡ before.faults
 
-pub came_to_end : (reading : Reading) (before after : SourceState) (old reader : Buffered) → length reading.taken ≤ MAX_BYTES
+pub came_to_end : (reading : Reading) (before after : SourceState) (old reader : LinesState) → length reading.taken ≤ MAX_BYTES
     → (reading.ended ≡ None) ⊎ ((reading.ended ≡ Some (Ok line.End)) × IsAtEnd before) → LinesRepresent old reading → Continues reading reading.ended before after (Ok line.End) reader
     → FoundEnd reading before after
 came_to_end reading before after old reader few goes_on represents continues = go reading.ended refl goes_on continues
@@ -103,5 +103,5 @@ few_lines bytes =
     )
 
 -- one line on, fewer are left
-pub falls_short : (number after : ℕ) → number ≤ 2 ^ 32 + 1 → after ≡ number + 1 → 2 ^ 32 + 2 - after < 2 ^ 32 + 2 - number
+pub falls_short : (number after : ℕ) → number ≤ MAX_BYTES + 1 → after ≡ number + 1 → MAX_BYTES + 2 - after < MAX_BYTES + 2 - number
 falls_short number after le e = omega arith

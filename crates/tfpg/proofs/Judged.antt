@@ -5,7 +5,8 @@ use Rattle.tfpg_graph.specs.Graph.{Tfpg}
 use Rattle.tfpg_log.specs.Log.{Logbook}
 use Rattle.tfpg_trace.specs.declared.verdict.Verdict.{Verdict}
 use Rattle.tfpg_trace.specs.FirstFault.{IsVerdict}
-use Rattle.tfpg.specs.declared.fault.JudgeFault.TheVariants.{WriteFault}
+use Rattle.tfpg.specs.declared.fault.JudgeFault.TheVariants.{Stream}
+use Rattle.tfpg.specs.declared.fault.StreamFault.TheVariants.{WriteFault}
 use Rattle.tfpg.specs.declared.map.Map.{Map}
 use Rattle.tfpg.specs.Judging.{GivesVerdict, JudgesMap}
 use Rattle.tfpg.specs.Streams.{Streams, streams}
@@ -19,7 +20,7 @@ module _ (graph : Tfpg) (log : Logbook) (before : Streams) (input : SourceState)
 
   -- the output fails
   pub judges_badly : (line : List ℕ) (output : SinkState) (front rest : List ℕ) → line ≡ verdict_text graph v → line ≡ front ++ rest → Puts before.output output front
-      → Rose before.output.faults output.faults → JudgesMap graph log before (streams input output) (Err WriteFault)
+      → Rose before.output.faults output.faults → JudgesMap graph log before (streams input output) (Err (Stream WriteFault))
   judges_badly line output front rest line_is parts puts rose = record {
     taken = reads.taken;
     takes = reads.takes;

@@ -5,7 +5,6 @@ pub mod LineBlocks
 pub mod InputLines
 pub mod Turns
 pub mod MapCourse
-pub mod Exits
 pub mod Judged
 pub mod Whole
 pub mod MapWords

@@ -1,5 +1,5 @@
 -- The block of a line, from what the engine gives for it.
-use Rattle.std.proofs.Common.{◌≡◌, ℕ, ◌<◌, ◌≤◌, true, false, List, [], ◌++◌, length, Ok, Err, refl, sym, ap, subst, ◌∙◌, arith}
+use Rattle.std.proofs.Common.{◌≡◌, ℕ, ◌<◌, ◌≤◌, true, false, List, [], ◌++◌, length, Ok, Err, refl, sym, ap, ap₂, subst, subst₂, ◌∙◌, arith}
 use Rattle.std.proofs.lemmas.Bool.{le-ltb, lt-ltb}
 use Rattle.std.proofs.lemmas.List.{append-nil}
 use Rattle.tfpg_graph.specs.Graph.{Tfpg, sizes_of}
@@ -7,7 +7,7 @@ use Rattle.tfpg_graph.specs.Valid.{IsValid}
 use Rattle.tfpg_log.specs.declared.event.Offered.{Offered}
 use Rattle.tfpg_log.specs.declared.event.Offered.TheVariants.{Accepted, Refused}
 use Rattle.tfpg_log.specs.declared.refusal.Refusal.{Refusal}
-use Rattle.tfpg_log.specs.Log.{Logbook, with_event, IsOf, IsOrdered}
+use Rattle.tfpg_log.specs.Log.{Logbook, with_event, IsLogOf, IsOrdered}
 use Rattle.tfpg_log.specs.Accepted.{reply_to}
 use Rattle.tfpg_log.specs.LogOfLines.{log_after_reply, log_after}
 use Rattle.tfpg_base.specs.Lines.{is_too_long}
@@ -15,8 +15,8 @@ use Rattle.tfpg_base.specs.declared.limits.TheConstants.{LONGEST_LINE}
 use Rattle.tfpg_evidence.specs.declared.round.Round.{Round}
 use Rattle.tfpg_evidence.specs.RoundOf.{IsRoundOf}
 use Rattle.tfpg_hyp.specs.Rounds.{IsRound, HasNoneOpen}
-use Rattle.tfpg_hyp.specs.Fitting.{SayWhichSetsFit, AreThoseOfMinimalSets}
-use Rattle.tfpg_engine.specs.Engining.{Engining, GivesRound, Brings}
+use Rattle.tfpg_hyp.specs.Fitting.{SayWhichSetsFit, AreStatusesOfMinimalSets}
+use Rattle.tfpg_engine.specs.EngineState.{EngineState, GivesRound, Brings}
 use Rattle.tfpg_engine.specs.declared.told.Told.{Told}
 use Rattle.tfpg_engine.specs.declared.told.Told.TheVariants as told
 use Rattle.tfpg_report.specs.declared.refused_line.RefusedLine.TheVariants.{TooLong, Offer}
@@ -35,49 +35,42 @@ short_log graph log line le = let short : is_too_long line ≡ false = le-ltb _ 
 
 -- ---- from what is said of the engine to what is said of the report
 
--- what holds of an engine's graph and log holds of those of the report
-of_report : (P : Tfpg → Logbook → Type 0) (g graph : Tfpg) (l log : Logbook) → g ≡ graph → l ≡ log → P g l → P graph log
-of_report P g graph l log a b h = subst (P graph) b (subst (λ (x : Tfpg). P x l) a h)
-
--- the same with its numbers
+-- what holds of an engine's graph, numbers and log holds of those of the report
 along : (P : Tfpg → ℕ → ℕ → Logbook → Type 0) (g graph : Tfpg) (k' k b' b : ℕ) (l log : Logbook) → g ≡ graph → k' ≡ k → b' ≡ b → l ≡ log → P g k' b' l → P graph k b log
 along P g graph k' k b' b l log e f h i holds =
-    subst (P graph k b) i (subst (λ (x : ℕ). P graph k x l) h (subst (λ (x : ℕ). P graph x b' l) f (subst (λ (x : Tfpg). P x k' b' l) e holds)))
-
-progress_same : (rounds rounds' : List Round) (log log' : Logbook) → rounds ≡ rounds' → log ≡ log' → progress_with rounds log ≡ progress_with rounds' log'
-progress_same rounds rounds' log log' r l = ap (λ (x : List Round). progress_with x log) r ∙ ap (progress_with rounds') l
+    subst₂ (P graph k) h i (subst₂ (λ (x : Tfpg) (y : ℕ). P x y b' l) e f holds)
 
 -- ---- what an event brought
 
 module _ (number : ℕ) (line : List ℕ) (rounds : List Round) where
   -- a refusal
-  pub brings_refusal : (refusal : Refusal) (old new : Engining) (t : Told) → t ≡ told.Refused refusal → Brings number line rounds old new (Ok t)
+  pub brings_refusal : (refusal : Refusal) (old new : EngineState) (t : Told) → t ≡ told.Refused refusal → Brings number line rounds old new (Ok t)
       → (reply_to old.graph old.log line ≡ Refused refusal) × (new ≡ old)
   brings_refusal refusal old new t e brings = subst (λ (x : Told). Brings number line rounds old new (Ok x)) e brings
 
   -- a round
-  pub brings_round : (round : Round) (old new : Engining) (t : Told) → t ≡ told.Round round → Brings number line rounds old new (Ok t) → GivesRound number line rounds round old new
+  pub brings_round : (round : Round) (old new : EngineState) (t : Told) → t ≡ told.Round round → Brings number line rounds old new (Ok t) → GivesRound number line rounds round old new
   brings_round round old new t e brings = subst (λ (x : Told). Brings number line rounds old new (Ok x)) e brings
 
 -- ---- what a round says
 
 -- the laws on rounds
 abbrev NamesOfRounds : Type 0
-NamesOfRounds = (graph : Tfpg) (k b line : ℕ) (rounds : List Round) (log : Logbook) (round : Round) → IsOf graph log → IsRound graph k b rounds log line round → IsRoundOf (sizes_of graph) round
+NamesOfRounds = (graph : Tfpg) (k b line : ℕ) (rounds : List Round) (log : Logbook) (round : Round) → IsLogOf graph log → IsRound graph k b rounds log line round → IsRoundOf (sizes_of graph) round
 
 abbrev FitsOfRounds : Type 0
-FitsOfRounds = (graph : Tfpg) (k b line : ℕ) (rounds : List Round) (log : Logbook) (round : Round) → IsValid graph → IsOf graph log → IsOrdered log → IsRound graph k b rounds log line round
+FitsOfRounds = (graph : Tfpg) (k b line : ℕ) (rounds : List Round) (log : Logbook) (round : Round) → IsValid graph → IsLogOf graph log → IsOrdered log → IsRound graph k b rounds log line round
     → SayWhichSetsFit graph log k round.findings
 
 abbrev MinimalOfRounds : Type 0
-MinimalOfRounds = (graph : Tfpg) (k b line : ℕ) (rounds : List Round) (log : Logbook) (round : Round) → IsValid graph → IsOf graph log → IsOrdered log → IsRound graph k b rounds log line round
-    → HasNoneOpen round → AreThoseOfMinimalSets graph log k round.findings
+MinimalOfRounds = (graph : Tfpg) (k b line : ℕ) (rounds : List Round) (log : Logbook) (round : Round) → IsValid graph → IsLogOf graph log → IsOrdered log → IsRound graph k b rounds log line round
+    → HasNoneOpen round → AreStatusesOfMinimalSets graph log k round.findings
 
-module _ (number : ℕ) (line : List ℕ) (rounds : List Round) (round : Round) (old new : Engining) (gives : GivesRound number line rounds round old new) (same_graph : new.graph ≡ old.graph)
-    (log : Logbook) (log_is : log ≡ new.log) (of : IsOf new.graph log) where
+module _ (number : ℕ) (line : List ℕ) (rounds : List Round) (round : Round) (old new : EngineState) (gives : GivesRound number line rounds round old new) (same_graph : new.graph ≡ old.graph)
+    (log : Logbook) (log_is : log ≡ new.log) (of : IsLogOf new.graph log) where
   -- the log is of the graph
-  is_of : IsOf old.graph new.log
-  is_of = of_report IsOf new.graph old.graph log new.log same_graph log_is of
+  is_of : IsLogOf old.graph new.log
+  is_of = subst₂ IsLogOf same_graph log_is of
 
   -- the round names only what the graph has
   pub round_is_of_graph : (lent : Tfpg) → lent ≡ new.graph → NamesOfRounds → IsRoundOf (sizes_of lent) round
@@ -85,7 +78,7 @@ module _ (number : ℕ) (line : List ℕ) (rounds : List Round) (round : Round) 
       subst (λ (g : Tfpg). IsRoundOf (sizes_of g) round) (sym (lent_is ∙ same_graph))
       (law old.graph old.k old.budget number rounds new.log round is_of gives.round_is)
 
-  -- it says which sets fit, and whether it is settled
+  -- it says which sets fit, and whether a set is open
   pub round_says : IsValid old.graph → IsOrdered log → FitsOfRounds → MinimalOfRounds → RoundSays old.graph old.k old.budget rounds new.log round
   round_says valid ordered fit minimal =
       let in_order : IsOrdered new.log = subst IsOrdered log_is ordered in
@@ -93,14 +86,14 @@ module _ (number : ℕ) (line : List ℕ) (rounds : List Round) (round : Round) 
         earned = gives.earned;
         fitting = fit old.graph old.k old.budget number rounds new.log round valid is_of in_order gives.round_is;
         minimal = minimal old.graph old.k old.budget number rounds new.log round valid is_of in_order gives.round_is;
-        settled = gives.settled;
+        none_open = gives.none_open;
       }
 
 -- ---- the blocks
 
 module _ (graph : Tfpg) (k b : ℕ) (before : Progress) (number : ℕ) (line bytes : List ℕ) where
   -- the block of a line that is too long
-  pub block_of_long_line : (engine : Engining) → LONGEST_LINE < length line → EngineReports graph k b engine before → bytes ≡ refused_text number TooLong
+  pub block_of_long_line : (engine : EngineState) → LONGEST_LINE < length line → EngineReports graph k b engine before → bytes ≡ refused_text number TooLong
       → HasBlock graph k b before number line bytes engine
   block_of_long_line engine lt reports text =
       let long : is_too_long line ≡ true = lt-ltb _ _ lt in
@@ -113,16 +106,16 @@ module _ (graph : Tfpg) (k b : ℕ) (before : Progress) (number : ℕ) (line byt
         no_losses = tt;
         says = tt;
         text = text;
-        reports = subst (EngineReports graph k b engine) (sym (progress_same (before.rounds ++ []) before.rounds (log_after graph before.log line) before.log (append-nil before.rounds) log_same)) reports;
+        reports = subst (EngineReports graph k b engine) (sym (ap₂ progress_with (append-nil before.rounds) log_same)) reports;
       }
 
-  module _ (old new : Engining) (short : length line ≤ LONGEST_LINE) (reports : EngineReports graph k b old before) where
+  module _ (old new : EngineState) (short : length line ≤ LONGEST_LINE) (reports : EngineReports graph k b old before) where
     -- the block of a line that the log refused
     pub block_of_refusal : (refusal : Refusal) → reply_to old.graph old.log line ≡ Refused refusal → new ≡ old → bytes ≡ refused_text number (Offer refusal)
         → HasBlock graph k b before number line bytes new
     block_of_refusal refusal refuses same text =
         let refused : reply_to graph before.log line ≡ Refused refusal =
-        of_report (λ (g : Tfpg) (l : Logbook). reply_to g l line ≡ Refused refusal) old.graph graph old.log before.log reports.graph_is reports.log_is refuses in
+        subst₂ (λ (g : Tfpg) (l : Logbook). reply_to g l line ≡ Refused refusal) reports.graph_is reports.log_is refuses in
         let block = RefusedBlock number (Offer refusal) in
         record {
           block = block;
@@ -130,9 +123,9 @@ module _ (graph : Tfpg) (k b : ℕ) (before : Progress) (number : ℕ) (line byt
           no_losses = tt;
           says = tt;
           text = text;
-          reports = subst (λ (e : Engining). EngineReports graph k b e (progress_with (before.rounds ++ []) (log_after graph before.log line))) (sym same)
-              (subst (EngineReports graph k b old) (sym (progress_same (before.rounds ++ []) before.rounds (log_after graph before.log line) before.log
-              (append-nil before.rounds) (short_log graph before.log line short ∙ ap (log_after_reply before.log) refused))) reports);
+          reports = subst (λ (e : EngineState). EngineReports graph k b e (progress_with (before.rounds ++ []) (log_after graph before.log line))) (sym same)
+              (subst (EngineReports graph k b old) (sym (ap₂ progress_with (append-nil before.rounds)
+              (short_log graph before.log line short ∙ ap (log_after_reply before.log) refused))) reports);
         }
 
     -- the block of a round
@@ -142,7 +135,7 @@ module _ (graph : Tfpg) (k b : ℕ) (before : Progress) (number : ℕ) (line byt
     block_of_round round gives says same_graph same_k same_budget text =
         let event = gives.event in
         let accepted : reply_to graph before.log line ≡ Accepted event =
-        of_report (λ (g : Tfpg) (l : Logbook). reply_to g l line ≡ Accepted event) old.graph graph old.log before.log reports.graph_is reports.log_is gives.accepted in
+        subst₂ (λ (g : Tfpg) (l : Logbook). reply_to g l line ≡ Accepted event) reports.graph_is reports.log_is gives.accepted in
         let log_is : new.log ≡ with_event before.log event = gives.log ∙ ap (λ (l : Logbook). with_event l event) reports.log_is in
         let after_is : log_after graph before.log line ≡ with_event before.log event = short_log graph before.log line short ∙ ap (log_after_reply before.log) accepted in
         let block = RoundBlock round [] in

@@ -1,67 +1,48 @@
 -- Reading the map of the input, one turn after another.
-use Rattle.std.proofs.Common.{◌^◌, ◌≡◌, ◌==◌, ℕ, zero, suc, ◌+◌, ◌<◌, ◌≤◌, Bool, true, false, cond, List, [], ◌∷◌, ◌++◌, length, take, get_or, All, Option, Some, None, Result, Ok, Err, refl, sym, ap, subst, ◌∙◌, arith, inl, inr}
+use Rattle.std.proofs.Common.{◌≡◌, ℕ, ◌+◌, ◌<◌, ◌≤◌, List, [], ◌∷◌, ◌++◌, length, take, get_or, All, Option, None, Result, Ok, Err, refl, sym, ap, subst, ◌∙◌, arith, inl, inr}
 use Rattle.std.specs.Prelude.{IfOk, IfErr}
-use Rattle.std.proofs.lemmas.Bool.{eqb-true, eq-eqb}
 use Rattle.std.proofs.lemmas.List.{append-nil, length-append}
-use Rattle.std.proofs.lemmas.List.Elements.{All-head, All-tail}
+use Rattle.std.proofs.lemmas.List.Elements.{Contains-get_or}
 use Rattle.tfpg_base.specs.declared.activation.Activation.{Activation}
 use Rattle.tfpg_base.specs.declared.line.Line.{Line}
 use Rattle.tfpg_base.specs.declared.line.Line.TheVariants as line
 use Rattle.tfpg_base.specs.declared.line.LineFault.{LineFault}
 use Rattle.tfpg_base.specs.declared.line.LineFault.TheVariants as fault
-use Rattle.tfpg_base.specs.Lines.{Buffered, LinesRepresent, Continues, lines_of, new_reading, with_bytes, with_line}
-use Rattle.tfpg_base.specs.declared.limits.TheConstants.{LONGEST_LINE}
+use Rattle.tfpg_base.specs.Lines.{LinesState, Continues, lines_of, with_bytes, with_line}
+use Rattle.tfpg_base.specs.declared.limits.TheConstants.{LONGEST_LINE, MAX_BYTES}
 use Rattle.tfpg_base.specs.Outside.{SourceState, Rose}
-use Rattle.tfpg_base.specs.Trace.{time_of}
 use Rattle.tfpg_base.proofs.ReadingOn.{GaveLine, Continues-turn, Continues-text, Continues-too_long}
-use Rattle.tfpg_base.proofs.Taking.{Takes-append, Takes-nothing}
+use Rattle.tfpg_base.proofs.Taking.{Takes-append}
+use Rattle.tfpg_base.proofs.TraceTimes.{time_there, time_holds}
 use Rattle.tfpg_graph.specs.Graph.{Tfpg}
 use Rattle.tfpg.specs.Map.{SpellsMap, BeginsMap, IsActivationOf}
 use Rattle.tfpg.specs.declared.map.Map.{Map}
 use Rattle.tfpg.specs.declared.map.MapReader.{MapReader}
 use Rattle.tfpg.specs.declared.map.NoMap.{NoMap}
 use Rattle.tfpg.specs.declared.map.NoMap.TheVariants as none
-use Rattle.tfpg.specs.inside.Faults.{no_map_of_lines}
 use Rattle.tfpg.specs.inside.MapLines.{HasRead, MapRepresents}
 use Rattle.tfpg.specs.inside.MapReading.{IsReadingMap, HasReadAll, ReadsMap, ReturnsMap, LacksMap}
 use Rattle.tfpg_base.proofs.lists.Cuts.{front_is_within, front_before, front_with}
 use Rattle.tfpg.proofs.InputLines.{rest_of, rest_is_left, rest_at_end, front_of_input, came_to_end, few_lines}
 use Rattle.tfpg.proofs.MapTexts.{HasRead-begins, no_map-long}
 
--- ---- the beginning
-
--- nothing is read
-pub begins_reading : (graph : Tfpg) (before : SourceState) (lines : Buffered) (map : MapReader) → LinesRepresent lines new_reading → MapRepresents graph map [] → IsReadingMap graph before before lines map
-begins_reading graph before lines map unread new = record {
-  reading = new_reading;
-  takes = Takes-nothing before;
-  few = omega arith;
-  represents = unread;
-  goes_on = inl refl;
-  front = refl;
-  read = new;
-  no_fault = refl;
-}
-
--- where memory runs out before the first line
-pub lacks_memory : (graph : Tfpg) (before : SourceState) → LacksMap graph before before none.NoMemory
-lacks_memory graph before = record { taken = []; takes = Takes-nothing before; shown = tt }
+-- ---- the lines read so far
 
 -- no more lines are read than bytes may be taken, but for a last one
-pub few_read : (graph : Tfpg) (before now : SourceState) (lines : Buffered) (map : MapReader) → IsReadingMap graph before now lines map → lines.number ≤ 2 ^ 32 + 1
+pub few_read : (graph : Tfpg) (before now : SourceState) (lines : LinesState) (map : MapReader) → IsReadingMap graph before now lines map → lines.number ≤ MAX_BYTES + 1
 few_read graph before now lines map under =
     let within = front_is_within (lines_of under.reading.taken) under.reading.given under.front in
     omega (arith, within, few_lines under.reading.taken, under.few, under.represents.number)
 
 -- ---- a turn
 
-module _ (graph : Tfpg) (before now : SourceState) (lines lines' : Buffered) (map : MapReader) (input : SourceState) (under : IsReadingMap graph before now lines map) where
+module _ (graph : Tfpg) (before now : SourceState) (lines lines' : LinesState) (map : MapReader) (input : SourceState) (under : IsReadingMap graph before now lines map) where
   -- the lines so far begin a map
   so_far : BeginsMap graph under.reading.given
   so_far = HasRead-begins graph map.set map.trace under.reading.given under.read
 
   -- the reader of lines reports a fault
-  pub lacks_by_fault : (f : LineFault) → Continues under.reading under.reading.ended now input (Err f) lines' → LacksMap graph before input (no_map_of_lines f)
+  pub lacks_by_fault : (f : LineFault) → Continues under.reading under.reading.ended now input (Err f) lines' → LacksMap graph before input (none.Lines f)
   lacks_by_fault fault.ReadFault continues =
       let reading = under.reading in
       let turn = Continues-turn reading now input (Err fault.ReadFault) lines' under.goes_on (λ e. cc) continues in
@@ -147,7 +128,7 @@ module _ (graph : Tfpg) (before now : SourceState) (lines lines' : Buffered) (ma
 
 -- ---- as the code comes to it
 
-module _ (graph : Tfpg) (before now : SourceState) (lines lines' : Buffered) (map : MapReader) (input : SourceState) (under : IsReadingMap graph before now lines map)
+module _ (graph : Tfpg) (before now : SourceState) (lines lines' : LinesState) (map : MapReader) (input : SourceState) (under : IsReadingMap graph before now lines map)
     (l : Line) (continues : Continues under.reading under.reading.ended now input (Ok l) lines') where
   -- the input has ended
   pub met_end : l ≡ line.End → HasReadAll graph before input map
@@ -190,35 +171,13 @@ module _ (graph : Tfpg) (before now : SourceState) (lines lines' : Buffered) (ma
 
 -- ---- the map
 
--- the node of a time that is listed
-timed_in_graph : (graph : Tfpg) (listed : List Activation) (node time : ℕ) → All (IsActivationOf graph) listed → time_of listed node ≡ Some time → node < length graph.nodes
-timed_in_graph graph [] node time of e = absurd cc
-timed_in_graph graph (first ∷ others) node time of e =
-    by (first.node == node) refl e (timed_in_graph graph others node time (All-tail (IsActivationOf graph) first others of))
-  where
-    by : (b : Bool) → (first.node == node) ≡ b → cond b (Some first.time) (time_of others node) ≡ Some time → (time_of others node ≡ Some time → node < length graph.nodes)
-        → node < length graph.nodes
-    by true is same later = subst (λ (n : ℕ). n < length graph.nodes) (eqb-true first.node node is) (All-head (IsActivationOf graph) first others of).in_graph
-    by false is same later = later same
-
--- each activation has a time
-has_time : (trace : List Activation) (index : ℕ) (d : Activation) → index < length trace → (time : ℕ) × (time_of trace (get_or trace index d).node ≡ Some time)
-has_time [] index d within = absurd (omega arith)
-has_time (first ∷ others) zero d within = (first.time, ap (λ b. cond b (Some first.time) (time_of others first.node)) (eq-eqb first.node first.node refl))
-has_time (first ∷ others) (suc index) d within = by (first.node == (get_or others index d).node) (has_time others index d (omega arith))
-  where
-    by : (b : Bool) → (time : ℕ) × (time_of others (get_or others index d).node ≡ Some time)
-        → (time : ℕ) × (cond b (Some first.time) (time_of others (get_or others index d).node) ≡ Some time)
-    by true later = (first.time, refl)
-    by false later = later
-
 -- a map names only nodes of the graph
 pub spelled_in_graph : (graph : Tfpg) (lines : List (List ℕ)) (set : List ℕ) (trace : List Activation) → SpellsMap graph lines set trace
     → All (λ activation. activation.node < length graph.nodes) trace
 spelled_in_graph graph lines set trace spells index d within =
-    let timed = has_time trace index d within in
-    let node = (get_or trace index d).node in
-    timed_in_graph graph spells.listed node timed.0 spells.of_nodes (sym (spells.same_times node) ∙ timed.1)
+    let activation = get_or trace index d in
+    let timed = time_there trace spells.rising activation (Contains-get_or trace index d within) in
+    (time_holds (IsActivationOf graph) spells.listed activation.node activation.time spells.of_nodes (sym (spells.same_times activation.node) ∙ timed)).in_graph
 
 -- what all lines spell
 module _ (graph : Tfpg) (before now : SourceState) (reader : MapReader) (all : HasReadAll graph before now reader) where

@@ -134,16 +134,6 @@ no_map-activation graph valid lines set trace line spells none begins =
     let next = next_listed graph valid spells.listed whole.listed line begins.0 spells.of_nodes whole.of_nodes whole.once tail in
     none next.activation (All-contains (IsActivationOf graph) whole.listed next.activation whole.of_nodes next.among) next.spelled (spells.same_times next.activation.node ∙ next.nowhere)
 
--- nor does one begin with a line that spells no set
-pub no_map-set : (graph : Tfpg) (line : List ℕ) → ((set : List ℕ) → IsSetOf graph set → line ≡ set_line graph set → ⊥) → BeginsMap graph (line ∷ []) → ⊥
-no_map-set graph line none begins =
-    let whole = begins.3 in
-    let head : line ≡ set_line graph begins.1 = first_same line (set_line graph begins.1) begins.0 (map (activation_line graph) whole.listed) whole.spelled in
-    none begins.1 whole.of_graph head
-  where
-    first_same : (one other : List ℕ) (ones others : List (List ℕ)) → one ∷ ones ≡ other ∷ others → one ≡ other
-    first_same one other ones others e = cc
-
 -- nor does one go on with a line that is too long
 pub no_map-long : (graph : Tfpg) (lines : List (List ℕ)) (line : List ℕ) → LONGEST_LINE < length line → BeginsMap graph (lines ++ line ∷ []) → ⊥
 no_map-long graph lines line long begins =

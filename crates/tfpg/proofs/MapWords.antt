@@ -1,15 +1,15 @@
 -- What the words of the lines of a map say.
-use Rattle.std.proofs.Common.{◌≡◌, ℕ, ◌+◌, ◌<◌, ◌≤◌, ◌^◌, ◌==◌, Bool, true, false, cond, List, [], ◌∷◌, length, map, get_or, leb, All, IsTrue, Option, Some, None, unwrap_or, codes, refl, ap, sym, subst, ◌∙◌, arith}
+use Rattle.std.proofs.Common.{◌≡◌, ℕ, ◌+◌, ◌<◌, ◌≤◌, ◌==◌, Bool, true, false, cond, List, [], ◌∷◌, length, map, get_or, leb, All, IsTrue, Option, Some, None, unwrap_or, codes, refl, ap, sym, subst, ◌∙◌, arith}
 use Rattle.std.specs.Prelude.{decimal, IfSome}
 use Rattle.std.specs.Option.{option_and_then}
 use Rattle.std.specs.List.{AllByRecursion, join_with_byte, slice_split}
 use Rattle.std.specs.Str.{bytes_eq}
 use Rattle.std.proofs.lemmas.Bool.{eq-eqb, eqb-true, ne_eqb, lt-ltb, false≢true}
 use Rattle.std.proofs.lemmas.Bool.Decides.{nat_tests}
-use Rattle.std.proofs.lemmas.List.Elements.{All-nil, All-cons, All-head, All-tail, All-weaker, All-append}
+use Rattle.std.proofs.lemmas.List.Elements.{All-cons, All-head, All-tail, All-weaker, All-from_recursion}
 use Rattle.std.proofs.lemmas.List.Quantifiers.{position-Some}
 use Rattle.std.proofs.lemmas.List.Splits.{join_with_byte-slice_split, length-slice_split}
-use Rattle.std.proofs.lemmas.Option.{slice_get-get_or}
+use Rattle.std.proofs.lemmas.Option.{slice_get-get_or, same_Some}
 use Rattle.std.proofs.lemmas.Slice.Eq.{bytes_eq-Decides}
 use Rattle.tfpg_base.specs.declared.activation.Activation.{Activation}
 use Rattle.tfpg_base.specs.declared.word.Number.TheVariants.{Value, TooLarge}
@@ -17,18 +17,19 @@ use Rattle.tfpg_base.specs.Set.{with_member}
 use Rattle.tfpg_base.specs.declared.limits.TheConstants.{MAX_TIME}
 use Rattle.tfpg_base.specs.Words.{words_of, line_of, is_name, is_name_byte, number_of, number_up_to}
 use Rattle.tfpg_base.proofs.lists.Elements.{AllPairs-head, AllPairs-tail, AllPairs-cons}
-use Rattle.tfpg_base.proofs.Numbers.{number_of-decimal, decimal-number_of}
-use Rattle.tfpg_base.proofs.Separators.{Lacks, lacks_checked, name_lacks, decimal_lacks, join_with_byte-words_of, slice_split-join}
+use Rattle.tfpg_base.proofs.Numbers.{number_of-decimal, decimal-number_of, number_up_to-value}
+use Rattle.tfpg_base.proofs.Separators.{name_lacks, join_with_byte-words_of}
+use Rattle.tfpg_base.proofs.lists.Lacking.{Lacks, lacks_checked, decimal_lacks, slice_split-join}
 use Rattle.tfpg_graph.specs.Graph.{Tfpg, name_at, name_word, node_named, failures, failure_at, position_of_failure, is_failure, IsSetOf}
 use Rattle.tfpg_graph.specs.Valid.{IsValid}
-use Rattle.tfpg_graph.proofs.lemmas.declared.Named.{named_found}
+use Rattle.tfpg_graph.proofs.lemmas.declaring.Named.{named_found}
+use Rattle.tfpg_base.proofs.lists.Joined.{All-join}
 use Rattle.tfpg_base.proofs.lists.Positions.{position-at}
 use Rattle.tfpg_graph.proofs.lemmas.reading.SpelledEdges.{is_name-name_word, node_named-name_word}
 use Rattle.tfpg_base.proofs.lists.Numbered.{one_index}
 use Rattle.tfpg_report.specs.Blocks.{set_word, activation_line, failure_word}
 use Rattle.tfpg.specs.Map.{IsActivationOf, set_line}
 use Rattle.tfpg.specs.inside.MapLines.{word_after_set, words_after_at, position_named, AreRisingFrom}
-use Rattle.std.proofs.lemmas.Option.{same_Some}
 use Rattle.tfpg_graph.proofs.Numbered.{failure_at-below}
 
 -- ---- words and lines
@@ -67,33 +68,19 @@ line_is-at line name time e = sym (join_with_byte-words_of line) ∙ ap (join_wi
 pub line_is-set : (line word : List ℕ) → word_after_set (words_of line) ≡ Some word → line ≡ line_of (codes "set" ∷ word ∷ [])
 line_is-set line word e = sym (join_with_byte-words_of line) ∙ ap (join_with_byte 32) (words_are-set (words_of line) word e)
 
--- the time of an activation is small
-small_time : (time : ℕ) → time ≤ MAX_TIME → time < 2 ^ 64
-small_time time within = omega (arith, within)
-
 -- a number up to the greatest time is read as it is
 pub time_read : (time : ℕ) → time ≤ MAX_TIME → number_up_to MAX_TIME (number_of (decimal time)) ≡ Value time
-time_read time within = ap (number_up_to MAX_TIME) (number_of-decimal time (small_time time within)) ∙ by (leb time MAX_TIME) refl
+time_read time within = ap (number_up_to MAX_TIME) (number_of-decimal time (omega (arith, within))) ∙ by (leb time MAX_TIME) refl
   where
     by : (b : Bool) → leb time MAX_TIME ≡ b → cond b (Value time) TooLarge ≡ Value time
     by true is = refl
     by false is = absurd (grind (arith, nat_tests))
 
-value_read : (word : List ℕ) (time : ℕ) (read : Option ℕ) → number_of word ≡ read → number_up_to MAX_TIME read ≡ Value time → (number_of word ≡ Some time) × (time ≤ MAX_TIME)
-value_read word time None is e = absurd cc
-value_read word time (Some value) is e = by (leb value MAX_TIME) refl e
-  where
-    by : (b : Bool) → leb value MAX_TIME ≡ b → cond b (Value value) TooLarge ≡ Value time → (number_of word ≡ Some time) × (time ≤ MAX_TIME)
-    by true small same =
-        let value_is : value ≡ time = cc in
-        (is ∙ ap Some value_is, subst (λ n. n ≤ MAX_TIME) value_is (grind (arith, nat_tests)))
-    by false small same = absurd cc
-
 -- a word that is read as a time up to the greatest one
 pub time_spelled : (word : List ℕ) (time : ℕ) → number_up_to MAX_TIME (number_of word) ≡ Value time → (word ≡ decimal time) × (time ≤ MAX_TIME)
 time_spelled word time e =
-    let read = value_read word time (number_of word) refl e in
-    (decimal-number_of word time read.0 (small_time time read.1), read.1)
+    let read = number_up_to-value MAX_TIME time (number_of word) e in
+    (decimal-number_of word time read.0 (omega (arith, read.1)), read.1)
 
 module _ (graph : Tfpg) (valid : IsValid graph) where
   -- the line of an activation is read so
@@ -103,7 +90,7 @@ module _ (graph : Tfpg) (valid : IsValid graph) where
         lacks_checked 32 (codes "at") refl,
         (
           name_lacks 32 (name_word graph activation.node) refl (is_name-name_word graph activation.node of.in_graph valid.so_far.node_names),
-          (decimal_lacks 32 activation.time refl (small_time activation.time of.in_range), tt),
+          (decimal_lacks 32 activation.time refl (omega (arith, of.in_range)), tt),
         ),
       ))
 
@@ -263,14 +250,9 @@ set_parts graph valid word (position ∷ positions) no_hyphen set e = (
 
 hyphen_or_names : (graph : Tfpg) → IsValid graph → (positions : List ℕ) → All (λ position. position < length (failures graph)) positions → Lacks 32 (set_word graph positions)
 hyphen_or_names graph valid [] members = lacks_checked 32 (codes "-") refl
-hyphen_or_names graph valid (position ∷ positions) members = join_lacks (map (failure_word graph) (position ∷ positions)) (names_lack graph valid 32 refl (position ∷ positions) members)
-  where
-    join_lacks : (words : List (List ℕ)) → AllByRecursion (Lacks 32) words → Lacks 32 (join_with_byte 44 words)
-    join_lacks [] are = All-nil (λ other. (other == 32) ≡ false)
-    join_lacks (word ∷ []) are = are.0
-    join_lacks (word ∷ second ∷ others) are =
-        All-append (λ other. (other == 32) ≡ false) word (44 ∷ join_with_byte 44 (second ∷ others)) are.0
-        (All-cons (λ other. (other == 32) ≡ false) 44 (join_with_byte 44 (second ∷ others)) refl (join_lacks (second ∷ others) are.1))
+hyphen_or_names graph valid (position ∷ positions) members =
+    let names : List (List ℕ) = map (failure_word graph) (position ∷ positions) in
+    All-join (λ other. (other == 32) ≡ false) 44 names refl (All-from_recursion (Lacks 32) names (names_lack graph valid 32 refl (position ∷ positions) members))
 
 -- the line of a set is read so
 pub set_line-read : (graph : Tfpg) → IsValid graph → (positions : List ℕ) → IsSetOf graph positions → word_after_set (words_of (set_line graph positions)) ≡ Some (set_word graph positions)

@@ -2,16 +2,17 @@
 use Rattle.std.proofs.Common.{◌≡◌, ◌⊎◌, ◌==◌, ℕ, ◌<◌, Bool, true, false, cond, List, [], ◌∷◌, length, map, All, Some, None, codes, refl, sym, ap, ◌∙◌, arith, inl, inr}
 use Rattle.std.specs.List.{slice_split}
 use Rattle.std.proofs.lemmas.Bool.{eqb-true, eqb-false, eq-eqb, ne_eqb, false≢true, cases_order}
-use Rattle.std.proofs.lemmas.List.Elements.{All-head, All-tail, All-cons}
+use Rattle.std.proofs.lemmas.List.Elements.{All-head, All-cons}
 use Rattle.tfpg_base.specs.declared.activation.Activation.{Activation}
 use Rattle.tfpg_base.specs.declared.word.Number.TheVariants.{Value}
 use Rattle.tfpg_base.specs.declared.limits.TheConstants.{MAX_TIME}
 use Rattle.tfpg_base.specs.Trace.{IsRisingByNode, time_of}
 use Rattle.tfpg_base.specs.Words.{words_of, is_name, number_of, number_up_to}
+use Rattle.tfpg_base.proofs.Traces.{time_of-none}
 use Rattle.tfpg_base.proofs.lists.Elements.{AllPairs-head, AllPairs-tail}
 use Rattle.tfpg_graph.specs.Graph.{Tfpg, failures, IsSetOf}
 use Rattle.tfpg_graph.specs.Valid.{IsValid}
-use Rattle.tfpg_base.proofs.Separators.{slice_split-join}
+use Rattle.tfpg_base.proofs.lists.Lacking.{slice_split-join}
 use Rattle.tfpg_report.specs.Blocks.{set_word, activation_line, failure_word}
 use Rattle.tfpg.specs.Map.{IsActivationOf, SpellsMap, set_line}
 use Rattle.tfpg.specs.inside.MapLines.{word_after_set, words_after_at, position_named}
@@ -73,10 +74,7 @@ module _ (graph : Tfpg) (valid : IsValid graph) where
 
 -- a node before all others has no time
 absent : (trace : List Activation) (node : ℕ) → All (λ activation. node < activation.node) trace → time_of trace node ≡ None
-absent [] node before = refl
-absent (first ∷ others) node before =
-    let apart : (first.node == node) ≡ false = ne_eqb first.node node (λ is. omega (arith, is, All-head (λ activation. node < activation.node) first others before)) in
-    ap (λ (b : Bool). cond b (Some first.time) (time_of others node)) apart ∙ absent others node (All-tail (λ activation. node < activation.node) first others before)
+absent trace node before = time_of-none trace node (λ k d within is. omega (arith, is, before k d within))
 
 -- the first node has its time
 present : (first : Activation) (others : List Activation) → time_of (first ∷ others) first.node ≡ Some first.time

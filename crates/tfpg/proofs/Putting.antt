@@ -1,6 +1,6 @@
 -- Writing one piece after another.
-use Rattle.std.proofs.Common.{◌≡◌, ℕ, List, [], ◌++◌, take, drop, Option, Some, None, IfSome, sym, ap, subst, ◌∙◌, append_assoc}
-use Rattle.std.proofs.lemmas.List.{take-append-drop, append-nil}
+use Rattle.std.proofs.Common.{◌≡◌, ℕ, List, [], ◌++◌, Option, Some, None, IfSome, sym, ap, subst, ◌∙◌, append_assoc}
+use Rattle.std.proofs.lemmas.List.{append-nil}
 use Rattle.tfpg_base.specs.Outside.{SinkState, Puts}
 
 -- what was written in two turns
@@ -23,16 +23,3 @@ Puts-same_held before after same = go before.holds same
 -- equal bytes were written
 pub Puts-same : (before after : SinkState) (bytes same : List ℕ) → bytes ≡ same → Puts before after bytes → Puts before after same
 Puts-same before after bytes same e h = subst (Puts before after) e h
-
--- a front that was written before a call that failed
-pub Puts-failed : (before mid after : SinkState) (front : List ℕ) → Puts before mid front → after.holds ≡ mid.holds → Puts before after front
-Puts-failed before mid after front put same = go before.holds put
-  where
-    go : (holds : Option (List ℕ)) → IfSome holds (λ held. mid.holds ≡ Some (held ++ front)) → IfSome holds (λ held. after.holds ≡ Some (held ++ front))
-    go None h = tt
-    go (Some held) h = same ∙ h
-
--- a piece of which more is written
-pub more_is_put : (piece front rest : List ℕ) (count : ℕ) → piece ≡ front ++ rest → piece ≡ (front ++ take count rest) ++ drop count rest
-more_is_put piece front rest count e =
-    e ∙ ap (λ (r : List ℕ). front ++ r) (sym (take-append-drop count rest)) ∙ sym (append_assoc front (take count rest) (drop count rest))

@@ -14,7 +14,7 @@ use Rattle.tfpg.specs.declared.fault.FetchFault.{FetchFault}
 use Rattle.tfpg.specs.declared.fault.StreamFault.{StreamFault}
 use Rattle.tfpg.specs.declared.fault.StreamFault.TheVariants as faults
 use Rattle.tfpg.specs.inside.Faults.{end_of_table_fault}
-use Rattle.tfpg.proofs.Exits.{err_is}
+use Rattle.tfpg_base.proofs.lists.Choices.{IfErr-from}
 use Rattle.tfpg.proofs.Turns.{begins_without_memory}
 use Rattle.tfpg_base.proofs.lists.Sequences.{not_above}
 use Rattle.tfpg.specs.EndsOf.{end_of_fetch_fault, end_of_stream_fault}
@@ -37,7 +37,7 @@ without_memory graph k exact count counted = not_above count MAX_HYPOTHESES (λ 
 module _ {T : Type 0} (shelf_before shelf_now : ShelfState) (k b : ℕ) (name : List ℕ) (before now : Streams) (result : Result T End) where
   -- the end at the exit of a `?`
   ends_by : (end : End) → IsErrAnd result (λ e. e ≡ end) → DiagnoseEnds shelf_before shelf_now k b name before now end → IfErr result (DiagnoseEnds shelf_before shelf_now k b name before now)
-  ends_by end err ends = err_is (DiagnoseEnds shelf_before shelf_now k b name before now) result end err ends
+  ends_by end err ends = IfErr-from (DiagnoseEnds shelf_before shelf_now k b name before now) result end err ends
 
   -- there is no graph
   pub stops_without_graph : (fault : FetchFault) → IsFetchFault shelf_before shelf_now name fault → now ≡ before → IsErrAnd result (λ end. end ≡ end_of_fetch_fault fault)

@@ -6,7 +6,7 @@ use Rattle.std.proofs.lemmas.Option.{slice_get_cases, slice_get_within, slice_ge
 use Rattle.tfpg_base.specs.Lines.{lines_of}
 use Rattle.tfpg_graph.specs.Graph.{Tfpg, failures}
 use Rattle.tfpg_graph.specs.Valid.{IsValid}
-use Rattle.tfpg_log.specs.Log.{Logbook, IsOf, IsOrdered}
+use Rattle.tfpg_log.specs.Log.{Logbook, IsLogOf, IsOrdered}
 use Rattle.tfpg_log.specs.LogOfLines.{log_of_lines}
 use Rattle.tfpg_log.specs.Explains.{Explains, Fits}
 use Rattle.tfpg_log.proofs.LogsOfLines.{of-log_of_lines, ordered-log_of_lines}
@@ -36,7 +36,7 @@ use Rattle.tfpg.specs.inside.Summary.{HasFindingOn, SaysOfRound}
 -- no round rejects a set that fits
 abbrev pub RejectsNoneThatFits : Type 0
 RejectsNoneThatFits =
-    (graph : Tfpg) (k budget line : ℕ) (rounds : List Round) (log : Logbook) (round : Round) → IsValid graph → IsOf graph log → IsOrdered log → IsRound graph k budget rounds log line round
+    (graph : Tfpg) (k budget line : ℕ) (rounds : List Round) (log : Logbook) (round : Round) → IsValid graph → IsLogOf graph log → IsOrdered log → IsRound graph k budget rounds log line round
     → (number : ℕ) (finding : Finding) → slice_get round.findings number ≡ Some finding → Fits graph log finding.set → IsTrue (is_rejected finding.status) → ⊥
 
 module _ (graph : Tfpg) (lines : List (List ℕ)) (d : Diagnosis) (has : HasDiagnosed graph lines d) (some : 0 < length lines) where

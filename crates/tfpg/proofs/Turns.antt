@@ -1,28 +1,27 @@
 -- One turn of a diagnosis after another.
-use Rattle.std.proofs.Common.{◌^◌, ◌≡◌, ℕ, ◌+◌, ◌<◌, ◌≤◌, List, [], ◌∷◌, ◌++◌, length, take, drop, Some, Result, Ok, Err, refl, sym, ap, subst, ◌∙◌, arith, inl, ⊎_elim, append_assoc}
-use Rattle.std.specs.Prelude.{flat_map, IsErrAnd, IfErr, OnErr, slice_get}
-use Rattle.std.specs.List.{AllByRecursion}
+use Rattle.std.proofs.Common.{◌≡◌, ℕ, ◌+◌, ◌<◌, ◌≤◌, List, [], ◌∷◌, ◌++◌, length, take, drop, Some, Result, Ok, Err, refl, sym, ap, subst, ◌∙◌, arith, inl, ⊎_elim, append_assoc}
+use Rattle.std.specs.Prelude.{flat_map, slice_get}
 use Rattle.std.proofs.lemmas.Bool.{cases_lt}
 use Rattle.std.proofs.lemmas.List.{take-append-drop, take-append-le, append-nil, length-append, take_at}
 use Rattle.std.proofs.lemmas.List.Concat.{flat_map-append}
-use Rattle.std.proofs.lemmas.Option.{slice_get_within}
+use Rattle.std.proofs.lemmas.Option.{slice_get_within, same_Some}
 use Rattle.tfpg_base.specs.declared.line.Line.{Line}
 use Rattle.tfpg_base.specs.declared.line.Line.TheVariants as line
 use Rattle.tfpg_base.specs.declared.line.LineFault.{LineFault}
 use Rattle.tfpg_base.specs.declared.line.LineFault.TheVariants as fault
 use Rattle.tfpg_base.specs.Outside.{SourceState, SinkState, Rose, Takes, Puts}
-use Rattle.tfpg_base.specs.Lines.{Buffered, LinesRepresent, Continues, with_bytes, with_line, lines_of, whole_lines, new_reading}
+use Rattle.tfpg_base.specs.Lines.{LinesState, LinesRepresent, Continues, with_bytes, with_line, lines_of, whole_lines, new_reading}
 use Rattle.tfpg_base.specs.declared.limits.TheConstants.{LONGEST_LINE, MAX_BYTES}
 use Rattle.tfpg_base.proofs.LinesOf.{take-lines_of}
 use Rattle.tfpg_base.proofs.Taking.{Takes-append, Takes-nothing}
 use Rattle.tfpg_base.proofs.ReadingOn.{GaveLine, Continues-turn, Continues-text, Continues-too_long}
 use Rattle.tfpg_graph.specs.Graph.{Tfpg}
+use Rattle.tfpg_base.proofs.lists.Elements.{AllByRecursion-push}
 use Rattle.tfpg_base.proofs.lists.Written.{slice_get-push_before, slice_get-push_at}
 use Rattle.tfpg_report.specs.declared.refused_line.RefusedLine.TheVariants.{TooLong}
 use Rattle.tfpg_report.specs.Blocks.{Block, block_text, head_text, refused_text}
-use Rattle.tfpg_check.specs.Report.{Progress, IsBlock, AreBlocks, report_text, progress_of}
-use Rattle.tfpg_check.specs.Report.{new_progress, progress_after}
-use Rattle.tfpg_engine.specs.Engining.{Engining}
+use Rattle.tfpg_check.specs.Report.{Progress, IsBlock, AreBlocks, report_text, progress_of, new_progress, progress_after}
+use Rattle.tfpg_engine.specs.EngineState.{EngineState}
 use Rattle.tfpg.specs.declared.fault.StreamFault.{StreamFault}
 use Rattle.tfpg.specs.declared.fault.StreamFault.TheVariants as faults
 use Rattle.tfpg.specs.inside.Faults.{stream_fault_of_lines}
@@ -36,7 +35,6 @@ use Rattle.tfpg.proofs.LineBlocks.{block_of_long_line}
 use Rattle.tfpg_base.proofs.lists.Cuts.{front_is_within, front_before, front_with}
 use Rattle.tfpg.proofs.InputLines.{rest_of, rest_is_left, front_of_input, came_to_end, few_lines}
 use Rattle.tfpg.proofs.Putting.{Puts-append, Puts-same_held}
-use Rattle.std.proofs.lemmas.Option.{same_Some}
 
 -- ---- one block more
 
@@ -107,11 +105,6 @@ report_text-push graph k b blocks block =
     append_assoc (head_text k b) (flat_map (block_text graph) blocks) (block_text graph block)
     ∙ ap (λ (t : List ℕ). head_text k b ++ t) (sym (flat_map-append (block_text graph) blocks (block ∷ []) ∙ ap (λ (t : List ℕ). flat_map (block_text graph) blocks ++ t) (append-nil (block_text graph block))))
 
--- what holds of each of some items and of one more holds of each of all
-AllByRecursion-push : {X : Type 0} (P : X → Type 0) (xs : List X) (x : X) → AllByRecursion P xs → P x → AllByRecursion P (xs ++ x ∷ [])
-AllByRecursion-push P [] x are is = (is, tt)
-AllByRecursion-push P (first ∷ others) x are is = (are.0, AllByRecursion-push P others x are.1 is)
-
 -- what is written so far begins the report
 begins : (graph : Tfpg) (k b : ℕ) (input : SourceState) (taken : List ℕ) (given : List (List ℕ)) (blocks : List Block) → take (length given) (lines_of (taken ++ rest_of input)) ≡ given
     → AreBlocks graph k b given blocks → RoundsSay graph k b given blocks → (written rest : List ℕ) → report_text graph k b blocks ≡ written ++ rest
@@ -137,7 +130,7 @@ abbrev pub asked : Streams → SourceState → Streams
 asked now input = record { input = input; output = now.output }
 
 -- a diagnosis ends in this way where so much more was taken and nothing more was written
-ended_with : (graph : Tfpg) (k b : ℕ) (before now : Streams) (lines : Buffered) (engine : Engining) (input : SourceState) (under : IsDiagnosing graph k b before now lines engine) (more : List ℕ)
+ended_with : (graph : Tfpg) (k b : ℕ) (before now : Streams) (lines : LinesState) (engine : EngineState) (input : SourceState) (under : IsDiagnosing graph k b before now lines engine) (more : List ℕ)
     → Takes now.input input more → (result : Result (Unit {0}) StreamFault)
     → DiagnosisEnds graph k b before (asked now input) (under.reading.taken ++ more) under.blocks (report_text graph k b under.blocks) result → Diagnoses graph k b before (asked now input) result
 ended_with graph k b before now lines engine input under more takes result ends = record {
@@ -151,7 +144,7 @@ ended_with graph k b before now lines engine input under more takes result ends 
 }
 
 -- a fault of the reader ends the diagnosis
-pub ends_by_fault : (graph : Tfpg) (k b : ℕ) (before now : Streams) (lines lines' : Buffered) (engine : Engining) (input : SourceState) (f : LineFault)
+pub ends_by_fault : (graph : Tfpg) (k b : ℕ) (before now : Streams) (lines lines' : LinesState) (engine : EngineState) (input : SourceState) (f : LineFault)
     → (under : IsDiagnosing graph k b before now lines engine) → Continues under.reading under.reading.ended now.input input (Err f) lines'
     → Diagnoses graph k b before (asked now input) (Err (stream_fault_of_lines f))
 ends_by_fault graph k b before now lines lines' engine input fault.ReadFault under continues =
@@ -180,7 +173,7 @@ ends_by_fault graph k b before now lines lines' engine input fault.TooMuchInput 
     )
 
 -- the end of the input ends the diagnosis
-pub ends_done : (graph : Tfpg) (k b : ℕ) (before now : Streams) (lines lines' : Buffered) (engine : Engining) (input : SourceState)
+pub ends_done : (graph : Tfpg) (k b : ℕ) (before now : Streams) (lines lines' : LinesState) (engine : EngineState) (input : SourceState)
     → (under : IsDiagnosing graph k b before now lines engine) → Continues under.reading under.reading.ended now.input input (Ok line.End) lines'
     → Diagnoses graph k b before (asked now input) (Ok tt)
 ends_done graph k b before now lines lines' engine input under continues =
@@ -196,7 +189,7 @@ ends_done graph k b before now lines lines' engine input under continues =
 
 -- ---- a line that was read
 
-module _ (graph : Tfpg) (k b : ℕ) (before now : Streams) (lines : Buffered) (engine : Engining) (input : SourceState) (reader : Buffered)
+module _ (graph : Tfpg) (k b : ℕ) (before now : Streams) (lines : LinesState) (engine : EngineState) (input : SourceState) (reader : LinesState)
     (under : IsDiagnosing graph k b before now lines engine) (gave : GaveLine under.reading now.input input reader) where
   -- where memory runs out for the block, what was written before begins the report
   pub gave_without_memory : Diagnoses graph k b before (asked now input) (Err faults.NoMemory)
@@ -218,7 +211,7 @@ module _ (graph : Tfpg) (k b : ℕ) (before now : Streams) (lines : Buffered) (e
         );
       }
 
-  module _ (number : ℕ) (bytes : List ℕ) (later : Engining) (output : SinkState)
+  module _ (number : ℕ) (bytes : List ℕ) (later : EngineState) (output : SinkState)
       (number_is : number ≡ reader.number) (block : HasBlock graph k b (progress_of graph under.reading.given under.blocks) number gave.first bytes later) where
     blocks_are : AreBlocks graph k b (under.reading.given ++ gave.first ∷ []) (under.blocks ++ block.block ∷ [])
     blocks_are =
@@ -285,12 +278,12 @@ module _ (graph : Tfpg) (k b : ℕ) (before now : Streams) (lines : Buffered) (e
 -- ---- as the code comes to it
 
 -- A line was read, and these bytes are its block.
-pub record IsLineBlock (graph : Tfpg) (k b : ℕ) (before now : Streams) (lines : Buffered) (engine : Engining) (input : SourceState) (reader : Buffered)
-    (under : IsDiagnosing graph k b before now lines engine) (number : ℕ) (bytes : List ℕ) (later : Engining) : Type 0 where
+pub record IsLineBlock (graph : Tfpg) (k b : ℕ) (before now : Streams) (lines : LinesState) (engine : EngineState) (input : SourceState) (reader : LinesState)
+    (under : IsDiagnosing graph k b before now lines engine) (number : ℕ) (bytes : List ℕ) (later : EngineState) : Type 0 where
   pub gave : GaveLine under.reading now.input input reader
   pub block : HasBlock graph k b (progress_of graph under.reading.given under.blocks) number gave.first bytes later
 
-module _ (graph : Tfpg) (k b : ℕ) (before now : Streams) (lines : Buffered) (engine : Engining) (input : SourceState) (reader : Buffered)
+module _ (graph : Tfpg) (k b : ℕ) (before now : Streams) (lines : LinesState) (engine : EngineState) (input : SourceState) (reader : LinesState)
     (under : IsDiagnosing graph k b before now lines engine) (l : Line) (continues : Continues under.reading under.reading.ended now.input input (Ok l) reader) where
   -- the input has ended
   pub met_end : l ≡ line.End → Diagnoses graph k b before (asked now input) (Ok tt)
@@ -308,7 +301,7 @@ module _ (graph : Tfpg) (k b : ℕ) (before now : Streams) (lines : Buffered) (e
       (subst (λ (x : Line). Continues under.reading under.reading.ended now.input input (Ok x) reader) e continues)
 
   -- the block of a text
-  pub block_of_text : (number : ℕ) (text bytes : List ℕ) (later : Engining) → l ≡ line.Text → text ≡ reader.text
+  pub block_of_text : (number : ℕ) (text bytes : List ℕ) (later : EngineState) → l ≡ line.Text → text ≡ reader.text
       → ((before : Progress) → EngineReports graph k b engine before → length text ≤ LONGEST_LINE → HasBlock graph k b before number text bytes later)
       → IsLineBlock graph k b before now lines engine input reader under number bytes later
   block_of_text number text bytes later e t gives =
@@ -331,22 +324,10 @@ module _ (graph : Tfpg) (k b : ℕ) (before now : Streams) (lines : Buffered) (e
         block = block_of_long_line graph k b (progress_of graph under.reading.given under.blocks) number met.0.first bytes engine met.1 under.reports text;
       }
 
--- what holds at the exit of a `?` that ends the diagnosis
-pub result_is : (graph : Tfpg) (k b : ℕ) (before now : Streams) (result : Result (Unit {0}) StreamFault) (e : StreamFault) → IsErrAnd result (λ x. x ≡ e) → Diagnoses graph k b before now (Err e)
-    → Diagnoses graph k b before now result
-result_is graph k b before now (Ok x) e h d = absurd h
-result_is graph k b before now (Err x) e h d = subst (λ (f : StreamFault). Diagnoses graph k b before now (Err f)) (sym h) d
-
--- what holds after a block that could not be written
-pub stopped_by : {T : Type 0} (result : Result T StreamFault) (F R : Type 0) (P : StreamFault → Type 0) → IfErr result (λ x. x ≡ faults.WriteFault) → OnErr result F → OnErr result R
-    → (F → R → P faults.WriteFault) → IfErr result P
-stopped_by (Ok x) F R P e f r h = tt
-stopped_by (Err x) F R P e f r h = subst P (sym e) (h f r)
-
 -- ---- the whole course
 
 -- no more lines are read than bytes may be taken, but for a last one
-pub few_given : (graph : Tfpg) (k b : ℕ) (before now : Streams) (lines : Buffered) (engine : Engining) → IsDiagnosing graph k b before now lines engine → lines.number ≤ 2 ^ 32 + 1
+pub few_given : (graph : Tfpg) (k b : ℕ) (before now : Streams) (lines : LinesState) (engine : EngineState) → IsDiagnosing graph k b before now lines engine → lines.number ≤ MAX_BYTES + 1
 few_given graph k b before now lines engine under =
     let within = front_is_within (lines_of under.reading.taken) under.reading.given under.front in
     omega (arith, within, few_lines under.reading.taken, under.few, under.represents.number)
@@ -356,7 +337,7 @@ pub head_as : (k' k b' b : ℕ) (bytes : List ℕ) → k' ≡ k → b' ≡ b →
 head_as k' k b' b bytes e f is = subst (λ (y : ℕ). bytes ≡ head_text k y) f (subst (λ (x : ℕ). bytes ≡ head_text x b') e is)
 
 -- a diagnosis begins
-pub begins_under_way : (graph : Tfpg) (k b : ℕ) (before : Streams) (lines : Buffered) (engine : Engining) (output : SinkState)
+pub begins_under_way : (graph : Tfpg) (k b : ℕ) (before : Streams) (lines : LinesState) (engine : EngineState) (output : SinkState)
     → LinesRepresent lines new_reading → EngineReports graph k b engine new_progress → Puts before.output output (head_text k b) → output.faults ≡ before.output.faults
     → IsDiagnosing graph k b before (record { input = before.input; output = output }) lines engine
 begins_under_way graph k b before lines engine output unread new puts no_fault = record {

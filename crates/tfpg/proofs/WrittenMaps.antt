@@ -1,5 +1,5 @@
 -- The text of a map spells it.
-use Rattle.std.proofs.Common.{◌≡◌, ℕ, ◌+◌, ◌*◌, ◌<◌, ◌≤◌, ◌^◌, List, [], ◌∷◌, ◌++◌, length, map, flat_map, All, Bool, true, false, IsTrue, eqb, codes, refl, sym, ap, subst, ◌∙◌, arith, length-append}
+use Rattle.std.proofs.Common.{◌≡◌, ℕ, ◌+◌, ◌*◌, ◌<◌, ◌≤◌, List, [], ◌∷◌, ◌++◌, length, map, flat_map, All, Bool, true, false, IsTrue, eqb, codes, refl, sym, ap, subst, ◌∙◌, arith, length-append}
 use Rattle.std.specs.Prelude.{decimal}
 use Rattle.std.specs.List.{join_with_byte}
 use Rattle.std.proofs.lemmas.List.{length-map}
@@ -9,9 +9,11 @@ use Rattle.tfpg_base.specs.declared.activation.Activation.{Activation}
 use Rattle.tfpg_base.specs.Lines.{HasNoLineEnd, lines_of, with_line_end}
 use Rattle.tfpg_base.specs.declared.limits.TheConstants.{LONGEST_LINE, MAX_TIME}
 use Rattle.tfpg_base.specs.Trace.{IsRisingByNode}
-use Rattle.tfpg_base.proofs.Separators.{lacks_checked, name_lacks, decimal_lacks}
+use Rattle.tfpg_base.proofs.Separators.{name_lacks}
+use Rattle.tfpg_base.proofs.lists.Lacking.{lacks_checked, decimal_lacks}
 use Rattle.tfpg_base.proofs.WordLengths.{name_short, number_short}
 use Rattle.tfpg_base.proofs.lists.Distinct.{length-le_distinct}
+use Rattle.tfpg_base.proofs.lists.Joined.{All-join, length-join}
 use Rattle.tfpg_base.proofs.lists.Ordered.{Rises-differ}
 use Rattle.tfpg_graph.specs.Graph.{Tfpg, name_word, failures, IsSetOf}
 use Rattle.tfpg_graph.specs.Valid.{IsValid}
@@ -34,18 +36,10 @@ record IsLinePart (limit : ℕ) (text : List ℕ) : Type 0 where
 
 -- names with commas between
 joined : (names : List (List ℕ)) → All (IsLinePart 32) names → IsLinePart (length names * 33) (join_with_byte 44 names)
-joined [] are = record { lacks = All-nil (λ byte. eqb byte 10 ≡ false); few = omega arith }
-joined (name ∷ []) are =
-    let first = All-head (IsLinePart 32) name [] are in
-    record { lacks = first.lacks; few = omega (arith, first.few) }
-joined (name ∷ second ∷ others) are =
-    let first = All-head (IsLinePart 32) name (second ∷ others) are in
-    let rest = joined (second ∷ others) (All-tail (IsLinePart 32) name (second ∷ others) are) in
-    let after = join_with_byte 44 (second ∷ others) in
-    record {
-      lacks = All-append (λ byte. eqb byte 10 ≡ false) name (44 ∷ after) first.lacks (All-cons (λ byte. eqb byte 10 ≡ false) 44 after refl rest.lacks);
-      few = omega (arith, length-append name (44 ∷ after), first.few, rest.few);
-    }
+joined names are = record {
+  lacks = All-join (λ byte. eqb byte 10 ≡ false) 44 names refl (All-weaker (IsLinePart 32) HasNoLineEnd (λ name part. part.lacks) names are);
+  few = omega (arith, length-join 44 32 names (All-weaker (IsLinePart 32) (λ name. length name ≤ 32) (λ name part. part.few) names are));
+}
 
 module _ (graph : Tfpg) (valid : IsValid graph) where
   -- ---- the line of a set

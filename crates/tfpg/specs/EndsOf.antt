@@ -31,10 +31,7 @@ end_of_stream_fault streams.NoMemory = ends.NoMemory
 -- the end of a run whose map was not judged
 abbrev pub end_of_judge_fault : JudgeFault → End
 end_of_judge_fault (judge.BadMap line) = ends.NotAccepted line BadMap
-end_of_judge_fault judge.ReadFault = ends.ReadFault
-end_of_judge_fault judge.WriteFault = ends.WriteFault
-end_of_judge_fault judge.TooMuchInput = ends.TooMuchInput
-end_of_judge_fault judge.NoMemory = ends.NoMemory
+end_of_judge_fault (judge.Stream fault) = end_of_stream_fault fault
 
 -- the end of a run whose script was not simulated
 abbrev pub end_of_simulate_fault : SimulateFault → End
@@ -47,19 +44,7 @@ abbrev pub end_of_generate_fault : GenerateFault → End
 end_of_generate_fault generate.WriteFault = ends.WriteFault
 end_of_generate_fault generate.NoMemory = ends.NoMemory
 
--- the ends of runs by the results of their work
-abbrev pub end_of_diagnosis : Result (Unit {0}) StreamFault → End
-end_of_diagnosis (Ok done) = ends.Done
-end_of_diagnosis (Err fault) = end_of_stream_fault fault
-
-abbrev pub end_of_judging : Result (Unit {0}) JudgeFault → End
-end_of_judging (Ok done) = ends.Done
-end_of_judging (Err fault) = end_of_judge_fault fault
-
-abbrev pub end_of_simulation : Result (Unit {0}) SimulateFault → End
-end_of_simulation (Ok done) = ends.Done
-end_of_simulation (Err fault) = end_of_simulate_fault fault
-
-abbrev pub end_of_generation : Result (Unit {0}) GenerateFault → End
-end_of_generation (Ok done) = ends.Done
-end_of_generation (Err fault) = end_of_generate_fault fault
+-- the end of a run whose work has this result, by the ends that its faults lead to
+abbrev pub end_of_result : {E : Type 0} → (E → End) → Result (Unit {0}) E → End
+end_of_result end_of (Ok done) = ends.Done
+end_of_result end_of (Err fault) = end_of fault

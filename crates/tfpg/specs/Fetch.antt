@@ -12,8 +12,10 @@ use Rattle.tfpg_log.specs.Log.{Logbook}
 use Rattle.tfpg_log.specs.LogOfLines.{log_of_lines}
 use Rattle.tfpg_words.specs.declared.usage_cause.UsageCause.{UsageCause}
 use Rattle.tfpg_words.specs.Meaning.{Meaning, Diagnose, Explain, Simulate, Generate}
+use Rattle.tfpg.specs.declared.end.End.{End}
 use Rattle.tfpg.specs.declared.fault.FetchFault.{FetchFault}
 use Rattle.tfpg.specs.declared.fault.FetchFault.TheVariants.{Failed, TooLong, Graph, NoMemory}
+use Rattle.tfpg.specs.EndsOf.{end_of_fetch_fault}
 
 -- the file of this name has these bytes, and not too many
 pub record HasFile (shelf : ShelfState) (name text : List ℕ) : Type 0 where
@@ -46,9 +48,8 @@ pub record GivesGraphAndText (shelf : ShelfState) (graph_name text_name : List �
 -- The file of the one name spells the graph, and the log is that of the lines of the file of the other.
 pub record GivesGraphAndLog (shelf : ShelfState) (graph_name log_name : List ℕ) (graph : Tfpg)
     (log : Logbook) : Type 0 where
-  pub of_graph : GivesGraph shelf graph_name graph
   pub text : List ℕ
-  pub file : HasFile shelf log_name text
+  pub gives : GivesGraphAndText shelf graph_name log_name graph text
   pub of_lines : log ≡ log_of_lines graph (lines_of text)
 
 -- Why there is no graph of the file of this name: the shelf failed; the file has more than 2^24 bytes; this is the
@@ -85,3 +86,11 @@ AsksOnly (Ok (Diagnose k budget graph)) before after = AsksFor graph before afte
 AsksOnly (Ok (Explain graph log)) before after = AsksInOrder (graph ∷ log ∷ []) before after
 AsksOnly (Ok (Simulate draw trace graph script)) before after = AsksInOrder (graph ∷ script ∷ []) before after
 AsksOnly (Ok (Generate draw size)) before after = after ≡ before
+
+-- There is no graph or no text of the files of these names, with this cause, and the state is untouched.
+pub record LacksFiles {State : Type 0} (shelf_before shelf_now : ShelfState) (graph_name text_name : List ℕ)
+    (before now : State) (end : End) : Type 0 where
+  pub fault : FetchFault
+  pub is_fault : IsFilesFault shelf_before shelf_now graph_name text_name fault
+  pub end_is : end ≡ end_of_fetch_fault fault
+  pub untouched : now ≡ before

@@ -2,7 +2,7 @@
 -- of the truth.
 use Rattle.std.specs.Prelude.{◌≡◌, ℕ, List, [], ◌∷◌, ◌++◌, length, Contains, false, Result, Ok, Err}
 use Rattle.tfpg_base.specs.Lines.{lines_of}
-use Rattle.tfpg_base.specs.Outside.{SinkState, Rose, Puts}
+use Rattle.tfpg_base.specs.Outside.{SinkState}
 use Rattle.tfpg_evidence.specs.declared.finding.Finding.{Finding}
 use Rattle.tfpg_evidence.specs.declared.round.Round.{Round}
 use Rattle.tfpg_evidence.specs.RoundOf.{is_rejected}
@@ -13,8 +13,9 @@ use Rattle.tfpg.specs.declared.end.End.{End}
 use Rattle.tfpg.specs.declared.limits.TheConstants.{GENERATED_K, GENERATED_BUDGET}
 use Rattle.tfpg.specs.declared.fault.GenerateFault.{GenerateFault}
 use Rattle.tfpg.specs.declared.fault.GenerateFault.TheVariants.{WriteFault, NoMemory}
-use Rattle.tfpg.specs.EndsOf.{end_of_generation}
+use Rattle.tfpg.specs.EndsOf.{end_of_generate_fault, end_of_result}
 use Rattle.tfpg.specs.Diagnosed.{AreRoundsOf}
+use Rattle.tfpg.specs.Streams.{WritesText, BeginsText}
 use Rattle.tfpg.specs.Summary.{summary_text}
 
 -- The text says what was drawn by the number and the size, and what the last of the rounds of the simulated log says:
@@ -34,29 +35,14 @@ pub record HasSummary (number size : ℕ) (text : List ℕ) : Type 0 where
   pub text_is : text ≡ summary_text number size (generated_graph number size) (length (lines_of simulated.log))
       (length (earlier ++ last ∷ [])) last.counts simulated.set truth.status
 
--- The whole text was written, and nothing failed.
-pub record WritesSummary (number size : ℕ) (before now : SinkState) : Type 0 where
-  pub text : List ℕ
-  pub has : HasSummary number size text
-  pub writes : Puts before now text
-  pub no_fault : now.faults ≡ before.faults
-
--- The output failed, and what was written begins the text.
-pub record BeginsSummary (number size : ℕ) (before now : SinkState) : Type 0 where
-  pub front : List ℕ
-  pub rest : List ℕ
-  pub has : HasSummary number size (front ++ rest)
-  pub writes : Puts before now front
-  pub rose : Rose before.faults now.faults
-
 -- How drawing and diagnosing ends. Before the whole text is known, nothing is written.
 abbrev pub GenerationEnds : ℕ → ℕ → SinkState → SinkState → Result (Unit {0}) GenerateFault → Type 0
-GenerationEnds number size before now (Ok done) = WritesSummary number size before now
-GenerationEnds number size before now (Err WriteFault) = BeginsSummary number size before now
+GenerationEnds number size before now (Ok done) = WritesText (HasSummary number size) before now
+GenerationEnds number size before now (Err WriteFault) = BeginsText (HasSummary number size) before now
 GenerationEnds number size before now (Err NoMemory) = now ≡ before
 
 -- How `generate` ends.
 pub record GenerateEnds (number size : ℕ) (before now : SinkState) (end : End) : Type 0 where
   pub result : Result (Unit {0}) GenerateFault
   pub ends : GenerationEnds number size before now result
-  pub end_is : end ≡ end_of_generation result
+  pub end_is : end ≡ end_of_result end_of_generate_fault result

@@ -9,9 +9,10 @@ use Rattle.tfpg_log.specs.Log.{Logbook}
 use Rattle.tfpg_trace.specs.declared.verdict.Verdict.{Verdict}
 use Rattle.tfpg_trace.specs.FirstFault.{IsVerdict}
 use Rattle.tfpg.specs.declared.fault.JudgeFault.{JudgeFault}
-use Rattle.tfpg.specs.declared.fault.JudgeFault.TheVariants.{BadMap, ReadFault, WriteFault, TooMuchInput, NoMemory}
+use Rattle.tfpg.specs.declared.fault.JudgeFault.TheVariants.{BadMap, Stream}
+use Rattle.tfpg.specs.declared.fault.StreamFault.TheVariants.{ReadFault, WriteFault, TooMuchInput, NoMemory}
 use Rattle.tfpg.specs.Map.{SpellsMap, BeginsMap, IsMapFault}
-use Rattle.tfpg.specs.Streams.{Streams, HasLeft, HasNoFault}
+use Rattle.tfpg.specs.Streams.{Streams, HasLeft, CountsUnchanged}
 use Rattle.tfpg.specs.Verdicts.{verdict_text}
 
 -- The whole input was taken, at most 2^32 bytes, and its lines spell this map.
@@ -33,7 +34,7 @@ pub record WritesVerdict (graph : Tfpg) (log : Logbook) (before now : Streams) (
   pub verdict : Verdict
   pub has : GivesVerdict graph log now.input taken verdict
   pub writes : Puts before.output now.output (verdict_text graph verdict)
-  pub no_fault : HasNoFault before now
+  pub no_fault : CountsUnchanged before now
 
 -- The output failed, and what was written begins the verdict on the map.
 pub record BeginsVerdict (graph : Tfpg) (log : Logbook) (before now : Streams) (taken : List ℕ) : Type 0 where
@@ -60,12 +61,12 @@ abbrev pub JudgingEnds : Tfpg → Logbook → Streams → Streams → List ℕ �
 JudgingEnds graph log before now taken (Ok done) = WritesVerdict graph log before now taken
 JudgingEnds graph log before now taken (Err (BadMap line)) =
     RefusesMap graph before.input now.input taken line × (now.output ≡ before.output)
-JudgingEnds graph log before now taken (Err ReadFault) =
+JudgingEnds graph log before now taken (Err (Stream ReadFault)) =
     Rose before.input.faults now.input.faults × BeginsMap graph (whole_lines taken) × (now.output ≡ before.output)
-JudgingEnds graph log before now taken (Err WriteFault) = BeginsVerdict graph log before now taken
-JudgingEnds graph log before now taken (Err TooMuchInput) =
+JudgingEnds graph log before now taken (Err (Stream WriteFault)) = BeginsVerdict graph log before now taken
+JudgingEnds graph log before now taken (Err (Stream TooMuchInput)) =
     (length taken ≡ MAX_BYTES + 1) × BeginsMap graph (whole_lines (take MAX_BYTES taken)) × (now.output ≡ before.output)
-JudgingEnds graph log before now taken (Err NoMemory) = now.output ≡ before.output
+JudgingEnds graph log before now taken (Err (Stream NoMemory)) = now.output ≡ before.output
 
 -- A map was read from the input and judged by the graph and the log, with this result.
 pub record JudgesMap (graph : Tfpg) (log : Logbook) (before now : Streams)

@@ -16,16 +16,16 @@ use Rattle.tfpg.specs.declared.fault.FetchFault.{FetchFault}
 use Rattle.tfpg.specs.declared.fault.JudgeFault.{JudgeFault}
 use Rattle.tfpg.specs.declared.fault.StreamFault.{StreamFault}
 use Rattle.tfpg.specs.declared.fault.StreamFault.TheVariants.{ReadFault, WriteFault, TooMuchInput, NoMemory}
-use Rattle.tfpg.specs.EndsOf.{end_of_diagnosis, end_of_judging, end_of_fetch_fault, end_of_stream_fault}
+use Rattle.tfpg.specs.EndsOf.{end_of_fetch_fault, end_of_stream_fault, end_of_judge_fault, end_of_result}
 use Rattle.tfpg_words.specs.declared.usage_cause.UsageCause.{UsageCause}
 use Rattle.tfpg_words.specs.Meaning.{Meaning, Diagnose, Explain, Simulate, Generate}
-use Rattle.tfpg.specs.Fetch.{GivesGraph, GivesGraphAndLog, IsFetchFault, IsFilesFault}
+use Rattle.tfpg.specs.Fetch.{GivesGraph, GivesGraphAndLog, IsFetchFault, LacksFiles}
 use Rattle.tfpg.specs.ForNow.{LosesNone}
 use Rattle.tfpg.specs.Saying.{RoundsSay}
 use Rattle.tfpg.specs.Generating.{GenerateEnds}
 use Rattle.tfpg.specs.Simulating.{SimulateEnds}
 use Rattle.tfpg.specs.Judging.{JudgesMap}
-use Rattle.tfpg.specs.Streams.{Streams, HasLeft, HasNoFault}
+use Rattle.tfpg.specs.Streams.{Streams, HasLeft, CountsUnchanged}
 
 -- The bytes begin the report of the first lines of the input: of what was taken from it and what it has left.
 pub record BeginsReportOfInput (graph : Tfpg) (k budget : ℕ) (input : SourceState) (taken : List ℕ)
@@ -36,28 +36,28 @@ pub record BeginsReportOfInput (graph : Tfpg) (k budget : ℕ) (input : SourceSt
   pub say : RoundsSay graph k budget (take begins.count (lines_of (taken ++ rest))) blocks
 
 -- The whole input was taken, at most 2^32 bytes, its whole report was written, and nothing failed.
-pub record IsWhole (graph : Tfpg) (k budget : ℕ) (before now : Streams) (taken : List ℕ) (blocks : List Block)
+pub record WritesReport (graph : Tfpg) (k budget : ℕ) (before now : Streams) (taken : List ℕ) (blocks : List Block)
     (written : List ℕ) : Type 0 where
   pub report : IsReport graph k budget (lines_of taken) blocks written
   pub say : RoundsSay graph k budget (lines_of taken) blocks
   pub few : length taken ≤ MAX_BYTES
   pub at_end : IsAtEnd now.input
-  pub no_fault : HasNoFault before now
+  pub no_fault : CountsUnchanged before now
 
--- what shows each fault, where these bytes were taken
-abbrev pub IsShown : Streams → Streams → List ℕ → StreamFault → Type 0
-IsShown before now taken ReadFault = Rose before.input.faults now.input.faults
-IsShown before now taken WriteFault = Rose before.output.faults now.output.faults
-IsShown before now taken TooMuchInput = length taken ≡ MAX_BYTES + 1
-IsShown before now taken NoMemory = Unit {0}
+-- Why the work with the streams stopped, where these bytes were taken.
+abbrev pub IsStreamFault : Streams → Streams → List ℕ → StreamFault → Type 0
+IsStreamFault before now taken ReadFault = Rose before.input.faults now.input.faults
+IsStreamFault before now taken WriteFault = Rose before.output.faults now.output.faults
+IsStreamFault before now taken TooMuchInput = length taken ≡ MAX_BYTES + 1
+IsStreamFault before now taken NoMemory = Unit {0}
 
 -- How a diagnosis ends, where these bytes were taken, and the bytes written are of these blocks.
 abbrev pub DiagnosisEnds : Tfpg → ℕ → ℕ → Streams → Streams → List ℕ → List Block → List ℕ
     → Result (Unit {0}) StreamFault → Type 0
 DiagnosisEnds graph k budget before now taken blocks written (Ok done) =
-    IsWhole graph k budget before now taken blocks written
+    WritesReport graph k budget before now taken blocks written
 DiagnosisEnds graph k budget before now taken blocks written (Err fault) =
-    IsShown before now taken fault × BeginsReportOfInput graph k budget now.input taken blocks written
+    IsStreamFault before now taken fault × BeginsReportOfInput graph k budget now.input taken blocks written
 
 -- A diagnosis of the graph, for all sets of at most k failure modes and with this budget, took bytes from the input and
 -- wrote others. No panel is lost.
@@ -101,7 +101,7 @@ pub record DiagnosesFile (shelf_before shelf_now : ShelfState) (k budget : ℕ) 
   pub not_too_many : (count : ℕ) → HasHypotheses graph k count → count ≤ MAX_HYPOTHESES
   pub result : Result (Unit {0}) StreamFault
   pub diagnoses : Diagnoses graph k budget before now result
-  pub end_is : end ≡ end_of_diagnosis result
+  pub end_is : end ≡ end_of_result end_of_stream_fault result
 
 -- There is no graph of the file of that name; or it has too many hypotheses; or it was diagnosed.
 abbrev pub DiagnoseEnds : ShelfState → ShelfState → ℕ → ℕ → List ℕ → Streams → Streams → End → Type 0
@@ -109,14 +109,6 @@ DiagnoseEnds shelf_before shelf_now k budget name before now end =
     LacksGraph shelf_before shelf_now name before now end
     ⊎ (HasTooManyHypotheses shelf_before shelf_now k name before now end
     ⊎ DiagnosesFile shelf_before shelf_now k budget name before now end)
-
--- There is no graph and no log of the files of these names, with this cause, and input and output are untouched.
-pub record LacksFiles (shelf_before shelf_now : ShelfState) (graph_name log_name : List ℕ) (before now : Streams)
-    (end : End) : Type 0 where
-  pub fault : FetchFault
-  pub is_fault : IsFilesFault shelf_before shelf_now graph_name log_name fault
-  pub end_is : end ≡ end_of_fetch_fault fault
-  pub untouched : now ≡ before
 
 -- A map was judged by the graph and the log of the files of these names.
 pub record JudgesByFiles (shelf_before shelf_now : ShelfState) (graph_name log_name : List ℕ) (before now : Streams)
@@ -127,9 +119,9 @@ pub record JudgesByFiles (shelf_before shelf_now : ShelfState) (graph_name log_n
   pub no_fault : shelf_now.faults ≡ shelf_before.faults
   pub result : Result (Unit {0}) JudgeFault
   pub judges : JudgesMap graph log before now result
-  pub end_is : end ≡ end_of_judging result
+  pub end_is : end ≡ end_of_result end_of_judge_fault result
 
--- There is no graph and no log of the files of those names; or a map was judged by them.
+-- There is no graph or no log of the files of those names; or a map was judged by them.
 abbrev pub ExplainEnds : ShelfState → ShelfState → List ℕ → List ℕ → Streams → Streams → End → Type 0
 ExplainEnds shelf_before shelf_now graph_name log_name before now end =
     LacksFiles shelf_before shelf_now graph_name log_name before now end

@@ -5,7 +5,7 @@ use Rattle.tfpg_log.specs.Log.{Logbook}
 use Rattle.tfpg_log.specs.LogOfLines.{log_after}
 use Rattle.tfpg_evidence.specs.declared.round.Round.{Round}
 use Rattle.tfpg_hyp.specs.Rounds.{HasNoneOpen}
-use Rattle.tfpg_hyp.specs.Fitting.{SayWhichSetsFit, AreThoseOfMinimalSets}
+use Rattle.tfpg_hyp.specs.Fitting.{SayWhichSetsFit, AreStatusesOfMinimalSets}
 use Rattle.tfpg_search.specs.Enough.{IsEnough}
 use Rattle.tfpg_engine.specs.Earned.{AreEarned}
 use Rattle.tfpg_report.specs.Blocks.{Block, RefusedBlock, RoundBlock}
@@ -16,8 +16,8 @@ use Rattle.tfpg_check.specs.Report.{Progress, progress_of}
 pub record RoundSays (graph : Tfpg) (k budget : ℕ) (rounds : List Round) (log : Logbook) (round : Round) : Type 0 where
   pub earned : AreEarned graph log budget rounds round
   pub fitting : SayWhichSetsFit graph log k round.findings
-  pub minimal : HasNoneOpen round → AreThoseOfMinimalSets graph log k round.findings
-  pub settled : IsEnough graph log budget → HasNoneOpen round
+  pub minimal : HasNoneOpen round → AreStatusesOfMinimalSets graph log k round.findings
+  pub none_open : IsEnough graph log budget → HasNoneOpen round
 
 -- What the block of a line promises after the rounds and the log so far: its round says what a round says of the log
 -- with the line, after these rounds. The block of a refused line has no round, and promises nothing.

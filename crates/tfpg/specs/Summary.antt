@@ -15,7 +15,7 @@ status_word Rejected = codes "rejected"
 status_word Open = codes "open"
 
 -- the line that says what was drawn: the number, the size, how many nodes and edges the graph has, and how many lines
--- the log
+-- the log has
 abbrev pub drawn_text : ℕ → ℕ → Tfpg → ℕ → List ℕ
 drawn_text number size graph lines =
     text_line (codes "generated" ∷ codes "draw" ∷ decimal number ∷ codes "size" ∷ decimal size

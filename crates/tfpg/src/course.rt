@@ -5,7 +5,7 @@ ghost use Rattle.tfpg_base.specs.Outside.{Rose, Puts};
 ghost use Rattle.tfpg_graph.specs.Graph.{Tfpg};
 ghost use Rattle.tfpg_graph.specs.Valid.{IsValid};
 ghost use Rattle.tfpg_log.specs.LogOfLines.{new_log};
-ghost use Rattle.tfpg_engine.specs.Engining.{EngineRepresents};
+ghost use Rattle.tfpg_engine.specs.EngineState.{EngineRepresents};
 ghost use Rattle.tfpg_report.specs.Blocks.{head_text};
 ghost use Rattle.tfpg.specs.Run.{Diagnoses};
 ghost use Rattle.tfpg.specs.Streams.{Streams, streams};

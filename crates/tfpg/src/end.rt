@@ -25,8 +25,8 @@ pub enum CheckCause {
     BadScript,
 }
 
-/// How a run ends. Of several that would hold, the first in the order of the work decides: words, files, graph, and then
-/// input and output line by line.
+/// How a run ends. Of several that would hold, the first in the order of the work decides: the words, the files in their order,
+/// the graph, the script, the number of sets, and then input and output line by line.
 #[derive(Clone, Copy, Debug, PartialEq, Eq)]
 pub enum End {
     /// All was written, and where the input is read, it was read to its end.
@@ -37,13 +37,14 @@ pub enum End {
     Usage { cause: UsageCause },
     /// The graph file has this fault in this line.
     Graph { line: u64, cause: GraphCause },
-    /// There are more than 4,096 sets of at most `k` failure modes, exactly this many.
+    /// There are more than [`MAX_HYPOTHESES`](tfpg_hyp::MAX_HYPOTHESES) sets of at most `k` failure modes, exactly this many.
     TooManyHypotheses { count: u128 },
     /// The shelf of files or the input failed.
     ReadFault,
     /// The output failed.
     WriteFault,
-    /// The input has more than 2^32 bytes, or a file more than 2^24.
+    /// The input has more than [`MAX_BYTES`](tfpg_base::MAX_BYTES) bytes, or a file more than
+    /// [`LONGEST_FILE`](tfpg_base::LONGEST_FILE).
     TooMuchInput,
     /// Out of memory.
     NoMemory,
@@ -152,10 +153,7 @@ impl From<JudgeFault> for End {
                 line,
                 cause: CheckCause::BadMap,
             },
-            JudgeFault::ReadFault => End::ReadFault,
-            JudgeFault::WriteFault => End::WriteFault,
-            JudgeFault::TooMuchInput => End::TooMuchInput,
-            JudgeFault::NoMemory => End::NoMemory,
+            JudgeFault::Stream(fault) => End::from(fault),
         }
     }
 }

@@ -18,7 +18,7 @@ use tfpg_sim::SimFault;
 pub(crate) enum FetchFault {
     /// The shelf of files failed.
     Failed,
-    /// The file has more than 2^24 bytes.
+    /// The file has more than [`LONGEST_FILE`](tfpg_base::LONGEST_FILE) bytes.
     TooLong,
     /// This is the first fault of its text.
     Graph(GraphFault),
@@ -64,7 +64,7 @@ pub(crate) enum StreamFault {
     ReadFault,
     /// The output failed.
     WriteFault,
-    /// The input has more than 2^32 bytes.
+    /// The input has more than [`MAX_BYTES`](tfpg_base::MAX_BYTES) bytes.
     TooMuchInput,
     /// Out of memory.
     NoMemory,
@@ -102,14 +102,8 @@ impl From<Failed> for StreamFault {
 pub(crate) enum JudgeFault {
     /// No map begins with the lines up to this one.
     BadMap { line: u64 },
-    /// The input failed.
-    ReadFault,
-    /// The output failed.
-    WriteFault,
-    /// The input has more than 2^32 bytes.
-    TooMuchInput,
-    /// Out of memory.
-    NoMemory,
+    /// The input was not read to its end, or the output not written.
+    Stream(StreamFault),
 }
 
 impl From<NoMap> for JudgeFault {
@@ -118,26 +112,25 @@ impl From<NoMap> for JudgeFault {
     fn from(fault: NoMap) -> JudgeFault {
         match fault {
             NoMap::Refused { line } => JudgeFault::BadMap { line },
-            NoMap::ReadFault => JudgeFault::ReadFault,
-            NoMap::TooMuchInput => JudgeFault::TooMuchInput,
-            NoMap::NoMemory => JudgeFault::NoMemory,
+            NoMap::Lines(fault) => JudgeFault::Stream(StreamFault::from(fault)),
+            NoMap::NoMemory => JudgeFault::Stream(StreamFault::NoMemory),
         }
     }
 }
 
 impl From<NoMemory> for JudgeFault {
-    ghost from_gives = { λ _ e. e ≡ judge.NoMemory };
+    ghost from_gives = { λ _ e. e ≡ judge.Stream streams.NoMemory };
 
     fn from(_e: NoMemory) -> JudgeFault {
-        JudgeFault::NoMemory
+        JudgeFault::Stream(StreamFault::NoMemory)
     }
 }
 
 impl From<Failed> for JudgeFault {
-    ghost from_gives = { λ _ e. e ≡ judge.WriteFault };
+    ghost from_gives = { λ _ e. e ≡ judge.Stream streams.WriteFault };
 
     fn from(_e: Failed) -> JudgeFault {
-        JudgeFault::WriteFault
+        JudgeFault::Stream(StreamFault::WriteFault)
     }
 }
 

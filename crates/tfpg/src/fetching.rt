@@ -4,7 +4,7 @@ ghost use Rattle.std.specs.Prelude.{◌≡◌, ◌∷◌, [], IfOk, IfErr, OnOk,
 ghost use Rattle.tfpg_base.specs.Lines.{lines_of};
 ghost use Rattle.tfpg_base.specs.Outside.{NotesName};
 ghost use Rattle.tfpg_graph.specs.Valid.{IsValid};
-ghost use Rattle.tfpg_log.specs.Log.{IsOf};
+ghost use Rattle.tfpg_log.specs.Log.{IsLogOf};
 ghost use Rattle.tfpg_log.specs.LogOfLines.{log_after, log_of_lines};
 ghost use Rattle.tfpg.specs.Fetch.{HasFile, GivesGraph, GivesGraphAndLog, GivesGraphAndText, IsFetchFault, IsFilesFault, AsksFor, AsksInOrder};
 ghost use Rattle.tfpg.specs.inside.Faults.{IsFileFault};
@@ -39,7 +39,7 @@ pub(crate) fn fetch_graph_and_log<F: Shelf>(
 ) -> Result<(Graph, Log), FetchFault>
     ensures given { IfOk result (λ both. GivesGraphAndLog (F.state shelf.old) graph_name.now log_name.now
         both.0 both.1) }
-    ensures of_graph { IfOk result (λ both. IsOf both.0 both.1) }
+    ensures of_graph { IfOk result (λ both. IsLogOf both.0 both.1) }
     ensures no_fault { OnOk result ((F.state shelf.new).faults ≡ (F.state shelf.old).faults) }
     ensures fault { IfErr result (IsFilesFault (F.state shelf.old) (F.state shelf.new) graph_name.now
         log_name.now) }
@@ -89,7 +89,7 @@ fn fetch_file<F: Shelf>(alloc: Global, shelf: &mut F, name: &str) -> Result<Vec<
 /// The log of the lines of the text. Lines that are too long and lines that are refused leave no trace in it.
 fn log_of_text(alloc: Global, graph: &Graph, text: &[u8]) -> Result<Log, NoMemory>
     ensures log { IfOk result (λ log. log ≡ log_of_lines graph.now (lines_of text.now)) }
-    ensures of_graph { IfOk result (IsOf graph.now) }
+    ensures of_graph { IfOk result (IsLogOf graph.now) }
 {
     let mut log = Log::new(alloc);
     // What stands after the last line end may be empty, and is then no line. The log refuses it like any empty line.
@@ -101,9 +101,9 @@ fn log_of_text(alloc: Global, graph: &Graph, text: &[u8]) -> Result<Log, NoMemor
 
 /// Offers a line to the log, unless it is too long.
 fn offer_line(log: &mut Log, graph: &Graph, line: &[u8]) -> Result<(), NoMemory>
-    requires { IsOf graph.now log.old }
+    requires { IsLogOf graph.now log.old }
     ensures log { OnOk result (log.new ≡ log_after graph.now log.old line.now) }
-    ensures of_graph { IsOf graph.now log.new }
+    ensures of_graph { IsLogOf graph.now log.new }
 {
     if line.len() <= LONGEST_LINE {
         log.offer(graph, line)?;

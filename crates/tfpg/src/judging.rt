@@ -1,7 +1,7 @@
 //! Judging the map of the input.
 
 ghost use Rattle.std.specs.Prelude.{IfErr, OnOk, Ok, Err};
-ghost use Rattle.tfpg_log.specs.Log.{IsOf};
+ghost use Rattle.tfpg_log.specs.Log.{IsLogOf};
 ghost use Rattle.tfpg.specs.Judging.{JudgesMap};
 ghost use Rattle.tfpg.specs.Streams.{streams};
 
@@ -23,7 +23,7 @@ pub(crate) fn judge<S: Source, K: Sink>(
     input: &mut S,
     out: &mut K,
 ) -> Result<(), JudgeFault>
-    requires { IsOf graph.now log.now }
+    requires { IsLogOf graph.now log.now }
     ensures done { OnOk result (JudgesMap graph.now log.now
         (streams (S.state input.old) (K.state out.old))
         (streams (S.state input.new) (K.state out.new)) (Ok tt)) }

@@ -1,6 +1,7 @@
 //! The program: a diagnoser for timed failure propagation graphs.
 //!
-//! [`run::run`] is the top call, over any shelf of files, input and output. `main` calls it on the real ones.
+//! [`run::run`] is the top call, over any shelf of files, input and output. `main` calls it on the real ones. [`laws`] says
+//! that lines spell at most one map, and that the text of a map spells it.
 //!
 //! ```text
 //! ./tfpg diagnose examples/pump.tfpg < examples/pump.log
@@ -16,7 +17,7 @@ mod fault;
 mod fetching;
 mod generating;
 mod judging;
-mod laws;
+pub mod laws;
 mod limits;
 mod line_blocks;
 mod map;

@@ -25,10 +25,8 @@ pub(crate) enum MapFault {
 pub(crate) enum NoMap {
     /// The line of this number is the first faulty one.
     Refused { line: u64 },
-    /// The input failed.
-    ReadFault,
-    /// The input has more than 2^32 bytes.
-    TooMuchInput,
+    /// The input was not read to its end.
+    Lines(LineFault),
     /// Out of memory.
     NoMemory,
 }
@@ -99,15 +97,12 @@ impl MapReader {
 }
 
 impl From<LineFault> for NoMap {
-    ghost use Rattle.tfpg.specs.inside.Faults.{no_map_of_lines};
+    ghost use Rattle.tfpg.specs.declared.map.NoMap.TheVariants as none;
 
-    ghost from_gives = { λ fault e. e ≡ no_map_of_lines fault };
+    ghost from_gives = { λ fault e. e ≡ none.Lines fault };
 
     fn from(fault: LineFault) -> NoMap {
-        match fault {
-            LineFault::ReadFault => NoMap::ReadFault,
-            LineFault::TooMuchInput => NoMap::TooMuchInput,
-        }
+        NoMap::Lines(fault)
     }
 }
 

@@ -81,7 +81,7 @@ fn find_failure(graph: &Graph, name: &[u8]) -> Option<u32>
     ensures valid { IsValid graph.now }
 {
     let _valid = graph.node_count();
-    graph.position_of(graph.find(name)?)
+    graph.place_of(graph.find(name)?)
 }
 
 /// The activation that the line spells.

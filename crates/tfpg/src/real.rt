@@ -4,7 +4,6 @@
 //! file or stream are not known. Where those of the reader or writer under an adapter are, as of a slice or a vector, the
 //! adapter passes on exactly those. Each counts its faults, up to the last value of the count.
 
-mod fault_count;
 mod file_shelf;
 mod standard_input;
 mod standard_output;

@@ -6,7 +6,7 @@ ghost use Rattle.tfpg_base.specs.declared.limits.TheConstants.{MAX_CASE_SIZE};
 ghost use Rattle.tfpg.specs.Completeness.{CanBeDone, IsCompleted, NothingFails};
 ghost use Rattle.tfpg_words.specs.Plans.{meaning_of};
 ghost use Rattle.tfpg.specs.inside.Plans.{AreWithinLimits};
-ghost use Rattle.tfpg.specs.inside.Faults.{end_of_work};
+ghost use Rattle.tfpg.specs.EndsOf.{end_of_result};
 ghost use Rattle.tfpg.specs.Fetch.{AsksOnly, AsksFor, AsksInOrder};
 ghost use Rattle.tfpg.specs.Generating.{GenerateEnds};
 ghost use Rattle.tfpg.specs.Run.{RunEnds, CommandEnds, DiagnoseEnds, ExplainEnds};
@@ -110,7 +110,7 @@ fn perform<F: Shelf, S: Source, K: Sink, L: Ledger>(
 
 /// How a run ends whose work has this result.
 fn end_of(work: Result<(), End>) -> End
-    ensures { result ≡ end_of_work work }
+    ensures { result ≡ end_of_result (λ end. end) work }
 {
     match work {
         Ok(()) => End::Done,

@@ -3,7 +3,7 @@
 ghost use Rattle.std.specs.Prelude.{◌≡◌, ◌∷◌, ◌<◌, [], All, IfOk, IfErr, OnOk, Ok, Err, length};
 ghost use Rattle.tfpg_graph.specs.Graph.{AreFailures};
 ghost use Rattle.tfpg_sim.specs.Script.{script_of};
-ghost use Rattle.tfpg_sim.specs.ScriptFaults.{IsFaultAt};
+ghost use Rattle.tfpg_sim.specs.ScriptFaults.{IsSimFault};
 ghost use Rattle.tfpg.specs.Fetch.{AsksInOrder};
 ghost use Rattle.tfpg.specs.Simulating.{HasSimulation, SimulateEnds, SimulationEnds, simulated_text};
 
@@ -70,7 +70,7 @@ fn simulation_text(
     trace: bool,
 ) -> Result<Vec<u8>, SimFault>
     ensures text { IfOk result (λ text. HasSimulation graph.now script.now draw trace text.items) }
-    ensures fault { IfErr result (IsFaultAt (script_of graph.now script.now)) }
+    ensures fault { IfErr result (IsSimFault (script_of graph.now script.now)) }
 {
     let simulated = simulate(alloc, graph, script, draw)?;
     let _valid = graph.node_count();

@@ -1,23 +1,9 @@
 -- One call that appends after another.
-use Rattle.std.proofs.Common.{◌≡◌, ℕ, ◌+◌, ◌<◌, ◌≤◌, List, [], ◌++◌, length, get_or, take, Some, slice_get, sym, ap, ◌∙◌, append_assoc}
-use Rattle.std.proofs.lemmas.List.{append-nil, take_more, take_all, flat_map_more}
-use Rattle.std.proofs.lemmas.Option.{get_or_from_slice_get, slice_get_within}
+use Rattle.std.proofs.Common.{◌≡◌, ℕ, List, ◌++◌}
 use Rattle.std.specs.Prelude.{Result, Ok, Err, IsErr}
-use Rattle.std.specs.List.{flat_map}
 use Rattle.tfpg_base.specs.declared.no_memory.NoMemory.{NoMemory}
 use Rattle.tfpg_base.specs.Append.{Appends}
-
--- what the second call leaves, where it ran out of memory
-pub kept_after : (old mid new text : List ℕ) → mid ≡ old ++ text → (rest : List ℕ) × (new ≡ mid ++ rest) → (rest : List ℕ) × (new ≡ old ++ rest)
-kept_after old mid new text e h = (text ++ h.0, h.1 ∙ ap (λ (t : List ℕ). t ++ h.0) e ∙ append_assoc old text h.0)
-
--- what the first call leaves, where it ran out of memory
-pub kept_same : (old new : List ℕ) → new ≡ old → (rest : List ℕ) × (new ≡ old ++ rest)
-kept_same old new e = ([], e ∙ sym (append-nil old))
-
--- what both leave
-pub appended_after : (old mid new a b : List ℕ) → mid ≡ old ++ a → new ≡ mid ++ b → new ≡ old ++ (a ++ b)
-appended_after old mid new a b e h = h ∙ ap (λ (t : List ℕ). t ++ b) e ∙ append_assoc old a b
+use Rattle.tfpg_base.proofs.lists.Appended.{appended_after, kept_after}
 
 -- an error is one where memory ran out
 pub Appends-err : (result : Result (Unit {0}) NoMemory) (old new text : List ℕ) → IsErr result → (rest : List ℕ) × (new ≡ old ++ rest) → Appends result old new text
@@ -33,20 +19,20 @@ pub Appends-after : (result : Result (Unit {0}) NoMemory) (old mid new a b : Lis
 Appends-after (Ok done) old mid new a b e h = appended_after old mid new a b e h
 Appends-after (Err short) old mid new a b e h = kept_after old mid new a e h
 
--- the texts of the items before an index, and after them that of the item there
-pub appended_more : {X : Type 0} (f : X → List ℕ) (xs : List X) (index : ℕ) (d : X) (old mid new : List ℕ) → index < length xs
-    → mid ≡ old ++ flat_map f (take index xs) → new ≡ mid ++ f (get_or xs index d) → new ≡ old ++ flat_map f (take (index + 1) xs)
-appended_more f xs index d old mid new lt e h =
-    h ∙ ap (λ (t : List ℕ). t ++ f (get_or xs index d)) e ∙ flat_map_more f old (take index xs) (get_or xs index d)
-    ∙ ap (λ ys. old ++ flat_map f ys) (sym (take_more xs index d lt))
+-- four texts that were appended, and a last call whose result is handed on
+pub Appends-after_four : (result : Result (Unit {0}) NoMemory) (old m1 m2 m3 m4 new a b c d e : List ℕ)
+    → m1 ≡ old ++ a → m2 ≡ m1 ++ b → m3 ≡ m2 ++ c → m4 ≡ m3 ++ d → Appends result m4 new e → Appends result old new (a ++ b ++ c ++ d ++ e)
+Appends-after_four result old m1 m2 m3 m4 new a b c d e h1 h2 h3 h4 h5 =
+    Appends-after result old m4 new (a ++ b ++ c ++ d) e
+    (appended_after old m3 m4 (a ++ b ++ c) d (appended_after old m2 m3 (a ++ b) c (appended_after old m1 m2 a b h1 h2) h3) h4)
+    h5
 
--- the same, where the item at the index is known
-pub appended_next : {X : Type 0} (f : X → List ℕ) (xs : List X) (number : ℕ) (x : X) (old mid new : List ℕ) → slice_get xs number ≡ Some x
-    → mid ≡ old ++ flat_map f (take number xs) → new ≡ mid ++ f x → new ≡ old ++ flat_map f (take (number + 1) xs)
-appended_next f xs number x old mid new at e h =
-    appended_more f xs number x old mid new (slice_get_within xs number x at) e (h ∙ ap (λ y. mid ++ f y) (sym (get_or_from_slice_get xs number x x at)))
-
--- the texts of all items
-pub appended_all : {X : Type 0} (f : X → List ℕ) (xs : List X) (index : ℕ) (old new : List ℕ) → length xs ≤ index
-    → new ≡ old ++ flat_map f (take index xs) → new ≡ old ++ flat_map f xs
-appended_all f xs index old new le e = e ∙ ap (λ ys. old ++ flat_map f ys) (take_all index xs le)
+-- five texts that were appended, and a last call whose result is handed on
+pub Appends-after_five : (result : Result (Unit {0}) NoMemory) (old m1 m2 m3 m4 m5 new a b c d e f : List ℕ)
+    → m1 ≡ old ++ a → m2 ≡ m1 ++ b → m3 ≡ m2 ++ c → m4 ≡ m3 ++ d → m5 ≡ m4 ++ e → Appends result m5 new f
+    → Appends result old new (a ++ b ++ c ++ d ++ e ++ f)
+Appends-after_five result old m1 m2 m3 m4 m5 new a b c d e f h1 h2 h3 h4 h5 h6 =
+    Appends-after result old m5 new (a ++ b ++ c ++ d ++ e) f
+    (appended_after old m4 m5 (a ++ b ++ c ++ d) e
+    (appended_after old m3 m4 (a ++ b ++ c) d (appended_after old m2 m3 (a ++ b) c (appended_after old m1 m2 a b h1 h2) h3) h4) h5)
+    h6

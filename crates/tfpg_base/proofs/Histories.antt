@@ -1,6 +1,8 @@
 -- From what a call finds in the bytes after the lines given to what it returns for each history.
-use Rattle.std.proofs.Common.{◌≡◌, inl, inr, ℕ, ◌+◌, ◌<◌, ◌≤◌, List, [], ◌∷◌, ◌++◌, length, take, Option, Some, None, Result, Ok, Err, IsSome, refl, ap, ◌∙◌, sym, subst, arith, append_assoc, append-nil, length-append}
+use Rattle.std.proofs.Common.{◌≡◌, inl, inr, ℕ, ◌+◌, ◌<◌, ◌≤◌, List, [], ◌∷◌, ◌++◌, length, take, Option, Some, None, Result, Ok, Err, is_some, ap, ◌∙◌, sym, subst, arith, append_assoc, append-nil, length-append}
 use Rattle.std.specs.List.{All, flat_map, slice_get}
+use Rattle.std.proofs.Math.Seq.{take-append-add}
+use Rattle.std.proofs.lemmas.Bool.{both_ways}
 use Rattle.std.proofs.lemmas.List.{take_all, take_at, length_push, flat_map_more}
 use Rattle.std.proofs.lemmas.Option.{slice_get_past}
 use Rattle.std.proofs.lemmas.List.Elements.{All-push}
@@ -9,16 +11,11 @@ use Rattle.tfpg_base.specs.declared.line.Line.TheVariants as line
 use Rattle.tfpg_base.specs.declared.line.LineFault.{LineFault}
 use Rattle.tfpg_base.specs.declared.line.LineFault.TheVariants as fault
 use Rattle.tfpg_base.specs.Outside.{SourceState, IsAtEnd}
-use Rattle.tfpg_base.specs.Lines.{Reading, Buffered, HasNoLineEnd, LinesRepresent, IsGoingOn, IsNext, ReturnsNext, ComesInPieces, TakesAsNeeded, CountsReadFault, Continues, with_bytes, with_line, ended_by, ended_after_line, next_whole, whole_lines, lines_of, with_line_end}
+use Rattle.tfpg_base.specs.Lines.{Reading, LinesState, HasNoLineEnd, LinesRepresent, IsGoingOn, IsNext, ReturnsNext, ComesInPieces, TakesAsNeeded, CountsReadFault, Continues, with_bytes, with_line, ended_by, ended_after_line, next_whole, whole_lines, lines_of, with_line_end}
 use Rattle.tfpg_base.specs.declared.limits.TheConstants.{MAX_BYTES}
 use Rattle.tfpg_base.specs.inside.LineSearch.{BeginsWith, IsLastLine, IsGiven, IsEnded, FoundLine, Took, Pieces, Searched}
 use Rattle.tfpg_base.proofs.LinesOf.{whole_lines-after, lines_of-after, whole_lines-line, lines_of-line, whole_lines-none, lines_of-none}
 use Rattle.tfpg_base.proofs.lists.Written.{slice_get-after}
-
--- the front and one element more
-take-after : (front : List (List ℕ)) (x : List ℕ) (xs : List (List ℕ)) → take (length front + 1) (front ++ x ∷ xs) ≡ front ++ x ∷ []
-take-after front x xs =
-    ap (take (length front + 1)) (sym (append_assoc front (x ∷ []) xs)) ∙ take_at (front ++ x ∷ []) xs (length front + 1) (length_push front x)
 
 -- bytes without a line end are one line, where there are some
 lines_of-one : (bytes : List ℕ) → HasNoLineEnd bytes → 0 < length bytes → lines_of bytes ≡ bytes ∷ []
@@ -60,7 +57,7 @@ module _ (reading : Reading) (bytes : List ℕ) (split : reading.taken ≡ flat_
   front-first : (first rest : List ℕ) → HasNoLineEnd first → bytes ≡ first ++ 10 ∷ rest → take (length reading.given + 1) (lines_of reading.taken) ≡ reading.given ++ first ∷ []
   front-first first rest h e =
       ap (take (length reading.given + 1)) (lines_of-taken ∙ ap (λ b. reading.given ++ lines_of b) e ∙ ap (λ lines. reading.given ++ lines) (lines_of-line first rest h))
-      ∙ take-after reading.given first (lines_of rest)
+      ∙ take-append-add reading.given (first ∷ lines_of rest) 1
 
   -- a last line is the last one of all
   lines_of-last : (first : List ℕ) → HasNoLineEnd first → 0 < length first → bytes ≡ first → lines_of reading.taken ≡ reading.given ++ first ∷ []
@@ -81,21 +78,12 @@ with_line_end-push given first rest =
     ∙ sym (append_assoc (flat_map with_line_end given) (with_line_end first) rest)
     ∙ ap (λ b. b ++ rest) (flat_map_more with_line_end [] given first)
 
--- all but the last
-take_but_one : (limit : ℕ) (taken front : List ℕ) (last : ℕ) → taken ≡ front ++ last ∷ [] → length taken ≡ limit + 1 → take limit taken ≡ front
-take_but_one limit taken front last is count =
-    ap (take limit) is ∙ take_at front (last ∷ []) limit (omega (arith, count, ap length is, length_push front last))
-
--- where there is none there is not some
-is_none : (next : Option (List ℕ)) → next ≡ None → IsSome next → ⊥
-is_none next e some = let f : IsSome {T = List ℕ} None = subst IsSome e some in cc
-
 -- What is known of the reader after a call, but for what it returns.
-record IsCounted (reading : Reading) (lines : ℕ) (now : Buffered) : Type 0 where
+record IsCounted (reading : Reading) (lines : ℕ) (now : LinesState) : Type 0 where
   lines_given : lines ≡ length reading.given
   counted : now.taken ≡ length reading.taken
 
-module _ (reading : Reading) (bytes : List ℕ) (lines : ℕ) (now : Buffered) (split : reading.taken ≡ flat_map with_line_end reading.given ++ bytes) (clean : All HasNoLineEnd reading.given) (stands : IsCounted reading lines now) (source_ended : Type 0) where
+module _ (reading : Reading) (bytes : List ℕ) (lines : ℕ) (now : LinesState) (split : reading.taken ≡ flat_map with_line_end reading.given ++ bytes) (clean : All HasNoLineEnd reading.given) (stands : IsCounted reading lines now) (source_ended : Type 0) where
   -- the line that was given is next
   IsNext-given : (first : List ℕ) → IsGiven bytes first lines source_ended now → IsNext reading first source_ended
   IsNext-given first is = elim is.ends [
@@ -173,30 +161,15 @@ module _ (reading : Reading) (bytes : List ℕ) (lines : ℕ) (now : Buffered) (
       let is : reading.taken ≡ front ++ found.1 ∷ [] = split ∙ ap (λ b. flat_map with_line_end reading.given ++ b) found.3 ∙ sym (append_assoc (flat_map with_line_end reading.given) first (found.1 ∷ [])) in
       let count : length reading.taken ≡ MAX_BYTES + 1 = sym stands.counted ∙ found.4 in
       let all : whole_lines (take MAX_BYTES reading.taken) ≡ reading.given =
-      ap whole_lines (take_but_one MAX_BYTES reading.taken front found.1 is count)
+      ap (λ taken. whole_lines (take MAX_BYTES taken)) is
+      ∙ ap whole_lines (take_at front (found.1 ∷ []) MAX_BYTES (omega (arith, count, ap length is, length_push front found.1)))
       ∙ whole_lines-after reading.given first clean
       ∙ ap (λ lines. reading.given ++ lines) (whole_lines-none first found.2)
       ∙ append-nil reading.given in
       (all, count, found.5.text, LinesRepresent-ended (Err fault.TooMuchInput) found.5 (λ e. absurd (cc)))
 
--- the reader represents the history also when it lends nothing any more
-LinesRepresent-lends_none : (old now : Buffered) (reading : Reading) (ending : Result Line LineFault) → reading.ended ≡ Some ending → now.number ≡ old.number → now.taken ≡ old.taken → now.ended ≡ old.ended → LinesRepresent old reading → LinesRepresent now reading
-LinesRepresent-lends_none old now reading ending is number taken ended stands = record {
-  number = number ∙ stands.number;
-  taken = taken ∙ stands.taken;
-  ended = ended ∙ stands.ended;
-  going_on = λ e. absurd (cc);
-  all_given = stands.all_given;
-}
-
--- what ended a reader is returned again
-pub Continues-ended : (old now : Buffered) (ending : Result Line LineFault) (source : SourceState) → old.ended ≡ Some ending → now.text ≡ [] → now.number ≡ old.number → now.taken ≡ old.taken → now.ended ≡ old.ended → (reading : Reading) → LinesRepresent old reading → Continues reading reading.ended source source ending now
-Continues-ended old now ending source is text number taken ended reading stands =
-    let was : reading.ended ≡ Some ending = sym stands.ended ∙ is in
-    subst (λ e. Continues reading e source source ending now) (sym was) (refl, refl, text, LinesRepresent-lends_none old now reading ending was number taken ended stands)
-
 -- the bytes of a search came in pieces, with a whole line at last or none
-ComesInPieces-searched : (old : Buffered) (reading : Reading) (more : List ℕ) → IsGoingOn old reading → LinesRepresent old reading → Pieces old more → ComesInPieces reading more
+ComesInPieces-searched : (old : LinesState) (reading : Reading) (more : List ℕ) → IsGoingOn old reading → LinesRepresent old reading → Pieces old more → ComesInPieces reading more
 ComesInPieces-searched old reading more going stands pieces = record {
   front = pieces.front;
   piece = pieces.piece;
@@ -207,7 +180,7 @@ ComesInPieces-searched old reading more going stands pieces = record {
   small = pieces.small;
 }
 
-module _ (old now : Buffered) (before after : SourceState) (result : Result Line LineFault) (faults : CountsReadFault result before after) where
+module _ (old now : LinesState) (before after : SourceState) (result : Result Line LineFault) (faults : CountsReadFault result before after) where
   -- what a call found is what it returns for each history
   pub Continues-found : (more : List ℕ) → Took old now before after more → FoundLine (old.waiting ++ more) old.number (IsAtEnd after) result now → old.ended ≡ None → (reading : Reading) → LinesRepresent old reading → TakesAsNeeded reading more → Continues reading reading.ended before after result now
   Continues-found more took found unended reading stands needed =
@@ -229,6 +202,6 @@ module _ (old now : Buffered) (before after : SourceState) (result : Result Line
   Continues-searched unended clean searched reading stands =
       let going : IsGoingOn old reading = stands.going_on (sym stands.ended ∙ unended) in
       Continues-found searched.0 searched.1 searched.3 unended reading stands (
-        λ some. absurd (is_none (next_whole reading) (next_whole-none reading old.waiting going.bytes going.lines (omega (arith, going.few, stands.taken)) clean) some),
+        λ some. absurd (both_ways (is_some (next_whole reading)) (ap is_some (next_whole-none reading old.waiting going.bytes going.lines (omega (arith, going.few, stands.taken)) clean)) some),
         inr (ComesInPieces-searched old reading searched.0 going stands searched.2),
       )

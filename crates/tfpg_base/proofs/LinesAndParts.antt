@@ -1,14 +1,11 @@
 -- The lines of a text are the parts round its line ends, but for a last part with no byte.
-use Rattle.std.proofs.Common.{◌≡◌, ◌≢◌, ℕ, ◌-◌, ◌<◌, ◌==◌, Bool, true, false, cond, ◌⊎◌, ⊎_elim, inl, inr, List, [], ◌∷◌, ◌++◌, length, take, get_or, refl, ap, sym, ◌∙◌, arith, append_assoc}
+use Rattle.std.proofs.Common.{◌≡◌, ◌≢◌, ℕ, ◌-◌, ◌==◌, Bool, true, false, cond, ⊎_elim, List, [], ◌∷◌, ◌++◌, length, take, get_or, refl, ap, sym, ◌∙◌, arith}
 use Rattle.std.specs.List.{onto_first, join_with_byte}
 use Rattle.std.proofs.lemmas.List.{take_more, take_all, take_at, get_or_at, length_push, append-nil}
 use Rattle.std.proofs.lemmas.List.Splits.{join_with_byte-slice_split}
 use Rattle.tfpg_base.specs.Lines.{parts_of, whole_lines, last_part, line_of_part, lines_of}
 use Rattle.tfpg_base.proofs.LinesOf.{parts_of_some}
-
-onto_first-push : (byte : ℕ) (parts : List (List ℕ)) → 0 < length parts → onto_first byte (parts ++ [] ∷ []) ≡ onto_first byte parts ++ [] ∷ []
-onto_first-push byte [] some = absurd (omega arith)
-onto_first-push byte (part ∷ parts) some = refl
+use Rattle.tfpg_base.proofs.lists.Joined.{onto_first-push, join-last_empty}
 
 -- a line end more makes an empty part more
 parts_of-push : (bytes : List ℕ) → parts_of (bytes ++ 10 ∷ []) ≡ parts_of bytes ++ [] ∷ []
@@ -18,7 +15,7 @@ parts_of-push (byte ∷ bytes) = by (byte == 10) (parts_of-push bytes)
     by : (is_end : Bool) → parts_of (bytes ++ 10 ∷ []) ≡ parts_of bytes ++ [] ∷ []
         → cond is_end ([] ∷ parts_of (bytes ++ 10 ∷ [])) (onto_first byte (parts_of (bytes ++ 10 ∷ []))) ≡ cond is_end ([] ∷ parts_of bytes) (onto_first byte (parts_of bytes)) ++ [] ∷ []
     by true rest = ap (λ parts. [] ∷ parts) rest
-    by false rest = ap (onto_first byte) rest ∙ onto_first-push byte (parts_of bytes) (parts_of_some bytes)
+    by false rest = ap (onto_first byte) rest ∙ onto_first-push byte (parts_of bytes) [] (parts_of_some bytes)
 
 -- all parts, the last one written apart
 pub parts_of-last : (bytes : List ℕ) → whole_lines bytes ++ last_part bytes ∷ [] ≡ parts_of bytes
@@ -42,15 +39,7 @@ lines_of-ended bytes =
     before : length (parts_of bytes ++ [] ∷ []) - 1 ≡ length (parts_of bytes)
     before = omega (arith, length_push (parts_of bytes) [])
 
--- parts of which the last is empty, joined: nothing, or bytes that end with a line end
-join-last_empty : (parts : List (List ℕ)) → (join_with_byte 10 (parts ++ [] ∷ []) ≡ []) ⊎ ((front : List ℕ) × (join_with_byte 10 (parts ++ [] ∷ []) ≡ front ++ 10 ∷ []))
-join-last_empty [] = inl refl
-join-last_empty (part ∷ []) = inr (part, refl)
-join-last_empty (part ∷ other ∷ parts) = ⊎_elim
-    (λ none. inr (part, ap (λ bytes. part ++ 10 ∷ bytes) none))
-    (λ some. inr (part ++ 10 ∷ some.0, ap (λ bytes. part ++ 10 ∷ bytes) some.1 ∙ sym (append_assoc part (10 ∷ some.0) (10 ∷ []))))
-    (join-last_empty (other ∷ parts))
-
+-- a part that has a byte is a line
 line_of_part-some : (part : List ℕ) → part ≢ [] → line_of_part part ≡ part ∷ []
 line_of_part-some [] some = absurd (some refl)
 line_of_part-some (byte ∷ bytes) some = refl
@@ -66,4 +55,4 @@ lines_of-unended bytes some unended =
     last_some : last_part bytes ≢ []
     last_some empty =
         let seen = ap (λ last. join_with_byte 10 (whole_lines bytes ++ last ∷ [])) (sym empty) ∙ joined in
-        ⊎_elim (λ none. some (sym seen ∙ none)) (λ front. unended front.0 (sym seen ∙ front.1)) (join-last_empty (whole_lines bytes))
+        ⊎_elim (λ none. some (sym seen ∙ none)) (λ front. unended front.0 (sym seen ∙ front.1)) (join-last_empty 10 (whole_lines bytes))

@@ -1,27 +1,16 @@
 -- Laws of the lines of bytes: what a line at the front changes, and what follows lines with their line ends.
-use Rattle.std.proofs.Common.{◌≡◌, ℕ, suc, ◌-◌, ◌<◌, Bool, true, false, List, [], ◌∷◌, ◌++◌, length, take, get_or, refl, ap, ◌∙◌, sym, subst, arith, append_assoc, append-nil}
+use Rattle.std.proofs.Common.{◌≡◌, ℕ, ◌<◌, Bool, true, false, List, [], ◌∷◌, ◌++◌, length, take, refl, ap, ◌∙◌, sym, subst, arith, append_assoc, append-nil}
 use Rattle.std.specs.List.{All, flat_map}
 use Rattle.std.proofs.lemmas.Bool.{eqb-true}
 use Rattle.std.proofs.lemmas.List.{take_at}
 use Rattle.std.proofs.lemmas.List.Splits.{slice_split_none, slice_split_at, length-slice_split}
 use Rattle.std.proofs.lemmas.List.Elements.{All-nil, All-cons, All-head, All-tail}
 use Rattle.tfpg_base.specs.Lines.{ends_line, parts_of, whole_lines, last_part, line_of_part, lines_of, HasNoLineEnd, with_line_end}
+use Rattle.tfpg_base.proofs.lists.Cuts.{take_but_last-cons, get_or-last_cons}
 
 -- there is always a part
 pub parts_of_some : (bytes : List ℕ) → 0 < length (parts_of bytes)
 parts_of_some bytes = omega (arith, length-slice_split ends_line bytes)
-
--- all but the last of more than one element
-take_but_last : (x : List ℕ) (xs : List (List ℕ)) → 0 < length xs → take (length (x ∷ xs) - 1) (x ∷ xs) ≡ x ∷ take (length xs - 1) xs
-take_but_last x xs h =
-    let e : length (x ∷ xs) - 1 ≡ suc (length xs - 1) = omega arith in
-    rw e refl
-
--- the last of more than one element
-last_cons : (x : List ℕ) (xs : List (List ℕ)) → 0 < length xs → get_or (x ∷ xs) (length (x ∷ xs) - 1) [] ≡ get_or xs (length xs - 1) []
-last_cons x xs h =
-    let e : length (x ∷ xs) - 1 ≡ suc (length xs - 1) = omega arith in
-    rw e refl
 
 -- a line and its line end are cut off
 pub parts_of-line : (line rest : List ℕ) → HasNoLineEnd line → parts_of (line ++ 10 ∷ rest) ≡ line ∷ parts_of rest
@@ -29,11 +18,11 @@ parts_of-line line rest h = slice_split_at ends_line line 10 rest h refl
 
 -- a line with its line end is the first of the whole lines
 pub whole_lines-line : (line rest : List ℕ) → HasNoLineEnd line → whole_lines (line ++ 10 ∷ rest) ≡ line ∷ whole_lines rest
-whole_lines-line line rest h = rw (parts_of-line line rest h) (take_but_last line (parts_of rest) (parts_of_some rest))
+whole_lines-line line rest h = rw (parts_of-line line rest h) (take_but_last-cons line (parts_of rest) (parts_of_some rest))
 
 -- the last part comes after it
 last_part-line : (line rest : List ℕ) → HasNoLineEnd line → last_part (line ++ 10 ∷ rest) ≡ last_part rest
-last_part-line line rest h = rw (parts_of-line line rest h) (last_cons line (parts_of rest) (parts_of_some rest))
+last_part-line line rest h = rw (parts_of-line line rest h) (get_or-last_cons line (parts_of rest) [] (parts_of_some rest))
 
 -- a line with its line end is the first of the lines
 pub lines_of-line : (line rest : List ℕ) → HasNoLineEnd line → lines_of (line ++ 10 ∷ rest) ≡ line ∷ lines_of rest
@@ -129,10 +118,6 @@ module _ (bytes : List ℕ) where
   pub whole_lines-clean : All HasNoLineEnd (whole_lines bytes)
   whole_lines-clean = subst (All HasNoLineEnd) (sym (whole_lines-cut (cut bytes))) (cut bytes).clean
 
-  -- nor has the last part
-  pub last_part-clean : HasNoLineEnd (last_part bytes)
-  last_part-clean = subst HasNoLineEnd (sym (last_part-cut (cut bytes))) (cut bytes).part
-
   -- the whole lines with their line ends and the last part are all bytes
   pub whole_lines_and_last_part : bytes ≡ flat_map with_line_end (whole_lines bytes) ++ last_part bytes
   whole_lines_and_last_part =
@@ -146,13 +131,6 @@ module _ (bytes : List ℕ) where
       ap (λ b. lines_of (b ++ more)) whole_lines_and_last_part
       ∙ ap lines_of (append_assoc (flat_map with_line_end (whole_lines bytes)) (last_part bytes) more)
       ∙ lines_of-after (whole_lines bytes) (last_part bytes ++ more) whole_lines-clean
-
-  -- also as far as lines have come whole
-  pub whole_lines-append : (more : List ℕ) → whole_lines (bytes ++ more) ≡ whole_lines bytes ++ whole_lines (last_part bytes ++ more)
-  whole_lines-append more =
-      ap (λ b. whole_lines (b ++ more)) whole_lines_and_last_part
-      ∙ ap whole_lines (append_assoc (flat_map with_line_end (whole_lines bytes)) (last_part bytes) more)
-      ∙ whole_lines-after (whole_lines bytes) (last_part bytes ++ more) whole_lines-clean
 
   -- whole lines stay the first ones, whatever follows
   pub take-lines_of : (more : List ℕ) → take (length (whole_lines bytes)) (lines_of (bytes ++ more)) ≡ whole_lines bytes

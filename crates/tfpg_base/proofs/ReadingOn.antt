@@ -1,23 +1,18 @@
 -- One call after another: what a caller that hands in the same source knows after each result.
-use Rattle.std.proofs.Common.{◌≡◌, ◌⊎◌, inl, inr, ℕ, ◌<◌, ◌≤◌, List, length, [], ◌++◌, Option, Some, None, Result, Ok, refl, ap, ◌∙◌, sym, subst, append-nil}
+use Rattle.std.proofs.Common.{◌≡◌, ◌⊎◌, inl, inr, ℕ, ◌<◌, ◌≤◌, List, length, Option, Some, None, Result, Ok, refl, ◌∙◌}
 use Rattle.std.proofs.lemmas.Option.{same_Some}
 use Rattle.tfpg_base.specs.declared.line.Line.{Line}
 use Rattle.tfpg_base.specs.declared.line.Line.TheVariants as line
 use Rattle.tfpg_base.specs.declared.line.LineFault.{LineFault}
 use Rattle.tfpg_base.specs.Outside.{SourceState, Takes, IsAtEnd}
-use Rattle.tfpg_base.specs.Lines.{Reading, Buffered, LinesRepresent, IsNext, GoesFurther, Continues, new_reading, with_bytes, with_line, ended_after_line, next_whole, lines_of}
+use Rattle.tfpg_base.specs.Lines.{Reading, LinesState, LinesRepresent, IsNext, GoesFurther, Continues, with_bytes, with_line, ended_after_line, next_whole}
 use Rattle.tfpg_base.specs.declared.limits.TheConstants.{LONGEST_LINE}
-use Rattle.tfpg_base.proofs.Taking.{Takes-nothing}
 
 -- Nothing has ended the reader, or the last line was given and the source has ended.
 abbrev pub CanContinue : Reading → SourceState → Type 0
 CanContinue reading source = (reading.ended ≡ None) ⊎ ((reading.ended ≡ Some (Ok line.End)) × IsAtEnd source)
 
--- a new reader can continue
-pub CanContinue-new : (source : SourceState) → CanContinue new_reading source
-CanContinue-new source = inl refl
-
--- and so does one that returned a line
+-- a reader that returned a line can continue
 pub CanContinue-with_line : (reading : Reading) (first : List ℕ) (source : SourceState) → IsNext reading first (IsAtEnd source) → CanContinue (with_line reading first) source
 CanContinue-with_line reading first source next = go (next_whole reading) next.whole where
   go : (whole : Option (List ℕ)) → (whole ≡ Some first) ⊎ IsAtEnd source → (ended_after_line whole ≡ None) ⊎ ((ended_after_line whole ≡ Some (Ok line.End)) × IsAtEnd source)
@@ -26,7 +21,7 @@ CanContinue-with_line reading first source next = go (next_whole reading) next.w
   go None (inr end) = inr (refl, end)
 
 -- a call that returns anything but the end is a turn of a reader that nothing has ended
-pub Continues-turn : (reading : Reading) (before after : SourceState) (result : Result Line LineFault) (reader : Buffered) → CanContinue reading before → (result ≡ Ok line.End → ⊥) → Continues reading reading.ended before after result reader → GoesFurther reading before after result reader
+pub Continues-turn : (reading : Reading) (before after : SourceState) (result : Result Line LineFault) (reader : LinesState) → CanContinue reading before → (result ≡ Ok line.End → ⊥) → Continues reading reading.ended before after result reader → GoesFurther reading before after result reader
 Continues-turn reading before after result reader goes_on other continues = go reading.ended goes_on continues where
   go : (ended : Option (Result Line LineFault)) → (ended ≡ None) ⊎ ((ended ≡ Some (Ok line.End)) × IsAtEnd before) → Continues reading ended before after result reader → GoesFurther reading before after result reader
   go None is same = same
@@ -34,7 +29,7 @@ Continues-turn reading before after result reader goes_on other continues = go r
   go (Some ending) (inr is) same = absurd (other (same.0 ∙ same_Some ending (Ok line.End) is.0))
 
 -- A call took these bytes and returned this line, and the reader can continue.
-pub record GaveLine (reading : Reading) (before after : SourceState) (reader : Buffered) : Type 0 where
+pub record GaveLine (reading : Reading) (before after : SourceState) (reader : LinesState) : Type 0 where
   pub more : List ℕ
   pub first : List ℕ
   pub takes : Takes before after more
@@ -43,7 +38,7 @@ pub record GaveLine (reading : Reading) (before after : SourceState) (reader : B
   pub stands : LinesRepresent reader (with_line (with_bytes reading more) first)
   pub goes_on : CanContinue (with_line (with_bytes reading more) first) after
 
-module _ (reading : Reading) (before after : SourceState) (reader : Buffered) (goes_on : CanContinue reading before) where
+module _ (reading : Reading) (before after : SourceState) (reader : LinesState) (goes_on : CanContinue reading before) where
   -- a call that returns a text has read it
   pub Continues-text : Continues reading reading.ended before after (Ok line.Text) reader → (gave : GaveLine reading before after reader) × (length gave.first ≤ LONGEST_LINE) × (reader.text ≡ gave.first)
   Continues-text continues =
@@ -57,27 +52,3 @@ module _ (reading : Reading) (before after : SourceState) (reader : Buffered) (g
       let turn = Continues-turn reading before after (Ok line.TooLong) reader goes_on (λ e. cc) continues in
       let given = turn.returns in
       (record { more = turn.more; first = given.0; takes = turn.takes; no_fault = turn.faults; next = given.1; stands = given.4; goes_on = CanContinue-with_line (with_bytes reading turn.more) given.0 after given.1 }, given.2)
-
--- A call found the end: it took what was left, no fault was counted, and all lines were returned.
-pub record CameToEnd (reading : Reading) (before after : SourceState) (reader : Buffered) : Type 0 where
-  pub more : List ℕ
-  pub takes : Takes before after more
-  pub no_fault : after.faults ≡ before.faults
-  pub all : lines_of (reading.taken ++ more) ≡ reading.given
-  pub end : IsAtEnd after
-  pub number : reader.number ≡ length reading.given
-
--- a call that returns the end has taken what was left, and all lines are returned
-pub Continues-end : (reading : Reading) (before after : SourceState) (old reader : Buffered) → CanContinue reading before → LinesRepresent old reading → Continues reading reading.ended before after (Ok line.End) reader → CameToEnd reading before after reader
-Continues-end reading before after old reader goes_on stands continues = go reading.ended refl goes_on continues where
-  go : (ended : Option (Result Line LineFault)) → reading.ended ≡ ended → (ended ≡ None) ⊎ ((ended ≡ Some (Ok line.End)) × IsAtEnd before) → Continues reading ended before after (Ok line.End) reader → CameToEnd reading before after reader
-  go None was is turn = record { more = turn.more; takes = turn.takes; no_fault = turn.faults; all = turn.returns.0; end = turn.returns.1; number = turn.returns.4.number }
-  go (Some ending) was (inl is) turn = absurd (cc)
-  go (Some ending) was (inr is) turn = record {
-    more = [];
-    takes = subst (λ source. Takes before source []) (sym turn.1) (Takes-nothing before);
-    no_fault = ap (λ (source : SourceState). source.faults) turn.1;
-    all = ap lines_of (append-nil reading.taken) ∙ stands.all_given (was ∙ is.0);
-    end = subst IsAtEnd (sym turn.1) is.1;
-    number = turn.3.number;
-  }

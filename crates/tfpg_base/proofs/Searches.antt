@@ -9,14 +9,14 @@ use Rattle.tfpg_base.specs.declared.line.Line.TheVariants as line
 use Rattle.tfpg_base.specs.declared.line.LineFault.{LineFault}
 use Rattle.tfpg_base.specs.declared.line.LineFault.TheVariants as fault
 use Rattle.tfpg_base.specs.Outside.{SourceState, Takes, IsAtEnd}
-use Rattle.tfpg_base.specs.Lines.{Buffered, Reading, LinesRepresent, Continues, HasNoLineEnd, ends_line}
+use Rattle.tfpg_base.specs.Lines.{LinesState, Reading, LinesRepresent, Continues, HasNoLineEnd, ends_line}
 use Rattle.tfpg_base.specs.declared.limits.TheConstants.{LONGEST_LINE, MAX_BYTES, BUFFER_SIZE}
 use Rattle.tfpg_base.specs.inside.LineSearch.{IsAtLineEnd, returned_line, lent_of, IsGiven, IsEnded, GivesLast, FoundLine, Took, Pieces, Refilled, IsRefilled, Searched}
 use Rattle.tfpg_base.proofs.Taking.{Takes-nothing, Takes-append}
 use Rattle.tfpg_base.proofs.Histories.{Continues-found}
 
 -- Bytes that were taken so far, none of which ends a line, nor does one that waited before.
-pub record SoFar (old : Buffered) (before mid : SourceState) (taken : ℕ) : Type 0 where
+pub record SoFar (old : LinesState) (before mid : SourceState) (taken : ℕ) : Type 0 where
   pub more : List ℕ
   pub takes : Takes before mid more
   pub faults : mid.faults ≡ before.faults
@@ -25,14 +25,14 @@ pub record SoFar (old : Buffered) (before mid : SourceState) (taken : ℕ) : Typ
   pub part : HasNoLineEnd (old.waiting ++ more)
 
 -- A reader whose line is still in the buffer, whole as far as it was taken.
-pub record IsReading (old now : Buffered) (before mid : SourceState) : Type 0 where
+pub record IsReading (old now : LinesState) (before mid : SourceState) : Type 0 where
   pub so_far : SoFar old before mid now.taken
   pub waiting : now.waiting ≡ old.waiting ++ so_far.more
   pub number : now.number ≡ old.number
   pub ended : now.ended ≡ None
 
 -- of a line that was found the kind is returned
-FoundLine-line : (bytes first : List ℕ) (lines : ℕ) (source_ended : Type 0) (now : Buffered) → IsGiven bytes first lines source_ended now → now.text ≡ lent_of first → FoundLine bytes lines source_ended (Ok (returned_line first)) now
+FoundLine-line : (bytes first : List ℕ) (lines : ℕ) (source_ended : Type 0) (now : LinesState) → IsGiven bytes first lines source_ended now → now.text ≡ lent_of first → FoundLine bytes lines source_ended (Ok (returned_line first)) now
 FoundLine-line bytes first lines source_ended now is text = go (leb (length first) LONGEST_LINE) refl text where
   go : (short : Bool) → leb (length first) LONGEST_LINE ≡ short → now.text ≡ cond short first [] → FoundLine bytes lines source_ended (Ok (cond short line.Text line.TooLong)) now
   go true e lent = (first, is, leb-true (length first) LONGEST_LINE e, lent)
@@ -54,7 +54,7 @@ returned_line-long bytes long = ap (λ short. cond short line.Text line.TooLong)
 lent_of-long : (bytes : List ℕ) → LONGEST_LINE < length bytes → lent_of bytes ≡ []
 lent_of-long bytes long = ap (λ short. cond short bytes []) (lt-leb (length bytes) LONGEST_LINE long)
 
-module _ (old : Buffered) (before mid : SourceState) (taken : ℕ) where
+module _ (old : LinesState) (before mid : SourceState) (taken : ℕ) where
   -- nothing is taken at first
   pub SoFar-start : HasNoLineEnd old.waiting → old.taken ≤ MAX_BYTES → SoFar old before before old.taken
   SoFar-start part few = record { more = []; takes = Takes-nothing before; faults = refl; count = omega arith; few = few; part = subst HasNoLineEnd (sym (append-nil old.waiting)) part }
@@ -86,7 +86,7 @@ module _ (old : Buffered) (before mid : SourceState) (taken : ℕ) where
     bytes-more : (front : List ℕ) → more ≡ front → old.waiting ++ (so_far.more ++ more) ≡ old.waiting ++ so_far.more ++ front
     bytes-more front is = ap (λ b. old.waiting ++ (so_far.more ++ b)) is ∙ sym (append_assoc old.waiting so_far.more front)
 
-    module _ (small : length more ≤ BUFFER_SIZE) (now : Buffered) (counted : now.taken ≡ taken + length more) where
+    module _ (small : length more ≤ BUFFER_SIZE) (now : LinesState) (counted : now.taken ≡ taken + length more) where
       -- all bytes of the call
       Took-more : Took old now before after (so_far.more ++ more)
       Took-more = record {
@@ -158,11 +158,11 @@ module _ (old : Buffered) (before mid : SourceState) (taken : ℕ) where
           (Searched-last none (omega (arith, longer)) source_ended few ended number (text ∙ sym (lent_of-long first longer)))
 
 -- what ended the reader after so many lines ended it after as many
-IsEnded-same : (lines number : ℕ) (ending : Result Line LineFault) (now : Buffered) → lines ≡ number → IsEnded lines ending now → IsEnded number ending now
+IsEnded-same : (lines number : ℕ) (ending : Result Line LineFault) (now : LinesState) → lines ≡ number → IsEnded lines ending now → IsEnded number ending now
 IsEnded-same lines number ending now same is = record { number = is.number ∙ same; text = is.text; ended = is.ended }
 
 -- a fault in a turn is the fault of the call
-pub Searched-fault : (old now end : Buffered) (before mid after : SourceState) (taken : ℕ) (so_far : SoFar old before mid taken) → now.taken ≡ taken → now.number ≡ old.number → (why : LineFault) → Refilled now mid after (Err why) end → Searched old before after (Err why) end
+pub Searched-fault : (old now end : LinesState) (before mid after : SourceState) (taken : ℕ) (so_far : SoFar old before mid taken) → now.taken ≡ taken → now.number ≡ old.number → (why : LineFault) → Refilled now mid after (Err why) end → Searched old before after (Err why) end
 Searched-fault old now end before mid after taken so_far count same fault.ReadFault refilled =
     let took : Took now end mid after [] = refilled.0 in (
       so_far.more ++ [],
@@ -184,11 +184,11 @@ Searched-fault old now end before mid after taken so_far count same fault.TooMuc
     )
 
 -- what was found by a later part of the call
-FoundLine-same : (bytes all : List ℕ) (lines number : ℕ) (source_ended : Type 0) (now : Buffered) → bytes ≡ all → lines ≡ number → (result : Result Line LineFault) → FoundLine bytes lines source_ended result now → FoundLine all number source_ended result now
+FoundLine-same : (bytes all : List ℕ) (lines number : ℕ) (source_ended : Type 0) (now : LinesState) → bytes ≡ all → lines ≡ number → (result : Result Line LineFault) → FoundLine bytes lines source_ended result now → FoundLine all number source_ended result now
 FoundLine-same bytes all lines number source_ended now same count result found = subst (λ n. FoundLine all n source_ended result now) count (subst (λ b. FoundLine b lines source_ended result now) same found)
 
 -- what a later part of the call found is what the call found
-pub Searched-further : (old now end : Buffered) (before mid after : SourceState) (so_far : SoFar old before mid now.taken) → now.waiting ≡ old.waiting ++ so_far.more → now.number ≡ old.number → (result : Result Line LineFault) → Searched now mid after result end → Searched old before after result end
+pub Searched-further : (old now end : LinesState) (before mid after : SourceState) (so_far : SoFar old before mid now.taken) → now.waiting ≡ old.waiting ++ so_far.more → now.number ≡ old.number → (result : Result Line LineFault) → Searched now mid after result end → Searched old before after result end
 Searched-further old now end before mid after so_far waits same result searched =
     let more : List ℕ = searched.0 in
     let took : Took now end mid after more = searched.1 in
@@ -211,7 +211,7 @@ Searched-further old now end before mid after so_far waits same result searched 
     )
 
 -- a reader reads on from where it is
-pub IsReading-start : (old : Buffered) (before : SourceState) → HasNoLineEnd old.waiting → old.taken ≤ MAX_BYTES → old.ended ≡ None → IsReading old old before before
+pub IsReading-start : (old : LinesState) (before : SourceState) → HasNoLineEnd old.waiting → old.taken ≤ MAX_BYTES → old.ended ≡ None → IsReading old old before before
 unfolding SoFar-start
 IsReading-start old before part few going = record {
   so_far = SoFar-start old before before old.taken part few;
@@ -220,7 +220,7 @@ IsReading-start old before part few going = record {
   ended = going;
 }
 
-module _ (old now : Buffered) (before mid : SourceState) (reading : IsReading old now before mid) (end : Buffered) (after : SourceState) (count : ℕ) (filled : IsRefilled now end mid after count) (same : after.faults ≡ mid.faults) where
+module _ (old now : LinesState) (before mid : SourceState) (reading : IsReading old now before mid) (end : LinesState) (after : SourceState) (count : ℕ) (filled : IsRefilled now end mid after count) (same : after.faults ≡ mid.faults) where
   -- the bytes of the turn come after those that were seen
   pub after_seen : (waiting seen : List ℕ) → waiting ≡ end.waiting → seen ≡ now.waiting → take (length waiting - length seen) (drop (length seen) waiting) ≡ filled.more
   after_seen waiting seen is was =
@@ -239,7 +239,7 @@ module _ (old now : Buffered) (before mid : SourceState) (reading : IsReading ol
     ended = filled.ended ∙ reading.ended;
   }
 
-  module _ (done : Buffered) where
+  module _ (done : LinesState) where
     -- one of them ends the line
     pub Searched-read : (kind : Line) (seen index : ℕ) → seen ≡ length now.waiting → IsAtLineEnd filled.more index → kind ≡ returned_line (take (seen + index) end.waiting) → done.waiting ≡ drop (seen + index + 1) end.waiting → done.text ≡ lent_of (take (seen + index) end.waiting) → done.number ≡ end.number + 1 → done.taken ≡ end.taken → done.ended ≡ end.ended → Searched old before after (Ok kind) done
     Searched-read kind seen index at is kinds waits lends number taken ended =
@@ -279,7 +279,7 @@ module _ (old now : Buffered) (before mid : SourceState) (reading : IsReading ol
         (record { number = gives.2 ∙ filled.number ∙ reading.number; text = gives.1; ended = ended })
 
 -- a line that waits whole is given at once, and nothing is taken
-pub Continues-at_once : (old now : Buffered) (source : SourceState) (kind : Line) (bytes : List ℕ) (index : ℕ) → bytes ≡ old.waiting → IsAtLineEnd bytes index → old.ended ≡ None → old.taken ≤ MAX_BYTES → kind ≡ returned_line (take index old.waiting) → now.waiting ≡ drop (index + 1) old.waiting → now.text ≡ lent_of (take index old.waiting) → now.number ≡ old.number + 1 → now.taken ≡ old.taken → now.ended ≡ old.ended → (reading : Reading) → LinesRepresent old reading → Continues reading reading.ended source source (Ok kind) now
+pub Continues-at_once : (old now : LinesState) (source : SourceState) (kind : Line) (bytes : List ℕ) (index : ℕ) → bytes ≡ old.waiting → IsAtLineEnd bytes index → old.ended ≡ None → old.taken ≤ MAX_BYTES → kind ≡ returned_line (take index old.waiting) → now.waiting ≡ drop (index + 1) old.waiting → now.text ≡ lent_of (take index old.waiting) → now.number ≡ old.number + 1 → now.taken ≡ old.taken → now.ended ≡ old.ended → (reading : Reading) → LinesRepresent old reading → Continues reading reading.ended source source (Ok kind) now
 Continues-at_once old now source kind bytes index is_waiting is unended few kinds waits lends number taken ended reading stands =
     let first : List ℕ = take index old.waiting in
     let whole : old.waiting ++ [] ≡ first ++ 10 ∷ now.waiting =

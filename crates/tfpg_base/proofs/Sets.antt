@@ -1,21 +1,24 @@
 -- Laws of sets as rising lists of positions, and of the bits that keep them.
-use Rattle.std.proofs.Common.{◌≡◌, ℕ, suc, zero, ◌+◌, ◌*◌, ◌/◌, ◌%◌, ◌<◌, ◌≤◌, ◌^◌, Bool, true, false, cond, eqb, ltb, List, [], ◌∷◌, ◌++◌, length, ◌⊎◌, ◌↔◌, inl, inr, ⊎_elim, bit_and, bit_or, count_ones, append-nil, length-append, add-one, w64, nat_eq, IsTrue, refl, arith, sym, ◌∙◌, ap}
-use Rattle.std.specs.List.{Contains}
+use Rattle.std.proofs.Common.{◌≡◌, ℕ, suc, zero, ◌+◌, ◌*◌, ◌/◌, ◌%◌, ◌<◌, ◌≤◌, ◌^◌, cond, eqb, ltb, List, [], ◌∷◌, ◌++◌, length, ◌⊎◌, ◌↔◌, inl, inr, ⊎_elim, bit_and, bit_or, count_ones, append-nil, length-append, add-one, w64, nat_eq, IsTrue, refl, arith, sym, ◌∙◌, ap, Bool, true, false, nat_lt, ◌==◌, subst, ◌≢◌}
+use Rattle.std.specs.List.{Contains, All, sum_by}
 use Rattle.std.specs.Int.{bit_at}
-use Rattle.std.proofs.lemmas.Bool.{ltb-true, ltb-false, eqb-true, eqb-false, eq-eqb, cases_lt, cases_eq, cond-true, cond_both}
-use Rattle.std.proofs.lemmas.List.Elements.{Contains-get_or, All-nil, All-contains, Contains-append_left, Contains-append_right, Contains-append_cases}
+use Rattle.std.proofs.lemmas.Bool.{ltb-true, ltb-false, eqb-true, eqb-false, eq-eqb, cases_lt, cases_eq, cond-true, cond_both, le-ltb, ne_eqb, cond-false}
+use Rattle.std.proofs.lemmas.List.Elements.{Contains-get_or, All-nil, All-contains, Contains-append_left, Contains-append_right, Contains-append_cases, All-head, All-tail}
 use Rattle.std.proofs.lemmas.List.Quantifiers.{all_pairs_push}
-use Rattle.std.proofs.Math.Nat.{add_comm, mod-one, mod-lt, mod-eq_of_lt}
-use Rattle.std.proofs.Math.Pow.{mod-pow-add, pow_pos}
-use Rattle.std.proofs.lemmas.Nat.{ones_le_self, zero_from_ones, ones_cat}
+use Rattle.std.proofs.Math.Nat.{add_comm, mod-one, mod-lt, mod-eq_of_lt, pow-suc}
+use Rattle.std.proofs.Math.Pow.{mod-pow-add, pow_pos, pow_mono}
+use Rattle.std.proofs.lemmas.Nat.{ones_cat}
 use Rattle.std.proofs.lemmas.Nat.Bits.{bit_at-lt, shr_and_one, bit_at_and, bit_at_set_same, bit_at_set_other, bit_at_above, same_from_bits}
-use Rattle.tfpg_base.proofs.lists.Elements.{AllPairs-head, AllPairs-tail, AllPairs-cons, All-from_members, Contains-head, Contains-tail, Contains-cons_cases, Contains-nil}
+use Rattle.tfpg_base.proofs.lists.Elements.{AllPairs-head, AllPairs-tail, AllPairs-cons, All-from_members, Contains-head, Contains-tail, Contains-cons_cases, Contains-nil, Contains-cond, length-cond_bit}
 pub use Rattle.tfpg_base.proofs.lists.Ordered.{Rises, same_from_members}
 use Rattle.tfpg_base.proofs.lists.Ordered.{least_first}
+use Rattle.tfpg_base.proofs.lists.Sequences.{count_ones-bit}
+use Rattle.tfpg_base.proofs.lists.Pigeons.{within_others}
 use Rattle.tfpg_base.specs.Set.{with_member, IsSubset, IsSet}
 use Rattle.tfpg_base.specs.declared.limits.TheConstants.{MAX_MEMBERS}
 use Rattle.tfpg_base.specs.SetBits.{ones_below, members_of, bits_of}
 pub use Rattle.tfpg_base.specs.inside.BitsOfMembers.{bits_of-one, bits_of-ones_below, bits_of-members_of}
+use Rattle.std.proofs.lemmas.List.Sums.{sum_by-cons}
 
 -- ---- a member more
 
@@ -25,6 +28,13 @@ with_member_cases P position first others below same above =
     cond_both (ltb position first) _ _ P (λ less. below (ltb-true position first less))
     (λ not_less. cond_both (eqb position first) _ _ P (λ equal. same (eqb-true position first equal))
     (λ unequal. above (omega (arith, ltb-false position first not_less, eqb-false position first unequal))))
+
+-- A member more makes a set at most one longer.
+pub length-with_member_le : (position : ℕ) (members : List ℕ) → length (with_member position members) ≤ length members + 1
+length-with_member_le position [] = omega arith
+length-with_member_le position (first ∷ others) =
+    with_member_cases (λ more. length more ≤ length (first ∷ others) + 1) position first others (λ less. omega arith) (λ same. omega arith)
+    (λ above. omega (arith, length-with_member_le position others))
 
 -- The new member is one.
 pub Contains-with_member : (position : ℕ) (members : List ℕ) → Contains (with_member position members) position
@@ -62,6 +72,21 @@ members-with_member position members other = (
   λ either. ⊎_elim (λ same. rw (← same) (Contains-with_member position members)) (λ old. with_member-keeps position members other old) either,
 )
 
+-- What holds of the new member and of each old one holds of each.
+pub All-with_member : (P : ℕ → Type 0) (position : ℕ) (members : List ℕ) → P position → All P members → All P (with_member position members)
+All-with_member P position members own all =
+    All-from_members P (with_member position members)
+    (λ other member. ⊎_elim (λ same. subst P same own) (λ old. All-contains P members other all old) (with_member-only position members other member))
+
+-- A member that is greater than all comes last.
+pub with_member-last : (position : ℕ) (members : List ℕ) → All (λ member. member < position) members → with_member position members ≡ members ++ position ∷ []
+with_member-last position [] below = refl
+with_member-last position (first ∷ others) below =
+    let less : first < position = below 0 0 (omega arith) in
+    cond-false (ltb position first) _ _ (le-ltb position first (omega (arith, less)))
+    ∙ cond-false (eqb position first) _ _ (ne_eqb position first (λ is. omega (arith, is, less)))
+    ∙ ap (λ rest. first ∷ rest) (with_member-last position others (λ k d within. below (suc k) d (omega arith)))
+
 -- With one member more the list still rises.
 pub Rises-with_member : (position : ℕ) (members : List ℕ) → Rises members → Rises (with_member position members)
 Rises-with_member position [] rising = AllPairs-cons ◌<◌ position [] (All-nil (λ later. position < later)) rising
@@ -83,17 +108,34 @@ IsSet-with_member position members small set = record {
       (λ later member. ⊎_elim (λ new. omega (arith, small, new)) (λ old. All-contains (λ later. later < MAX_MEMBERS) members later set.small old) (with_member-only position members later member));
 }
 
+-- one member more that is new makes a set longer by one
+pub length-with_new_member : (position : ℕ) (members : List ℕ) → (Contains members position → ⊥)
+    → length (with_member position members) ≡ suc (length members)
+length-with_new_member position [] new = refl
+length-with_new_member position (first ∷ others) new =
+    cond_both (ltb position first) _ _ (λ more. length more ≡ suc (suc (length others))) (λ less. refl)
+    (λ not_less. cond_both (eqb position first) _ _ (λ more. length more ≡ suc (suc (length others)))
+    (λ equal. absurd (new (subst (λ (n : ℕ). Contains (first ∷ others) n) (sym (eqb-true position first equal))
+    (Contains-head first others))))
+    (λ unequal. ap suc (length-with_new_member position others (λ member. new (Contains-tail first others position member)))))
+
+-- one member more that is new is worth its own more
+pub sum_by-with_member : (f : ℕ → ℕ) (index : ℕ) (members : List ℕ) → (Contains members index → ⊥) → sum_by f (with_member index members) ≡ f index + sum_by f members
+sum_by-with_member f index [] new = sum_by-cons f index []
+sum_by-with_member f index (first ∷ others) new = by (sum_by-with_member f index others (λ is. new (Contains-tail first others index is))) (nat_lt index first) (index == first) refl
+  where
+    by : sum_by f (with_member index others) ≡ f index + sum_by f others → (before same : Bool) → (index == first) ≡ same
+        → sum_by f (cond before (index ∷ first ∷ others) (cond same (first ∷ others) (first ∷ with_member index others))) ≡ f index + sum_by f (first ∷ others)
+    by later true same at = sum_by-cons f index (first ∷ others)
+    by later false true at = absurd (new (subst (Contains (first ∷ others)) (sym (eqb-true index first at)) (Contains-head first others)))
+    by later false false at = omega (arith, sum_by-cons f first (with_member index others), sum_by-cons f first others, later)
+
 -- ---- the bits of a set
 
 -- no bit, no member
 pub members_of-zero : members_of 0 ≡ []
 unfolding members_of ones_below
 members_of-zero = refl
-
--- the one position, where there is one
-Contains-cond : (chosen : Bool) (only index : ℕ) → Contains (cond chosen (only ∷ []) []) index → (chosen ≡ true) × (only ≡ index)
-Contains-cond true only index member = (refl, ⊎_elim (λ is. is) (λ beyond. absurd (Contains-nil index beyond)) (Contains-cons_cases only [] index member))
-Contains-cond false only index member = absurd (Contains-nil index member)
 
 -- what stands among the ones below a count is an index below it with a one
 pub ones_below-only : (count bits index : ℕ) → Contains (ones_below count bits) index → (index < count) × (bit_at bits index ≡ 1)
@@ -138,17 +180,6 @@ pub members_of-is : (bits index : ℕ) → Contains (members_of bits) index ↔ 
 unfolding members_of
 members_of-is bits index = (ones_below-only MAX_MEMBERS bits index, λ both. ones_below-all MAX_MEMBERS bits index both.0 both.1)
 
--- a bit has as many ones as it is worth
-count_ones-bit : (bit : ℕ) → bit < 2 → count_ones bit ≡ bit
-count_ones-bit bit small =
-    ⊎_elim (λ none. none ∙ sym (zero_from_ones bit none)) (λ some. omega (arith, some, small, ones_le_self bit)) (cases_eq (count_ones bit) 0)
-
--- an index stands once where its bit is 1, and else not at all
-length-cond : (bit index : ℕ) → bit < 2 → length (cond (eqb bit 1) (index ∷ []) []) ≡ bit
-length-cond zero index small = refl
-length-cond (suc zero) index small = refl
-length-cond (suc (suc bit)) index small = absurd (omega arith)
-
 -- there are as many ones below a count as among the lowest bits
 length-ones_below : (count bits : ℕ) → length (ones_below count bits) ≡ count_ones (bits % 2 ^ count)
 unfolding ones_below
@@ -161,7 +192,7 @@ length-ones_below (suc count) bits =
     let split : bits % 2 ^ suc count ≡ bit * 2 ^ count + low = ap (λ upto. bits % 2 ^ upto) (sym (add_comm 1 count ∙ add-one count)) ∙ mod-pow-add bits 1 count in
     let ones : count_ones (bits % 2 ^ suc count) ≡ count_ones bit + count_ones low = ap count_ones split ∙ ones_cat count bit low (mod-lt bits (pow_pos count)) in
     let parts = length-append (ones_below count bits) last in
-    omega (arith, ones, parts, length-cond bit count small, length-ones_below count bits, count_ones-bit bit small)
+    omega (arith, ones, parts, length-cond_bit bit count small, length-ones_below count bits, count_ones-bit bit small)
 
 -- A set has as many members as its bits have ones.
 pub length-members_of : (bits : ℕ) → bits < 2 ^ 64 → length (members_of bits) ≡ count_ones bits
@@ -204,16 +235,37 @@ one_within bits index small one =
 
 -- No bit is lost by taking the bits of both where each member is one of the other set.
 pub bits_from_IsSubset : (a b : ℕ) → a < 2 ^ 64 → IsSubset (members_of a) (members_of b) → bit_and a b ≡ a
-bits_from_IsSubset a b small part =
+bits_from_IsSubset a b small subset =
     same_from_bits (bit_and a b) a
     (λ index. ⊎_elim
     (λ none. omega (arith, bit_at_and a b index, none))
     (λ some.
     let one : bit_at a index ≡ 1 = omega (arith, some, bit_at-lt a index) in
     let within = one_within a index small one in
-    let other = (members_of-is b index).0 (All-contains (Contains (members_of b)) (members_of a) index part ((members_of-is a index).1 (within, one))) in
+    let other = (members_of-is b index).0 (All-contains (Contains (members_of b)) (members_of a) index subset ((members_of-is a index).1 (within, one))) in
     omega (arith, one, other.1, bit_at_and a b index))
     (cases_eq (bit_at a index) 0))
+
+-- rising indexes below a bound are worth less than the bit of the bound, by at least the bit of an index at or before the first
+bits_of-within : (indexes : List ℕ) (first bound : ℕ) → Rises indexes → All (λ index. first ≤ index) indexes → All (λ index. index < bound) indexes → first ≤ bound
+    → bits_of indexes + 2 ^ first ≤ 2 ^ bound
+bits_of-within [] first bound rises from to within = let bit : 2 ^ first ≤ 2 ^ bound = pow_mono within in omega (arith, bit)
+bits_of-within (index ∷ others) first bound rises from to within =
+    let low : first ≤ index = All-head (λ p. first ≤ p) index others from in
+    let high : index < bound = All-head (λ p. p < bound) index others to in
+    let rest : bits_of others + 2 ^ suc index ≤ 2 ^ bound = bits_of-within others (suc index) bound (AllPairs-tail ◌<◌ index others rises) (AllPairs-head ◌<◌ index others rises)
+    (All-tail (λ p. p < bound) index others to) high in
+    let bit : 2 ^ first ≤ 2 ^ index = pow_mono low in
+    omega (arith, rest, bit, pow-suc 2 index, sum_by-cons (λ p. 2 ^ p) index others)
+
+-- the bits of a set whose members are below a bound are below the bit of the bound
+pub bits_of-below : (indexes : List ℕ) (bound : ℕ) → Rises indexes → All (λ index. index < bound) indexes → bits_of indexes < 2 ^ bound
+bits_of-below indexes bound rises to = omega (arith, bits_of-within indexes 0 bound rises (λ k d within. omega arith) to (omega arith))
+
+-- a list with an item is worth something
+pub bits_of-some : (indexes : List ℕ) → indexes ≢ [] → 0 < bits_of indexes
+bits_of-some [] some = absurd (some refl)
+bits_of-some (index ∷ others) some = omega (arith, sum_by-cons (λ p. 2 ^ p) index others, pow_pos index)
 
 -- ---- what the tests on bits say of the members
 
@@ -247,5 +299,29 @@ pub bits_say_subset : (a b : ℕ) (xs ys : List ℕ) → members_of a ≡ xs →
 bits_say_subset a b xs ys view_a view_b small =
     rw (← view_a, ← view_b) (
       λ yes. IsSubset-from_bits a b (eqb-true (bit_and a b) a yes),
-      λ part. eq-eqb (bit_and a b) a (bits_from_IsSubset a b small part),
+      λ subset. eq-eqb (bit_and a b) a (bits_from_IsSubset a b small subset),
     )
+
+-- ---- how long a subset is
+
+-- A subset is the whole or shorter.
+pub IsSubset-cases : (whole subset : List ℕ) → Rises subset → Rises whole → IsSubset subset whole → (subset ≡ whole) ⊎ (length subset < length whole)
+IsSubset-cases [] [] rises_subset rises_whole within = inl refl
+IsSubset-cases [] (p ∷ ps) rises_subset rises_whole within = absurd (Contains-nil p (All-contains (Contains []) (p ∷ ps) p within (Contains-head p ps)))
+IsSubset-cases (w ∷ ws) [] rises_subset rises_whole within = inr (omega arith)
+IsSubset-cases (w ∷ ws) (p ∷ ps) rises_subset rises_whole within =
+    let rest_whole = AllPairs-tail ◌<◌ w ws rises_whole in
+    let after_p = λ (x : ℕ) (member : Contains ps x). All-contains (λ y. p < y) ps x (AllPairs-head ◌<◌ p ps rises_subset) member in
+    ⊎_elim
+    (λ same.
+    let rest : All (Contains (w ∷ ws)) ps = λ k d below. within (suc k) d (omega (arith, below)) in
+    let inside = within_others ps w [] ws rest (All-from_members (λ x. w ≢ x) ps (λ x member is. omega (arith, is, same, after_p x member))) in
+    ⊎_elim (λ equal. inl (let head : p ≡ w = sym same in cc)) (λ shorter. inr (omega (arith, shorter))) (IsSubset-cases ws ps (AllPairs-tail ◌<◌ p ps rises_subset) rest_whole inside))
+    (λ later.
+    let above_p = All-contains (λ y. w < y) ws p (AllPairs-head ◌<◌ w ws rises_whole) later in
+    let inside = within_others (p ∷ ps) w [] ws within (All-from_members (λ x. w ≢ x) (p ∷ ps) (λ x member is. omega (arith, is, above_all x member above_p after_p))) in
+    ⊎_elim (λ equal. inr (omega (arith, ap length equal))) (λ shorter. inr (omega (arith, shorter))) (IsSubset-cases ws (p ∷ ps) rises_subset rest_whole inside))
+    (Contains-cons_cases w ws p (All-contains (Contains (w ∷ ws)) (p ∷ ps) p within (Contains-head p ps)))
+  where
+    above_all : (x : ℕ) → Contains (p ∷ ps) x → w < p → ((y : ℕ) → Contains ps y → p < y) → w < x
+    above_all x member above_p after_p = ⊎_elim (λ is. omega (arith, is, above_p)) (λ rest. omega (arith, above_p, after_p x rest)) (Contains-cons_cases p ps x member)

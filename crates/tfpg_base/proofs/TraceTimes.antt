@@ -1,6 +1,6 @@
 -- The times of a trace are those of its activations.
 use Rattle.std.proofs.Common.{◌≡◌, ℕ, ◌<◌, Bool, true, false, cond, eqb, List, [], ◌∷◌, Some, ◌⊎◌, inl, inr, refl, ap, ◌∙◌, arith}
-use Rattle.std.specs.Prelude.{Contains}
+use Rattle.std.specs.Prelude.{All, Contains}
 use Rattle.std.proofs.lemmas.Bool.{eqb-true, cond-true, cond-false, eq-eqb, ne_eqb}
 use Rattle.std.proofs.lemmas.List.Elements.{All-contains}
 use Rattle.tfpg_base.specs.declared.activation.Activation.{Activation}
@@ -35,3 +35,7 @@ time_there (first ∷ others) rising activation member = by (Contains-cons_cases
         let less = All-contains (λ later. first.node < later.node) others activation (AllPairs-head (λ earlier later. earlier.node < later.node) first others rising) more in
         cond-false (eqb first.node activation.node) (Some first.time) (time_of others activation.node) (ne_eqb first.node activation.node (λ same. omega (arith, less, same)))
         ∙ rest more
+
+-- what holds of all activations holds of one that a trace gives
+pub time_holds : (P : Activation → Type 0) (trace : List Activation) (node time : ℕ) → All P trace → time_of trace node ≡ Some time → P (record { node = node; time = time })
+time_holds P trace node time all is = All-contains P trace (record { node = node; time = time }) all (activation_there trace node time is)

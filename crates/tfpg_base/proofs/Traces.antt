@@ -64,7 +64,7 @@ time_of-stands (first ∷ others) node (suc index) d stands =
     ∙ time_of-stands others node index d (StandsAt-tail first others node index stands)
 
 -- a node that no activation has has no time
-time_of-none : (trace : List Activation) (node : ℕ) → ((k : ℕ) (d : Activation) → k < length trace → (get_or trace k d).node ≢ node) → time_of trace node ≡ None
+pub time_of-none : (trace : List Activation) (node : ℕ) → ((k : ℕ) (d : Activation) → k < length trace → (get_or trace k d).node ≢ node) → time_of trace node ≡ None
 time_of-none [] node none = refl
 time_of-none (first ∷ others) node none =
     cond-false (eqb first.node node) (Some first.time) (time_of others node) (ne_eqb first.node node (none 0 first (omega arith)))
@@ -86,7 +86,7 @@ with_time-here : (node time : ℕ) (first : Activation) (others : List Activatio
 with_time-here node time first others same =
     cond-false (ltb node first.node) _ _ (le-ltb node first.node (omega (arith, same))) ∙ cond-true (eqb node first.node) _ _ (eq-eqb node first.node (sym same))
 
-with_time-above : (node time : ℕ) (first : Activation) (others : List Activation) → first.node < node → with_time node time (first ∷ others) ≡ first ∷ with_time node time others
+pub with_time-above : (node time : ℕ) (first : Activation) (others : List Activation) → first.node < node → with_time node time (first ∷ others) ≡ first ∷ with_time node time others
 with_time-above node time first others above =
     cond-false (ltb node first.node) _ _ (le-ltb node first.node (omega (arith, above)))
     ∙ cond-false (eqb node first.node) _ _ (ne_eqb node first.node (λ same. omega (arith, above, same)))

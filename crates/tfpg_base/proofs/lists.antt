@@ -14,6 +14,7 @@ pub mod Ranges
 -- Lists made of others: images, those that pass, values that there are.
 pub mod Images
 pub mod Zipped
+pub mod Appended
 pub mod Filtered
 pub mod Passing
 pub mod Numbered
@@ -23,7 +24,13 @@ pub mod Choices
 pub mod Scans
 -- Bytes and numbers.
 pub mod SameBytes
+pub mod Digits
+pub mod Lacking
 pub mod Joined
 pub mod Sequences
+pub mod Trials
+pub mod Fractions
+pub mod Integers
+pub mod Maxima
 -- What can be decided.
 pub mod Decided

@@ -1,5 +1,5 @@
 -- Choices among optional values, and among the items of a list.
-use Rattle.std.specs.Prelude.{ℕ, zero, suc, ◌+◌, Bool, List, [], ◌∷◌, Option, Some, None, option_map, slice_get, Result, Ok, Err, if◌then◌else◌, min}
+use Rattle.std.specs.Prelude.{ℕ, zero, suc, ◌+◌, ◌-◌, Bool, List, [], ◌∷◌, length, Option, Some, None, option_map, slice_get, Result, Ok, Err, if◌then◌else◌, min}
 
 -- the first value that there is
 abbrev pub first_of : {X : Type 0} → List (Option X) → Option X
@@ -33,3 +33,7 @@ item_at items (suc before) = slice_get items before
 abbrev pub numbers_from : {X : Type 0} → ℕ → (X → Bool) → List X → List ℕ
 numbers_from number passes [] = []
 numbers_from number passes (x ∷ xs) = if passes x then number ∷ numbers_from (number + 1) passes xs else numbers_from (number + 1) passes xs
+
+-- the last of a list, where it has one
+abbrev pub last_of : {X : Type 0} → List X → Option X
+last_of xs = slice_get xs (length xs - 1)

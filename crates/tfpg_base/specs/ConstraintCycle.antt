@@ -1,5 +1,5 @@
 -- Constraints that chain into a cycle, and the sum of their bounds. Where the sum is below 0 no times meet them all.
-use Rattle.std.specs.Prelude.{◌≡◌, ◌≢◌, ℕ, ℤ, pos, ◌+ℤ◌, List, [], ◌∷◌, fold, AllPairs}
+use Rattle.std.specs.Prelude.{◌≡◌, ◌≢◌, ℕ, ℤ, pos, ◌+ℤ◌, ◌<ℤ◌, List, [], ◌∷◌, fold, AllPairs}
 use Rattle.tfpg_base.specs.declared.constraint.Constraint.{Constraint}
 
 -- Each right side is the next left side, and the last right side is this one.
@@ -20,3 +20,8 @@ HasDistinctLefts constraints = AllPairs (λ earlier later. earlier.left ≢ late
 -- the sum of their bounds
 abbrev pub sum_of : List Constraint → ℤ
 sum_of constraints = fold (λ total constraint. total +ℤ constraint.bound) (pos 0) constraints
+
+-- The constraints chain into a cycle, and the sum of their bounds is below 0.
+pub record IsNegativeCycle (constraints : List Constraint) : Type 0 where
+  pub chained : IsCycle constraints
+  pub negative : sum_of constraints <ℤ pos 0

@@ -12,5 +12,6 @@ pub mod Constraint
 pub mod ConstraintCycle
 pub mod Bounds
 pub mod Choice
+pub mod Trials
 -- What the code and its proofs need besides. No public clause reaches it.
 pub mod inside

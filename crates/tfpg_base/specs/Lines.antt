@@ -70,7 +70,7 @@ abbrev pub ended_by : Reading → Result Line LineFault → Reading
 ended_by reading ending = record reading { ended = Some ending }
 
 -- what contracts see of a reader: the bytes in its buffer, how many it took, what it lends, and what ended it
-pub record Buffered : Type 0 where
+pub record LinesState : Type 0 where
   pub waiting : List ℕ
   pub taken : ℕ
   pub text : List ℕ
@@ -86,13 +86,13 @@ abbrev pub HasNoLineEnd : List ℕ → Type 0
 HasNoLineEnd bytes = All (λ byte. ends_line byte ≡ false) bytes
 
 -- while nothing has ended it, the buffer holds the bytes taken that come after the lines returned
-pub record IsGoingOn (reader : Buffered) (reading : Reading) : Type 0 where
+pub record IsGoingOn (reader : LinesState) (reading : Reading) : Type 0 where
   pub bytes : reading.taken ≡ flat_map with_line_end reading.given ++ reader.waiting
   pub lines : All HasNoLineEnd reading.given
   pub few : reader.taken ≤ MAX_BYTES
 
 -- The reader represents this history.
-pub record LinesRepresent (reader : Buffered) (reading : Reading) : Type 0 where
+pub record LinesRepresent (reader : LinesState) (reading : Reading) : Type 0 where
   pub number : reader.number ≡ length reading.given
   pub taken : reader.taken ≡ length reading.taken
   pub ended : reader.ended ≡ reading.ended
@@ -106,7 +106,7 @@ pub record IsNext (reading : Reading) (line : List ℕ) (source_ended : Type 0) 
   pub whole : (next_whole reading ≡ Some line) ⊎ source_ended
 
 -- What a reader that nothing has ended returns, with the bytes of this call among those taken.
-abbrev pub ReturnsNext : Reading → Type 0 → Result Line LineFault → Buffered → Type 0
+abbrev pub ReturnsNext : Reading → Type 0 → Result Line LineFault → LinesState → Type 0
 ReturnsNext reading source_ended (Ok line.Text) reader =
     (next : List ℕ) × IsNext reading next source_ended × (length next ≤ LONGEST_LINE) × (reader.text ≡ next)
     × LinesRepresent reader (with_line reading next)
@@ -142,7 +142,7 @@ CountsReadFault (Err fault.TooMuchInput) before after = after.faults ≡ before.
 CountsReadFault (Ok found) before after = after.faults ≡ before.faults
 
 -- One call of a reader that nothing has ended.
-pub record GoesFurther (reading : Reading) (before after : SourceState) (result : Result Line LineFault) (reader : Buffered) : Type 0 where
+pub record GoesFurther (reading : Reading) (before after : SourceState) (result : Result Line LineFault) (reader : LinesState) : Type 0 where
   pub more : List ℕ
   pub takes : Takes before after more
   pub needed : TakesAsNeeded reading more
@@ -150,6 +150,6 @@ pub record GoesFurther (reading : Reading) (before after : SourceState) (result 
   pub returns : ReturnsNext (with_bytes reading more) (IsAtEnd after) result reader
 
 -- One call: what ended a reader is returned again, and the source is left as it was. Else the reader goes further.
-abbrev pub Continues : Reading → Option (Result Line LineFault) → SourceState → SourceState → Result Line LineFault → Buffered → Type 0
+abbrev pub Continues : Reading → Option (Result Line LineFault) → SourceState → SourceState → Result Line LineFault → LinesState → Type 0
 Continues reading (Some ending) before after result reader = (result ≡ ending) × (after ≡ before) × (reader.text ≡ []) × LinesRepresent reader reading
 Continues reading None before after result reader = GoesFurther reading before after result reader

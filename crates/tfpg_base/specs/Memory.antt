@@ -11,7 +11,7 @@ count_after count = min (count + 1) (2 ^ 64 - 1)
 
 -- The bytes of a source that fails at chosen calls: those that are left, the limit of one call, the numbers of
 -- the calls that are to fail, how many calls came, how many failed, and whether the end was returned.
-pub record GivesBytes : Type 0 where
+pub record MemorySourceState : Type 0 where
   pub left : List ℕ
   pub limit : ℕ
   pub failing : List ℕ
@@ -20,7 +20,7 @@ pub record GivesBytes : Type 0 where
   pub ended : Bool
 
 -- The bytes of a source that never fails: those that are left, and whether the end was returned.
-pub record SteadyBytes : Type 0 where
+pub record SteadySourceState : Type 0 where
   pub left : List ℕ
   pub ended : Bool
 
@@ -28,16 +28,16 @@ pub record SteadyBytes : Type 0 where
 abbrev pub FailsNext : List ℕ → ℕ → Type 0
 FailsNext failing calls = Contains failing (count_after calls)
 
--- how many bytes a call gives: the least of the places of the room, of the bytes that are left, and of the limit of a call
-abbrev pub count_given : GivesBytes → ℕ → ℕ
+-- how many bytes a call gives: the least of the length of the buffer, of the number of bytes left, and of the limit of a call
+abbrev pub count_given : MemorySourceState → ℕ → ℕ
 count_given source room = min (min (length source.left) room) source.limit
 
--- whether the end was returned after a call that gave so many bytes for a room of this length
+-- whether the end was returned after a call that gave so many bytes for a buffer of this length
 abbrev pub ended_after : Bool → ℕ → ℕ → Bool
 ended_after ended count room = ended || (count == 0 && nat_lt 0 room)
 
--- a source after a call for a room of this length
-abbrev pub after_take : GivesBytes → ℕ → Result ℕ Failed → GivesBytes
+-- a source after a call for a buffer of this length
+abbrev pub after_take : MemorySourceState → ℕ → Result ℕ Failed → MemorySourceState
 after_take old room (Ok count) = record old {
   left = drop count old.left;
   calls = count_after old.calls;
@@ -45,14 +45,14 @@ after_take old room (Ok count) = record old {
 }
 after_take old room (Err failed) = record old { calls = count_after old.calls; faults = count_after old.faults }
 
--- a room after a call of a source that had these bytes left
+-- a buffer after a call of a source that had these bytes left
 abbrev pub filled : List ℕ → List ℕ → Result ℕ Failed → List ℕ
 filled left room (Ok count) = take count left ++ drop count room
 filled left room (Err failed) = room
 
 -- The bytes of a sink that fails at chosen calls: all of them so far, the limit of one call, the numbers of the
 -- calls that are to fail, how many calls came, and how many failed.
-pub record HoldsBytes : Type 0 where
+pub record MemorySinkState : Type 0 where
   pub holds : List ℕ
   pub limit : ℕ
   pub failing : List ℕ
@@ -60,13 +60,13 @@ pub record HoldsBytes : Type 0 where
   pub faults : ℕ
 
 -- a sink after a call for this piece
-abbrev pub after_put : HoldsBytes → List ℕ → Result ℕ Failed → HoldsBytes
+abbrev pub after_put : MemorySinkState → List ℕ → Result ℕ Failed → MemorySinkState
 after_put old piece (Ok count) = record old { holds = old.holds ++ take count piece; calls = count_after old.calls }
 after_put old piece (Err failed) = record old { calls = count_after old.calls; faults = count_after old.faults }
 
 -- Files by name: the names with the contents, the names asked for so far, the numbers of the calls that are to
 -- fail, how many calls came, and how many failed.
-pub record HasFiles : Type 0 where
+pub record MemoryShelfState : Type 0 where
   pub files : List (List ℕ × List ℕ)
   pub asked : List (List ℕ)
   pub failing : List ℕ
@@ -90,7 +90,7 @@ Fetches fails content copy (Err faults.NoMemory) = copy ≡ []
 Fetches fails content copy (Err faults.Failed) = (copy ≡ []) × (fails ⊎ (content ≡ None))
 
 -- a shelf after a call for this name
-abbrev pub after_fetch : HasFiles → List ℕ → Result (Unit {0}) ShelfFault → HasFiles
+abbrev pub after_fetch : MemoryShelfState → List ℕ → Result (Unit {0}) ShelfFault → MemoryShelfState
 after_fetch old name (Ok done) = record old { asked = old.asked ++ name ∷ []; calls = count_after old.calls }
 after_fetch old name (Err faults.TooLong) = record old { asked = old.asked ++ name ∷ []; calls = count_after old.calls }
 after_fetch old name (Err faults.NoMemory) = record old { calls = count_after old.calls }

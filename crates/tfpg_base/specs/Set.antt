@@ -10,11 +10,11 @@ with_member position (first ∷ others) =
 
 -- each member of the one is a member of the other
 abbrev pub IsSubset : List ℕ → List ℕ → Type 0
-IsSubset part whole = All (Contains whole) part
+IsSubset subset whole = All (Contains whole) subset
 
 -- a subset, and not the whole set
 abbrev pub IsProperSubset : List ℕ → List ℕ → Type 0
-IsProperSubset part whole = IsSubset part whole × (part ≢ whole)
+IsProperSubset subset whole = IsSubset subset whole × (subset ≢ whole)
 
 -- The numbers rise strictly.
 abbrev pub Rises : List ℕ → Type 0

@@ -3,18 +3,21 @@
 //!
 //! - [`Source`], [`Sink`] and [`Shelf`] are the outside. Each counts the calls that failed, and contracts may know its
 //!   contents. [`MemorySource`], [`MemorySink`] and [`MemoryShelf`] are each in memory; [`SteadySource`]
-//!   and [`Discard`] never fail.
+//!   and [`Discard`] never fail. [`FaultCount`] is such a count. [`Failed`] and [`ShelfFault`] say why a call failed.
 //! - [`Lines`] cuts what a source gives into lines. [`without_last_line_end`] returns a text without the line end
-//!   at its end.
+//!   at its end. [`LineFault`] says why there is no line.
 //! - [`append_to_file`] appends a part of a file, as far as a file may go.
-//! - [`Words`] cuts a line into words. [`read_name`] and [`read_number`] know the two forms of words that every
-//!   text format uses.
-//! - [`Set`] is a set of failure modes, [`Trace`] says when which node became active.
+//! - [`Words`] cuts a line into words, [`parts_at_commas`] a word into parts, and [`has_empty_word`] finds an empty word.
+//!   [`read_name`] and [`read_number`] know the two forms of words that every text format uses; [`Number`] says what is read.
+//! - [`Set`] is a set of failure modes. [`Trace`] says when which node became active, with an [`Activation`] for each.
+//!   [`Constraint`] is a difference constraint over the times of nodes.
+//! - [`MAX_TIME`] and the other limits say how long or how large things may be.
 //! - [`Items`] is a list that contracts see as one; [`Bytes`], [`NumberList`] and [`LineList`] are such lists, and a crate
 //!   names one of its own items by `pub type StepList = Items<Step>;`. [`Text`] is a text that is kept.
 //! - [`append_line`] appends a line of words to a text, [`append_words`] its words alone, and [`append_part`] a part of a line with
 //!   its separator.
-//! - [`Steps`] counts the steps of a call, at no cost.
+//! - [`Steps`] counts the steps of a call, at no cost. [`earlier`] is the earlier of two times, and [`NoMemory`] says that memory
+//!   ran out.
 //! - [`laws`] says what the definitions come to.
 //!
 //! The words of the first line of a text:
@@ -32,6 +35,7 @@
 
 mod activation;
 mod constraint;
+mod fault_count;
 mod file;
 mod items;
 mod last_line_end;
@@ -53,6 +57,7 @@ mod words;
 
 pub use activation::Activation;
 pub use constraint::Constraint;
+pub use fault_count::FaultCount;
 pub use file::append_to_file;
 pub use items::{Bytes, Items, LineList, NumberList};
 pub use last_line_end::without_last_line_end;

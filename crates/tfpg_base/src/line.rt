@@ -16,6 +16,6 @@ pub enum Line {
 pub enum LineFault {
     /// The source failed.
     ReadFault,
-    /// 2^32 bytes were taken, and the source has more.
+    /// [`MAX_BYTES`](crate::MAX_BYTES) bytes were taken, and the source has more.
     TooMuchInput,
 }

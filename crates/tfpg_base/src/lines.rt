@@ -16,37 +16,37 @@ use std::marker::Model;
 
 /// A part of the buffer, from the one index up to before the other.
 #[derive(Clone, Copy)]
-struct Part {
+struct BufferRange {
     start: usize,
     end: usize,
 }
 
-impl Part {
+impl BufferRange {
     /// A part with no byte.
-    const NONE: Part = Part { start: 0, end: 0 };
+    const NONE: BufferRange = BufferRange { start: 0, end: 0 };
 }
 
 /// Cuts the bytes of one source into lines.
 ///
-/// It keeps a buffer of 64 KiB. The cost of all calls together is linear in the bytes.
+/// It keeps a buffer of [`BUFFER_SIZE`](crate::BUFFER_SIZE) bytes. The cost of all calls together is linear in the bytes.
 #[derive(Drop)]
 pub struct Lines {
     buffer: Vec<u8>,
-    waiting: Part,
-    text: Part,
+    waiting: BufferRange,
+    text: BufferRange,
     number: u64,
     taken: u64,
     ended: Option<Result<Line, LineFault>>,
 }
 
 impl Model for Lines {
-    ghost use Rattle.tfpg_base.specs.Lines.{Buffered};
+    ghost use Rattle.tfpg_base.specs.Lines.{LinesState};
 
-    ghost Value = { Buffered };
+    ghost Value = { LinesState };
 
-    ghost use Rattle.tfpg_base.specs.inside.Buffer.{buffered_of, IsInPlace};
+    ghost use Rattle.tfpg_base.specs.inside.Buffer.{lines_state_of, IsInPlace};
 
-    ghost view = { buffered_of };
+    ghost view = { lines_state_of };
 
     ghost invariant = { IsInPlace };
 }
@@ -59,8 +59,8 @@ impl Lines {
     {
         Ok(Lines {
             buffer: vec![in alloc; 0; BUFFER_SIZE]?,
-            waiting: Part::NONE,
-            text: Part::NONE,
+            waiting: BufferRange::NONE,
+            text: BufferRange::NONE,
             number: 0,
             taken: 0,
             ended: None,
@@ -75,14 +75,14 @@ impl Lines {
     ///
     /// # Errors
     ///
-    /// `ReadFault` where the source failed, `TooMuchInput` where 2^32 bytes were taken, no line is left that ends
-    /// in them, and the source gives one more byte.
+    /// `ReadFault` where the source failed, `TooMuchInput` where [`MAX_BYTES`](crate::MAX_BYTES) bytes were taken, no
+    /// line is left that ends in them, and the source gives one more byte.
     pub fn next<S: Source>(&mut self, source: &mut S) -> Result<Line, LineFault>
         ensures { (reading : Reading) → LinesRepresent self.old reading
             → Continues reading reading.ended (S.state source.old) (S.state source.new) result self.new }
     {
         if let Some(ending) = self.ended {
-            self.text = Part::NONE;
+            self.text = BufferRange::NONE;
             return ending;
         }
         match line_end(self.waiting()) {
@@ -149,7 +149,7 @@ fn line_of_length(count: usize) -> Line
 }
 
 /// Where the text of a line of so many bytes stands: nowhere for one that is too long.
-fn lent(start: usize, count: usize) -> Part
+fn lent(start: usize, count: usize) -> BufferRange
     requires { start + count ≤ BUFFER_SIZE }
     ensures index { result.start ≤ result.end }
     ensures within { result.end ≤ start + count }
@@ -161,5 +161,5 @@ fn lent(start: usize, count: usize) -> Part
     } else {
         start
     };
-    Part { start, end }
+    BufferRange { start, end }
 }

@@ -42,8 +42,8 @@ pub trait Source {
     /// The bytes that are left, whether the source has returned its end, and how often taking failed.
     ghost state: { Self → SourceState };
 
-    /// Fills the first places of the room with the next bytes, and returns how many. A result of 0 for a room that has
-    /// a place means that the source has ended.
+    /// Writes the next bytes to the front of the buffer, and returns how many. A result of 0 for a buffer of at least one
+    /// byte means that the source has ended.
     fn take(&mut self, room: &mut [u8]) -> Result<usize, Failed>
         ensures within { IfOk result (λ count. count ≤ length room.old) }
         ensures taken { IfOk result (λ count. Takes (state self.old) (state self.new) (take count room.new)) }

@@ -10,7 +10,8 @@ ghost use Rattle.tfpg_base.specs.declared.limits.TheConstants.{MAX_MEMBERS};
 use crate::MAX_MEMBERS;
 use std::marker::Model;
 
-/// A set of failure modes, each by its position among the failure modes of the graph, which is below 64.
+/// A set of failure modes, each by its position among the failure modes of the graph, which is below
+/// [`MAX_MEMBERS`](crate::MAX_MEMBERS).
 /// Contracts see it as the rising list of these positions.
 #[derive(Clone, Copy, Debug)]
 pub struct Set {

@@ -37,8 +37,8 @@ impl Trace {
         }
     }
 
-    /// Gives the node that time, in place of the time that it may have. A node above all others costs the
-    /// logarithm of the length, any other new one the length.
+    /// Gives the node that time, in place of the time that it may have. Takes time logarithmic in the length for a
+    /// node above all others, linear for any other new one.
     pub fn set(&mut self, node: u32, time: u64) -> Result<(), NoMemory>
         ensures list { OnOk result (self.new ≡ with_time node time self.old) }
         ensures times { OnOk result (TimesAfter self.old self.new node time) }

@@ -21,7 +21,8 @@ pub enum Number {
 }
 
 /// Whether the word is a name: 1 to [`LONGEST_NAME`] letters, digits, underscores, dots and hyphens, of which the first is a
-/// letter. Takes time in the length of the word, and no more than for 32 bytes.
+/// letter. Takes time linear in the length of the word, and no more than for
+/// [`LONGEST_NAME`](crate::LONGEST_NAME) bytes.
 pub fn read_name(word: &[u8]) -> bool
     ensures { result ≡ is_name word.now }
 {
@@ -39,8 +40,8 @@ fn are_name_bytes(bytes: &[u8]) -> bool
     bytes.iter().all(|byte| byte.is_ascii_alphanumeric() || matches!(byte, b'_' | b'.' | b'-'))
 }
 
-/// The number that the word spells, where it is of the form of a number and at most `limit`. Takes time in the
-/// length of the word, which may have any length.
+/// The number that the word spells, where it is of the form of a number and at most `limit`. Takes time linear
+/// in the length of the word, which may have any length.
 pub fn read_number(word: &[u8], limit: u64) -> Number
     ensures { result ≡ number_up_to limit (number_of word.now) }
 {

@@ -28,8 +28,8 @@ impl<'a> Model for Words<'a> {
 }
 
 impl<'a> Words<'a> {
-    /// The words of the line, or None where it has more than [`MAX_WORDS`]. Takes no memory, and time in the
-    /// length of the line.
+    /// The words of the line, or None where it has more than [`MAX_WORDS`]. Takes no memory, and time linear in
+    /// the length of the line.
     pub fn of(line: &'a [u8]) -> Option<Words<'a>>
         ensures { MatchOption result (MAX_WORDS < length (words_of line.now))
             (λ words. words ≡ words_of line.now) }
@@ -47,7 +47,7 @@ impl<'a> Words<'a> {
     }
 
     /// The words of the line, or None where one of them is empty, or where it has more than [`MAX_WORDS`]. Takes no
-    /// memory, and time in the length of the line.
+    /// memory, and time linear in the length of the line.
     pub fn filled(line: &'a [u8]) -> Option<Words<'a>>
         ensures { MatchOption result
             (IsTrue (has_empty_word (words_of line.now)) ⊎ (MAX_WORDS < length (words_of line.now)))
@@ -81,7 +81,7 @@ fn any_is_empty(words: &[&[u8]]) -> bool
     words.iter().any(|word| word.is_empty())
 }
 
-/// The parts of a word round its commas. Takes memory for them, and time in the length of the word.
+/// The parts of a word round its commas. Takes memory for them, and time linear in the length of the word.
 pub fn parts_at_commas<'a>(alloc: Global, word: &'a [u8]) -> Result<Vec<&'a [u8]>, NoMemory>
     ensures { IfOk result (λ parts. map (λ part. part.now) parts.items ≡ comma_parts word.now) }
 {

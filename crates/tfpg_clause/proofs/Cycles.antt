@@ -11,28 +11,18 @@ use Rattle.tfpg_base.specs.ConstraintCycle.{IsChainTo, IsCycle, sum_of}
 abbrev sum_from : ℤ → List Constraint → ℤ
 sum_from total constraints = fold (λ sum constraint. sum +ℤ constraint.bound) total constraints
 
-one_step : (total left right end bound sum : ℤ) → (left -ℤ right) ≤ℤ bound → ((total +ℤ bound) +ℤ (right -ℤ end)) ≤ℤ sum → (total +ℤ (left -ℤ end)) ≤ℤ sum
-one_step total left right end bound sum met rest = omega (arith, ints)
-
-last_step : (total left right end bound : ℤ) → (left -ℤ right) ≤ℤ bound → right ≡ end → (total +ℤ (left -ℤ end)) ≤ℤ (total +ℤ bound)
-last_step total left right end bound met same = omega (arith, ints)
-
-around : (total left sum : ℤ) → (total +ℤ (left -ℤ left)) ≤ℤ sum → total ≤ℤ sum
-around total left sum upto = omega (arith, ints)
-
 module _ (times : List ℕ) where
   -- along a chain the values fall by no more than the sum of the bounds
   along : (total : ℤ) (end : ℕ) (first : Constraint) (others : List Constraint) → IsChainTo end (first ∷ others) → All (Meets times) (first ∷ others)
       → (total +ℤ (value_of times first.left -ℤ value_of times end)) ≤ℤ sum_from total (first ∷ others)
   along total end first [] chain met =
-      last_step total (value_of times first.left) (value_of times first.right) (value_of times end) first.bound (met 0 first (omega arith)) (ap (value_of times) chain)
+      omega (arith, ints, met 0 first (omega arith), ap (value_of times) chain)
   along total end first (second ∷ others) chain met =
       let rest = along (total +ℤ first.bound) end second others chain.1 (All-tail (Meets times) first (second ∷ others) met) in
       let same : value_of times first.right ≡ value_of times second.left = ap (value_of times) chain.0 in
-      one_step total (value_of times first.left) (value_of times first.right) (value_of times end) first.bound (sum_from (total +ℤ first.bound) (second ∷ others))
-      (met 0 first (omega arith)) (rw same rest)
+      omega (arith, ints, met 0 first (omega arith), same, rest)
 
   pub not_negative : (constraints : List Constraint) → IsCycle constraints → All (Meets times) constraints → pos 0 ≤ℤ sum_of constraints
   not_negative [] cycle met = absurd cycle
   not_negative (first ∷ others) cycle met =
-      around (pos 0) (value_of times first.left) (sum_of (first ∷ others)) (along (pos 0) first.left first others cycle met)
+      omega (arith, ints, along (pos 0) first.left first others cycle met)

@@ -4,13 +4,13 @@ use Rattle.std.specs.Prelude.{nat_eq, nat_le, map, slice_get, option_map, option
 use Rattle.std.specs.Bool.{then_some}
 use Rattle.std.specs.List.{list_all}
 use Rattle.std.proofs.lemmas.Bool.{le-leb, lt-leb, eq-eqb}
-use Rattle.std.proofs.lemmas.List.{take_more, map_push, length-map}
+use Rattle.std.proofs.lemmas.List.{take_more, length-map}
 use Rattle.std.proofs.lemmas.List.Folds.{list_all_at, list_all-append}
 use Rattle.std.proofs.lemmas.List.Sums.{fold_push}
-use Rattle.std.proofs.lemmas.Option.{slice_get-map, slice_get-get_or, slice_get_past, slice_get_within, get_or_from_slice_get}
+use Rattle.std.proofs.lemmas.Option.{slice_get-map, slice_get_past, slice_get_within, get_or_from_slice_get}
 use Rattle.tfpg_base.specs.Choice.{each_of, item_at}
 use Rattle.tfpg_base.specs.declared.constraint.Constraint.{Constraint}
-use Rattle.tfpg_base.proofs.lists.Choices.{each_of-at, length-each_of, each_of-push, each_of-none, then_some-true}
+use Rattle.tfpg_base.proofs.lists.Choices.{each_of-map_at, each_of-map_none, each_of-map_push, length-each_of_map, then_some-true}
 use Rattle.tfpg_log.specs.declared.span.Window.{Window}
 use Rattle.tfpg_clause.specs.declared.due.Due.{Due}
 use Rattle.tfpg_base.specs.Bounds.{at_most}
@@ -29,17 +29,13 @@ within_opened hi latest None at = absurd cc
 within_opened hi latest (Some ds) at = let parts = then_some-true (list_all (fits hi) ds) (latest_of ds) latest at in (ds, refl, parts.0, parts.1)
 
 module _ (f : ℕ → Option Due) (edges : List ℕ) (i hi : ℕ) (within : i < length edges) where
-  here : slice_get (map f edges) i ≡ Some (f (get_or edges i 0))
-  here = slice_get-map f edges i ∙ ap (option_map f) (slice_get-get_or edges i 0 within)
-
   -- with one more that is due in time
   pub latest_more : (latest : ℕ) (due : Due) → Some due ≡ f (get_or edges i 0) → due.by ≤ hi → (latest_within hi (each_of (map f (take i edges))) ≡ Some latest) × (latest ≤ hi)
       → (latest_within hi (each_of (map f (take (i + 1) edges))) ≡ Some (max latest due.by)) × (max latest due.by ≤ hi)
   latest_more latest due at fit before =
       let parts = within_opened hi latest (each_of (map f (take i edges))) before.0 in
       let all : each_of (map f (take (i + 1) edges)) ≡ Some (parts.0 ++ due ∷ []) =
-      ap (λ (es : List ℕ). each_of (map f es)) (take_more edges i 0 within) ∙ ap each_of (map_push f (take i edges) (get_or edges i 0))
-      ∙ ap (λ (o : Option Due). each_of (map f (take i edges) ++ o ∷ [])) (sym at) ∙ each_of-push (map f (take i edges)) parts.0 due parts.1 in
+      ap (λ (es : List ℕ). each_of (map f es)) (take_more edges i 0 within) ∙ each_of-map_push f (take i edges) (get_or edges i 0) parts.0 due parts.1 (sym at) in
       let room : list_all (fits hi) (parts.0 ++ due ∷ []) ≡ true =
       list_all-append (fits hi) parts.0 (due ∷ []) ∙ both (list_all (fits hi) parts.0) (fits hi due) parts.2 (le-leb due.by hi fit) in
       let last : latest_of (parts.0 ++ due ∷ []) ≡ max latest due.by =
@@ -53,40 +49,20 @@ module _ (f : ℕ → Option Due) (edges : List ℕ) (i hi : ℕ) (within : i < 
 
   -- where nothing is due over one of them
   pub latest_missing : None ≡ f (get_or edges i 0) → latest_within hi (each_of (map f edges)) ≡ None
-  latest_missing at = ap (latest_within hi) (each_of-none (map f edges) i (here ∙ ap Some (sym at)))
+  latest_missing at = ap (latest_within hi) (each_of-map_none f edges i 0 within (sym at))
 
   -- where one is due too late
   pub latest_over : (due : Due) → Some due ≡ f (get_or edges i 0) → hi < due.by → latest_within hi (each_of (map f edges)) ≡ None
   latest_over due at late = by (each_of (map f edges)) refl
     where
       there : (ds : List Due) → each_of (map f edges) ≡ Some ds → slice_get ds i ≡ Some due
-      there ds are = by (slice_get ds i) (sym (each_of-at (map f edges) ds i are) ∙ here ∙ ap Some (sym at))
-        where
-          by : (o : Option Due) → option_map Some o ≡ Some (Some due) → o ≡ Some due
-          by None at = absurd cc
-          by (Some d) at = cc
+      there ds are = sym (each_of-map_at f edges ds i 0 within are) ∙ sym at
 
       by : (dues : Option (List Due)) → each_of (map f edges) ≡ dues → latest_within hi dues ≡ None
       by None are = refl
       by (Some ds) are =
           let no_room : fits hi (get_or ds i due) ≡ false = ap (fits hi) (get_or_from_slice_get ds i due due (there ds are)) ∙ lt-leb due.by hi late in
           ap (λ (b : Bool). then_some b (latest_of ds)) (list_all_at (fits hi) ds i due (slice_get_within ds i due (there ds are)) no_room)
-
-  -- where all are due, it is due as said
-  pub due_at : (ds : List Due) → each_of (map f edges) ≡ Some ds → f (get_or edges i 0) ≡ slice_get ds i
-  due_at ds are = by (slice_get ds i) (sym here ∙ each_of-at (map f edges) ds i are)
-    where
-      by : (o : Option Due) → Some (f (get_or edges i 0)) ≡ option_map Some o → f (get_or edges i 0) ≡ o
-      by None at = absurd cc
-      by (Some d) at = cc
-
-  -- so nothing is missing
-  pub none_missing : (ds : List Due) → each_of (map f edges) ≡ Some ds → None ≡ f (get_or edges i 0) → ⊥
-  none_missing ds are at = let gone = each_of-none (map f edges) i (here ∙ ap Some (sym at)) in cc
-
--- as many are due as there are edges
-pub due_length : (f : ℕ → Option Due) (edges : List ℕ) (ds : List Due) → each_of (map f edges) ≡ Some ds → length ds ≡ length edges
-due_length f edges ds are = length-each_of (map f edges) ds are ∙ length-map edges f
 
 -- ---- the alternatives of a must, in their order
 
@@ -151,7 +127,7 @@ pub must_counted : (f : ℕ → Option Due) (edges : List ℕ) (target number la
 must_counted f edges target number latest window first within =
     let parts = within_opened window.hi latest (each_of (map f edges)) within in
     let begins : nat_eq window.first number ≡ true = eq-eqb window.first number first in
-    let count : 2 * length edges + 1 ≡ length (must_alternatives target window.hi parts.0) = omega (arith, must_length target window.hi parts.0, due_length f edges parts.0 parts.1) in
+    let count : 2 * length edges + 1 ≡ length (must_alternatives target window.hi parts.0) = omega (arith, must_length target window.hi parts.0, length-each_of_map f edges parts.0 parts.1) in
     ap Some count
     ∙ sym ((λ i. option_map length (then_some (begins i && parts.2 i) (must_alternatives target window.hi parts.0))))
     ∙ sym (ap (λ (dues : Option (List Due)). option_map length (option_and_then (λ ds. must_in target number window ds) dues)) parts.1)

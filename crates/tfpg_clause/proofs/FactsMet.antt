@@ -1,9 +1,9 @@
 -- The facts and the events: numbers of a trace that explains a log from a set meet each fact, and where numbers meet each fact,
 -- their trace shows each event and activates failure modes of the set only.
 use Rattle.std.proofs.Common.{◌≡◌, ℕ, zero, suc, ◌+◌, ◌-◌, ◌<◌, ◌≤◌, Bool, true, false, not, ◌&&◌, cond, eqb, leb, ltb, List, length, get_or, take, Option, Some, None, refl, sym, ap, subst, ◌∙◌, inl, inr, arith, pos}
-use Rattle.std.specs.Prelude.{IsNone, is_none, slice_get, option_map, option_and_then, unwrap_or}
+use Rattle.std.specs.Prelude.{is_some, is_none, slice_get, option_map, option_and_then, unwrap_or}
 use Rattle.std.specs.Bool.{then_some}
-use Rattle.std.proofs.lemmas.Bool.{cases_lt, leb-true, le-leb, lt-ltb, ltb-true, eqb-true, eq-eqb, false≢true, and_parts, and_from, not-true, both_ways}
+use Rattle.std.proofs.lemmas.Bool.{cases_lt, leb-true, le-leb, lt-ltb, ltb-true, eqb-true, eq-eqb, and_parts, and_from, not-true, both_ways}
 use Rattle.std.proofs.lemmas.List.Elements.{All-contains, All-get_or}
 use Rattle.std.proofs.lemmas.Option.{option_and_then_some, cond_some}
 use Rattle.tfpg_base.specs.declared.limits.TheConstants.{NEVER}
@@ -19,7 +19,7 @@ use Rattle.tfpg_graph.proofs.lemmas.reach.Reaches.{among-from_Contains, Contains
 use Rattle.tfpg_graph.proofs.NodeAt.{monitored_within}
 use Rattle.tfpg_log.specs.declared.event.Event.{Event}
 use Rattle.tfpg_log.specs.declared.event.Event.TheVariants.{Alarm, Silent, Sweep, Tick, Mode}
-use Rattle.tfpg_log.specs.Log.{Logbook, now_of, time_of_event, alarm_among, quiet_time, quiet_at, IsOf, IsEventOf, IsOrdered}
+use Rattle.tfpg_log.specs.Log.{Logbook, now_of, time_of_event, alarm_among, quiet_time, quiet_at, IsLogOf, IsEventOf, IsOrdered}
 use Rattle.tfpg_log.specs.Explains.{Explains, Shows, ShowsAll, ShowsSilence}
 use Rattle.tfpg_log.proofs.InReach.{trace_in_reach}
 use Rattle.tfpg_log.proofs.Order.{event_by_now}
@@ -27,7 +27,7 @@ use Rattle.tfpg_evidence.specs.declared.reason.Reason.{Reason}
 use Rattle.tfpg_evidence.specs.declared.reason.Reason.TheVariants.{Zero, Top, Unreached, From, Upto, Quiet, Pick}
 use Rattle.tfpg_base.specs.Bounds.{at_most, at_least}
 use Rattle.tfpg_base.specs.Constraint.{Meets}
-use Rattle.tfpg_base.proofs.lists.Choices.{then_some-true, is_some-there}
+use Rattle.tfpg_base.proofs.lists.Choices.{then_some-true, is_some-there, option_map-some}
 use Rattle.tfpg_clause.specs.Facts.{fact, from_alarm, upto_alarm}
 use Rattle.tfpg_clause.specs.Cut.{AreNumbersOf}
 use Rattle.tfpg_clause.proofs.Bounded.{met_at_most, met_at_least, says_at_most, says_at_least}
@@ -40,10 +40,6 @@ pub record IsShownSilence (graph : Tfpg) (trace : List Activation) (node time : 
   pub within : node < length graph.nodes
   pub shown : ShowsSilence trace node time
   pub at : time_of_event event ≡ time
-
-none_there : (alarm : Option ℕ) → is_none alarm ≡ true → IsNone alarm
-none_there None is = refl
-none_there (Some alarm) is = absurd (false≢true is)
 
 quiet_shown : (graph : Tfpg) (trace : List Activation) (before : List Event) (event : Event) (node time : ℕ) → IsEventOf graph event → Shows graph trace before event
     → quiet_time graph before event node ≡ Some time → IsShownSilence graph trace node time event
@@ -61,22 +57,20 @@ quiet_shown graph trace before (Sweep own) node time of shows is =
     let both = and_parts (is_monitored graph node) (is_none (alarm_among before node)) parts.0 in
     record {
       within = monitored_within graph node both.0;
-      shown = subst (λ t. ShowsSilence trace node t) parts.1 (shows node both.0 (none_there (alarm_among before node) both.1));
+      shown = subst (λ t. ShowsSilence trace node t) parts.1 (shows node both.0 (not-true (is_some (alarm_among before node)) both.1));
       at = parts.1;
     }
 quiet_shown graph trace before (Tick own) node time of shows is = absurd cc
 quiet_shown graph trace before (Mode own mode) node time of shows is = absurd cc
 
-front : (events : List Event) (index : ℕ) → take (suc index - 1) events ≡ take index events
-front events index = let same : suc index - 1 ≡ index = omega arith in ap (λ n. take n events) same
-
 -- the silence of an event's number, by the event
 quiet_of : (graph : Tfpg) (log : Logbook) (index node : ℕ) (event : Event) → slice_get log.events index ≡ Some event
     → quiet_at graph log (suc index) node ≡ quiet_time graph (take index log.events) event node
 quiet_of graph log index node event at =
-    ap (option_and_then (λ e. quiet_time graph (take (suc index - 1) log.events) e node)) at ∙ ap (λ before. quiet_time graph before event node) (front log.events index)
+    let same : suc index - 1 ≡ index = omega arith in
+    ap (option_and_then (λ e. quiet_time graph (take (suc index - 1) log.events) e node)) at ∙ ap (λ (n : ℕ). quiet_time graph (take n log.events) event node) same
 
-module _ (graph : Tfpg) (log : Logbook) (set reach : List ℕ) (is_reach : IsReach graph set reach) (of : IsOf graph log) (ordered : IsOrdered log) where
+module _ (graph : Tfpg) (log : Logbook) (set reach : List ℕ) (is_reach : IsReach graph set reach) (of : IsLogOf graph log) (ordered : IsOrdered log) where
   -- ---- facts are met
 
   module _ (trace : List Activation) (numbers : List ℕ) (order : HasZeroOrder graph) (explains : Explains graph log set trace) (are : AreNumbersOf graph (now_of log) trace numbers) where
@@ -155,15 +149,11 @@ module _ (graph : Tfpg) (log : Logbook) (set reach : List ℕ) (is_reach : IsRea
     fact_is_met (Quiet zero node) stated is = absurd cc
     fact_is_met (Quiet (suc index) node) stated is = by (slice_get log.events index) refl
       where
-        given : (time : Option ℕ) → option_map (λ t. at_least node (t + 1)) time ≡ Some stated → (t : ℕ) × (time ≡ Some t) × (at_least node (t + 1) ≡ stated)
-        given None is = absurd cc
-        given (Some t) is = (t, refl, cc)
-
         by : (found : Option Event) → slice_get log.events index ≡ found → Meets numbers stated
         by None none = absurd (let gone : option_map (λ t. at_least node (t + 1)) (quiet_at graph log (suc index) node) ≡ None =
             ap (λ (e : Option Event). option_map (λ t. at_least node (t + 1)) (option_and_then (λ x. quiet_time graph (take (suc index - 1) log.events) x node) e)) none in cc)
         by (Some event) at =
-            let time = given (quiet_at graph log (suc index) node) is in
+            let time = option_map-some (λ t. at_least node (t + 1)) (quiet_at graph log (suc index) node) stated is in
             subst (Meets numbers) time.2 (quiet_met index event node time.0 at (sym (quiet_of graph log index node event at) ∙ time.1))
     fact_is_met (Pick split index) stated is = absurd cc
 

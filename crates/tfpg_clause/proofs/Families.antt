@@ -1,5 +1,5 @@
 -- The clauses of a node or an edge by their spans, as the code has them.
-use Rattle.std.proofs.Common.{◌≡◌, ℕ, true, false, nat_eq, List, [], ◌∷◌, ◌++◌, Option, Some, None, refl, sym, ap, subst, ◌∙◌}
+use Rattle.std.proofs.Common.{◌≡◌, ℕ, true, false, nat_eq, List, [], ◌∷◌, ◌++◌, Option, Some, None, sym, ap, subst, ◌∙◌}
 use Rattle.std.specs.Prelude.{filter_map, option_map, option_and_then, slice_get}
 use Rattle.std.specs.Bool.{then_some}
 use Rattle.std.specs.List.{cons_option}
@@ -15,6 +15,7 @@ use Rattle.tfpg_clause.specs.Clauses.{outside_span, arrival, or_may, and_may}
 use Rattle.tfpg_clause.specs.inside.Alternatives.{arrivals_over, target_of_kind}
 use Rattle.tfpg_clause.specs.inside.FirstSpan.{MeetsEach, FindsFirst, may_over}
 use Rattle.tfpg_base.proofs.lists.Numbered.{filtered_by_number}
+use Rattle.tfpg_base.proofs.lists.Choices.{option_and_then-always}
 use Rattle.tfpg_clause.proofs.RulesMet.{may_holds}
 use Rattle.tfpg_clause.proofs.Found.{no_may_of_edge}
 
@@ -22,10 +23,6 @@ use Rattle.tfpg_clause.proofs.Found.{no_may_of_edge}
 pub FindsFirst-same : (times : List ℕ) (one other : ℕ → Option (List (List Constraint))) (result : Option ℕ) → ((span : ℕ) → one span ≡ other span)
     → FindsFirst times one result → FindsFirst times other result
 FindsFirst-same times one other result same found = subst (λ clauses. FindsFirst times clauses result) (λ i span. same span i) found
-
-mapped : {X Y : Type 0} (f : X → Y) (o : Option X) → option_and_then (λ x. Some (f x)) o ≡ option_map f o
-mapped f None = refl
-mapped f (Some x) = refl
 
 module _ (graph : Tfpg) (log : Logbook) (times : List ℕ) (horizon : ℕ) where
   module _ (node : ℕ) where
@@ -37,7 +34,7 @@ module _ (graph : Tfpg) (log : Logbook) (times : List ℕ) (horizon : ℕ) where
         (λ (span : Span).
         then_some (or i) (outside_span node span ++ filtered_by_number (λ edge. nat_eq edge.target node) (arrival log number horizon span) graph.edges i))
         (span_at log number horizon))
-        ∙ mapped (λ (span : Span). outside_span node span ++ arrivals_over graph log number horizon span (incoming graph node)) (span_at log number horizon)
+        ∙ option_and_then-always (λ (span : Span). outside_span node span ++ arrivals_over graph log number horizon span (incoming graph node)) (span_at log number horizon)
 
     -- the may clauses of an OR node
     pub or_may_found_first : (edges : List ℕ) (result : Option ℕ) → is_kind_at is_or graph node ≡ true → edges ≡ incoming graph node
@@ -62,7 +59,7 @@ module _ (graph : Tfpg) (log : Logbook) (times : List ℕ) (horizon : ℕ) where
         option_and_then
         (λ (span : Span). then_some (both i) (outside_span (same i) span ++ filter_map (arrival log number horizon span) (e ∷ [])))
         (span_at log number horizon))
-        ∙ mapped (λ (span : Span). outside_span target span ++ cons_option (arrival log number horizon span e) []) (span_at log number horizon)
+        ∙ option_and_then-always (λ (span : Span). outside_span target span ++ cons_option (arrival log number horizon span e) []) (span_at log number horizon)
       where
         both : is_kind_at is_and graph e.target ≡ true
         both = let same : e.target ≡ target = cc in ap (is_kind_at is_and graph) same ∙ and

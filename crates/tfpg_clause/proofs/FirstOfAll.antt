@@ -16,10 +16,14 @@ use Rattle.tfpg_clause.specs.declared.clause_kind.ClauseKind.{ClauseKind}
 use Rattle.tfpg_clause.specs.declared.clause_kind.ClauseKind.TheVariants as kind
 use Rattle.tfpg_clause.specs.Clauses.{alternatives, and_may, or_must}
 use Rattle.tfpg_clause.specs.Cut.{cut, AreNumbers}
-use Rattle.tfpg_clause.specs.Order.{horizon_of, subject_of, span_of, rank_of, ComesBefore, MeetsNamed, IsFirstViolated, MeetAllNow}
-use Rattle.tfpg_clause.specs.inside.FirstSpan.{MeetsIfAny, MeetsEach, IsFirstOfKind, MeetsKind, clauses_of, named, index_of_kind, subject_count}
+use Rattle.tfpg_clause.specs.Order.{horizon_of, subject_of, span_of, kind_index_of, ComesBefore, MeetsNamed, IsFirstViolated, MeetAllNow}
+use Rattle.tfpg_clause.specs.inside.FirstSpan.{MeetsIfAny, MeetsEach, IsFirstOfKind, MeetsKind, clauses_of, named, subject_count}
 use Rattle.tfpg_clause.proofs.Agreed.{of_cut}
 use Rattle.tfpg_clause.proofs.RulesMet.{may_holds, must_holds, clause_is_met, rules_are_kept}
+
+-- the index of a kind, as its names have it
+abbrev pub index_of_kind : ClauseKind → ℕ
+index_of_kind kind = kind_index_of (named kind 0 0 0)
 
 -- the kind of a name
 kind_of : ClauseName → ClauseKind
@@ -36,13 +40,13 @@ name_is (AndMay edge span horizon) = refl
 name_is (OrMust edge span horizon) = refl
 name_is (AndMust node span horizon) = refl
 
--- and has the rank of its kind.
-rank_is : (name : ClauseName) → rank_of name ≡ index_of_kind (kind_of name)
+-- and has the index of its kind.
+kind_index_is : (name : ClauseName) → kind_index_of name ≡ index_of_kind (kind_of name)
 unfolding kind_of
-rank_is (OrMay node span horizon) = refl
-rank_is (AndMay edge span horizon) = refl
-rank_is (OrMust edge span horizon) = refl
-rank_is (AndMust node span horizon) = refl
+kind_index_is (OrMay node span horizon) = refl
+kind_index_is (AndMay edge span horizon) = refl
+kind_index_is (OrMust edge span horizon) = refl
+kind_index_is (AndMust node span horizon) = refl
 
 -- the kind at an index
 abbrev kind_of_index : ℕ → ClauseKind
@@ -62,13 +66,13 @@ same_kind : (one other : ClauseKind) → index_of_kind one ≡ index_of_kind oth
 same_kind one other is = sym (of_own_index one) ∙ ap kind_of_index is ∙ of_own_index other
 
 -- names of the same parts are the same,
-pub same_parts : (one other : ClauseName) → rank_of one ≡ rank_of other → subject_of one ≡ subject_of other → span_of one ≡ span_of other → horizon_of one ≡ horizon_of other → one ≡ other
-same_parts one other rank subject span horizon =
-    let alike = same_kind (kind_of one) (kind_of other) (sym (rank_is one) ∙ rank ∙ rank_is other) in
+pub same_parts : (one other : ClauseName) → kind_index_of one ≡ kind_index_of other → subject_of one ≡ subject_of other → span_of one ≡ span_of other → horizon_of one ≡ horizon_of other → one ≡ other
+same_parts one other kind_index subject span horizon =
+    let alike = same_kind (kind_of one) (kind_of other) (sym (kind_index_is one) ∙ kind_index ∙ kind_index_is other) in
     sym (name_is one) ∙ (λ i. named (alike i) (subject i) (span i) (horizon i)) ∙ name_is other
 
 -- and a name has the parts that it was made of
-named_parts : (own : ClauseKind) (subject span horizon : ℕ) → (rank_of (named own subject span horizon) ≡ index_of_kind own)
+named_parts : (own : ClauseKind) (subject span horizon : ℕ) → (kind_index_of (named own subject span horizon) ≡ index_of_kind own)
     × (subject_of (named own subject span horizon) ≡ subject)
     × (span_of (named own subject span horizon) ≡ span)
     × (horizon_of (named own subject span horizon) ≡ horizon)
@@ -143,8 +147,8 @@ module _ (graph : Tfpg) (log : Logbook) (times : List ℕ) where
         met_named (kind_of other) (subject_of other) (span_of other) other (own_name other at_now) (by other comes);
   }
     where
-      rank : rank_of name ≡ index_of_kind kind
-      rank = ap rank_of is.is ∙ (named_parts kind is.subject is.span (now_of log)).0
+      kind_index : kind_index_of name ≡ index_of_kind kind
+      kind_index = ap kind_index_of is.is ∙ (named_parts kind is.subject is.span (now_of log)).0
 
       subject : subject_of name ≡ is.subject
       subject = ap subject_of is.is ∙ (named_parts kind is.subject is.span (now_of log)).1
@@ -153,9 +157,9 @@ module _ (graph : Tfpg) (log : Logbook) (times : List ℕ) where
       span = ap span_of is.is ∙ (named_parts kind is.subject is.span (now_of log)).2
 
       by : (other : ClauseName) → ComesBefore other name → MeetsIfAny times (clauses_of graph log (kind_of other) (subject_of other) (span_of other))
-      by other (inl earlier) = before (kind_of other) (omega (arith, earlier, rank, rank_is other)) (subject_of other) (span_of other)
+      by other (inl earlier) = before (kind_of other) (omega (arith, earlier, kind_index, kind_index_is other)) (subject_of other) (span_of other)
       by other (inr (same, rest)) =
-          let own : kind_of other ≡ kind = same_kind (kind_of other) kind (sym (rank_is other) ∙ same ∙ rank) in
+          let own : kind_of other ≡ kind = same_kind (kind_of other) kind (sym (kind_index_is other) ∙ same ∙ kind_index) in
           subst (λ k. MeetsIfAny times (clauses_of graph log k (subject_of other) (span_of other))) (sym own) (within rest)
         where
           within : (subject_of other < subject_of name) ⊎ ((subject_of other ≡ subject_of name) × (span_of other < span_of name))

@@ -4,7 +4,6 @@ use Rattle.std.specs.Prelude.{nat_lt, slice_get, slice_set, option_map, option_a
 use Rattle.std.specs.Option.{option_or}
 use Rattle.std.specs.Bool.{then_some}
 use Rattle.std.proofs.lemmas.Bool.{lt-ltb, le-ltb}
-use Rattle.tfpg_base.specs.declared.constraint.Constraint.{Constraint}
 use Rattle.tfpg_graph.specs.Graph.{Tfpg}
 use Rattle.tfpg_log.specs.Log.{Logbook, GoesOn, IsOrdered, first_events}
 use Rattle.tfpg_log.proofs.Events.{whole_log}
@@ -14,10 +13,10 @@ use Rattle.tfpg_evidence.specs.declared.reason.Reason.TheVariants.{Zero, Top, Un
 use Rattle.tfpg_clause.specs.Facts.{fact}
 use Rattle.tfpg_clause.specs.Clauses.{alternatives, constraint_at}
 use Rattle.tfpg_clause.specs.Trees.{PathSplit, picked, stated}
-use Rattle.tfpg_clause.proofs.Kept.{clause_stays}
+use Rattle.tfpg_clause.proofs.Kept.{alternatives_stay}
 use Rattle.tfpg_clause.proofs.TreesKept.{count_stays, first_to_whole}
 use Rattle.tfpg_clause.specs.declared.path.Frame.{Frame}
-use Rattle.tfpg_clause.specs.Paths.{IsFrameOf, AreFramesOf, framed, stated_by, next_alternative, path_after, count_at, has_more, advanced, next_leaf}
+use Rattle.tfpg_clause.specs.Paths.{IsFrameOf, AreFramesOf, framed, stated_by, new_frame, next_alternative, path_after, count_at, has_more, advanced, next_leaf}
 
 -- the paths with one more frame before them
 abbrev with_first : Frame → Option (List Frame) → Option (List Frame)
@@ -39,6 +38,20 @@ moved_on (first ∷ path) zero frame at less =
     ap (λ (f : Frame). then_some (nat_lt f.alternative f.alternatives) (next_alternative f ∷ [])) same
     ∙ ap (λ (b : Bool). then_some b (next_alternative frame ∷ [])) (lt-ltb frame.alternative frame.alternatives less)
 moved_on (first ∷ path) (suc before) frame at less = ap (with_first first) (moved_on path before frame at less)
+
+-- The frame of a new split has the count of its clause.
+pub new_frame_some : (name : ClauseName) (count : Option ℕ) (frame : Frame) → Some frame ≡ option_map (new_frame name) count
+    → (count ≡ Some frame.alternatives) × (frame ≡ new_frame name frame.alternatives)
+new_frame_some name None frame is = cc
+new_frame_some name (Some n) frame is =
+    let same : frame ≡ new_frame name n = cc in
+    let number : n ≡ frame.alternatives = sym (ap (λ (f : Frame). f.alternatives) same) in
+    (ap (λ (m : ℕ). Some m) number, same ∙ ap (new_frame name) number)
+
+-- Where there is none, there is no clause.
+pub new_frame_none : (name : ClauseName) (count : Option ℕ) → None ≡ option_map (new_frame name) count → count ≡ None
+new_frame_none name None is = refl
+new_frame_none name (Some n) is = cc
 
 -- ---- frames and splits
 
@@ -137,11 +150,6 @@ module _ (graph : Tfpg) (log : Logbook) where
   -- ---- what reasons state
 
   module _ (ordered : IsOrdered log) (reach : List ℕ) (path : List PathSplit) (frames : List Frame) (are : AreFramesOf graph log path frames) where
-    allowed_now : (seen : ℕ) (name : ClauseName) (count : ℕ) (clause : Option (List (List Constraint))) → alternatives graph (first_events log seen) name ≡ clause → option_map length clause ≡ Some count
-        → alternatives graph log name ≡ alternatives graph (first_events log seen) name
-    allowed_now seen name count None is counted = cc
-    allowed_now seen name count (Some clause) is counted = clause_stays graph (first_events log seen) log ordered (first_to_whole log seen) name clause is ∙ sym is
-
     picked_at : (k index : ℕ)
         → option_and_then (λ (frame : Frame). option_and_then (λ clause. constraint_at clause frame.alternative index) (alternatives graph log frame.name)) (slice_get frames k)
         ≡ option_and_then (λ (taken : PathSplit). option_and_then (λ clause. constraint_at clause taken.alternative index) (alternatives graph (first_events log taken.seen) taken.name)) (slice_get path k)
@@ -155,7 +163,7 @@ module _ (graph : Tfpg) (log : Logbook) where
               ∙ ap (λ (n : ClauseName). option_and_then (λ clause. constraint_at clause both.frame.alternative index) (alternatives graph log n)) both.same.name
               ∙ ap (λ (n : ℕ). option_and_then (λ clause. constraint_at clause n index) (alternatives graph log both.split.name)) both.same.alternative
               ∙ ap (option_and_then (λ clause. constraint_at clause both.split.alternative index))
-              (allowed_now both.split.seen both.split.name both.frame.alternatives (alternatives graph (first_events log both.split.seen) both.split.name) refl both.same.alternatives)
+              (alternatives_stay graph (first_events log both.split.seen) log ordered (first_to_whole log both.split.seen) both.split.name both.frame.alternatives both.same.alternatives)
               ∙ sym (ap (option_and_then (λ (taken : PathSplit). option_and_then (λ clause. constraint_at clause taken.alternative index) (alternatives graph (first_events log taken.seen) taken.name))) both.split_at)
         ]
 

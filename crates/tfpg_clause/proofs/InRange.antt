@@ -1,31 +1,25 @@
 -- The times of an ordered log, and the nodes of its events.
-use Rattle.std.proofs.Common.{◌≡◌, ℕ, ◌≤◌, List, [], ◌∷◌, Option, Some, None, refl, sym, ◌∙◌, arith}
-use Rattle.std.specs.Prelude.{All, fold, IfSome, option_and_then}
+use Rattle.std.proofs.Common.{◌≡◌, ℕ, ◌≤◌, Option, Some, sym, ◌∙◌, arith}
+use Rattle.std.specs.Prelude.{IfSome, option_and_then}
 use Rattle.std.proofs.lemmas.Option.{option_and_then_some}
-use Rattle.std.proofs.lemmas.List.Elements.{All-tail}
 use Rattle.tfpg_base.specs.declared.limits.TheConstants.{MAX_TIME}
+use Rattle.tfpg_base.proofs.lists.Choices.{IfSome-from}
 use Rattle.tfpg_graph.specs.Graph.{Tfpg}
-use Rattle.tfpg_log.specs.declared.event.Event.{Event}
-use Rattle.tfpg_log.specs.Log.{Logbook, now_of, time_of_event, IsOrdered}
+use Rattle.tfpg_log.specs.Log.{Logbook, now_of, IsOrdered}
 use Rattle.tfpg_log.specs.declared.span.Span.{Span}
 use Rattle.tfpg_log.specs.declared.span.Window.{Window}
 use Rattle.tfpg_graph.specs.declared.edge.Edge.{Edge}
 use Rattle.tfpg_log.specs.Spans.{span_at, window_of, joint_of}
+use Rattle.tfpg_log.proofs.Order.{last_upto}
 use Rattle.tfpg_log.proofs.SpanRuns.{is_span}
 use Rattle.tfpg_log.proofs.WindowInstants.{is_window}
 use Rattle.tfpg_log.proofs.JointWindows.{is_joint}
 use Rattle.tfpg_clause.proofs.Kept.{window_by_now, joint_by_now}
 use Rattle.tfpg_clause.specs.inside.Ranges.{IsSmallSpan, IsSmallWindow}
 
-last_in_range : (events : List Event) (start : ℕ) → start ≤ MAX_TIME → All (λ event. time_of_event event ≤ MAX_TIME) events
-    → fold (λ last event. time_of_event event) start events ≤ MAX_TIME
-last_in_range [] start from all = from
-last_in_range (event ∷ events) start from all =
-    last_in_range events (time_of_event event) (all 0 event (omega arith)) (All-tail (λ e. time_of_event e ≤ MAX_TIME) event events all)
-
 -- now is in range
 pub now_in_range : (log : Logbook) → IsOrdered log → now_of log ≤ MAX_TIME
-now_in_range log ordered = last_in_range log.events 0 (omega arith) ordered.in_range
+now_in_range log ordered = last_upto log.events 0 MAX_TIME (omega arith) ordered.in_range
 
 -- a span of an ordered log is small
 pub small_span : (log : Logbook) (number horizon : ℕ) (span : Span) → IsOrdered log → span_at log number horizon ≡ Some span → IsSmallSpan span
@@ -45,18 +39,14 @@ small_joint graph log node number horizon window ordered at =
     let is = is_joint graph log node number horizon window at in
     record { in_order = is.run.in_order; in_range = omega (arith, is.run.in_range, joint_by_now graph log node number horizon window at, now_in_range log ordered) }
 
-if_some : {X : Type 0} (P : X → Type 0) (o : Option X) → ((x : X) → o ≡ Some x → P x) → IfSome o P
-if_some P None each = tt
-if_some P (Some x) each = each x refl
-
 pub small_span_if : (log : Logbook) (number horizon : ℕ) (result : Option Span) → IsOrdered log → result ≡ span_at log number horizon → IfSome result IsSmallSpan
-small_span_if log number horizon result ordered is = if_some IsSmallSpan result (λ span at. small_span log number horizon span ordered (sym is ∙ at))
+small_span_if log number horizon result ordered is = IfSome-from IsSmallSpan result (λ span at. small_span log number horizon span ordered (sym is ∙ at))
 
 pub small_joint_if : (graph : Tfpg) (log : Logbook) (node number horizon : ℕ) (result : Option Window) → IsOrdered log → result ≡ joint_of graph log node number horizon → IfSome result IsSmallWindow
-small_joint_if graph log node number horizon result ordered is = if_some IsSmallWindow result (λ window at. small_joint graph log node number horizon window ordered (sym is ∙ at))
+small_joint_if graph log node number horizon result ordered is = IfSome-from IsSmallWindow result (λ window at. small_joint graph log node number horizon window ordered (sym is ∙ at))
 
 pub small_window_if : (log : Logbook) (edge : Option Edge) (number horizon : ℕ) (result : Option Window) → IsOrdered log
     → result ≡ option_and_then (λ e. window_of log e number horizon) edge → IfSome result IsSmallWindow
 small_window_if log edge number horizon result ordered is =
-    if_some IsSmallWindow result
+    IfSome-from IsSmallWindow result
     (λ window at. option_and_then_some (λ e. window_of log e number horizon) edge window (sym is ∙ at) (λ e there rest. small_window log e number horizon window ordered rest))

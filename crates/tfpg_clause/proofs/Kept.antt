@@ -1,5 +1,5 @@
 -- What is allowed at a log stays allowed at each log that goes on from it.
-use Rattle.std.proofs.Common.{◌-◌, not, ltb, take, ◌≡◌, ℕ, zero, suc, ◌+◌, ◌≤◌, Bool, true, false, ◌&&◌, cond, eqb, leb, List, [], ◌∷◌, ◌++◌, length, max, Option, Some, None, refl, ap, ◌∙◌, arith, pos}
+use Rattle.std.proofs.Common.{◌-◌, not, ltb, take, ◌≡◌, ℕ, zero, suc, ◌+◌, ◌≤◌, Bool, true, false, ◌&&◌, cond, eqb, leb, List, [], ◌∷◌, ◌++◌, length, max, Option, Some, None, refl, sym, ap, ◌∙◌, arith, pos}
 use Rattle.std.specs.Prelude.{nat_le, slice_get, map, filter_map, option_map, option_and_then}
 use Rattle.std.specs.Bool.{then_some}
 use Rattle.std.specs.List.{list_all}
@@ -7,7 +7,7 @@ use Rattle.std.proofs.lemmas.Bool.{leb-true, le-leb, eqb-true, and_parts}
 use Rattle.std.proofs.lemmas.Option.{option_and_then_some, slice_get_within}
 use Rattle.tfpg_base.specs.Choice.{each_of}
 use Rattle.tfpg_base.specs.declared.constraint.Constraint.{Constraint}
-use Rattle.tfpg_base.proofs.lists.Choices.{then_some-true, cond-some_first}
+use Rattle.tfpg_base.proofs.lists.Choices.{then_some-true, cond-some_first, option_map-some}
 use Rattle.tfpg_graph.specs.declared.edge.Edge.{Edge}
 use Rattle.tfpg_graph.specs.Graph.{Tfpg, is_kind_at, is_or, is_and, edges_into}
 use Rattle.tfpg_log.specs.declared.span.Span.{Span}
@@ -19,7 +19,7 @@ use Rattle.tfpg_log.proofs.PastKept.{spans_kept, windows_kept, joints_kept, now_
 use Rattle.tfpg_evidence.specs.declared.clause_name.ClauseName.{ClauseName}
 use Rattle.tfpg_evidence.specs.declared.clause_name.ClauseName.TheVariants.{OrMay, AndMay, OrMust, AndMust}
 use Rattle.tfpg_base.specs.Bounds.{at_most, at_least, at_least_after}
-use Rattle.tfpg_clause.specs.Clauses.{outside_span, due_over, must_in, must_alternatives, may_by, must_by, and_may, or_must, alternatives}
+use Rattle.tfpg_clause.specs.Clauses.{outside_span, due_over, must_in, must_alternatives, may_by, must_by, and_may, or_must, alternatives, count_of}
 use Rattle.tfpg_clause.specs.declared.due.Due.{Due}
 use Rattle.tfpg_clause.proofs.Dues.{fits}
 use Rattle.tfpg_clause.specs.Order.{horizon_of}
@@ -65,13 +65,9 @@ module _ (graph : Tfpg) (earlier later : Logbook) (ordered : IsOrdered later) (g
       → must_by later holds target edges after number horizon ≡ must_by earlier holds target edges before number horizon
   must_kept holds target edges before after same = λ i. must_from (λ edge. windows_kept earlier later ordered goes_on number horizon upto edge i) holds target edges (same i) number
 
--- Where something has a value up to now alone, a value says that the horizon is not after now.
-before_now : {X : Type 0} (horizon now : ℕ) (here : Option X) (x : X) → cond (leb horizon now) here None ≡ Some x → horizon ≤ now
-before_now horizon now here x at = leb-true horizon now (cond-some_first (leb horizon now) here x at).0
-
 -- Where there is a span, or a window, the horizon is not after now.
 pub span_by_now : (log : Logbook) (number horizon : ℕ) (span : Span) → span_at log number horizon ≡ Some span → horizon ≤ now_of log
-span_by_now log number horizon span at = before_now horizon (now_of log) _ span at
+span_by_now log number horizon span at = leb-true horizon (now_of log) (cond-some_first (leb horizon (now_of log)) _ span at).0
 
 some_span : {X : Type 0} (log : Logbook) (number horizon : ℕ) (f : Span → Option X) (x : X) → option_and_then f (span_at log number horizon) ≡ Some x → horizon ≤ now_of log
 some_span log number horizon f x at = option_and_then_some f (span_at log number horizon) x at (λ span there rest. span_by_now log number horizon span there)
@@ -115,15 +111,6 @@ allowed_by_now graph log (AndMust node number horizon) clause at =
     let w = must_has_window log (is_kind_at is_and graph node) node (edges_into graph node) (joint_of graph log node number horizon) number horizon clause at in
     joint_by_now graph log node number horizon w.0 w.1
 
-unreached_stays : (a c : Bool) (horizon before after : ℕ) (states stated : Constraint) → before ≤ after → then_some (a && (leb horizon before && c)) states ≡ Some stated
-    → then_some (a && (leb horizon after && c)) states ≡ Some stated
-unreached_stays false c horizon before after states stated rises at = at
-unreached_stays true c horizon before after states stated rises at = by (leb horizon before) refl at
-  where
-    by : (b : Bool) → leb horizon before ≡ b → then_some (b && c) states ≡ Some stated → then_some (leb horizon after && c) states ≡ Some stated
-    by true upto kept = let also : leb horizon after ≡ true = le-leb horizon after (omega (arith, leb-true horizon before upto, rises)) in rw also kept
-    by false after_ kept = absurd cc
-
 -- an event that is a silence is an event of the log
 pub silence_within : (graph : Tfpg) (log : Logbook) (event node : ℕ) (stated : Constraint) → option_map (λ time. at_least node (time + 1)) (quiet_at graph log event node) ≡ Some stated
     → event ≤ length log.events
@@ -157,12 +144,23 @@ module _ (graph : Tfpg) (earlier later : Logbook) (ordered : IsOrdered later) (g
   pub clause_stays : (name : ClauseName) (clause : List (List Constraint)) → alternatives graph earlier name ≡ Some clause → alternatives graph later name ≡ Some clause
   clause_stays name clause at = same_alternatives name (allowed_by_now graph earlier name clause at) ∙ at
 
+  -- And a clause with alternatives has the same ones.
+  pub alternatives_stay : (name : ClauseName) (count : ℕ) → count_of graph earlier name ≡ Some count → alternatives graph later name ≡ alternatives graph earlier name
+  alternatives_stay name count counted =
+      let there = option_map-some length (alternatives graph earlier name) count counted in
+      clause_stays name there.0 there.1 ∙ sym there.1
+
   module _ (reach : List ℕ) where
     -- So does a fact.
     pub fact_stays : (reason : Reason) (stated : Constraint) → fact graph earlier reach reason ≡ Some stated → fact graph later reach reason ≡ Some stated
     fact_stays (Zero node) stated at = at
     fact_stays (Top node) stated at = at
-    fact_stays (Unreached node horizon) stated at = unreached_stays (ltb node (length graph.nodes)) (not (is_among reach node)) horizon (now_of earlier) (now_of later) (at_least node (horizon + 1)) stated (now_kept earlier later ordered goes_on) at
+    fact_stays (Unreached node horizon) stated at =
+        let test = (then_some-true (ltb node (length graph.nodes) && (leb horizon (now_of earlier) && not (is_among reach node))) (at_least node (horizon + 1)) stated at).0 in
+        let both = and_parts (ltb node (length graph.nodes)) (leb horizon (now_of earlier) && not (is_among reach node)) test in
+        let before = (and_parts (leb horizon (now_of earlier)) (not (is_among reach node)) both.1).0 in
+        let after : leb horizon (now_of later) ≡ true = le-leb horizon (now_of later) (omega (arith, leb-true horizon (now_of earlier) before, now_kept earlier later ordered goes_on)) in
+        ap (λ (upto : Bool). then_some (ltb node (length graph.nodes) && (upto && not (is_among reach node))) (at_least node (horizon + 1))) (after ∙ sym before) ∙ at
     fact_stays (From event) stated at =
         option_and_then_some (from_alarm graph) (event_at earlier event) stated at
         (λ e there rest. ap (option_and_then (from_alarm graph)) (events_kept earlier later goes_on event e there) ∙ rest)

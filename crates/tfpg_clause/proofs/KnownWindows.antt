@@ -1,5 +1,5 @@
 -- Windows that are known: they are those round later spans too.
-use Rattle.std.proofs.Common.{◌≡◌, ℕ, ◌+◌, ◌<◌, ◌≤◌, List, [], ◌∷◌, length, replicate, set, get_or, Option, Some, None, IfSome, inl, inr, refl, sym, subst, ◌∙◌, arith}
+use Rattle.std.proofs.Common.{◌≡◌, ℕ, ◌+◌, ◌<◌, ◌≤◌, List, length, replicate, set, get_or, Option, Some, None, IfSome, inl, inr, sym, subst, ◌∙◌, arith}
 use Rattle.std.specs.Prelude.{option_and_then, slice_get, slice_index_or}
 use Rattle.std.proofs.lemmas.Bool.{cases_eq}
 use Rattle.std.proofs.lemmas.List.{get_or-replicate, get_or-set_same, get_or-set_other}
@@ -11,7 +11,7 @@ use Rattle.tfpg_log.specs.Log.{Logbook}
 use Rattle.tfpg_log.specs.Spans.{span_number, span_at, window_of}
 use Rattle.tfpg_log.proofs.SpanRuns.{is_span}
 use Rattle.tfpg_log.proofs.WindowInstants.{throughout}
-use Rattle.tfpg_clause.specs.inside.KnownWindows.{window_over, IsWindowOver, AreKnown, AreWindows}
+use Rattle.tfpg_clause.specs.inside.KnownWindows.{window_over, IsWindowOver, AreKnown}
 
 module _ (graph : Tfpg) (log : Logbook) (edge number horizon : ℕ) where
   -- A window of the edge is the one round each span that begins in it.
@@ -26,14 +26,6 @@ module _ (graph : Tfpg) (log : Logbook) (edge number horizon : ℕ) where
       by None at = absurd cc
       by (Some e) at = sym (subst (λ n. window_of log e n horizon ≡ Some window) numbered (throughout log e over.0 horizon span.lo window at from upto))
 
-  -- Where there is no such span, there is no window.
-  pub none_round : None ≡ span_at log number horizon → None ≡ option_and_then (λ e. window_of log e number horizon) (slice_get graph.edges edge)
-  none_round none = by (slice_get graph.edges edge)
-    where
-      by : (o : Option Edge) → None ≡ option_and_then (λ e. window_of log e number horizon) o
-      by None = refl
-      by (Some e) = let gone : span_at log number horizon ≡ None = sym none in cc
-
   -- What is found round a span is a window of the edge.
   pub is_over : (found : Option Window) → found ≡ option_and_then (λ e. window_of log e number horizon) (slice_get graph.edges edge) → IfSome found (IsWindowOver graph log horizon edge)
   is_over None at = tt
@@ -45,12 +37,6 @@ module _ (graph : Tfpg) (log : Logbook) (horizon : ℕ) where
   none_known edges count room index below =
       subst (λ o. IfSome o (IsWindowOver graph log horizon (get_or edges index 0))) (sym (get_or-replicate {A = Option Window} count index None None (omega arith))) tt
 
-  -- one window,
-  pub one_known : (edge : ℕ) (window : Window) → IsWindowOver graph log horizon edge window → AreKnown graph log horizon (edge ∷ []) (Some window ∷ [])
-  one_known edge window over index below =
-      let same : index ≡ 0 = omega arith in
-      subst (λ k. IfSome (slice_index_or (Some window ∷ []) k None) (IsWindowOver graph log horizon (slice_index_or (edge ∷ []) k 0))) (sym same) over
-
   -- and one more
   pub more_known : (edges : List ℕ) (known : List (Option Window)) (at : ℕ) (found : Option Window) → at < length known
       → IfSome found (IsWindowOver graph log horizon (get_or edges at 0)) → AreKnown graph log horizon edges known → AreKnown graph log horizon edges (set known at found)
@@ -59,17 +45,6 @@ module _ (graph : Tfpg) (log : Logbook) (horizon : ℕ) where
         (subst (λ o. IfSome o (IsWindowOver graph log horizon (get_or edges at 0))) (sym (get_or-set_same known at found None within)) own)
     | inr apart ↦ subst (λ o. IfSome o (IsWindowOver graph log horizon (get_or edges index 0))) (sym (get_or-set_other known at index found None apart)) (others index below)
   ]
-
--- What is known stays so where horizon and edges are the same.
-pub known_same : (graph : Tfpg) (log : Logbook) (horizon other : ℕ) (edges others : List ℕ) → horizon ≡ other → edges ≡ others
-    → (known : List (Option Window)) → AreKnown graph log horizon edges known → AreKnown graph log other others known
-known_same graph log horizon other edges others same are known is =
-    subst (λ (es : List ℕ). AreKnown graph log other es known) are (subst (λ (h : ℕ). AreKnown graph log h edges known) same is)
-
--- The windows round a span are known.
-pub windows_known : (graph : Tfpg) (log : Logbook) (number horizon : ℕ) (edges : List ℕ) (windows : List (Option Window)) → AreWindows graph log number horizon edges windows
-    → AreKnown graph log horizon edges windows
-windows_known graph log number horizon edges windows are index below = is_over graph log (get_or edges index 0) number horizon (slice_index_or windows index None) (are index below)
 
 -- the windows of the first edges, and of one more
 pub more_windows : (graph : Tfpg) (log : Logbook) (number horizon : ℕ) (edges : List ℕ) (known : List (Option Window)) (at : ℕ) (found : Option Window) → at < length known

@@ -1,39 +1,20 @@
 -- By when all of some edges are due, where each failure has been on its way since the later of two: the beginning of the
 -- edge's window, and the number of its source.
 use Rattle.std.proofs.Common.{ℕ, ◌+◌, ◌<◌, ◌≤◌, List, [], ◌∷◌, get_or, max, ◌⊎◌, inl, inr, ap, arith}
-use Rattle.std.specs.Prelude.{Contains, fold}
+use Rattle.std.specs.Prelude.{Contains}
 use Rattle.std.proofs.lemmas.Bool.{cases_lt}
 use Rattle.tfpg_base.proofs.lists.Elements.{Contains-head, Contains-tail, Contains-nil, Contains-cons_cases}
+use Rattle.tfpg_base.proofs.lists.Maxima.{fold-max_member, fold-max_upto}
 use Rattle.tfpg_clause.specs.declared.due.Due.{Due}
 use Rattle.tfpg_clause.specs.Clauses.{latest_of}
 
--- the latest from a time on
-abbrev latest_from : ℕ → List Due → ℕ
-latest_from time ds = fold (λ (t : ℕ) (due : Due). max t due.by) time ds
-
-from_start : (time : ℕ) (ds : List Due) → time ≤ latest_from time ds
-from_start time [] = omega arith
-from_start time (d ∷ ds) = omega (arith, from_start (max time d.by) ds)
-
-by_latest_from : (time : ℕ) (ds : List Due) (due : Due) → Contains ds due → due.by ≤ latest_from time ds
-by_latest_from time [] due member = absurd (Contains-nil due member)
-by_latest_from time (d ∷ ds) due member = elim (Contains-cons_cases d ds due member) [
-  | inl same ↦ omega (arith, from_start (max time d.by) ds, ap (λ (x : Due). x.by) same)
-  | inr more ↦ by_latest_from (max time d.by) ds due more
-]
-
 -- each is due by the latest
 pub by_latest : (ds : List Due) (due : Due) → Contains ds due → due.by ≤ latest_of ds
-by_latest ds due member = by_latest_from 0 ds due member
-
-latest_from_upto : (time end : ℕ) (ds : List Due) → time ≤ end → ((due : Due) → Contains ds due → due.by ≤ end) → latest_from time ds ≤ end
-latest_from_upto time end [] upto each = upto
-latest_from_upto time end (d ∷ ds) upto each =
-    latest_from_upto (max time d.by) end ds (omega (arith, upto, each d (Contains-head d ds))) (λ due member. each due (Contains-tail d ds due member))
+by_latest ds due member = fold-max_member (λ (d : Due). d.by) 0 ds due member
 
 -- where each is due by a time, so is the latest
 pub latest_upto : (end : ℕ) (ds : List Due) → ((due : Due) → Contains ds due → due.by ≤ end) → latest_of ds ≤ end
-latest_upto end ds each = latest_from_upto 0 end ds (omega arith) each
+latest_upto end ds each = fold-max_upto (λ (d : Due). d.by) 0 end ds (omega arith) each
 
 module _ (numbers : List ℕ) where
   -- when it is due since its source is active

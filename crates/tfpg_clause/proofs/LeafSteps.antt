@@ -16,18 +16,19 @@ use Rattle.tfpg_clause.proofs.TreeSteps.{cut_of_leaf, leaf_of_cut, first_cut, sp
 use Rattle.tfpg_clause.proofs.TreesKept.{leaf_stays}
 use Rattle.tfpg_clause.proofs.FramePaths.{goes_too, ends_too, states_same, frames_stay}
 
+-- A clause has as many alternatives at a log as at its first events, where these are all of them.
+pub count_now : (graph : Tfpg) (log : Logbook) (name : ClauseName) (count : Option ℕ) → count_of graph log name ≡ count → count_of graph (first_events log (length log.events)) name ≡ count
+count_now graph log name count is = ap (λ (l : Logbook). count_of graph l name) (whole_log log) ∙ is
+
 module _ (graph : Tfpg) (log : Logbook) (reach : List ℕ) where
   pub leaf_begins : IsPresentLeaf graph log reach [] []
   leaf_begins = leaf_of_cut graph log reach [] [] (first_cut graph log reach)
-
-  count_now : (name : ClauseName) (count : ℕ) → count_of graph log name ≡ Some count → count_of graph (first_events log (length log.events)) name ≡ Some count
-  count_now name count is = ap (λ (l : Logbook). count_of graph l name) (whole_log log) ∙ is
 
   pub leaf_splits : (steps : List Judged) (path : List PathSplit) (name : ClauseName) (count : ℕ) → IsPresentLeaf graph log reach steps path → count_of graph log name ≡ Some count
       → IsPresentLeaf graph log reach (with_step steps log (Split name)) (path ++ new_split log name ∷ [])
   leaf_splits steps path name count leaf is =
       leaf_of_cut graph log reach (with_step steps log (Split name)) (path ++ new_split log name ∷ [])
-      (split_step graph log reach steps path (length log.events) name count (cut_of_leaf graph log reach steps path leaf) (count_now name count is))
+      (split_step graph log reach steps path (length log.events) name count (cut_of_leaf graph log reach steps path leaf) (count_now graph log name (Some count) is))
 
   pub leaf_goes : (steps : List Judged) (path next : List PathSplit) (reasons : List Reason) → IsPresentLeaf graph log reach steps path
       → IsClosedLeaf graph log reach path (length log.events) reasons → next_leaf graph log path ≡ Some next → IsPresentLeaf graph log reach (with_step steps log (Cycle reasons)) next
@@ -51,7 +52,7 @@ module _ (graph : Tfpg) (log : Logbook) (reach : List ℕ) where
     leaf = leaf_splits steps at.path name count at.leaf is;
     frames_are =
         AllZip-push (IsFrameOf graph log) at.path frames (new_split log name) (new_frame name count) at.frames_are
-        (record { name = refl; alternative = refl; alternatives = count_now name count is });
+        (record { name = refl; alternative = refl; alternatives = count_now graph log name (Some count) is });
   }
 
   module _ (ordered : IsOrdered log) (frames : List Frame) (steps : List Judged) (reasons : List Reason) (at : IsAtLeaf graph log reach frames steps)

@@ -2,7 +2,6 @@ pub mod Kept
 pub mod Cycles
 pub mod InRange
 pub mod KnownWindows
-pub mod Arrivals
 pub mod Dues
 pub mod Found
 pub mod Bounded

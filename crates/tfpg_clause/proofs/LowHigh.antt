@@ -1,13 +1,15 @@
 -- The facts give each node one greatest lower and one least upper bound.
-use Rattle.std.proofs.Common.{◌≡◌, ℕ, zero, suc, ◌+◌, ◌<◌, ◌≤◌, Bool, true, ◌&&◌, not, cond, eqb, leb, ltb, List, [], ◌∷◌, length, Option, Some, None, refl, sym, ap, subst, ◌∙◌, ◌⊎◌, inl, inr, arith, pos}
-use Rattle.std.specs.Prelude.{Contains, ℤ, negsuc, neg_ℤ, option_map, option_and_then, slice_get}
+use Rattle.std.proofs.Common.{◌≡◌, ℕ, zero, suc, ◌+◌, ◌<◌, ◌≤◌, Bool, true, ◌&&◌, not, cond, eqb, leb, ltb, List, [], ◌∷◌, length, Option, Some, None, refl, sym, ap, ◌∙◌, ◌⊎◌, inl, inr, arith, pos}
+use Rattle.std.specs.Prelude.{Contains, neg_ℤ, option_map, option_and_then, slice_get}
 use Rattle.std.specs.Bool.{then_some}
 use Rattle.std.proofs.lemmas.Bool.{eqb-true, eq-eqb, cases_lt, lt-ltb, leb-true, le-leb, and_parts, and_from}
 use Rattle.std.proofs.lemmas.Option.{option_and_then_some, slice_get_within}
 use Rattle.tfpg_base.specs.declared.limits.TheConstants.{NEVER}
 use Rattle.tfpg_base.specs.declared.constraint.Constraint.{Constraint}
-use Rattle.tfpg_base.proofs.lists.Elements.{Contains-head, Contains-tail, Contains-nil, Contains-cons_cases}
+use Rattle.tfpg_base.proofs.lists.Elements.{Contains-head, Contains-tail}
 use Rattle.tfpg_base.proofs.lists.Choices.{then_some-true, cond-some_first}
+use Rattle.tfpg_base.proofs.lists.Integers.{opposite_of, natural_of, opposite_of-opposite, opposite-from_opposite_of, natural_of-pos, pos-from_natural_of}
+use Rattle.tfpg_base.proofs.lists.Valued.{best_from}
 use Rattle.tfpg_graph.specs.Graph.{Tfpg}
 use Rattle.tfpg_graph.specs.Reach.{is_among}
 use Rattle.tfpg_log.specs.Log.{Logbook, now_of, event_at, quiet_at}
@@ -18,93 +20,14 @@ use Rattle.tfpg_clause.specs.Facts.{fact, from_alarm, upto_alarm, IsLow, IsHigh}
 use Rattle.tfpg_clause.proofs.Bounded.{at_least-same, at_most-same, at_most-least}
 use Rattle.tfpg_clause.proofs.Kept.{silence_within}
 
--- ---- the best of some bounds
-
-module _ (Below : ℕ → ℕ → Type 0) (total : (one other : ℕ) → Below one other ⊎ Below other one) (through : (one middle other : ℕ) → Below one middle → Below middle other → Below one other)
-    (bound_of : Reason → Option ℕ) where
-  -- This bound is that of a reason, and those of all these reasons are below it.
-  pub record IsBest (reasons : List Reason) (best : ℕ) : Type 0 where
-    pub reason : Reason
-    pub is : bound_of reason ≡ Some best
-    pub others : (other : Reason) (bound : ℕ) → Contains reasons other → bound_of other ≡ Some bound → Below bound best
-
-  itself : (bound : ℕ) → Below bound bound
-  itself bound = elim (total bound bound) [ inl so ↦ so | inr so ↦ so ]
-
-  -- the best of some reasons and one bound more
-  best_from : (reasons : List Reason) (bound : ℕ) (reason : Reason) → bound_of reason ≡ Some bound → (best : ℕ) × IsBest reasons best × Below bound best
-  best_from [] bound reason is = (
-    bound,
-    record {
-      reason = reason;
-      is = is;
-      others = λ other b member at. absurd (Contains-nil other member);
-    },
-    itself bound,
-  )
-  best_from (first ∷ reasons) bound reason is = by (best_from reasons) (bound_of first) refl
-    where
-      longer : (own : Option ℕ) → bound_of first ≡ own → (best : ℕ) → IsBest reasons best → ((b : ℕ) → own ≡ Some b → Below b best) → IsBest (first ∷ reasons) best
-      longer own at best rest here = record {
-        reason = rest.reason;
-        is = rest.is;
-        others = λ other b member of.
-            elim (Contains-cons_cases first reasons other member) [
-              | inl same ↦ here b (sym at ∙ ap bound_of same ∙ of)
-              | inr more ↦ rest.others other b more of
-            ];
-      }
-
-      by : ((b : ℕ) (r : Reason) → bound_of r ≡ Some b → (best : ℕ) × IsBest reasons best × Below b best) → (own : Option ℕ) → bound_of first ≡ own
-          → (best : ℕ) × IsBest (first ∷ reasons) best × Below bound best
-      by further None at =
-          let rest = further bound reason is in
-          (rest.0, longer None at rest.0 rest.1 (λ b of. absurd cc), rest.2)
-      by further (Some b) at = elim (total bound b) [
-        | inl more ↦ (
-            let rest = further b first at in
-            (rest.0, longer (Some b) at rest.0 rest.1 (λ own of. subst (λ x. Below x rest.0) (let same : b ≡ own = cc in same) rest.2), through bound b rest.0 more rest.2)
-            )
-        | inr less ↦ (
-            let rest = further bound reason is in
-            (rest.0, longer (Some b) at rest.0 rest.1 (λ own of. subst (λ x. Below x rest.0) (let same : b ≡ own = cc in same) (through b bound rest.0 less rest.2)), rest.2)
-            )
-      ]
-
 -- ---- bounds of a node in constraints
-
--- the number at least which the integer's opposite is
-least_of : ℤ → Option ℕ
-least_of (pos zero) = Some 0
-least_of (pos (suc number)) = None
-least_of (negsuc number) = Some (suc number)
-
-most_of : ℤ → Option ℕ
-most_of (pos number) = Some number
-most_of (negsuc number) = None
 
 -- the lower, and the upper bound that a constraint gives a node
 low_in : ℕ → Constraint → Option ℕ
-low_in node constraint = cond (eqb constraint.left 0 && eqb constraint.right (node + 1)) (least_of constraint.bound) None
+low_in node constraint = cond (eqb constraint.left 0 && eqb constraint.right (node + 1)) (opposite_of constraint.bound) None
 
 high_in : ℕ → Constraint → Option ℕ
-high_in node constraint = cond (eqb constraint.left (node + 1) && eqb constraint.right 0) (most_of constraint.bound) None
-
-least_is : (bound : ℕ) → least_of (neg_ℤ (pos bound)) ≡ Some bound
-unfolding least_of
-least_is zero = refl
-least_is (suc bound) = refl
-
-of_least : (most : ℤ) (bound : ℕ) → least_of most ≡ Some bound → most ≡ neg_ℤ (pos bound)
-unfolding least_of
-of_least (pos zero) bound is = let same : 0 ≡ bound = cc in ap (λ b. neg_ℤ (pos b)) same
-of_least (pos (suc number)) bound is = absurd cc
-of_least (negsuc number) bound is = let same : suc number ≡ bound = cc in ap (λ b. neg_ℤ (pos b)) same
-
-of_most : (most : ℤ) (bound : ℕ) → most_of most ≡ Some bound → most ≡ pos bound
-unfolding most_of
-of_most (pos number) bound is = let same : number ≡ bound = cc in ap pos same
-of_most (negsuc number) bound is = absurd cc
+high_in node constraint = cond (eqb constraint.left (node + 1) && eqb constraint.right 0) (natural_of constraint.bound) None
 
 module _ (node : ℕ) where
   -- a lower bound is read off, and what is read off is one
@@ -112,32 +35,32 @@ module _ (node : ℕ) where
   unfolding low_in
   low_read bound =
       let here : eqb (node + 1) (node + 1) ≡ true = eq-eqb (node + 1) (node + 1) refl in
-      ap (λ (b : Bool). cond b (least_of (neg_ℤ (pos bound))) None) here ∙ least_is bound
+      ap (λ (b : Bool). cond b (opposite_of (neg_ℤ (pos bound))) None) here ∙ opposite_of-opposite bound
 
   low_is : (constraint : Constraint) (bound : ℕ) → low_in node constraint ≡ Some bound → constraint ≡ at_least node bound
   unfolding low_in
   low_is constraint bound is =
-      let parts = cond-some_first (eqb constraint.left 0 && eqb constraint.right (node + 1)) (least_of constraint.bound) bound is in
+      let parts = cond-some_first (eqb constraint.left 0 && eqb constraint.right (node + 1)) (opposite_of constraint.bound) bound is in
       let both = and_parts (eqb constraint.left 0) (eqb constraint.right (node + 1)) parts.0 in
       let left = eqb-true constraint.left 0 both.0 in
       let right = eqb-true constraint.right (node + 1) both.1 in
-      let most = of_least constraint.bound bound parts.1 in
+      let most = opposite-from_opposite_of constraint.bound bound parts.1 in
       λ i. record { left = left i; right = right i; bound = most i }
 
   high_read : (bound : ℕ) → high_in node (at_most node (pos bound)) ≡ Some bound
-  unfolding high_in most_of
+  unfolding high_in
   high_read bound =
       let here : eqb (node + 1) (node + 1) ≡ true = eq-eqb (node + 1) (node + 1) refl in
-      ap (λ (b : Bool). cond (b && true) (Some bound) None) here
+      ap (λ (b : Bool). cond (b && true) (natural_of (pos bound)) None) here ∙ natural_of-pos bound
 
   high_is : (constraint : Constraint) (bound : ℕ) → high_in node constraint ≡ Some bound → constraint ≡ at_most node (pos bound)
   unfolding high_in
   high_is constraint bound is =
-      let parts = cond-some_first (eqb constraint.left (node + 1) && eqb constraint.right 0) (most_of constraint.bound) bound is in
+      let parts = cond-some_first (eqb constraint.left (node + 1) && eqb constraint.right 0) (natural_of constraint.bound) bound is in
       let both = and_parts (eqb constraint.left (node + 1)) (eqb constraint.right 0) parts.0 in
       let left = eqb-true constraint.left (node + 1) both.0 in
       let right = eqb-true constraint.right 0 both.1 in
-      let most = of_most constraint.bound bound parts.1 in
+      let most = pos-from_natural_of constraint.bound bound parts.1 in
       λ i. record { left = left i; right = right i; bound = most i }
 
   -- ---- reasons enough
@@ -282,11 +205,11 @@ module _ (graph : Tfpg) (log : Logbook) (reach : List ℕ) (node : ℕ) where
   pub low_there : node < length graph.nodes → (low : ℕ) × IsLow graph log reach node low
   low_there within =
       let zero_stated : fact graph log reach (Zero node) ≡ Some (at_least node 0) = ap (λ (b : Bool). then_some b (at_least node 0)) (lt-ltb node (length graph.nodes) within) in
-      let best = best_from (λ one other. one ≤ other) rises (λ one middle other first second. omega arith) low_of all_reasons 0 (Zero node) (low_given (Zero node) 0 zero_stated) in (
+      let best = best_from (λ (one other : ℕ). one ≤ other) rises (λ one middle other first second. omega arith) low_of all_reasons 0 (Zero node) (low_given (Zero node) 0 zero_stated) in (
         best.0,
         record {
-          reason = best.1.reason;
-          stated = low_stated best.1.reason best.0 best.1.is;
+          reason = best.1.item;
+          stated = low_stated best.1.item best.0 best.1.is;
           greatest = λ other bound at. elim (low_covered other bound at) [
             | inl none ↦ omega (arith, none)
             | inr (cover, more, member, stated, below) ↦ omega (arith, below, best.1.others cover more member (low_given cover more stated))
@@ -301,11 +224,11 @@ module _ (graph : Tfpg) (log : Logbook) (reach : List ℕ) (node : ℕ) where
   pub high_there : node < length graph.nodes → (high : ℕ) × IsHigh graph log reach node high
   high_there within =
       let top_stated : fact graph log reach (Top node) ≡ Some (at_most node (pos NEVER)) = ap (λ (b : Bool). then_some b (at_most node (pos NEVER))) (lt-ltb node (length graph.nodes) within) in
-      let best = best_from (λ one other. other ≤ one) falls (λ one middle other first second. omega arith) high_of all_reasons NEVER (Top node) (high_given (Top node) NEVER top_stated) in (
+      let best = best_from (λ (one other : ℕ). other ≤ one) falls (λ one middle other first second. omega arith) high_of all_reasons NEVER (Top node) (high_given (Top node) NEVER top_stated) in (
         best.0,
         record {
-          reason = best.1.reason;
-          stated = high_stated best.1.reason best.0 best.1.is;
+          reason = best.1.item;
+          stated = high_stated best.1.item best.0 best.1.is;
           least = λ other bound at. let cover = high_covered other bound at in best.1.others cover.0 bound cover.1 (high_given cover.0 bound cover.2);
         },
       )

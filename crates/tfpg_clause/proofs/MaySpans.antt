@@ -20,7 +20,7 @@ use Rattle.tfpg_clause.specs.inside.Alternatives.{arrival_over, arrivals_over}
 use Rattle.tfpg_clause.specs.inside.FirstSpan.{MeetsIfAny, IsFirstSpan, MeetsEach, may_over}
 use Rattle.tfpg_clause.proofs.Bounded.{says_at_least, says_before}
 use Rattle.tfpg_clause.proofs.MayClauses.{before_span, after_span, met_outside}
-use Rattle.tfpg_clause.proofs.SpanNumbers.{lies_inside}
+use Rattle.tfpg_log.proofs.SpanRuns.{lies_inside}
 
 module _ (graph : Tfpg) (log : Logbook) (times : List ℕ) (number horizon : ℕ) (span : Span) (edges : List ℕ) where
   -- an alternative of an edge is one of all

@@ -1,10 +1,9 @@
 -- Whether times meet the must clause of a node in a window, edge by edge.
-use Rattle.std.proofs.Common.{◌≡◌, ℕ, ◌<◌, ◌≤◌, Bool, true, ◌&&◌, eqb, List, [], ◌∷◌, get_or, Option, Some, None, refl, sym, ap, subst, ◌∙◌, inl, inr, arith, pos}
+use Rattle.std.proofs.Common.{◌≡◌, ℕ, ◌<◌, Bool, true, ◌&&◌, eqb, List, [], ◌∷◌, get_or, Option, Some, None, refl, sym, ap, subst, ◌∙◌, inl, inr, arith, pos}
 use Rattle.std.specs.Prelude.{All, Contains, IsSomeAnd, map, option_and_then}
 use Rattle.std.specs.Bool.{then_some}
 use Rattle.std.specs.List.{list_all}
 use Rattle.std.proofs.lemmas.Bool.{and_parts, and_from, eqb-true, eq-eqb}
-use Rattle.std.proofs.lemmas.List.Elements.{All-cons, All-nil}
 use Rattle.tfpg_base.specs.Choice.{each_of}
 use Rattle.tfpg_base.specs.declared.constraint.Constraint.{Constraint}
 use Rattle.tfpg_base.specs.Constraint.{Meets}
@@ -15,9 +14,9 @@ use Rattle.tfpg_base.specs.Bounds.{at_most}
 use Rattle.tfpg_clause.specs.Clauses.{must_in, must_alternatives, starts_late, follows_in_time, latest_of, MeetsClause}
 use Rattle.tfpg_clause.specs.inside.Alternatives.{latest_within}
 use Rattle.tfpg_clause.specs.inside.FirstSpan.{MeetsIfAny, IsExcused}
-use Rattle.tfpg_clause.proofs.Bounded.{met_at_most, says_at_most}
+use Rattle.tfpg_clause.proofs.Bounded.{says_at_most}
 use Rattle.tfpg_clause.proofs.Dues.{fits, within_opened}
-use Rattle.tfpg_clause.proofs.MustAlternatives.{late_there, follows_there, last_there, alternative_cases}
+use Rattle.tfpg_clause.proofs.MustAlternatives.{late_there, follows_there, alternative_cases}
 
 module _ (f : ℕ → Option Due) (edges : List ℕ) (times : List ℕ) (node number : ℕ) (window : Window) where
   -- where there is one, the window begins with the span, and has room for what is due over each edge
@@ -33,33 +32,8 @@ module _ (f : ℕ → Option Due) (edges : List ℕ) (times : List ℕ) (node nu
           let both = and_parts (eqb window.first number) (list_all (fits window.hi) ds) parts.0 in
           (ds, are, eqb-true window.first number both.0, both.1, parts.1)
 
-  -- The times meet it in a window that begins with another span,
-  pub met_not_first : (window.first ≡ number → ⊥) → MeetsIfAny times (option_and_then (λ dues. must_in node number window dues) (each_of (map f edges)))
-  met_not_first other all at = absurd (other (must_there all at).2)
-
-  -- in one without room,
-  pub met_no_room : None ≡ latest_within window.hi (each_of (map f edges)) → MeetsIfAny times (option_and_then (λ dues. must_in node number window dues) (each_of (map f edges)))
-  met_no_room none all at =
-      let parts = must_there all at in
-      let some : latest_within window.hi (each_of (map f edges)) ≡ Some (latest_of parts.0) =
-      ap (latest_within window.hi) parts.1 ∙ ap (λ (b : Bool). then_some b (latest_of parts.0)) parts.3 in
-      absurd cc
-
   module _ (latest : ℕ) (room : latest_within window.hi (each_of (map f edges)) ≡ Some latest) where
-    -- where the node is active by the latest time,
-    pub met_by_latest : get_or times node 0 ≤ latest → MeetsIfAny times (option_and_then (λ dues. must_in node number window dues) (each_of (map f edges)))
-    met_by_latest early all at =
-        let parts = must_there all at in
-        let own = within_opened window.hi latest (each_of (map f edges)) room in
-        let same : own.0 ≡ parts.0 = cc (own.1, parts.1) in
-        let last : latest_of parts.0 ≡ latest = sym (ap latest_of same) ∙ own.3 in
-        subst (MeetsClause times) parts.4 (
-          at_most node (pos (latest_of parts.0)) ∷ [],
-          last_there node window.hi parts.0,
-          All-cons (Meets times) (at_most node (pos (latest_of parts.0))) [] (met_at_most times node (latest_of parts.0) (omega (arith, early, last))) (All-nil _),
-        )
-
-    -- and where it is excused by an edge;
+    -- The times meet it where it is excused by an edge;
     pub met_by_excuse : (edge : ℕ) × Contains edges edge × IsSomeAnd (f edge) (IsExcused times window.hi)
         → MeetsIfAny times (option_and_then (λ dues. must_in node number window dues) (each_of (map f edges)))
     met_by_excuse excuse all at =

@@ -2,7 +2,7 @@
 use Rattle.std.proofs.Common.{◌≡◌, ◌<◌, sym, ◌∙◌, ◌⊎◌, inl, inr, arith}
 use Rattle.std.proofs.lemmas.Bool.{cases_order}
 use Rattle.tfpg_evidence.specs.declared.clause_name.ClauseName.{ClauseName}
-use Rattle.tfpg_clause.specs.Order.{rank_of, subject_of, span_of, horizon_of, ComesBefore}
+use Rattle.tfpg_clause.specs.Order.{kind_index_of, subject_of, span_of, horizon_of, ComesBefore}
 use Rattle.tfpg_clause.proofs.FirstOfAll.{same_parts}
 
 -- No name comes before itself.
@@ -28,16 +28,16 @@ goes_through one middle other (inr (same, one_rest)) (inr (equal, other_rest)) =
 
 -- Of two names of one horizon one comes before the other, or they are the same.
 pub one_comes_first : (one other : ClauseName) → horizon_of one ≡ horizon_of other → (one ≡ other) ⊎ (ComesBefore one other ⊎ ComesBefore other one)
-one_comes_first one other horizon = elim (cases_order (rank_of one) (rank_of other)) [
+one_comes_first one other horizon = elim (cases_order (kind_index_of one) (kind_index_of other)) [
   | inr (inl less) ↦ inr (inl (inl less))
   | inr (inr more) ↦ inr (inr (inl more))
-  | inl rank ↦ elim (cases_order (subject_of one) (subject_of other)) [
-    | inr (inl less) ↦ inr (inl (inr (rank, inl less)))
-    | inr (inr more) ↦ inr (inr (inr (sym rank, inl more)))
+  | inl kind_index ↦ elim (cases_order (subject_of one) (subject_of other)) [
+    | inr (inl less) ↦ inr (inl (inr (kind_index, inl less)))
+    | inr (inr more) ↦ inr (inr (inr (sym kind_index, inl more)))
     | inl subject ↦ elim (cases_order (span_of one) (span_of other)) [
-      | inr (inl less) ↦ inr (inl (inr (rank, inr (subject, less))))
-      | inr (inr more) ↦ inr (inr (inr (sym rank, inr (sym subject, more))))
-      | inl span ↦ inl (same_parts one other rank subject span horizon)
+      | inr (inl less) ↦ inr (inl (inr (kind_index, inr (subject, less))))
+      | inr (inr more) ↦ inr (inr (inr (sym kind_index, inr (sym subject, more))))
+      | inl span ↦ inl (same_parts one other kind_index subject span horizon)
     ]
   ]
 ]

@@ -12,7 +12,7 @@ use Rattle.tfpg_graph.specs.Graph.{Tfpg}
 use Rattle.tfpg_graph.specs.Reach.{IsReach}
 use Rattle.tfpg_graph.specs.Valid.{IsValid}
 use Rattle.tfpg_graph.proofs.lemmas.zero_cycle.ZeroRanks.{HasZeroOrder-valid}
-use Rattle.tfpg_log.specs.Log.{Logbook, GoesOn, IsOf, IsOrdered, now_of, first_events}
+use Rattle.tfpg_log.specs.Log.{Logbook, GoesOn, IsLogOf, IsOrdered, now_of, first_events}
 use Rattle.tfpg_log.specs.Explains.{Explains, Fits}
 use Rattle.tfpg_evidence.specs.declared.clause_name.ClauseName.{ClauseName}
 use Rattle.tfpg_evidence.specs.declared.reason.Reason.{Reason}
@@ -59,8 +59,8 @@ module _ (graph : Tfpg) (log : Logbook) (reach : List ℕ) (ordered : IsOrdered 
       (λ constraint member.
       let from = Contains-each_of_only (stated graph log reach path seen) reasons closed.constraints constraint closed.hold member in
       stated_met path met seen from.0 constraint from.2) in
-      let most = not_negative numbers closed.constraints closed.cycle all in
-      let least = closed.negative in
+      let most = not_negative numbers closed.constraints closed.negative_cycle.chained all in
+      let least = closed.negative_cycle.negative in
       omega (arith, ints)
 
   module _ (clauses : (name : ClauseName) (clause : List (List Constraint)) → alternatives graph log name ≡ Some clause → MeetsClause numbers clause) where
@@ -158,7 +158,7 @@ module _ (graph : Tfpg) (log : Logbook) (reach : List ℕ) (ordered : IsOrdered 
         none number constraint (suc k) pick = cc
 
 -- Where steps are a refutation at a log, no trace explains a log that goes on from it.
-pub no_trace : (graph : Tfpg) (earlier log : Logbook) (set reach : List ℕ) (steps : List Judged) → IsValid graph → IsOf graph log → IsOrdered log → IsReach graph set reach
+pub no_trace : (graph : Tfpg) (earlier log : Logbook) (set reach : List ℕ) (steps : List Judged) → IsValid graph → IsLogOf graph log → IsOrdered log → IsReach graph set reach
     → GoesOn earlier log → IsRefutation graph earlier reach steps → Fits graph log set → ⊥
 no_trace graph earlier log set reach steps valid of ordered is_reach goes_on refutation fits =
     let trace : List Activation = fits.0 in

@@ -6,7 +6,7 @@ use Rattle.tfpg_base.proofs.lists.Elements.{All-from_members}
 use Rattle.tfpg_base.proofs.TraceTimes.{time_there}
 use Rattle.tfpg_graph.specs.Graph.{Tfpg, is_kind_at, is_failure}
 use Rattle.tfpg_graph.specs.Reach.{IsReach}
-use Rattle.tfpg_log.specs.Log.{Logbook, now_of, IsOf, IsOrdered}
+use Rattle.tfpg_log.specs.Log.{Logbook, now_of, IsLogOf, IsOrdered}
 use Rattle.tfpg_log.specs.Explains.{IsMember}
 use Rattle.tfpg_evidence.specs.declared.reason.Reason.{Reason}
 use Rattle.tfpg_base.specs.Constraint.{Meets}
@@ -18,7 +18,7 @@ use Rattle.tfpg_clause.proofs.GivesTrace.{rising, within, reached_member}
 use Rattle.std.proofs.lemmas.List.Elements.{All-contains}
 
 -- Where the numbers meet each fact, the failure modes that their trace activates are members of the set.
-pub only_members : (graph : Tfpg) (log : Logbook) (set reach : List ℕ) (is_reach : IsReach graph set reach) (of : IsOf graph log) (ordered : IsOrdered log) (numbers : List ℕ) (are : AreNumbers graph numbers)
+pub only_members : (graph : Tfpg) (log : Logbook) (set reach : List ℕ) (is_reach : IsReach graph set reach) (of : IsLogOf graph log) (ordered : IsOrdered log) (numbers : List ℕ) (are : AreNumbers graph numbers)
     → ((reason : Reason) (stated : Constraint) → fact graph log reach reason ≡ Some stated → Meets numbers stated)
     → All (λ activation. IsTrue (is_kind_at is_failure graph activation.node) → IsMember graph set activation.node) (cut (now_of log) numbers)
 only_members graph log set reach is_reach of ordered numbers are met =

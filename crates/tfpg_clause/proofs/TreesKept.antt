@@ -1,7 +1,7 @@
 -- Refutations and partial trees at a log are those at each log that goes on from it.
-use Rattle.std.proofs.Common.{◌≡◌, ℕ, zero, suc, ◌≤◌, List, [], ◌∷◌, ◌++◌, length, take, drop, get_or, Option, Some, None, refl, sym, ap, subst, ◌∙◌, arith}
+use Rattle.std.proofs.Common.{◌≡◌, ℕ, ◌≤◌, List, ◌++◌, length, take, drop, get_or, Option, Some, sym, ap, subst, ◌∙◌}
 use Rattle.std.specs.Prelude.{All, AllPairs, option_map, option_and_then}
-use Rattle.std.proofs.lemmas.List.{take-append-drop}
+use Rattle.std.proofs.lemmas.List.{take-append-drop, take-take}
 use Rattle.std.proofs.lemmas.List.Elements.{All-take}
 use Rattle.std.proofs.lemmas.Option.{option_and_then_some}
 use Rattle.tfpg_base.specs.Choice.{item_at}
@@ -17,10 +17,11 @@ use Rattle.tfpg_evidence.specs.declared.reason.Reason.TheVariants.{Zero, Top, Un
 use Rattle.tfpg_evidence.specs.declared.step.Step.{Step}
 use Rattle.tfpg_evidence.specs.declared.step.Step.TheVariants.{Split, Cycle}
 use Rattle.tfpg_base.proofs.lists.Choices.{each_of-weaker}
+use Rattle.tfpg_base.proofs.lists.Cuts.{take-append}
 use Rattle.tfpg_clause.specs.Facts.{fact}
 use Rattle.tfpg_clause.specs.Clauses.{alternatives, count_of, constraint_at}
 use Rattle.tfpg_clause.specs.Trees.{Judged, PathSplit, StepPlace, picked, stated, IsClosedLeaf, IsRight, IsRightStep, IsRefutation, IsPartial, IsPresentLeaf}
-use Rattle.tfpg_clause.proofs.Kept.{clause_stays, fact_stays}
+use Rattle.tfpg_clause.proofs.Kept.{clause_stays, alternatives_stay, fact_stays}
 
 -- The first events of a log are in order.
 pub ordered_first : (log : Logbook) (seen : ℕ) → IsOrdered log → IsOrdered (first_events log seen)
@@ -31,29 +32,21 @@ ordered_first log seen ordered = record {
   in_range = All-take (λ (event : Event). time_of_event event ≤ MAX_TIME) seen log.events ordered.in_range;
 }
 
-take_more : {X : Type 0} (n : ℕ) (xs ys : List X) → (more : List X) × (take n (xs ++ ys) ≡ take n xs ++ more)
-take_more zero xs ys = ([], refl)
-take_more (suc n) [] ys = (take (suc n) ys, refl)
-take_more (suc n) (x ∷ xs) ys = let rest = take_more n xs ys in (rest.0, ap (λ zs. x ∷ zs) rest.1)
-
 -- The first events of a log that goes on go on from those of the earlier one.
 pub first_go_on : (earlier later : Logbook) (seen : ℕ) → GoesOn earlier later → GoesOn (first_events earlier seen) (first_events later seen)
 first_go_on earlier later seen goes_on =
-    let more = take_more seen earlier.events goes_on.0 in (more.0, ap (take seen) goes_on.1 ∙ more.1)
+    let more = take-append seen earlier.events goes_on.0 in (more.0, ap (take seen) goes_on.1 ∙ more.1)
 
 -- The whole log goes on from its first events.
 pub first_to_whole : (log : Logbook) (seen : ℕ) → GoesOn (first_events log seen) log
 first_to_whole log seen = (drop seen log.events, sym (take-append-drop seen log.events))
 
-take_on : {X : Type 0} (n m : ℕ) (xs : List X) → n ≤ m → (more : List X) × (take m xs ≡ take n xs ++ more)
-take_on zero m xs up = (take m xs, refl)
-take_on (suc n) zero xs up = absurd (omega arith)
-take_on (suc n) (suc m) [] up = ([], refl)
-take_on (suc n) (suc m) (x ∷ xs) up = let rest = take_on n m xs (omega arith) in (rest.0, ap (λ zs. x ∷ zs) rest.1)
-
 -- More first events go on from fewer.
 pub more_go_on : (log : Logbook) (seen more : ℕ) → seen ≤ more → GoesOn (first_events log seen) (first_events log more)
-more_go_on log seen more up = take_on seen more log.events up
+more_go_on log seen more up = (
+  drop seen (take more log.events),
+  sym (take-append-drop seen (take more log.events)) ∙ ap (λ (events : List Event). events ++ drop seen (take more log.events)) (take-take seen more log.events up),
+)
 
 module _ (graph : Tfpg) (earlier later : Logbook) (ordered : IsOrdered later) (goes_on : GoesOn earlier later) where
   clause_first : (seen : ℕ) (name : ClauseName) (clause : List (List Constraint)) → alternatives graph (first_events earlier seen) name ≡ Some clause
@@ -66,15 +59,9 @@ module _ (graph : Tfpg) (earlier later : Logbook) (ordered : IsOrdered later) (g
   of_clause_stays f seen name x at =
       option_and_then_some f (alternatives graph (first_events earlier seen) name) x at (λ clause there rest. ap (option_and_then f) (clause_first seen name clause there) ∙ rest)
 
-  map_stays : {X Y : Type 0} (f : X → Y) (one other : Option X) (y : Y) → ((x : X) → one ≡ Some x → other ≡ Some x) → option_map f one ≡ Some y → option_map f other ≡ Some y
-  map_stays f one other y stays at = by one refl at
-    where
-      by : (found : Option _) → one ≡ found → option_map f found ≡ Some y → option_map f other ≡ Some y
-      by None none whole = cc
-      by (Some x) some whole = ap (option_map f) (stays x some) ∙ whole
-
   pub count_stays : (seen : ℕ) (name : ClauseName) (count : ℕ) → count_of graph (first_events earlier seen) name ≡ Some count → count_of graph (first_events later seen) name ≡ Some count
-  count_stays seen name count at = map_stays length (alternatives graph (first_events earlier seen) name) (alternatives graph (first_events later seen) name) count (clause_first seen name) at
+  count_stays seen name count at =
+      ap (option_map length) (alternatives_stay graph (first_events earlier seen) (first_events later seen) (ordered_first later seen ordered) (first_go_on earlier later seen goes_on) name count at) ∙ at
 
   module _ (reach : List ℕ) where
     picked_stays : (path : List PathSplit) (split number : ℕ) (constraint : Constraint) → picked graph earlier path split number ≡ Some constraint → picked graph later path split number ≡ Some constraint
@@ -121,8 +108,7 @@ module _ (graph : Tfpg) (earlier later : Logbook) (ordered : IsOrdered later) (g
     closed_stays path seen reasons closed = record {
       constraints = closed.constraints;
       hold = each_of-weaker (stated graph earlier reach path seen) (stated graph later reach path seen) (stated_stays path seen) reasons closed.constraints closed.hold;
-      cycle = closed.cycle;
-      negative = closed.negative;
+      negative_cycle = closed.negative_cycle;
     }
 
     step_stays : (path : List PathSplit) (seen subtrees : ℕ) (step : Step) → IsRightStep graph earlier reach path seen subtrees step → IsRightStep graph later reach path seen subtrees step

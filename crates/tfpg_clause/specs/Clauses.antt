@@ -1,4 +1,4 @@
--- Clauses: of each, every trace that explains the log meets an alternative.
+-- Clauses: every trace that explains the log meets an alternative of each.
 use Rattle.std.specs.Prelude.{◌≡◌, ℕ, length, ◌+◌, ◌*◌, ◌-◌, ◌≤◌, max, pos, ◌-ℤ◌, List, [], ◌∷◌, ◌++◌, map, filter_map, fold, Bool, ◌&&◌, nat_le, ◌==◌, if◌then◌else◌, All, Contains, Option, Some, None, option_map, option_and_then, slice_get}
 use Rattle.std.specs.Bool.{then_some}
 use Rattle.std.specs.List.{list_all}

@@ -7,12 +7,12 @@ use Rattle.tfpg_evidence.specs.declared.clause_name.ClauseName.{ClauseName}
 use Rattle.tfpg_evidence.specs.declared.clause_name.ClauseName.TheVariants.{OrMay, AndMay, OrMust, AndMust}
 use Rattle.tfpg_clause.specs.Clauses.{alternatives, MeetsClause, Violates}
 
--- the rank of a kind of clause
-abbrev pub rank_of : ClauseName → ℕ
-rank_of (OrMay node span horizon) = 0
-rank_of (AndMay edge span horizon) = 1
-rank_of (OrMust edge span horizon) = 2
-rank_of (AndMust node span horizon) = 3
+-- the index of the name's kind in the order of kinds
+abbrev pub kind_index_of : ClauseName → ℕ
+kind_index_of (OrMay node span horizon) = 0
+kind_index_of (AndMay edge span horizon) = 1
+kind_index_of (OrMust edge span horizon) = 2
+kind_index_of (AndMust node span horizon) = 3
 
 -- the number of the node or the edge that a name has
 abbrev pub subject_of : ClauseName → ℕ
@@ -39,8 +39,8 @@ horizon_of (AndMust node span horizon) = horizon
 -- span.
 abbrev pub ComesBefore : ClauseName → ClauseName → Type 0
 ComesBefore one other =
-    (rank_of one < rank_of other)
-    ⊎ ((rank_of one ≡ rank_of other)
+    (kind_index_of one < kind_index_of other)
+    ⊎ ((kind_index_of one ≡ kind_index_of other)
     × ((subject_of one < subject_of other) ⊎ ((subject_of one ≡ subject_of other) × (span_of one < span_of other))))
 
 -- The times meet the clause of the name, where it is allowed.

@@ -1,8 +1,8 @@
 -- Refutations: trees of clauses, each leaf of which is closed by a cycle of constraints that cannot all hold. One walk
 -- over a tree gives its places in the order of the steps, and what is said of trees is said of these.
-use Rattle.std.specs.Prelude.{◌≡◌, ℕ, suc, ◌+◌, ◌<◌, pos, ◌<ℤ◌, List, [], ◌∷◌, ◌++◌, length, take, map, count_by, All, Bool, true, false, Option, Some, option_map, option_and_then, slice_get}
+use Rattle.std.specs.Prelude.{◌≡◌, ℕ, suc, ◌+◌, ◌<◌, List, [], ◌∷◌, ◌++◌, length, take, map, count_by, All, Bool, true, false, Option, Some, option_map, option_and_then, slice_get}
 use Rattle.tfpg_base.specs.Choice.{each_of, item_at}
-use Rattle.tfpg_base.specs.ConstraintCycle.{IsCycle, sum_of}
+use Rattle.tfpg_base.specs.ConstraintCycle.{IsNegativeCycle}
 use Rattle.tfpg_base.specs.declared.constraint.Constraint.{Constraint}
 use Rattle.tfpg_graph.specs.Graph.{Tfpg}
 use Rattle.tfpg_log.specs.Log.{Logbook, first_events}
@@ -106,13 +106,11 @@ abbrev pub stated : Tfpg → Logbook → List ℕ → List PathSplit → ℕ →
 stated graph log reach path seen reason =
     stated_with (picked graph log path) (fact graph (first_events log seen) reach) reason
 
--- The reasons close a leaf: where each states its constraint, these chain into a cycle, and the sum of their bounds is
--- negative.
+-- The reasons close a leaf: each states its constraint, and these are a negative cycle.
 pub record IsClosedBy (stated : Reason → Option Constraint) (reasons : List Reason) : Type 0 where
   pub constraints : List Constraint
   pub hold : each_of (map stated reasons) ≡ Some constraints
-  pub cycle : IsCycle constraints
-  pub negative : sum_of constraints <ℤ pos 0
+  pub negative_cycle : IsNegativeCycle constraints
 
 -- The leaf of this path is closed by the reasons, judged by the log of so many events.
 abbrev pub IsClosedLeaf : Tfpg → Logbook → List ℕ → List PathSplit → ℕ → List Reason → Type 0

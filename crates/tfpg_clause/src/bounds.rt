@@ -61,7 +61,7 @@ pub(crate) fn at_least_after(node: u32, source: u32, least: u64) -> Constraint
 }
 
 /// The node's time is before this.
-pub(crate) fn before(node: u32, time: u64) -> Constraint
+pub(crate) fn at_most_before(node: u32, time: u64) -> Constraint
     requires node { node < MAX_NODES }
     requires time { time < 2 ^ 63 }
     ensures { result ≡ at_most node (pos time -ℤ pos 1) }

@@ -1,9 +1,9 @@
 //! The alternatives of clauses and their constraints.
 
-ghost use Rattle.std.specs.Prelude.{◌≡◌, ◌<◌, ◌≤◌, length, All, IsTrue, IfSome, option_map, option_and_then, slice_get};
+ghost use Rattle.std.specs.Prelude.{◌≡◌, ◌<◌, ◌≤◌, length, All, IfSome, option_map, option_and_then, slice_get};
 ghost use Rattle.std.specs.Result.{result_ok};
 ghost use Rattle.tfpg_graph.specs.declared.limits.TheConstants.{MAX_INCOMING, MAX_NODES};
-ghost use Rattle.tfpg_graph.specs.Graph.{is_kind_at, is_or, is_and};
+ghost use Rattle.tfpg_graph.specs.Graph.{is_or, is_and};
 ghost use Rattle.tfpg_clause.specs.Clauses.{alternatives, or_may, and_may, or_must, and_must, must_in, count_of, constraint_at};
 ghost use Rattle.tfpg_base.specs.Choice.{item_at};
 ghost use Rattle.tfpg_clause.specs.inside.Alternatives.{constraints_in, dues_over, target_of_kind};
@@ -18,7 +18,7 @@ use tfpg_evidence::ClauseName;
 use tfpg_graph::Graph;
 use tfpg_log::{Log, Window};
 
-/// The name is allowed by no clause of the log.
+/// The name of the clause is not allowed at the log.
 #[derive(Clone, Copy, Debug, PartialEq, Eq)]
 pub struct NotAClause;
 
@@ -110,7 +110,7 @@ pub(crate) fn alternative_of(
 fn count_or_may(graph: &Graph, log: &Log, node: u32, number: u32, horizon: u64) -> Option<u32>
     ensures { result ≡ option_map length (or_may graph.now log.now node number horizon) }
 {
-    if !is_or(graph, node) {
+    if !graph.is_or(node) {
         return None;
     }
     may_count(graph, log, graph.incoming(node), number, horizon)
@@ -136,7 +136,7 @@ fn count_or_must(graph: &Graph, log: &Log, edge: u32, number: u32, horizon: u64)
 fn count_and_must(graph: &Graph, log: &Log, node: u32, number: u32, horizon: u64) -> Option<u32>
     ensures { result ≡ option_map length (and_must graph.now log.now node number horizon) }
 {
-    if !is_and(graph, node) {
+    if !graph.is_and(node) {
         return None;
     }
     let window = find_joint(graph, log, node, number, horizon)?;
@@ -154,7 +154,7 @@ fn or_may_alternative(
     ensures { option_map (option_map constraints_in) (result_ok result)
         ≡ option_map (λ clause. item_at clause alternative) (or_may graph.now log.now node number horizon) }
 {
-    if !is_or(graph, node) {
+    if !graph.is_or(node) {
         return Err(NotAClause);
     }
     let edges = graph.incoming(node);
@@ -214,7 +214,7 @@ fn and_must_alternative(
     ensures { option_map (option_map constraints_in) (result_ok result)
         ≡ option_map (λ clause. item_at clause alternative) (and_must graph.now log.now node number horizon) }
 {
-    if !is_and(graph, node) {
+    if !graph.is_and(node) {
         return Err(NotAClause);
     }
     let window = find_joint(graph, log, node, number, horizon).ok_or(NotAClause)?;
@@ -294,12 +294,7 @@ pub(crate) fn and_target(graph: &Graph, edge: u32) -> Option<u32>
     ensures within { IfSome result (λ target. target < length graph.now.nodes) }
     ensures small { IfSome result (λ target. (target < MAX_NODES) × (edge < length graph.now.edges)) }
 {
-    let target = target_of(graph, edge)?;
-    if is_and(graph, target) {
-        Some(target)
-    } else {
-        None
-    }
+    target_of(graph, edge).filter(|target| graph.is_and(*target))
 }
 
 /// The target of the edge, where it is an OR node.
@@ -308,12 +303,7 @@ pub(crate) fn or_target(graph: &Graph, edge: u32) -> Option<u32>
     ensures within { IfSome result (λ target. target < length graph.now.nodes) }
     ensures small { IfSome result (λ target. (target < MAX_NODES) × (edge < length graph.now.edges)) }
 {
-    let target = target_of(graph, edge)?;
-    if is_or(graph, target) {
-        Some(target)
-    } else {
-        None
-    }
+    target_of(graph, edge).filter(|target| graph.is_or(*target))
 }
 
 /// The target of the edge, where it is an edge of the graph.
@@ -325,20 +315,4 @@ fn target_of(graph: &Graph, edge: u32) -> Option<u32>
         return None;
     }
     Some(edge_of(graph, edge).target)
-}
-
-/// Whether it is an OR node of the graph.
-pub(crate) fn is_or(graph: &Graph, node: u32) -> bool
-    ensures value { result ≡ is_kind_at is_or graph.now node }
-    ensures within { IsTrue result → (node < length graph.now.nodes) × (node < MAX_NODES) }
-{
-    node < graph.node_count() && graph.kind(node).is_or()
-}
-
-/// Whether it is an AND node of the graph.
-pub(crate) fn is_and(graph: &Graph, node: u32) -> bool
-    ensures value { result ≡ is_kind_at is_and graph.now node }
-    ensures within { IsTrue result → (node < length graph.now.nodes) × (node < MAX_NODES) }
-{
-    node < graph.node_count() && graph.kind(node).is_and()
 }

@@ -5,7 +5,7 @@ ghost use Rattle.std.specs.Result.{result_ok};
 ghost use Rattle.std.specs.Bool.{then_some};
 ghost use Rattle.tfpg_base.specs.declared.limits.TheConstants.{MAX_TIME, NEVER};
 ghost use Rattle.tfpg_graph.specs.declared.limits.TheConstants.{MAX_NODES};
-ghost use Rattle.tfpg_log.specs.Log.{IsOf, now_of, event_at, quiet_at};
+ghost use Rattle.tfpg_log.specs.Log.{IsLogOf, now_of, event_at, quiet_at};
 ghost use Rattle.tfpg_graph.specs.Reach.{is_among};
 ghost use Rattle.tfpg_clause.specs.inside.Ranges.{IsSmallAlarm};
 ghost use Rattle.tfpg_base.specs.Bounds.{at_least, at_most};
@@ -29,7 +29,7 @@ pub fn fact(
     reach: &NodeSet,
     reason: Reason,
 ) -> Result<Constraint, NotAFact>
-    requires of { IsOf graph.now log.now }
+    requires of { IsLogOf graph.now log.now }
     ensures { result_ok result ≡ fact graph.now log.now reach.now reason }
 {
     fact_of(graph, log, reach, reason).ok_or(NotAFact)
@@ -37,7 +37,7 @@ pub fn fact(
 
 /// The constraint of the fact that the reason states, where it states one.
 fn fact_of(graph: &Graph, log: &Log, reach: &NodeSet, reason: Reason) -> Option<Constraint>
-    requires of { IsOf graph.now log.now }
+    requires of { IsLogOf graph.now log.now }
     ensures { result ≡ fact graph.now log.now reach.now reason }
 {
     match reason {
@@ -98,7 +98,7 @@ fn unreached(
 
 /// The node of an alarm became active at most its lag before.
 fn from(graph: &Graph, log: &Log, number: u32) -> Option<Constraint>
-    requires { IsOf graph.now log.now }
+    requires { IsLogOf graph.now log.now }
     ensures { result ≡ option_and_then (from_alarm graph.now) (event_at log.now number) }
 {
     match find_event(graph, log, number)? {
@@ -112,7 +112,7 @@ fn from(graph: &Graph, log: &Log, number: u32) -> Option<Constraint>
 
 /// The node of an alarm was active by then.
 fn upto(graph: &Graph, log: &Log, number: u32) -> Option<Constraint>
-    requires { IsOf graph.now log.now }
+    requires { IsLogOf graph.now log.now }
     ensures { result ≡ option_and_then upto_alarm (event_at log.now number) }
 {
     match find_event(graph, log, number)? {
@@ -124,7 +124,7 @@ fn upto(graph: &Graph, log: &Log, number: u32) -> Option<Constraint>
 
 /// A silent node was not active by then.
 fn quiet(graph: &Graph, log: &Log, event: u32, node: u32) -> Option<Constraint>
-    requires { IsOf graph.now log.now }
+    requires { IsLogOf graph.now log.now }
     ensures { result ≡ option_map (λ time. at_least node (time + 1)) (quiet_at graph.now log.now event node) }
 {
     let time = quiet_at(graph, log, event, node)?;
@@ -133,7 +133,7 @@ fn quiet(graph: &Graph, log: &Log, event: u32, node: u32) -> Option<Constraint>
 
 /// The time of the event of this number, where it is a silence of the node, which is then a node of the graph.
 fn quiet_at(graph: &Graph, log: &Log, event: u32, node: u32) -> Option<u64>
-    requires { IsOf graph.now log.now }
+    requires { IsLogOf graph.now log.now }
     ensures value { result ≡ quiet_at graph.now log.now event node }
     ensures small { IfSome result (λ time. (time ≤ MAX_TIME) × (node < MAX_NODES)) }
 {
@@ -144,15 +144,13 @@ fn quiet_at(graph: &Graph, log: &Log, event: u32, node: u32) -> Option<u64>
 
 /// The event of this number, where there is one.
 fn find_event(graph: &Graph, log: &Log, number: u32) -> Option<Event>
-    requires { IsOf graph.now log.now }
+    requires { IsLogOf graph.now log.now }
     ensures value { result ≡ event_at log.now number }
     ensures small { IfSome result (IsSmallAlarm graph.now) }
 {
     let _few = graph.node_count();
-    if number == 0 || number > log.len() {
-        return None;
-    }
-    Some(log.event(number))
+    let _ordered = log.len();
+    log.find_event(number)
 }
 
 /// Whether it is one of the nodes.

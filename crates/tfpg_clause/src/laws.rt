@@ -6,7 +6,7 @@ ghost use Rattle.tfpg_base.specs.declared.constraint.Constraint.{Constraint};
 ghost use Rattle.tfpg_graph.specs.Graph.{Tfpg, is_kind_at, is_failure};
 ghost use Rattle.tfpg_graph.specs.Reach.{IsReach};
 ghost use Rattle.tfpg_graph.specs.Valid.{IsValid};
-ghost use Rattle.tfpg_log.specs.Log.{Logbook, GoesOn, IsOf, IsOrdered, now_of};
+ghost use Rattle.tfpg_log.specs.Log.{Logbook, GoesOn, IsLogOf, IsOrdered, now_of};
 ghost use Rattle.tfpg_log.specs.Rules.{KeepsRules};
 ghost use Rattle.tfpg_log.specs.Explains.{Explains, Fits, ShowsAll, IsMember};
 ghost use Rattle.tfpg_evidence.specs.declared.clause_name.ClauseName.{ClauseName};
@@ -80,15 +80,15 @@ pub fn facts_give_a_node_one_low_and_one_high()
 ///
 /// - `lower`: the node's time is at least this.
 /// - `upper`: it is at most this.
-/// - `least_after`: it is at least so much after the other's.
-/// - `most_after`: it is at most so much after the other's.
+/// - `at_least_after`: it is at least so much after the other's.
+/// - `at_most_after`: it is at most so much after the other's.
 pub fn bounds_hold_of_the_times_of_nodes()
     ensures lower { LowerBoundsHold }
     ensures upper { UpperBoundsHold }
-    ensures least_after { (times : List ℕ) (node source bound : ℕ) →
+    ensures at_least_after { (times : List ℕ) (node source bound : ℕ) →
         Meets times (at_least_after node source bound)
         ↔ (slice_index times source + bound ≤ slice_index times node) }
-    ensures most_after { (times : List ℕ) (node source bound : ℕ) →
+    ensures at_most_after { (times : List ℕ) (node source bound : ℕ) →
         Meets times (at_most_after node source bound)
         ↔ (slice_index times node ≤ slice_index times source + bound) }
 {}
@@ -107,7 +107,7 @@ pub fn a_cycle_that_is_met_is_not_negative()
 pub fn traces_meet_facts_and_clauses()
     ensures facts { (graph : Tfpg) (log : Logbook) (set reach : List ℕ)
         (trace : List Activation) (numbers : List ℕ) →
-        IsValid graph → IsOf graph log → IsOrdered log → IsReach graph set reach →
+        IsValid graph → IsLogOf graph log → IsOrdered log → IsReach graph set reach →
         Explains graph log set trace → AreNumbersOf graph (now_of log) trace numbers →
         (reason : Reason) (stated : Constraint) →
         fact graph log reach reason ≡ Some stated → Meets numbers stated }
@@ -132,19 +132,20 @@ pub fn numbers_that_meet_all_give_a_trace()
         ↔ ((name : ClauseName) (clause : List (List Constraint)) → horizon_of name ≡ now_of log →
         alternatives graph log name ≡ Some clause → MeetsClause numbers clause) }
     ensures shown { (graph : Tfpg) (log : Logbook) (set reach : List ℕ) (numbers : List ℕ) →
-        IsOf graph log → IsOrdered log → IsReach graph set reach → AreNumbers graph numbers →
+        IsLogOf graph log → IsOrdered log → IsReach graph set reach → AreNumbers graph numbers →
         ((reason : Reason) (stated : Constraint) →
         fact graph log reach reason ≡ Some stated → Meets numbers stated) →
         ShowsAll graph (cut (now_of log) numbers) log.events }
     ensures from_set { (graph : Tfpg) (log : Logbook) (set reach : List ℕ) (numbers : List ℕ) →
-        IsOf graph log → IsOrdered log → IsReach graph set reach → AreNumbers graph numbers →
+        IsLogOf graph log → IsOrdered log → IsReach graph set reach → AreNumbers graph numbers →
         ((reason : Reason) (stated : Constraint) →
         fact graph log reach reason ≡ Some stated → Meets numbers stated) →
         All (λ activation. IsTrue (is_kind_at is_failure graph activation.node) →
         IsMember graph set activation.node)
         (cut (now_of log) numbers) }
     ensures explains { (graph : Tfpg) (log : Logbook) (set reach : List ℕ) (numbers : List ℕ) →
-        IsValid graph → IsOf graph log → IsOrdered log → IsReach graph set reach → AreNumbers graph numbers →
+        IsValid graph → IsLogOf graph log → IsOrdered log → IsReach graph set reach →
+        AreNumbers graph numbers →
         ((reason : Reason) (stated : Constraint) →
         fact graph log reach reason ≡ Some stated → Meets numbers stated) →
         ((name : ClauseName) (clause : List (List Constraint)) → horizon_of name ≡ now_of log →
@@ -174,6 +175,6 @@ pub fn a_closed_leaf_leaves_no_numbers()
 /// set, nor any log that goes on from it.
 pub fn a_refutation_leaves_no_trace()
     ensures { (graph : Tfpg) (earlier log : Logbook) (set reach : List ℕ) (steps : List Judged) →
-        IsValid graph → IsOf graph log → IsOrdered log → IsReach graph set reach →
+        IsValid graph → IsLogOf graph log → IsOrdered log → IsReach graph set reach →
         GoesOn earlier log → IsRefutation graph earlier reach steps → Fits graph log set → ⊥ }
 {}

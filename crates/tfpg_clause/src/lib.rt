@@ -1,12 +1,13 @@
 //! Facts, clauses and refutations: the language of the evidence.
 //!
 //! - [`fact`] is the constraint that a reason states, where it is a fact of the log and of a set with this reach.
-//! - [`NotAFact`] says that it is none.
+//! - [`NotAFact`] says that it is none, and [`NotAClause`] that a clause is not allowed.
 //! - [`count`] and [`constraint`] are the alternatives of a clause and their constraints, where the clause is allowed.
 //! - [`MAX_CONSTRAINTS`] says how many constraints an alternative has at most.
 //! - [`violated`] is the first clause with the horizon now that some times violate.
-//! - [`Frame`] is a split on the path to the present leaf of a partial tree, as a program keeps it; [`advance`] moves the path
-//!   on once the leaf is closed, and [`stated_by`] and [`framed`] look up what a reason states there.
+//! - [`Frame`] is a split on the path to the present leaf of a partial tree, as a program keeps it. [`Frame::of_split`] splits
+//!   the leaf, [`advance`] moves the path on once the leaf is closed, and [`stated_by`] and [`framed`] look up what a reason
+//!   states there.
 //! - [`laws`] ties facts, clauses and refutations to the traces that explain a log, and says how trees grow.
 //!
 //! Its definitions, in `specs/`, say which constraints are facts of a log and a reach, which clauses every trace meets,

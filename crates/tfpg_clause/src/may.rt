@@ -10,7 +10,7 @@ ghost use Rattle.tfpg_clause.specs.inside.Alternatives.{constraints_in, arrival_
 ghost use Rattle.tfpg_clause.specs.inside.FirstSpan.{may_over};
 
 use crate::alternative::Alternative;
-use crate::bounds::{at_least, at_least_after, at_most, before};
+use crate::bounds::{at_least, at_least_after, at_most, at_most_before};
 use tfpg_graph::{Edge, Graph};
 use tfpg_log::{Log, Span};
 
@@ -36,7 +36,7 @@ pub(crate) fn may_alternative(
 {
     match alternative {
         0 => None,
-        1 => Some(Alternative::One(before(node, span.lo))),
+        1 => Some(Alternative::One(at_most_before(node, span.lo))),
         2 => Some(Alternative::One(at_least(node, span.hi + 1))),
         _ => arrival_at(graph, log, edges, number, horizon, span, alternative - 3),
     }

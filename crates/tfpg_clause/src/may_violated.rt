@@ -14,7 +14,7 @@ ghost use Rattle.tfpg_clause.specs.inside.Alternatives.{arrival_over, arrivals_o
 ghost use Rattle.tfpg_clause.specs.inside.FirstSpan.{FindsFirst, clauses_of, may_over};
 ghost use Rattle.tfpg_clause.specs.inside.Ranges.{IsSmallSpan};
 
-use crate::clauses::{and_target, is_or};
+use crate::clauses::and_target;
 use crate::facts::now;
 use crate::may::{arrival_over, find_span};
 use crate::meets::meets;
@@ -26,7 +26,7 @@ pub(crate) fn or_may_violated(graph: &Graph, log: &Log, times: &[u64], node: u32
     requires { AreNumbers graph.now times.now }
     ensures { FindsFirst times.now (clauses_of graph.now log.now OrMay node) result }
 {
-    if !is_or(graph, node) {
+    if !graph.is_or(node) {
         return None;
     }
     may_violated(graph, log, times, node, graph.incoming(node))

@@ -2,18 +2,18 @@
 //!
 //! Only the first span of a window has a must clause. So after a window the search continues with the spans after it.
 
-ghost use Rattle.std.specs.Prelude.{◌≡◌, ◌<◌, ◌≤◌, ◌↔◌, ℕ, length, All, Contains, IsTrue, IsSomeAnd, IfSome, slice_get};
+ghost use Rattle.std.specs.Prelude.{◌≡◌, ◌<◌, ◌≤◌, ◌↔◌, ℕ, length, All, Contains, IsTrue, IsSomeAnd, IfSome};
 ghost use Rattle.tfpg_base.specs.declared.limits.TheConstants.{MAX_TIME, NEVER};
-ghost use Rattle.tfpg_graph.specs.Graph.{is_kind_at, is_or, is_and, incoming};
 ghost use Rattle.tfpg_log.specs.Log.{now_of};
 ghost use Rattle.tfpg_clause.specs.declared.clause_kind.ClauseKind.TheVariants.{OrMust, AndMust};
 ghost use Rattle.tfpg_clause.specs.Cut.{AreNumbers};
 ghost use Rattle.tfpg_clause.specs.inside.Alternatives.{due_by_number};
 ghost use Rattle.tfpg_clause.specs.inside.FirstSpan.{FindsFirst, clauses_of, MeetsUpTo, MeetsIfAny, must_over, IsExcused};
 ghost use Rattle.tfpg_clause.specs.inside.KnownWindows.{IsWindowOver, AreKnown};
+ghost use Rattle.tfpg_clause.specs.inside.Musts.{IsMustOf, musts_of, window_by};
 ghost use Rattle.tfpg_clause.specs.inside.Ranges.{IsSmallWindow};
 
-use crate::clauses::{is_and, or_target};
+use crate::clauses::or_target;
 use crate::facts::now;
 use crate::known_windows::{known_at, take_windows};
 use crate::meets::meets;
@@ -23,21 +23,26 @@ use crate::must::{
 use tfpg_graph::{Graph, MAX_INCOMING};
 use tfpg_log::{Log, Window};
 
+/// A node, and edges into it by all of which the failure is due: one edge into an OR node, or all edges into an AND node.
+#[derive(Clone, Copy)]
+struct Must<'a> {
+    node: u32,
+    edges: &'a [u32],
+    /// The edge into an OR node, and None where the node is an AND node.
+    edge: Option<u32>,
+}
+
 /// The first span in which the times violate the clause that an OR node is active once the failure is due by the edge.
 pub(crate) fn or_must_violated(graph: &Graph, log: &Log, times: &[u64], edge: u32) -> Option<u32>
     requires { AreNumbers graph.now times.now }
     ensures { FindsFirst times.now (clauses_of graph.now log.now OrMust edge) result }
 {
-    let target = or_target(graph, edge)?;
-    let last = log.span_of(now(log))?;
-    let mut number = 0;
-    while let Some(until) = or_must_met_up_to(graph, log, times, edge, target, number) {
-        if until >= last {
-            return None;
-        }
-        number = until + 1;
-    }
-    Some(number)
+    let must = Must {
+        node: or_target(graph, edge)?,
+        edges: &[edge],
+        edge: Some(edge),
+    };
+    must_violated(graph, log, times, &must, &mut [None])
 }
 
 /// The first span in which the times violate the clause that an AND node is active once the failure is due by all edges.
@@ -45,15 +50,35 @@ pub(crate) fn and_must_violated(graph: &Graph, log: &Log, times: &[u64], node: u
     requires { AreNumbers graph.now times.now }
     ensures { FindsFirst times.now (clauses_of graph.now log.now AndMust node) result }
 {
-    if !is_and(graph, node) {
+    if !graph.is_and(node) {
         return None;
     }
-    // With the count comes that the graph is valid: there is room for the edges into any node.
-    let _few = graph.node_count();
-    let last = log.span_of(now(log))?;
+    let must = Must {
+        node,
+        edges: graph.incoming(node),
+        edge: None,
+    };
     let mut known: [Option<Window>; MAX_INCOMING] = [None; MAX_INCOMING];
+    must_violated(graph, log, times, &must, &mut known)
+}
+
+/// The first span in which the times violate its must clause. There is room for what is known of the windows of the edges.
+fn must_violated(
+    graph: &Graph,
+    log: &Log,
+    times: &[u64],
+    must: &Must<'_>,
+    known: &mut [Option<Window>],
+) -> Option<u32>
+    requires must { IsMustOf graph.now must.now }
+    requires numbers { AreNumbers graph.now times.now }
+    requires room { length must.now.edges.now ≤ length known.old }
+    requires known { AreKnown graph.now log.now (now_of log.now) must.now.edges.now known.old }
+    ensures { FindsFirst times.now (musts_of graph.now log.now must.now.node must.now.edge) result }
+{
+    let last = log.span_of(now(log))?;
     let mut number = 0;
-    while let Some(until) = and_must_met_up_to(graph, log, times, node, number, &mut known) {
+    while let Some(until) = must_met_up_to(graph, log, times, must, number, known) {
         if until >= last {
             return None;
         }
@@ -62,37 +87,27 @@ pub(crate) fn and_must_violated(graph: &Graph, log: &Log, times: &[u64], node: u
     Some(number)
 }
 
-/// A span up to which the times meet the must clauses of the edge into an OR node, from the span of this number on, or none
-/// where they violate that of the span itself.
-fn or_must_met_up_to(
+/// A span up to which the times meet the must clauses, from the span of this number on, or none where they violate that of
+/// the span itself.
+fn must_met_up_to(
     graph: &Graph,
     log: &Log,
     times: &[u64],
-    edge: u32,
-    target: u32,
+    must: &Must<'_>,
     number: u32,
+    known: &mut [Option<Window>],
 ) -> Option<u32>
-    requires edge { edge < length graph.now.edges }
-    requires target { IsSomeAnd (slice_get graph.now.edges edge) (λ e. e.target ≡ target) }
-    requires or_node { IsTrue (is_kind_at is_or graph.now target) }
+    requires must { IsMustOf graph.now must.now }
     requires numbers { AreNumbers graph.now times.now }
-    ensures { MeetsUpTo times.now (clauses_of graph.now log.now OrMust edge) number result }
+    requires room { length must.now.edges.now ≤ length known.old }
+    requires known { AreKnown graph.now log.now (now_of log.now) must.now.edges.now known.old }
+    ensures met { MeetsUpTo times.now (musts_of graph.now log.now must.now.node must.now.edge) number result }
+    ensures known { AreKnown graph.now log.now (now_of log.now) must.now.edges.now known.new }
 {
-    let horizon = now(log);
-    match find_window(graph, log, edge, number, horizon) {
+    match take_window(graph, log, must, number, now(log), known) {
         None => Some(number),
         Some(window) => {
-            if is_must_met(
-                graph,
-                log,
-                times,
-                target,
-                &[edge],
-                window,
-                horizon,
-                number,
-                &[Some(window)],
-            ) {
+            if is_must_met(graph, log, times, must, window, number, known) {
                 log.span_of(window.hi)
             } else {
                 None
@@ -101,38 +116,34 @@ fn or_must_met_up_to(
     }
 }
 
-/// A span up to which the times meet the must clauses of an AND node, from the span of this number on, or none where they
-/// violate that of the span itself. Where all edges into it are active in the span, it takes their windows round it, and
-/// does not look for those that are known from an earlier span.
-fn and_must_met_up_to(
+/// The window round the span of this number, up to a horizon, where there is one: that of the edge into an OR node, or the
+/// joint one of all edges. Where there is one, the windows of the edges are taken too, and those are not looked for that are
+/// known from an earlier span.
+fn take_window(
     graph: &Graph,
     log: &Log,
-    times: &[u64],
-    node: u32,
+    must: &Must<'_>,
     number: u32,
+    horizon: u64,
     known: &mut [Option<Window>],
-) -> Option<u32>
-    requires node { node < length graph.now.nodes }
-    requires and_node { IsTrue (is_kind_at is_and graph.now node) }
-    requires numbers { AreNumbers graph.now times.now }
-    requires room { length (incoming graph.now node) ≤ length known.old }
-    requires known { AreKnown graph.now log.now (now_of log.now) (incoming graph.now node) known.old }
-    ensures met { MeetsUpTo times.now (clauses_of graph.now log.now AndMust node) number result }
-    ensures known { AreKnown graph.now log.now (now_of log.now) (incoming graph.now node) known.new }
+) -> Option<Window>
+    requires must { IsMustOf graph.now must.now }
+    requires room { length must.now.edges.now ≤ length known.old }
+    requires known { AreKnown graph.now log.now horizon must.now.edges.now known.old }
+    ensures value { result ≡ window_by graph.now log.now must.now.node must.now.edge number horizon }
+    ensures small { IfSome result IsSmallWindow }
+    ensures known { AreKnown graph.now log.now horizon must.now.edges.now known.new }
 {
-    let horizon = now(log);
-    match find_joint(graph, log, node, number, horizon) {
-        None => Some(number),
-        Some(window) => {
-            let edges = graph.incoming(node);
-            take_windows(graph, log, edges, number, horizon, known);
-            if is_must_met(
-                graph, log, times, node, edges, window, horizon, number, known,
-            ) {
-                log.span_of(window.hi)
-            } else {
-                None
-            }
+    match must.edge {
+        Some(edge) => {
+            let window = find_window(graph, log, edge, number, horizon)?;
+            known[0] = Some(window);
+            Some(window)
+        }
+        None => {
+            let window = find_joint(graph, log, must.node, number, horizon)?;
+            take_windows(graph, log, must.edges, number, horizon, known);
+            Some(window)
         }
     }
 }
@@ -143,27 +154,26 @@ fn is_must_met(
     graph: &Graph,
     log: &Log,
     times: &[u64],
-    node: u32,
-    edges: &[u32],
+    must: &Must<'_>,
     window: Window,
-    horizon: u64,
     number: u32,
     known: &[Option<Window>],
 ) -> bool
-    requires node { node < length times.now }
-    requires edges { All (λ edge. edge < length graph.now.edges) edges.now }
-    requires known { AreKnown graph.now log.now horizon edges.now known.now }
-    requires in_range { All (λ time. time ≤ NEVER) times.now }
+    requires must { IsMustOf graph.now must.now }
+    requires numbers { AreNumbers graph.now times.now }
+    requires known { AreKnown graph.now log.now (now_of log.now) must.now.edges.now known.now }
     requires small { IsSmallWindow window }
-    ensures { IsTrue result
-        ↔ MeetsIfAny times.now (must_over graph.now log.now node edges.now window horizon number) }
+    ensures { IsTrue result ↔ MeetsIfAny times.now
+        (must_over graph.now log.now must.now.node must.now.edges.now window (now_of log.now) number) }
 {
     if window.first != number {
         return true;
     }
+    let edges = must.edges;
+    let horizon = now(log);
     match latest_due(graph, log, edges, window.hi, number, horizon, known) {
         Some(latest) => {
-            times[node as usize] <= latest
+            times[must.node as usize] <= latest
                 || is_excused(graph, log, times, edges, window.hi, number, horizon, known)
         }
         None => true,

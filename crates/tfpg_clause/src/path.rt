@@ -1,12 +1,13 @@
 //! The path to the present leaf of a partial tree, as a program keeps it.
 
-ghost use Rattle.std.specs.Prelude.{◌≡◌, ◌≤◌, ◌<◌, ◌-◌, take, length, vec_len, vec_capacity, Some, None};
+ghost use Rattle.std.specs.Prelude.{◌≡◌, ◌≤◌, ◌<◌, ◌-◌, take, length, vec_len, vec_capacity, option_map, Some, None};
 ghost use Rattle.std.specs.Bool.{MatchBool};
-ghost use Rattle.tfpg_log.specs.Log.{IsOf};
-ghost use Rattle.tfpg_clause.specs.Paths.{path_after, framed, stated_by};
+ghost use Rattle.tfpg_log.specs.Log.{IsLogOf};
+ghost use Rattle.tfpg_clause.specs.Clauses.{count_of};
+ghost use Rattle.tfpg_clause.specs.Paths.{new_frame, path_after, framed, stated_by};
 ghost use Rattle.tfpg_clause.specs.inside.Frames.{HasNext};
 
-use crate::clauses::constraint;
+use crate::clauses::{constraint, count};
 use crate::facts::fact;
 use tfpg_base::Constraint;
 use tfpg_evidence::{ClauseName, Reason};
@@ -20,6 +21,21 @@ pub struct Frame {
     pub name: ClauseName,
     pub alternative: u32,
     pub alternatives: u32,
+}
+
+impl Frame {
+    /// A new split on a clause, in its first alternative, or None where the name is not allowed. The cost is that of
+    /// [`count`].
+    pub fn of_split(graph: &Graph, log: &Log, name: ClauseName) -> Option<Frame>
+        ensures { result ≡ option_map (new_frame name) (count_of graph.now log.now name) }
+    {
+        let alternatives = count(graph, log, name).ok()?;
+        Some(Frame {
+            name,
+            alternative: 1,
+            alternatives,
+        })
+    }
 }
 
 /// Moves the path to the next alternative of the deepest split that has one left, and returns whether there is one. Where
@@ -64,7 +80,7 @@ pub fn stated_by(
     path: &[Frame],
     reason: Reason,
 ) -> Option<Constraint>
-    requires of { IsOf graph.now log.now }
+    requires of { IsLogOf graph.now log.now }
     ensures { result ≡ stated_by graph.now log.now reach.now path.now reason }
 {
     match reason {

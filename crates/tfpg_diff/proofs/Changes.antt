@@ -109,16 +109,6 @@ IsSound-pick bounds picks pick sound left right = record {
   rights = All-push (λ (p : Pick). p.constraint.right ≤ length bounds) picks pick sound.rights right;
 }
 
--- demands stay sound with fewer picks
-pub IsSound-take : (bounds : List Bounds) (picks : List Pick) (len : ℕ) → IsSound (demands_of bounds picks) →
-    IsSound (demands_of bounds (take len picks))
-IsSound-take bounds picks len sound = record {
-  few = sound.few;
-  ceilings = sound.ceilings;
-  lefts = All-take (λ (p : Pick). p.constraint.left ≤ length bounds) len picks sound.lefts;
-  rights = All-take (λ (p : Pick). p.constraint.right ≤ length bounds) len picks sound.rights;
-}
-
 -- demands stay sound with other bounds of a variable that are not past the latest value
 pub IsSound-set : (bounds : List Bounds) (picks : List Pick) (v : ℕ) (new : Bounds) → IsSound (demands_of bounds picks) →
     new.ceiling ≤ NEVER → IsSound (demands_of (set bounds v new) picks)

@@ -10,7 +10,7 @@ use Rattle.tfpg_diff.specs.declared.pick.Pick.{Pick}
 use Rattle.tfpg_diff.specs.Demands.{demand_of_pick, demands_of}
 use Rattle.tfpg_diff.specs.Cycle.{NamesNegativeCycle}
 use Rattle.tfpg_base.specs.declared.limits.TheConstants.{NEVER}
-use Rattle.tfpg_diff.specs.State.{widest, unbounded_from}
+use Rattle.tfpg_diff.specs.SystemState.{widest, unbounded_from}
 use Rattle.tfpg_diff.specs.Solution.{IsBetween}
 use Rattle.tfpg_diff.specs.inside.Kept.{IsMetBy, IsKept, AreAtCeilings, IsReady}
 use Rattle.tfpg_diff.proofs.Totals.{HasNoSolution-cycle}
@@ -65,17 +65,17 @@ IsReady-new bounds now picks count values links backup_values backup_links capac
     })
 
 module _ (bounds : List Bounds) (picks : List Pick) (values : List ℕ) (links : List Demand) (backup_values : List ℕ) (backup_links : List Demand) (capacity : ℕ)
-    (settled : IsReady bounds picks values links backup_values backup_links capacity) where
+    (ready : IsReady bounds picks values links backup_values backup_links capacity) where
   -- a fresh start with other picks
   pub IsKept-fresh : (others : List Pick) (values' : List ℕ) (links' : List Demand) → AreAtCeilings bounds values' links' (length bounds) →
       IsKept (demands_of bounds others) values' links'
   IsKept-fresh others values' links' start =
       IsKept-start bounds others values' links' start
-      (λ v b at. (let w : IsBetween b (slice_index values (v + 1)) = settled.kept.within v b at in
+      (λ v b at. (let w : IsBetween b (slice_index values (v + 1)) = ready.kept.within v b at in
       let above = w.above in let below = w.below in omega arith))
 
   -- with fewer picks there is no negative cycle
   pub no_cycle-fewer : (len : ℕ) (tags : List Why) → NamesNegativeCycle (demands_of bounds (take len picks)) tags → ⊥
   no_cycle-fewer len tags cycle =
-      let some = HasSolution-kept (demands_of bounds picks) values links settled.kept settled.met in
+      let some = HasSolution-kept (demands_of bounds picks) values links ready.kept ready.met in
       HasNoSolution-cycle (demands_of bounds (take len picks)) tags cycle some.0 (IsSolution-take bounds picks len some.0 some.1)

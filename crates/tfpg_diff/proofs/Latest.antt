@@ -1,8 +1,8 @@
 -- Where values that are kept meet the picks, they are the latest solution.
-use Rattle.std.proofs.Common.{◌≡◌, ℕ, suc, ◌+◌, ◌<◌, ◌≤◌, List, [], ◌∷◌, length, drop, sym, ap, subst, arith, inl, inr}
+use Rattle.std.proofs.Common.{◌≡◌, ℕ, suc, ◌+◌, ◌<◌, ◌≤◌, List, ◌∷◌, length, drop, sym, ◌∙◌, ap, subst, arith, inl, inr}
 use Rattle.std.specs.Prelude.{slice_index}
 use Rattle.std.proofs.lemmas.Int.{ints}
-use Rattle.std.proofs.lemmas.List.{length-drop}
+use Rattle.std.proofs.lemmas.List.{length-drop, drop_more}
 use Rattle.std.proofs.lemmas.List.Elements.{All-contains}
 use Rattle.tfpg_diff.specs.declared.demand.Demand.{Demand}
 use Rattle.tfpg_diff.specs.declared.pick.Pick.{Pick}
@@ -10,11 +10,6 @@ use Rattle.tfpg_diff.specs.Demands.{Demands, Demanded, floor_of, ceiling_of, dem
 use Rattle.tfpg_diff.specs.Solution.{IsBetween, IsLatest}
 use Rattle.tfpg_diff.proofs.Solutions.{IsSolution-met}
 use Rattle.tfpg_diff.specs.inside.Kept.{IsMetBy, IsKept, MeetsPicks}
-
--- values are zero and then the others
-pub zero_in_front : (values : List ℕ) → 0 < length values → slice_index values 0 ≡ 0 → 0 ∷ drop 1 values ≡ values
-zero_in_front [] some here = absurd (omega arith)
-zero_in_front (x ∷ xs) some here = ap (λ (y : ℕ). y ∷ xs) (sym here)
 
 -- values that are kept and meet the picks meet every constraint
 pub IsMetBy-kept : (demands : Demands) (values : List ℕ) (links : List Demand) (kept : IsKept demands values links) →
@@ -40,7 +35,7 @@ pub IsLatest-kept : (demands : Demands) (values : List ℕ) (links : List Demand
     MeetsPicks values demands.picks → IsLatest demands (drop 1 values)
 IsLatest-kept demands values links kept met =
     let some : 0 < length values = let k = kept.values_len in omega arith in
-    let whole : 0 ∷ drop 1 values ≡ values = zero_in_front values some kept.zero_stays in
+    let whole : 0 ∷ drop 1 values ≡ values = ap (λ (y : ℕ). y ∷ drop 1 values) (sym kept.zero_stays) ∙ sym (drop_more values 0 0 some) in
     record {
       solution = IsSolution-met demands (drop 1 values) (let k = kept.values_len in omega (arith, length-drop 1 values))
           (λ demand demanded. subst (λ (all : List ℕ). IsMetBy all demand) (sym whole) (IsMetBy-kept demands values links kept met demand demanded));

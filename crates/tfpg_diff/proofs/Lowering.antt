@@ -1,11 +1,10 @@
 -- A broken constraint closes a negative cycle, or lowers a value and keeps what is kept.
-use Rattle.std.proofs.Common.{◌≡◌, ◌≢◌, ℕ, ◌+◌, ◌<◌, ◌≤◌, List, [], ◌∷◌, ◌++◌, length, set, Some, refl, sym, ◌∙◌, ap, subst, arith, sum, ⊎_elim, inl, inr}
+use Rattle.std.proofs.Common.{◌≡◌, ◌≢◌, ℕ, ◌+◌, ◌<◌, ◌≤◌, List, [], ◌∷◌, ◌++◌, length, set, Some, refl, sym, ◌∙◌, ap, subst, arith, ⊎_elim, inl, inr}
 use Rattle.std.specs.Prelude.{slice_get, slice_index, AllPairs, All, pos, ◌+ℤ◌, ◌<ℤ◌}
 use Rattle.std.proofs.lemmas.Int.{ints}
-use Rattle.std.proofs.lemmas.Bool.{cases_eq, cases_lt}
+use Rattle.std.proofs.lemmas.Bool.{cases_eq}
 use Rattle.std.proofs.lemmas.Option.{same_Some}
-use Rattle.std.proofs.lemmas.List.{set_past, length-set, get_or-set_same, get_or-set_other, map_push}
-use Rattle.std.proofs.lemmas.List.Sums.{sum_by-set}
+use Rattle.std.proofs.lemmas.List.{length-set, get_or-set_same, get_or-set_other, map_push}
 use Rattle.std.proofs.lemmas.List.Quantifiers.{all_pairs_push}
 use Rattle.std.proofs.lemmas.List.Elements.{All-cons, All-push, All-weaker}
 use Rattle.tfpg_diff.specs.declared.demand.Demand.{Demand}
@@ -17,7 +16,7 @@ use Rattle.tfpg_diff.specs.Solution.{IsBetween}
 use Rattle.tfpg_diff.specs.inside.Kept.{IsMetBy, Climbs, IsLabelled, IsWalk, Walked, IsLink, IsKept}
 use Rattle.tfpg_diff.proofs.Solutions.{IsMetBy-solution}
 use Rattle.tfpg_base.proofs.lists.Elements.{AllPairs-cons, AllPairs-front}
-use Rattle.tfpg_base.proofs.lists.Written.{slice_get-set_other, slice_get-set_same}
+use Rattle.tfpg_base.proofs.lists.Written.{slice_get-set_other, slice_get-set_same, slice_index-set_le}
 use Rattle.tfpg_diff.proofs.Climb.{Climbs-append, Climbs-simple, Climbs-at, IsOwnLink, IsRooted-set}
 use Rattle.tfpg_diff.proofs.Totals.{NamesNegativeCycle-chain, total_of-append, total_of-Climbs, IsTight, Chains-Climbs, Chains-append}
 
@@ -107,17 +106,6 @@ module _ (demands : Demands) (values : List ℕ) (links : List Demand) (kept : I
       (all_pairs_push (λ (a b : Demand). a.constraint.left ≢ b.constraint.left) es last (AllPairs-Climbs demand.constraint.right es 0 walk.climbs inside) up))
       (omega (arith, ints))
 
-  -- a write that lowers a value raises none
-  pub slice_index-set_le : (a w : ℕ) → w ≤ slice_index values a → (x : ℕ) → slice_index (set values a w) x ≤ slice_index values x
-  slice_index-set_le a w low x =
-      ⊎_elim
-      (λ (same : x ≡ a). ⊎_elim
-      (λ (inside : a < length values). rw same (let e = get_or-set_same values a w 0 inside in omega arith))
-      (λ (past : length values ≤ a). let e = ap (λ (xs : List ℕ). slice_index xs x) (set_past values a w past) in omega arith)
-      (cases_lt a (length values)))
-      (λ (other : x ≢ a). let e = get_or-set_other values a x w 0 other in omega arith)
-      (cases_eq x a)
-
   -- a lowering keeps what is kept
   pub IsKept-lowered : (demand : Demand) (value variable : ℕ) (bounds : Bounds) (before after : List Why) → IsBrokenDemand demands values demand →
       Walked links demand.constraint.right demand.constraint.left 0 before after → Bounded demands variable bounds → demand.constraint.left ≡ variable + 1 →
@@ -145,7 +133,7 @@ module _ (demands : Demands) (values : List ℕ) (links : List Demand) (kept : I
               left = refl;
               right = broken.right;
               demanded = broken.demanded;
-              tight = let fall = slice_index-set_le demand.constraint.left value low demand.constraint.right in omega (arith, ints);
+              tight = let fall = slice_index-set_le values demand.constraint.left value low demand.constraint.right in omega (arith, ints);
             })))
             (λ (other : x ≢ demand.constraint.left).
             let old : IsLink demands values x e = kept.linked x e above (sym (slice_get-set_other links demand.constraint.left x demand other) ∙ at) in
@@ -153,7 +141,7 @@ module _ (demands : Demands) (values : List ℕ) (links : List Demand) (kept : I
               left = old.left;
               right = old.right;
               demanded = old.demanded;
-              tight = let fall = slice_index-set_le demand.constraint.left value low e.constraint.right in
+              tight = let fall = slice_index-set_le values demand.constraint.left value low e.constraint.right in
                   let stays : slice_index (set values demand.constraint.left value) x ≡ slice_index values x = get_or-set_other values demand.constraint.left x value 0 other in
                   let was = old.tight in omega (arith, ints);
             })
@@ -178,7 +166,3 @@ module _ (demands : Demands) (values : List ℕ) (links : List Demand) (kept : I
             (λ (other : x ≢ demand.constraint.left). rw (get_or-set_other values demand.constraint.left x value 0 other) (kept.greatest times solution x))
             (cases_eq x demand.constraint.left);
       }
-
-  -- and the values sum up to less
-  pub sum-lowered : (a w : ℕ) → a < length values → w < slice_index values a → sum (set values a w) < sum values
-  sum-lowered a w inside low = let moved = sum_by-set (λ (n : ℕ). n) values a w 0 inside in omega arith

@@ -13,11 +13,11 @@ use Rattle.tfpg_diff.specs.declared.bounds.Bounds.{Bounds}
 use Rattle.tfpg_diff.specs.declared.pick.Pick.{Pick}
 use Rattle.tfpg_diff.specs.declared.demand.Demand.{Demand}
 use Rattle.tfpg_diff.specs.Demands.{Demands, Bounded, ceiling_of, floor_of, demand_of_pick}
-use Rattle.tfpg_diff.specs.Cycle.{constraints_of, IsNegativeCycle, NamesNegativeCycle}
-use Rattle.tfpg_diff.specs.Named.{AreDemandsNamed, IsCycleOf}
+use Rattle.tfpg_diff.specs.Cycle.{constraints_of, IsNegativeCycleOf, NamesNegativeCycle}
+use Rattle.tfpg_diff.specs.Named.{AreDemandsNamed, AreNamesOfNegativeCycle}
 use Rattle.tfpg_diff.proofs.Fresh.{widest_from}
 use Rattle.tfpg_base.specs.declared.limits.TheConstants.{NEVER}
-use Rattle.tfpg_diff.specs.State.{widest, unbounded_from, raised, lowered, changed_at, with_floor, with_ceiling, with_pick, popped_to}
+use Rattle.tfpg_diff.specs.SystemState.{widest, unbounded_from, raised, lowered, changed_at, with_floor, with_ceiling, with_pick, popped_to}
 
 -- The tag names the constraint.
 abbrev pub IsNamedBy : (Why → Option Constraint) → Demand → Type 0
@@ -143,16 +143,15 @@ each_of-named named (e ∷ es) all =
     ∙ ap (option_map (λ (cs : List Constraint). e.constraint ∷ cs)) rest
 
 -- a negative cycle is one of constraints that the tags name
-pub IsCycleOf-named : (demands : Demands) (named : Why → Option Constraint) (tags : List Why) → AreDemandsNamed demands named →
-    NamesNegativeCycle demands tags → (constraints : List Constraint) × IsCycleOf named tags constraints
-IsCycleOf-named demands named tags names found =
-    let cycle : IsNegativeCycle demands tags found.0 = found.1 in (
+pub AreNamesOfNegativeCycle-named : (demands : Demands) (named : Why → Option Constraint) (tags : List Why) → AreDemandsNamed demands named →
+    NamesNegativeCycle demands tags → (constraints : List Constraint) × AreNamesOfNegativeCycle named tags constraints
+AreNamesOfNegativeCycle-named demands named tags names found =
+    let cycle : IsNegativeCycleOf demands tags found.0 = found.1 in (
       constraints_of found.0,
       record {
         are_named = ap (λ (whys : List Why). each_of (map named whys)) (sym cycle.tags_are)
             ∙ each_of-named named found.0 (λ i d inside. names _ (cycle.demanded i d inside));
-        chained = cycle.chained;
+        negative_cycle = cycle.negative_cycle;
         simple = cycle.simple;
-        negative = cycle.negative;
       },
     )

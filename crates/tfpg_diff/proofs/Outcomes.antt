@@ -13,7 +13,7 @@ use Rattle.tfpg_diff.specs.declared.pick.Pick.{Pick}
 use Rattle.tfpg_diff.specs.Demands.{Demands, ceiling_of, demand_of_pick, demands_of}
 use Rattle.tfpg_diff.specs.Solution.{IsBetween, HasSolution, HasNoSolution}
 use Rattle.tfpg_diff.specs.Cycle.{NamesNegativeCycle}
-use Rattle.tfpg_diff.specs.State.{with_floor, with_ceiling, with_pick}
+use Rattle.tfpg_diff.specs.SystemState.{with_floor, with_ceiling, with_pick}
 use Rattle.tfpg_diff.specs.inside.Kept.{IsMetBy, IsKept, IsSound, IsReady, MeetsPicks, Walked}
 use Rattle.tfpg_diff.proofs.Latest.{IsLatest-kept}
 use Rattle.tfpg_diff.proofs.Totals.{HasNoSolution-cycle}
@@ -51,11 +51,11 @@ IsReady-read bounds now_bounds picks now_picks same_bounds same_picks values lin
     }
 
 module _ (bounds : List Bounds) (picks : List Pick) (values : List ℕ) (links : List Demand) (backup_values : List ℕ) (backup_links : List Demand) (capacity : ℕ)
-    (settled : IsReady bounds picks values links backup_values backup_links capacity)
+    (ready : IsReady bounds picks values links backup_values backup_links capacity)
     (demands : Demands) (seen : demands_of bounds picks ≡ demands) where
   -- a ready system has a solution
-  pub HasSolution-settled : HasSolution demands
-  HasSolution-settled = subst HasSolution seen (HasSolution-kept (demands_of bounds picks) values links settled.kept settled.met)
+  pub HasSolution-ready : HasSolution demands
+  HasSolution-ready = subst HasSolution seen (HasSolution-kept (demands_of bounds picks) values links ready.kept ready.met)
 
   -- the bounds of a variable, as the code reads them
   pub Bounded-old : (v : ℕ) (old : Bounds) → old ≡ get_or bounds v old → v < length demands.bounds → slice_get bounds v ≡ Some old
@@ -64,7 +64,7 @@ module _ (bounds : List Bounds) (picks : List Pick) (values : List ℕ) (links :
 
   -- where the lengthened system is the one that there is
   pub adds_nothing : (lengthened : Demands) → demands ≡ lengthened → (demands ≡ lengthened) × HasSolution lengthened
-  adds_nothing lengthened same = (same, subst HasSolution same HasSolution-settled)
+  adds_nothing lengthened same = (same, subst HasSolution same HasSolution-ready)
 
   -- where the lengthened system has a negative cycle
   pub adds_conflict : (lengthened : Demands) (tags : List Why) → NamesNegativeCycle lengthened tags →
@@ -102,14 +102,14 @@ module _ (bounds : List Bounds) (picks : List Pick) (values : List ℕ) (links :
       IsReady (set bounds v (over old least tag)) picks values links backup_values backup_links capacity
   IsReady-floor v old least tag at tighter high =
       let same : length (set bounds v (over old least tag)) ≡ length bounds = length-set bounds v (over old least tag) in
-      let low = settled.sound.ceilings v old at in
-      let b = settled.backup_values_len in
-      let l = settled.backup_links_len in
-      let r = settled.room in
+      let low = ready.sound.ceilings v old at in
+      let b = ready.backup_values_len in
+      let l = ready.backup_links_len in
+      let r = ready.room in
       record {
-        sound = IsSound-set bounds picks v (over old least tag) settled.sound low;
-        kept = IsKept-floor bounds picks v old at least tag values links tighter high settled.kept;
-        met = settled.met;
+        sound = IsSound-set bounds picks v (over old least tag) ready.sound low;
+        kept = IsKept-floor bounds picks v old at least tag values links tighter high ready.kept;
+        met = ready.met;
         backup_values_len = omega arith;
         backup_links_len = omega arith;
         room = omega arith;
@@ -130,34 +130,34 @@ module _ (bounds : List Bounds) (picks : List Pick) (values : List ℕ) (links :
   adds_floor_conflict v old least tag tags at tighter high walked =
       adds_conflict (with_floor demands v least tag) tags
       (subst (λ (d : Demands). NamesNegativeCycle d tags) (with_floor-set v old least tag at tighter)
-      (cycle_from_raised bounds picks v old at least tag values links tags high settled.kept walked))
+      (cycle_from_raised bounds picks v old at least tag values links tags high ready.kept walked))
 
   -- demands stay sound under a lower ceiling
   pub IsSound-ceiling : (v : ℕ) (old : Bounds) (ceiling tag : ℕ) → slice_get bounds v ≡ Some old → ceiling < old.ceiling →
       IsSound (demands_of (set bounds v (under old ceiling tag)) picks)
   IsSound-ceiling v old ceiling tag at tighter =
-      IsSound-set bounds picks v (under old ceiling tag) settled.sound (let low = settled.sound.ceilings v old at in omega arith)
+      IsSound-set bounds picks v (under old ceiling tag) ready.sound (let low = ready.sound.ceilings v old at in omega arith)
 
   -- what is kept is kept under a lower ceiling that the value is not above
   IsKept-ceiling_high : (v : ℕ) (old : Bounds) (ceiling tag : ℕ) → slice_get bounds v ≡ Some old → ceiling < old.ceiling → slice_index values (v + 1) ≤ ceiling →
       IsKept (demands_of (set bounds v (under old ceiling tag)) picks) values links
   IsKept-ceiling_high v old ceiling tag at tighter high =
-      let was : IsBetween old (slice_index values (v + 1)) = settled.kept.within v old at in
+      let was : IsBetween old (slice_index values (v + 1)) = ready.kept.within v old at in
       IsKept-ceiling bounds picks v old at ceiling tag values links tighter was.above high
-      (IsKept-pick bounds picks (ceiling_pick v ceiling tag) values links settled.kept)
+      (IsKept-pick bounds picks (ceiling_pick v ceiling tag) values links ready.kept)
 
   -- a system stays ready under a lower ceiling that the value is not above
   pub IsReady-ceiling : (v : ℕ) (old : Bounds) (ceiling tag : ℕ) → slice_get bounds v ≡ Some old → ceiling < old.ceiling → slice_index values (v + 1) ≤ ceiling →
       IsReady (set bounds v (under old ceiling tag)) picks values links backup_values backup_links capacity
   IsReady-ceiling v old ceiling tag at tighter high =
       let same : length (set bounds v (under old ceiling tag)) ≡ length bounds = length-set bounds v (under old ceiling tag) in
-      let b = settled.backup_values_len in
-      let l = settled.backup_links_len in
-      let r = settled.room in
+      let b = ready.backup_values_len in
+      let l = ready.backup_links_len in
+      let r = ready.room in
       record {
         sound = IsSound-ceiling v old ceiling tag at tighter;
         kept = IsKept-ceiling_high v old ceiling tag at tighter high;
-        met = settled.met;
+        met = ready.met;
         backup_values_len = omega arith;
         backup_links_len = omega arith;
         room = omega arith;
@@ -188,9 +188,9 @@ module _ (bounds : List Bounds) (picks : List Pick) (values : List ℕ) (links :
       let pick : Pick = ceiling_pick v ceiling tag in
       let demand : Demand = ceiling_of v (under old ceiling tag) in
       let more : Demands = demands_of bounds (picks ++ pick ∷ []) in
-      let kept : IsKept more values links = IsKept-pick bounds picks pick values links settled.kept in
+      let kept : IsKept more values links = IsKept-pick bounds picks pick values links ready.kept in
       let inside : v < length bounds = slice_get_within bounds v old at in
-      let zero_stays = settled.kept.zero_stays in
+      let zero_stays = ready.kept.zero_stays in
       let broken : IsBrokenDemand more values demand = record {
         demanded = inr (inr (pick, Contains-push picks pick, refl));
         left = omega arith;
@@ -198,7 +198,7 @@ module _ (bounds : List Bounds) (picks : List Pick) (values : List ℕ) (links :
         broken = omega (arith, ints);
       } in
       let here : slice_index (set values (v + 1) ceiling) (v + 1) ≡ ceiling =
-      get_or-set_same values (v + 1) ceiling 0 (let k = settled.kept.values_len in omega arith) in
+      get_or-set_same values (v + 1) ceiling 0 (let k = ready.kept.values_len in omega arith) in
       IsKept-ceiling bounds picks v old at ceiling tag (set values (v + 1) ceiling) (set links (v + 1) demand) tighter (omega arith) (omega arith)
       (IsKept-lowered more values links kept demand ceiling v old [] [] broken (Walked-none links 0 (v + 1) []) at refl (omega (arith, ints)) above)
 
@@ -209,12 +209,12 @@ module _ (bounds : List Bounds) (picks : List Pick) (values : List ℕ) (links :
       IsReady bounds' picks' values' links' backup_values' backup_links' capacity'
   IsReady-restored bounds' picks' values' links' backup_values' backup_links' capacity' same_bounds same_picks same_values same_links bv bl room =
       let back : IsReady bounds picks values links backup_values' backup_links' capacity' = record {
-        sound = settled.sound;
-        kept = settled.kept;
-        met = settled.met;
+        sound = ready.sound;
+        kept = ready.kept;
+        met = ready.met;
         backup_values_len = bv;
         backup_links_len = bl;
-        room = (let r = settled.room in omega arith);
+        room = (let r = ready.room in omega arith);
       } in
       subst (λ (bs : List Bounds). IsReady bs picks' values' links' backup_values' backup_links' capacity') (sym same_bounds)
       (subst (λ (ps : List Pick). IsReady bounds ps values' links' backup_values' backup_links' capacity') (sym same_picks)
@@ -230,18 +230,18 @@ module _ (bounds : List Bounds) (picks : List Pick) (values : List ℕ) (links :
       IsSound (demands_of bounds (picks ++ pick ∷ []))
   IsSound-more pick left right =
       let same = ap (λ (d : Demands). length d.bounds) seen in
-      IsSound-pick bounds picks pick settled.sound (omega arith) (omega arith)
+      IsSound-pick bounds picks pick ready.sound (omega arith) (omega arith)
 
   -- a system stays ready with one more pick that the values meet
   pub IsReady-pick : (pick : Pick) → pick.constraint.left ≤ length demands.bounds → pick.constraint.right ≤ length demands.bounds →
       IsMetBy values (demand_of_pick pick) → IsReady bounds (picks ++ pick ∷ []) values links backup_values backup_links capacity
   IsReady-pick pick left right met = record {
     sound = IsSound-more pick left right;
-    kept = IsKept-pick bounds picks pick values links settled.kept;
-    met = All-push (λ (p : Pick). IsMetBy values (demand_of_pick p)) picks pick settled.met met;
-    backup_values_len = settled.backup_values_len;
-    backup_links_len = settled.backup_links_len;
-    room = settled.room;
+    kept = IsKept-pick bounds picks pick values links ready.kept;
+    met = All-push (λ (p : Pick). IsMetBy values (demand_of_pick p)) picks pick ready.met met;
+    backup_values_len = ready.backup_values_len;
+    backup_links_len = ready.backup_links_len;
+    room = ready.room;
   }
 
   -- and has the lengthened demands

@@ -10,10 +10,9 @@ use Rattle.tfpg_diff.specs.declared.bounds.Bounds.{Bounds}
 use Rattle.tfpg_diff.specs.declared.why.Why.{Why}
 use Rattle.tfpg_diff.specs.declared.why.Why.TheVariants.{Floor}
 use Rattle.tfpg_diff.specs.Demands.{Demands, Bounded, demand_of_pick}
-use Rattle.std.specs.List.{HoldsAt}
 use Rattle.tfpg_base.specs.declared.limits.TheConstants.{NEVER}
 use Rattle.tfpg_diff.specs.Solution.{IsBetween}
-use Rattle.tfpg_diff.specs.inside.Kept.{IsMetBy, IsSound, IsKept, Walked, IsWalk}
+use Rattle.tfpg_diff.specs.inside.Kept.{IsSound, IsKept, Walked, IsWalk}
 use Rattle.tfpg_diff.proofs.Lowering.{IsBrokenDemand, Labelled-kept}
 use Rattle.tfpg_diff.proofs.Climb.{length-Climbs}
 
@@ -52,14 +51,6 @@ IsBrokenDemand-pick demands sound values index d demand now inside is same broke
       right = omega arith;
       broken = subst (λ (xs : List ℕ). (pos (slice_index xs demand.constraint.right) +ℤ demand.constraint.bound) <ℤ pos (slice_index xs demand.constraint.left)) same broken;
     }
-
--- a pick that the values meet, as the code reads both
-pub IsMetBy-pick : (picks : List Pick) (values : List ℕ) (index : ℕ) (d : Pick) (demand : Demand) (now : List ℕ) →
-    index < length picks → demand ≡ demand_of_pick (get_or picks index d) → now ≡ values → IsMetBy now demand →
-    HoldsAt (λ (pick : Pick). IsMetBy values (demand_of_pick pick)) picks index
-IsMetBy-pick picks values index d demand now inside is same met e =
-    let here : IsMetBy values demand = subst (λ (xs : List ℕ). IsMetBy xs demand) same met in
-    subst (λ (pick : Pick). IsMetBy values (demand_of_pick pick)) (get_or_default picks index d e inside) (subst (λ (x : Demand). IsMetBy values x) is here)
 
 -- the bounds of the left side, as the code reads them
 pub Bounded-read : (demands : Demands) (left : ℕ) → 0 < left → left ≤ length demands.bounds →

@@ -1,9 +1,10 @@
 -- A solution meets each demand, and times that meet each demand are a solution.
-use Rattle.std.proofs.Common.{◌≡◌, ℕ, zero, suc, ◌+◌, List, ◌∷◌, length, get_or, refl, sym, ap, subst, arith, inl, inr}
+use Rattle.std.proofs.Common.{◌≡◌, ℕ, zero, suc, List, ◌∷◌, length, get_or, refl, sym, subst, arith, inl, inr}
 use Rattle.std.specs.Prelude.{slice_index, pos}
 use Rattle.std.proofs.lemmas.Int.{ints}
 use Rattle.std.proofs.lemmas.List.Elements.{All-contains, Contains-get_or}
 use Rattle.tfpg_base.specs.Constraint.{value_of, Meets}
+use Rattle.tfpg_base.proofs.lists.Written.{get_or-cons_next}
 use Rattle.tfpg_diff.specs.declared.demand.Demand.{Demand}
 use Rattle.tfpg_diff.specs.Demands.{Demands, Demanded, ceiling_of, floor_of, demand_of_pick}
 use Rattle.tfpg_diff.specs.Solution.{IsBetween, IsSolution}
@@ -28,21 +29,17 @@ Meets-IsMetBy times e met =
     let right = value_of-values times e.constraint.right in
     omega (arith, ints)
 
--- the value of a variable is its time
-time_of : (times : List ℕ) (variable : ℕ) → slice_index (0 ∷ times) (variable + 1) ≡ slice_index times variable
-time_of times variable = let number : variable + 1 ≡ suc variable = omega arith in ap (slice_index (0 ∷ times)) number
-
 -- a solution meets each demand
 pub IsMetBy-solution : (demands : Demands) (times : List ℕ) → IsSolution demands times → (e : Demand) → Demanded demands e → IsMetBy (0 ∷ times) e
 IsMetBy-solution demands times solution e demanded = elim demanded [
   | inl is ↦
       let between : IsBetween is.1 (slice_index times is.0) = solution.between is.0 is.1 is.2 in
-      let here : IsMetBy (0 ∷ times) (ceiling_of is.0 is.1) = (let b = between.below in let n = time_of times is.0 in omega (arith, ints)) in
+      let here : IsMetBy (0 ∷ times) (ceiling_of is.0 is.1) = (let b = between.below in let n = get_or-cons_next 0 times is.0 0 in omega (arith, ints)) in
       subst (λ (f : Demand). IsMetBy (0 ∷ times) f) (sym is.3) here
   | inr others ↦ elim others [
     | inl is ↦
         let between : IsBetween is.1 (slice_index times is.0) = solution.between is.0 is.1 is.2 in
-        let here : IsMetBy (0 ∷ times) (floor_of is.0 is.1) = (let b = between.above in let n = time_of times is.0 in omega (arith, ints)) in
+        let here : IsMetBy (0 ∷ times) (floor_of is.0 is.1) = (let b = between.above in let n = get_or-cons_next 0 times is.0 0 in omega (arith, ints)) in
         subst (λ (f : Demand). IsMetBy (0 ∷ times) f) (sym is.3) here
     | inr is ↦
         subst (λ (f : Demand). IsMetBy (0 ∷ times) f) (sym is.2)
@@ -56,7 +53,7 @@ pub IsSolution-met : (demands : Demands) (times : List ℕ) → length times ≡
 IsSolution-met demands times complete met = record {
   complete = complete;
   between = λ variable bounds at.
-      let n = time_of times variable in
+      let n = get_or-cons_next 0 times variable 0 in
       let high : IsMetBy (0 ∷ times) (ceiling_of variable bounds) = met (ceiling_of variable bounds) (inl (variable, bounds, at, refl)) in
       let low : IsMetBy (0 ∷ times) (floor_of variable bounds) = met (floor_of variable bounds) (inr (inl (variable, bounds, at, refl))) in
       record { above = omega (arith, ints); below = omega (arith, ints) };

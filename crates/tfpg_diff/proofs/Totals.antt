@@ -10,7 +10,7 @@ use Rattle.tfpg_diff.specs.declared.demand.Demand.{Demand}
 use Rattle.tfpg_diff.specs.declared.why.Why.{Why}
 use Rattle.tfpg_diff.specs.Demands.{Demands, Demanded}
 use Rattle.tfpg_diff.specs.Solution.{HasNoSolution}
-use Rattle.tfpg_diff.specs.Cycle.{constraints_of, IsNegativeCycle, NamesNegativeCycle}
+use Rattle.tfpg_diff.specs.Cycle.{constraints_of, IsNegativeCycleOf, NamesNegativeCycle}
 use Rattle.tfpg_diff.specs.inside.Kept.{IsMetBy, Climbs}
 use Rattle.tfpg_base.proofs.lists.Images.{AllPairs-map}
 use Rattle.tfpg_diff.proofs.Solutions.{IsMetBy-solution}
@@ -82,21 +82,23 @@ NamesNegativeCycle-chain demands tags start e es tags_are demanded chains simple
       record {
         tags_are = tags_are;
         demanded = demanded;
-        chained = subst (λ (n : ℕ). IsChainTo n (constraints_of (e ∷ es))) (sym chains.0) (IsChainTo-Chains start e es start chains);
+        negative_cycle = record {
+          chained = subst (λ (n : ℕ). IsChainTo n (constraints_of (e ∷ es))) (sym chains.0) (IsChainTo-Chains start e es start chains);
+          negative = omega (arith, ints);
+        };
         simple = AllPairs-map (λ (a b : Constraint). a.left ≢ b.left) (λ (f : Demand). f.constraint) (e ∷ es) simple;
-        negative = omega (arith, ints);
       },
     )
 
 -- a negative cycle leaves no solution
-no_solution : (demands : Demands) (tags : List Why) (cycle : List Demand) → IsNegativeCycle demands tags cycle → HasNoSolution demands
-no_solution demands tags [] cycle times solution = cycle.chained
+no_solution : (demands : Demands) (tags : List Why) (cycle : List Demand) → IsNegativeCycleOf demands tags cycle → HasNoSolution demands
+no_solution demands tags [] cycle times solution = cycle.negative_cycle.chained
 no_solution demands tags (e ∷ es) cycle times solution =
     let met : All (IsMetBy (0 ∷ times)) (e ∷ es) =
     All-weaker (Demanded demands) (IsMetBy (0 ∷ times)) (IsMetBy-solution demands times solution) (e ∷ es) cycle.demanded in
-    let round = total_of-Chains (0 ∷ times) e.constraint.left (e ∷ es) e.constraint.left (Chains-IsChainTo e es e.constraint.left cycle.chained) met in
+    let round = total_of-Chains (0 ∷ times) e.constraint.left (e ∷ es) e.constraint.left (Chains-IsChainTo e es e.constraint.left cycle.negative_cycle.chained) met in
     let total = sum_of-total (pos 0) (e ∷ es) in
-    let negative = cycle.negative in
+    let negative = cycle.negative_cycle.negative in
     absurd (omega (arith, ints))
 
 -- what names a negative cycle has no solution

@@ -1,10 +1,11 @@
 -- A change of the bounds of one variable is a write, or nothing where the new bound is not tighter.
-use Rattle.std.proofs.Common.{◌≡◌, ℕ, zero, suc, ◌<◌, ◌≤◌, List, [], ◌∷◌, set, Some, refl, sym, ◌∙◌, ap, lt-ltb, le-ltb}
+use Rattle.std.proofs.Common.{◌≡◌, ℕ, zero, suc, ◌<◌, ◌≤◌, List, [], ◌∷◌, set, Some, ◌∙◌, ap, lt-ltb, le-ltb}
 use Rattle.std.specs.Prelude.{slice_get}
 use Rattle.std.proofs.lemmas.Option.{same_Some, none-some}
+use Rattle.tfpg_base.proofs.lists.Written.{set-slice_get}
 use Rattle.tfpg_diff.specs.declared.bounds.Bounds.{Bounds}
 use Rattle.tfpg_diff.specs.declared.pick.Pick.{Pick}
-use Rattle.tfpg_diff.specs.State.{raised, lowered, changed_at, with_floor, with_ceiling}
+use Rattle.tfpg_diff.specs.SystemState.{raised, lowered, changed_at, with_floor, with_ceiling}
 use Rattle.tfpg_diff.specs.Demands.{demands_of}
 use Rattle.tfpg_diff.proofs.Bounding.{under, over}
 
@@ -14,12 +15,6 @@ pub changed_at-set : (change : Bounds → Bounds) (bounds : List Bounds) (v : �
 changed_at-set change [] v old at = absurd (none-some old at)
 changed_at-set change (b ∷ bs) zero old at = ap (λ (c : Bounds). change c ∷ bs) (same_Some b old at)
 changed_at-set change (b ∷ bs) (suc v) old at = ap (λ (cs : List Bounds). b ∷ cs) (changed_at-set change bs v old at)
-
--- a write of what stands there changes nothing
-pub set_same : (bounds : List Bounds) (v : ℕ) (old : Bounds) → slice_get bounds v ≡ Some old → set bounds v old ≡ bounds
-set_same [] v old at = refl
-set_same (b ∷ bs) zero old at = ap (λ (c : Bounds). c ∷ bs) (sym (same_Some b old at))
-set_same (b ∷ bs) (suc v) old at = ap (λ (cs : List Bounds). b ∷ cs) (set_same bs v old at)
 
 -- a tighter ceiling
 lowered_tighter : (ceiling tag : ℕ) (old : Bounds) → ceiling < old.ceiling → lowered ceiling tag old ≡ under old ceiling tag
@@ -49,7 +44,7 @@ module _ (bounds : List Bounds) (picks : List Pick) (v : ℕ) (old : Bounds) (at
   pub with_ceiling-looser : (ceiling tag : ℕ) → old.ceiling ≤ ceiling → with_ceiling (demands_of bounds picks) v ceiling tag ≡ demands_of bounds picks
   with_ceiling-looser ceiling tag looser =
       ap (λ (bs : List Bounds). demands_of bs picks)
-      (changed_at-set (lowered ceiling tag) bounds v old at_v ∙ ap (set bounds v) (lowered_looser ceiling tag old looser) ∙ set_same bounds v old at_v)
+      (changed_at-set (lowered ceiling tag) bounds v old at_v ∙ ap (set bounds v) (lowered_looser ceiling tag old looser) ∙ set-slice_get bounds v old at_v)
 
   -- the demands with a tighter floor
   pub with_floor-tighter : (least tag : ℕ) → old.floor < least →
@@ -62,4 +57,4 @@ module _ (bounds : List Bounds) (picks : List Pick) (v : ℕ) (old : Bounds) (at
   pub with_floor-looser : (least tag : ℕ) → least ≤ old.floor → with_floor (demands_of bounds picks) v least tag ≡ demands_of bounds picks
   with_floor-looser least tag looser =
       ap (λ (bs : List Bounds). demands_of bs picks)
-      (changed_at-set (raised least tag) bounds v old at_v ∙ ap (set bounds v) (raised_looser least tag old looser) ∙ set_same bounds v old at_v)
+      (changed_at-set (raised least tag) bounds v old at_v ∙ ap (set bounds v) (raised_looser least tag old looser) ∙ set-slice_get bounds v old at_v)

@@ -1,8 +1,8 @@
 -- One more link on a walk, and why a walk ends.
-use Rattle.std.proofs.Common.{◌≡◌, ◌≢◌, ℕ, ◌+◌, ◌<◌, ◌≤◌, List, [], ◌∷◌, ◌++◌, length, get_or, map, Some, refl, sym, ◌∙◌, ap, arith, length-append, append_assoc}
+use Rattle.std.proofs.Common.{◌≡◌, ◌≢◌, ℕ, ◌+◌, ◌<◌, ◌≤◌, List, [], ◌∷◌, ◌++◌, length, map, Some, refl, sym, ◌∙◌, ap, arith, length-append, append_assoc}
 use Rattle.std.specs.Prelude.{slice_get, pos}
 use Rattle.std.proofs.lemmas.List.{map_push, append-nil, length-map}
-use Rattle.std.proofs.lemmas.Option.{slice_get_within, slice_get-get_or}
+use Rattle.std.proofs.lemmas.Option.{slice_get_within}
 use Rattle.std.proofs.lemmas.List.Elements.{All-nil, All-push}
 use Rattle.tfpg_diff.specs.declared.demand.Demand.{Demand}
 use Rattle.tfpg_diff.specs.declared.why.Why.{Why}
@@ -60,7 +60,3 @@ link_right links rooted stands link up at =
 -- what the code reads past the end of the links
 abbrev pub no_link : Demand
 no_link = record { constraint = record { left = 0; right = 0; bound = pos 0 }; why = Floor 0 }
-
--- what the code reads is the link
-pub link_read : (links : List Demand) (stands : ℕ) → stands < length links → slice_get links stands ≡ Some (get_or links stands no_link)
-link_read links stands inside = slice_get-get_or links stands no_link inside

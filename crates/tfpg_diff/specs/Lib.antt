@@ -2,7 +2,7 @@
 pub mod Demands
 pub mod Solution
 pub mod Cycle
-pub mod State
+pub mod SystemState
 pub mod Named
 -- What the code and its proofs need besides. No public clause reaches it.
 pub mod inside

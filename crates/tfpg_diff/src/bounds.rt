@@ -1,7 +1,7 @@
 //! The bounds of one variable.
 
 ghost use Rattle.std.specs.Prelude.{◌≡◌, IfOk};
-ghost use Rattle.tfpg_diff.specs.State.{widest, unbounded_from};
+ghost use Rattle.tfpg_diff.specs.SystemState.{widest, unbounded_from};
 
 use crate::why::Why;
 use std::alloc::{AllocError, Global};

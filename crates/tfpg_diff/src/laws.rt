@@ -8,8 +8,8 @@ ghost use Rattle.tfpg_diff.specs.declared.why.Why.{Why};
 ghost use Rattle.tfpg_diff.specs.declared.why.Why.TheVariants.{Floor, Ceiling, Given};
 ghost use Rattle.tfpg_diff.specs.Demands.{Demands};
 ghost use Rattle.tfpg_diff.specs.Cycle.{NamesNegativeCycle};
-ghost use Rattle.tfpg_diff.specs.Named.{AreDemandsNamed, IsCycleOf};
-ghost use Rattle.tfpg_diff.specs.State.{unbounded_from, with_floor, with_ceiling, with_pick, popped_to};
+ghost use Rattle.tfpg_diff.specs.Named.{AreDemandsNamed, AreNamesOfNegativeCycle};
+ghost use Rattle.tfpg_diff.specs.SystemState.{unbounded_from, with_floor, with_ceiling, with_pick, popped_to};
 
 /// Tags name the constraints of a new system where those of its variables do: `Floor` that the variable is at least 0,
 /// and `Ceiling` that it is at most one past the last millisecond.
@@ -44,5 +44,5 @@ pub fn tags_name_what_is_added()
 pub fn tags_name_the_cycle()
     ensures { (demands : Demands) (named : Why → Option Constraint) (tags : List Why) →
         AreDemandsNamed demands named → NamesNegativeCycle demands tags →
-        (constraints : List Constraint) × IsCycleOf named tags constraints }
+        (constraints : List Constraint) × AreNamesOfNegativeCycle named tags constraints }
 {}

@@ -4,14 +4,14 @@ ghost use Rattle.std.specs.Prelude.{◌≡◌, ◌+◌, ◌-◌, ◌<◌, ◌≤
 ghost use Rattle.tfpg_diff.specs.Solution.{IsLatest};
 ghost use Rattle.tfpg_diff.specs.Demands.{Bounded};
 ghost use Rattle.tfpg_base.specs.declared.limits.TheConstants.{NEVER};
-ghost use Rattle.tfpg_diff.specs.State.{unbounded_from, with_floor, with_ceiling, with_pick, popped_to, Adds};
+ghost use Rattle.tfpg_diff.specs.SystemState.{unbounded_from, with_floor, with_ceiling, with_pick, popped_to, Adds};
 
 use crate::bounds::{Bounds, unbounded};
 use crate::demand::Demand;
 use crate::labels::Labels;
+use crate::passes::{ceiling_of, lower_or_restore, lower_until_met, save, start};
 use crate::pick::Pick;
 use crate::relax::{begin_cycle, demand_of_pick, is_broken};
-use crate::settle::{ceiling_of, save, settle, settle_or_restore, start};
 use crate::walk::push_tag;
 use crate::why::{Conflict, Why};
 use std::alloc::Global;
@@ -31,9 +31,9 @@ pub struct System {
 
 impl Model for System {
     ghost use Rattle.std.specs.Prelude.{◌-◌, vec_len, vec_capacity};
-    ghost use Rattle.tfpg_diff.specs.State.{State};
+    ghost use Rattle.tfpg_diff.specs.SystemState.{SystemState};
 
-    ghost Value = { State };
+    ghost Value = { SystemState };
 
     ghost use Rattle.tfpg_diff.specs.inside.Kept.{IsReady};
 
@@ -201,7 +201,7 @@ impl System {
         }
         self.picks.truncate(len);
         start(&self.bounds, &mut self.labels);
-        match settle(&self.bounds, &self.picks, &mut self.labels, &mut self.cycle) {
+        match lower_until_met(&self.bounds, &self.picks, &mut self.labels, &mut self.cycle) {
             Ok(()) => {}
             Err(Conflict) => unreachable!(),
         }
@@ -267,7 +267,7 @@ impl System {
         save(&self.labels, &mut self.backup);
         self.labels.values[index + 1] = ceiling;
         self.labels.links[index + 1] = ceiling_of(variable, tighter);
-        match settle_or_restore(
+        match lower_or_restore(
             &self.bounds,
             &self.picks,
             &mut self.labels,
@@ -295,7 +295,7 @@ impl System {
             return Ok(());
         }
         save(&self.labels, &mut self.backup);
-        match settle_or_restore(
+        match lower_or_restore(
             &self.bounds,
             &self.picks,
             &mut self.labels,

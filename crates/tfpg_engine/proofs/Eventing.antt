@@ -1,17 +1,18 @@
 -- What an event brings, for an engine as contracts see it.
 use Rattle.std.proofs.Common.{◌≡◌, ℕ, ◌≤◌, false, List, [], ◌∷◌, length, replicate, Some, refl, sym, ap, subst, ◌∙◌, arith, length-append}
-use Rattle.std.specs.Prelude.{All, slice_get, ◌↔◌, Result, Ok, Err}
+use Rattle.std.specs.Prelude.{All, slice_get, ◌↔◌, Result, Err}
 use Rattle.tfpg_hyp.specs.declared.table.TableFault.{TableFault}
 use Rattle.tfpg_hyp.specs.declared.table.TableFault.TheVariants.{TooMany, NoMemory}
 use Rattle.std.proofs.lemmas.List.{length-replicate}
 use Rattle.std.proofs.lemmas.List.Elements.{All-replicate}
+use Rattle.tfpg_base.proofs.lists.Choices.{same_Err}
 use Rattle.tfpg_base.proofs.lists.Elements.{All-at, All-from_members}
 use Rattle.tfpg_graph.specs.Graph.{Tfpg, AreFailures}
 use Rattle.tfpg_log.specs.declared.event.Event.{Event}
 use Rattle.tfpg_log.specs.declared.event.Offered.{Offered}
 use Rattle.tfpg_log.specs.declared.event.Offered.TheVariants.{Accepted, Refused}
 use Rattle.tfpg_log.specs.declared.refusal.Refusal.{Refusal}
-use Rattle.tfpg_log.specs.Log.{Logbook, IsOf, IsOrdered, GoesOn, with_event}
+use Rattle.tfpg_log.specs.Log.{Logbook, IsLogOf, IsOrdered, GoesOn, with_event}
 use Rattle.tfpg_log.specs.Accepted.{reply_to}
 use Rattle.tfpg_log.specs.LogOfLines.{new_log}
 use Rattle.tfpg_evidence.specs.declared.round.Round.{Round}
@@ -19,11 +20,11 @@ use Rattle.tfpg_hyp.specs.Hypotheses.{Hypotheses, IsTableOf}
 use Rattle.tfpg_hyp.specs.Rounds.{steps_so_far}
 use Rattle.tfpg_engine.specs.declared.slot.Slot.{Slot}
 use Rattle.tfpg_engine.specs.declared.slot.Slot.TheVariants.{Untouched}
-use Rattle.tfpg_engine.specs.Engining.{Engining, EngineRepresents, GivesRound, SlotRepresents}
+use Rattle.tfpg_engine.specs.EngineState.{EngineState, EngineRepresents, GivesRound, SlotRepresents}
 use Rattle.tfpg_engine.specs.inside.Slots.{AllCanGoOn, IsEngine}
 use Rattle.tfpg_engine.specs.inside.TreeLaws.{TreeLaws}
 use Rattle.tfpg_engine.specs.inside.Turns.{IsOfGraph, MakesRound}
-use Rattle.tfpg_engine.proofs.Rounding.{StandBefore, can_go_on, still_go_on, round_is, earned, settled, represents}
+use Rattle.tfpg_engine.proofs.Rounding.{StandBefore, can_go_on, still_go_on, round_is, earned, none_open, represents}
 
 -- the sets of a table are of failure modes
 pub of_graph : (graph : Tfpg) (k : ℕ) (table : Hypotheses) → IsTableOf graph k table → IsOfGraph graph table
@@ -42,7 +43,7 @@ module _ (graph : Tfpg) (k : ℕ) (table : Hypotheses) (budget : ℕ) (log : Log
   untouched_represents : (set reach : List ℕ) (slot : Slot) → slot ≡ Untouched → SlotRepresents graph log set reach slot []
   untouched_represents set reach slot is = subst (λ (s : Slot). SlotRepresents graph log set reach s []) (sym is) refl
 
-  pub new_engine : IsTableOf graph k table → IsOf graph log → 1 ≤ budget → count ≡ length table.sets
+  pub new_engine : IsTableOf graph k table → IsLogOf graph log → 1 ≤ budget → count ≡ length table.sets
       → IsEngine (record { graph = graph; log = log; k = k; table = table; budget = budget; slots = slots; ended = false })
   new_engine is_table of some counted = record {
     table = is_table;
@@ -61,7 +62,7 @@ module _ (graph : Tfpg) (k : ℕ) (table : Hypotheses) (budget : ℕ) (log : Log
 
 -- ---- an event that is accepted
 
-module _ (laws : TreeLaws) (view : Engining) (engine : IsEngine view) (running : view.ended ≡ false) (event : Event) (log : Logbook) (log_is : log ≡ with_event view.log event) (ordered : IsOrdered log)
+module _ (laws : TreeLaws) (view : EngineState) (engine : IsEngine view) (running : view.ended ≡ false) (event : Event) (log : Logbook) (log_is : log ≡ with_event view.log event) (ordered : IsOrdered log)
     (lent : List Slot) (lent_is : lent ≡ view.slots) where
   goes_on : GoesOn view.log log
   goes_on = (event ∷ [], ap (λ (l : Logbook). l.events) log_is)
@@ -74,10 +75,10 @@ module _ (laws : TreeLaws) (view : Engining) (engine : IsEngine view) (running :
   lent_each = ap length lent_is ∙ engine.one_each
 
   module _ (line : ℕ) (round : Round) (new back : List Slot) (made : MakesRound view.graph log view.budget view.table lent new line round) (same_length : length new ≡ length lent) (back_is : back ≡ new) where
-    abbrev now : Engining
+    abbrev now : EngineState
     now = record view { log = log; slots = back }
 
-    pub engine_now : IsOf view.graph log → IsEngine now
+    pub engine_now : IsLogOf view.graph log → IsEngine now
     engine_now of = record {
       table = engine.table;
       of = of;
@@ -100,7 +101,7 @@ module _ (laws : TreeLaws) (view : Engining) (engine : IsEngine view) (running :
         log = log_is;
         round_is = round_is laws stand_before view.graph view.k view.budget line rounds view.log log view.table lent new round engine.table ordered goes_on made lent_each same_length lent_represents;
         earned = earned laws stand_before view.graph view.k view.budget line rounds view.log log view.table lent new round engine.table ordered goes_on made lent_each same_length lent_represents;
-        settled = settled laws stand_before view.graph view.k view.budget line rounds view.log log view.table lent new round engine.table ordered goes_on made lent_each same_length lent_represents;
+        none_open = none_open laws stand_before view.graph view.k view.budget line rounds view.log log view.table lent new round engine.table ordered goes_on made lent_each same_length lent_represents;
         represents = record {
           one_each = omega (
             arith,
@@ -117,23 +118,17 @@ module _ (laws : TreeLaws) (view : Engining) (engine : IsEngine view) (running :
       }
 
       -- the same, where this is what contracts saw of the engine
-      pub gives_from : (old : Engining) → view ≡ old → GivesRound line text rounds round old now
-      gives_from old is = subst (λ (e : Engining). GivesRound line text rounds round e now) is gives_round
+      pub gives_from : (old : EngineState) → view ≡ old → GivesRound line text rounds round old now
+      gives_from old is = subst (λ (e : EngineState). GivesRound line text rounds round e now) is gives_round
 
 -- ---- which fault there is
-
-pub not_ok : {X E : Type 0} (x : X) (e : E) → ◌≡◌ {A = Result X E} (Ok x) (Err e) → ⊥
-not_ok x e is = cc
-
-err_is : {X : Type 0} (fault other : TableFault) → ◌≡◌ {A = Result X TableFault} (Err fault) (Err other) → fault ≡ other
-err_is fault other is = cc
 
 -- the fault is that of the table
 pub too_many_by : {X Y P : Type 0} (result : Result X TableFault) (fault same : TableFault) (count : ℕ) → result ≡ Err fault → fault ≡ same → ◌≡◌ {A = Result Y TableFault} (Err same) (Err (TooMany count)) ↔ P
     → (result ≡ Err (TooMany count)) ↔ P
 too_many_by result fault same count failed from is = (
-  λ own. is.0 (ap Err (sym from ∙ err_is fault (TooMany count) (sym failed ∙ own))),
-  λ holds. failed ∙ ap Err (from ∙ err_is same (TooMany count) (is.1 holds)),
+  λ own. is.0 (ap Err (sym from ∙ same_Err fault (TooMany count) (sym failed ∙ own))),
+  λ holds. failed ∙ ap Err (from ∙ same_Err same (TooMany count) (is.1 holds)),
 )
 
 no_fault : (count : ℕ) → NoMemory ≡ TooMany count → ⊥
@@ -141,10 +136,10 @@ no_fault count is = cc
 
 -- the fault is that memory ran out
 pub not_too_many : {X P : Type 0} (result : Result X TableFault) (fault : TableFault) (count : ℕ) → result ≡ Err fault → fault ≡ NoMemory → (P → ⊥) → (result ≡ Err (TooMany count)) ↔ P
-not_too_many result fault count failed from never = (λ own. absurd (no_fault count (sym from ∙ err_is fault (TooMany count) (sym failed ∙ own))), λ holds. absurd (never holds))
+not_too_many result fault count failed from never = (λ own. absurd (no_fault count (sym from ∙ same_Err fault (TooMany count) (sym failed ∙ own))), λ holds. absurd (never holds))
 
 -- a refusal is the log's own
-pub same_refusal : (text : List ℕ) (view old : Engining) (reply : Offered) (mine refusal : Refusal) → view ≡ old → reply ≡ reply_to view.graph view.log text → reply ≡ Refused mine
+pub same_refusal : (text : List ℕ) (view old : EngineState) (reply : Offered) (mine refusal : Refusal) → view ≡ old → reply ≡ reply_to view.graph view.log text → reply ≡ Refused mine
     → reply_to old.graph old.log text ≡ Refused refusal → mine ≡ refusal
 same_refusal text view old reply mine refusal same is refused h =
-    let both : Refused mine ≡ Refused refusal = sym refused ∙ is ∙ ap (λ (e : Engining). reply_to e.graph e.log text) same ∙ h in cc
+    let both : Refused mine ≡ Refused refusal = sym refused ∙ is ∙ ap (λ (e : EngineState). reply_to e.graph e.log text) same ∙ h in cc

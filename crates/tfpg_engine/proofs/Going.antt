@@ -1,16 +1,17 @@
 -- What is kept of a hypothesis stays right at a log that goes on.
-use Rattle.std.proofs.Common.{◌≡◌, ℕ, ◌≤◌, List, [], ◌∷◌, ◌++◌, length, take, sym, ap, subst, ◌∙◌, arith, length-take}
+use Rattle.std.proofs.Common.{◌≡◌, ℕ, List, [], ◌∷◌, ◌++◌, sym, subst}
 use Rattle.std.specs.Prelude.{false}
-use Rattle.std.proofs.lemmas.List.{take-append-le, append-nil}
+use Rattle.std.proofs.lemmas.List.{append-nil}
 use Rattle.tfpg_graph.specs.Graph.{Tfpg}
 use Rattle.tfpg_log.specs.Log.{Logbook, GoesOn, IsOrdered, first_events}
 use Rattle.tfpg_clause.specs.Trees.{Judged, PathSplit, IsPartial, IsPresentLeaf, IsRefutation}
-use Rattle.tfpg_search.specs.Live.{HasDistinctNames, HasNoNameTwice}
-use Rattle.tfpg_search.specs.Searching.{SearchRepresents}
-use Rattle.tfpg_search.proofs.Beginning.{none_twice}
+use Rattle.tfpg_search.specs.Live.{HasNoNameTwice}
+use Rattle.tfpg_search.specs.SearchState.{SearchRepresents}
+use Rattle.tfpg_log.proofs.PastKept.{first_events_kept}
+use Rattle.tfpg_search.proofs.Beginning.{none_twice, names_stay, names_of_partial}
 use Rattle.tfpg_engine.specs.declared.slot.Slot.{Slot}
 use Rattle.tfpg_engine.specs.declared.slot.Slot.TheVariants.{Untouched, Searched, Rejected}
-use Rattle.tfpg_engine.specs.Engining.{SlotRepresents}
+use Rattle.tfpg_engine.specs.EngineState.{SlotRepresents}
 use Rattle.tfpg_engine.specs.inside.TreeLaws.{TreeLaws}
 use Rattle.tfpg_engine.specs.inside.Turns.{is_rejected_slot}
 
@@ -22,18 +23,6 @@ module _ (laws : TreeLaws) (graph : Tfpg) (log : Logbook) (reach : List ℕ) whe
   no_name_twice = none_twice graph log reach (λ path leaf. laws.one_leaf graph log reach [] [] path (laws.leaf_begins graph log reach) leaf)
 
 module _ (laws : TreeLaws) (graph : Tfpg) (earlier later : Logbook) (ordered : IsOrdered later) (goes_on : GoesOn earlier later) (reach : List ℕ) where
-  -- Where each front that has a present leaf was a partial tree before, no name stands twice.
-  names_by : (steps : List Judged) → ((front back : List Judged) (path : List PathSplit) → steps ≡ front ++ back → IsPresentLeaf graph later reach front path → IsPartial graph earlier reach front)
-      → HasNoNameTwice graph earlier reach steps → HasNoNameTwice graph later reach steps
-  names_by steps fronts names front back path is leaf =
-      let there = laws.leaf_there graph earlier reach front (fronts front back path is leaf) in
-      let same : there.0 ≡ path = laws.one_leaf graph later reach front there.0 path (laws.leaf_stays graph earlier later reach front there.0 ordered goes_on there.1) leaf in
-      subst HasDistinctNames same (names front back there.0 is there.1)
-
-  pub names_of_partial : (steps : List Judged) → IsPartial graph earlier reach steps → HasNoNameTwice graph earlier reach steps → HasNoNameTwice graph later reach steps
-  names_of_partial steps partial names =
-      names_by steps (λ front back path is leaf. laws.partial_front graph earlier reach front back (subst (IsPartial graph earlier reach) is partial)) names
-
   front_of : (front back : List Judged) (path : List PathSplit) → IsRefutation graph earlier reach (front ++ back) → IsPresentLeaf graph later reach front path → IsPartial graph earlier reach front
   front_of front [] path refutation leaf =
       absurd (laws.finished graph later reach front (laws.refutation_stays graph earlier later reach front ordered goes_on (subst (IsRefutation graph earlier reach) (append-nil front) refutation)) leaf.partial)
@@ -41,17 +30,13 @@ module _ (laws : TreeLaws) (graph : Tfpg) (earlier later : Logbook) (ordered : I
 
   names_of_refutation : (steps : List Judged) → IsRefutation graph earlier reach steps → HasNoNameTwice graph earlier reach steps → HasNoNameTwice graph later reach steps
   names_of_refutation steps refutation names =
-      names_by steps (λ front back path is leaf. front_of front back path (subst (IsRefutation graph earlier reach) is refutation) leaf) names
-
-  same_first : (seen : ℕ) → seen ≡ length (take seen earlier.events) → first_events earlier seen ≡ first_events later seen
-  same_first seen is =
-      let few : seen ≤ length earlier.events = omega (arith, is, length-take seen earlier.events) in
-      λ i. record { events = sym (ap (take seen) goes_on.1 ∙ take-append-le seen earlier.events goes_on.0 few) i }
+      names_stay laws.leaf_there laws.one_leaf laws.leaf_stays graph earlier later ordered goes_on reach steps
+      (λ front back path is leaf. front_of front back path (subst (IsRefutation graph earlier reach) is refutation) leaf) names
 
   -- What is kept of a hypothesis represents the same steps at the later log.
   pub slot_stays : (set : List ℕ) (slot : Slot) (steps : List Judged) → SlotRepresents graph earlier set reach slot steps → SlotRepresents graph later set reach slot steps
   slot_stays set Untouched steps is = is
-  slot_stays set (Searched search) steps is = (is.0, is.1, subst (λ (log : Logbook). SearchRepresents graph log search steps) (same_first search.seen is.2.seen) is.2)
+  slot_stays set (Searched search) steps is = (is.0, is.1, subst (λ (log : Logbook). SearchRepresents graph log search steps) (first_events_kept earlier later goes_on search.seen is.2.seen) is.2)
   slot_stays set Rejected steps is = (laws.refutation_stays graph earlier later reach steps ordered goes_on is.0, names_of_refutation steps is.0 is.1)
 
 -- ---- what is kept of a hypothesis that is not rejected
@@ -69,6 +54,7 @@ slot_partial laws graph log ordered set reach (Searched search) steps open_yet i
     subst (λ (r : List ℕ). IsGoodPartial graph log r steps) is.1
     (record {
       partial = laws.partial_stays graph (first_events log search.seen) log search.reach steps ordered (laws.first log search.seen) is.2.leaf.leaf.partial;
-      names = names_of_partial laws graph (first_events log search.seen) log ordered (laws.first log search.seen) search.reach steps is.2.leaf.leaf.partial is.2.names;
+      names = names_of_partial laws.leaf_there laws.one_leaf laws.leaf_stays graph (first_events log search.seen) log ordered (laws.first log search.seen) search.reach steps
+          laws.partial_front is.2.leaf.leaf.partial is.2.names;
     })
 slot_partial laws graph log ordered set reach Rejected steps open_yet is = cc

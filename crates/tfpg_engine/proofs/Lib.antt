@@ -1,4 +1,3 @@
-mod Counting
 mod InsertedKeys
 mod Going
 mod Turning

@@ -1,12 +1,10 @@
 -- The findings of a round, whatever the earlier rounds were, are a round for all rounds that the engine represents.
-use Rattle.std.proofs.Common.{◌≡◌, ℕ, ◌<◌, List, [], ◌∷◌, ◌++◌, length, map, take, Option, Some, None, refl, sym, ap, subst, ◌∙◌, false}
-use Rattle.std.specs.Prelude.{slice_get, option_map, option_and_then, unwrap_or}
-use Rattle.std.proofs.lemmas.List.{append-nil}
-use Rattle.std.proofs.lemmas.List.Concat.{flat_map-append}
+use Rattle.std.proofs.Common.{◌≡◌, ℕ, ◌<◌, List, [], ◌∷◌, ◌++◌, length, take, Option, Some, None, refl, sym, ap, subst, ◌∙◌, false}
+use Rattle.std.specs.Prelude.{slice_get, option_and_then}
 use Rattle.std.proofs.lemmas.List.Folds.{list_any_none}
 use Rattle.std.proofs.lemmas.Option.{same_Some}
 use Rattle.tfpg_base.proofs.lists.Cuts.{slice_get-take, slice_get-taken}
-use Rattle.tfpg_base.proofs.lists.Elements.{All-from_indexes}
+use Rattle.tfpg_base.proofs.lists.Elements.{All-from_indexes, slice_get-same_length}
 use Rattle.tfpg_base.specs.Set.{IsProperSubset}
 use Rattle.tfpg_graph.specs.Graph.{Tfpg}
 use Rattle.tfpg_graph.specs.Reach.{IsReach}
@@ -21,13 +19,13 @@ use Rattle.tfpg_clause.specs.Trees.{Judged}
 use Rattle.tfpg_hyp.specs.Table.{IsTable}
 use Rattle.tfpg_hyp.specs.Hypotheses.{Hypotheses, IsTableOf}
 use Rattle.tfpg_hyp.specs.declared.ranking_key.RankingKey.{RankingKey}
-use Rattle.tfpg_hyp.specs.Rounds.{IsRound, IsFinding, IsOrder, HasNoneOpen, counts_of, HasEvidence, IsRankedSubset, steps_in, steps_so_far, key_at, key_of_status}
-use Rattle.tfpg_hyp.proofs.FindingsOfRound.{at_same_index}
+use Rattle.tfpg_hyp.specs.Rounds.{IsRound, IsFinding, IsOrder, HasNoneOpen, counts_of, HasEvidence, IsRankedSubset, steps_so_far, key_at, key_of_status}
+use Rattle.tfpg_hyp.proofs.FindingsOfRound.{steps_so_far-push}
 use Rattle.tfpg_search.specs.Enough.{IsEnough}
 use Rattle.tfpg_clause.specs.Paths.{with_steps}
 use Rattle.tfpg_engine.specs.declared.slot.Slot.{Slot}
 use Rattle.tfpg_engine.specs.Earned.{AreEarned}
-use Rattle.tfpg_engine.specs.Engining.{SlotRepresents}
+use Rattle.tfpg_engine.specs.EngineState.{SlotRepresents}
 use Rattle.tfpg_engine.specs.inside.Slots.{AllCanGoOn}
 use Rattle.tfpg_engine.specs.inside.RankedKeys.{HasFraction}
 use Rattle.tfpg_engine.specs.inside.TreeLaws.{TreeLaws}
@@ -52,10 +50,10 @@ module _ (graph : Tfpg) (log : Logbook) (budget : ℕ) (table : Hypotheses) (old
 
   turn_at : (number : ℕ) (finding : Finding) → slice_get findings number ≡ Some finding → TurnAt number finding
   turn_at number finding at =
-      let set = at_same_index table.sets findings number finding complete at in
-      let reach = at_same_index table.reaches findings number finding (complete ∙ sym reached) at in
-      let before = at_same_index old findings number finding (complete ∙ sym old_each) at in
-      let now = at_same_index new findings number finding (complete ∙ sym old_each ∙ sym new_each) at in
+      let set = slice_get-same_length table.sets findings number finding complete at in
+      let reach = slice_get-same_length table.reaches findings number finding (complete ∙ sym reached) at in
+      let before = slice_get-same_length old findings number finding (complete ∙ sym old_each) at in
+      let now = slice_get-same_length new findings number finding (complete ∙ sym old_each ∙ sym new_each) at in
       record {
         set = set.0;
         reach = reach.0;
@@ -79,8 +77,8 @@ module _ (graph : Tfpg) (log : Logbook) (budget : ℕ) (table : Hypotheses) (old
   -- what is kept now can go on
   pub still_go_on : AllCanGoOn graph log table old → AllCanGoOn graph log table new
   still_go_on can number set reach slot at_set at_reach at_slot =
-      let finding = at_same_index findings new number slot (new_each ∙ old_each ∙ sym complete) at_slot in
-      let before = at_same_index old new number slot new_each at_slot in
+      let finding = slice_get-same_length findings new number slot (new_each ∙ old_each ∙ sym complete) at_slot in
+      let before = slice_get-same_length old new number slot new_each at_slot in
       let earlier = can number set reach before.0 at_set at_reach before.1 in
       let goes = (turns number set reach before.0 slot finding.0 at_set at_reach before.1 at_slot finding.1).goes_on earlier.0 earlier.1 in
       (with_steps earlier.0 log finding.0.steps, goes.represents)
@@ -92,23 +90,13 @@ can_go_on laws graph earlier later ordered goes_on table slots can number set re
     let some = can number set reach slot at_set at_reach at_slot in
     (some.0, slot_stays laws graph earlier later ordered goes_on reach set slot some.0 some.1)
 
--- ---- the steps of all rounds
-
-pub steps_more : (number : ℕ) (rounds : List Round) (round : Round) (log : Logbook) (finding : Finding) → round.number ≡ length log.events → slice_get round.findings number ≡ Some finding
-    → steps_so_far number (rounds ++ round ∷ []) ≡ with_steps (steps_so_far number rounds) log finding.steps
-steps_more number rounds round log finding numbered at =
-    flat_map-append (steps_in number) rounds (round ∷ [])
-    ∙ ap (λ (steps : List Judged). steps_so_far number rounds ++ steps)
-    (append-nil (steps_in number round)
-    ∙ (λ i. map (λ step. record { seen = numbered i; step = step }) (unwrap_or (option_map (λ (f : Finding). f.steps) (at i)) [])))
-
 -- ---- the round
 
 -- That proper subsets have lesser numbers is a law of the table.
 abbrev pub StandBefore : Type 0
 StandBefore =
-    (graph : Tfpg) (k : ℕ) (sets : List (List ℕ)) → IsTable graph k sets → (number other : ℕ) (part whole : List ℕ) → slice_get sets number ≡ Some part → slice_get sets other ≡ Some whole
-    → IsProperSubset part whole → number < other
+    (graph : Tfpg) (k : ℕ) (sets : List (List ℕ)) → IsTable graph k sets → (number other : ℕ) (subset whole : List ℕ) → slice_get sets number ≡ Some subset → slice_get sets other ≡ Some whole
+    → IsProperSubset subset whole → number < other
 
 module _ (laws : TreeLaws) (stand_before : StandBefore) (graph : Tfpg) (k : ℕ) (budget line : ℕ) (rounds : List Round) (old_log log : Logbook) (table : Hypotheses) (old new : List Slot) (round : Round)
     (is_table : IsTableOf graph k table) (ordered : IsOrdered log) (goes_on : GoesOn old_log log) (made : MakesRound graph log budget table old new line round)
@@ -123,25 +111,25 @@ module _ (laws : TreeLaws) (stand_before : StandBefore) (graph : Tfpg) (k : ℕ)
 
   -- a ranked proper subset stands before
   below : (number : ℕ) (finding : Finding) → slice_get findings number ≡ Some finding → (other : ℕ) → IsRankedSubset findings finding.set other → other < number
-  below number finding at other part =
+  below number finding at other subset =
       let own = Turn number finding at in
-      let there = Turn other part.finding part.numbered in
-      stand_before graph k table.sets is_table.hypotheses other number part.finding.set finding.set (there.at_set ∙ ap Some (sym there.turn.set_is)) (own.at_set ∙ ap Some (sym own.turn.set_is)) part.part
+      let there = Turn other subset.finding subset.numbered in
+      stand_before graph k table.sets is_table.hypotheses other number subset.finding.set finding.set (there.at_set ∙ ap Some (sym there.turn.set_is)) (own.at_set ∙ ap Some (sym own.turn.set_is)) subset.subset
 
   -- a ranked proper subset among all is one among those before
   among_first : (number : ℕ) (finding : Finding) → slice_get findings number ≡ Some finding → (other : ℕ) → IsRankedSubset findings finding.set other → IsRankedSubset (take number findings) finding.set other
-  among_first number finding at other part =
-      record { finding = part.finding; numbered = slice_get-take number findings other (below number finding at other part) ∙ part.numbered; ranked = part.ranked; part = part.part }
+  among_first number finding at other subset =
+      record { finding = subset.finding; numbered = slice_get-take number findings other (below number finding at other subset) ∙ subset.numbered; ranked = subset.ranked; subset = subset.subset }
 
   among_all : (number : ℕ) (set : List ℕ) (other : ℕ) → IsRankedSubset (take number findings) set other → IsRankedSubset findings set other
-  among_all number set other part =
-      record { finding = part.finding; numbered = (slice_get-taken number findings other part.finding part.numbered).1; ranked = part.ranked; part = part.part }
+  among_all number set other subset =
+      record { finding = subset.finding; numbered = (slice_get-taken number findings other subset.finding subset.numbered).1; ranked = subset.ranked; subset = subset.subset }
 
   evidence_by : (number : ℕ) (finding : Finding) → slice_get findings number ≡ Some finding → (reach : List ℕ) (steps : List Judged) (s : Status)
       → HasEvidence graph log budget (take number findings) reach steps finding s → HasEvidence graph log budget findings reach steps finding s
   evidence_by number finding at reach steps status.Rejected is = is
   evidence_by number finding at reach steps (status.Covered by) is =
-      (is.0, is.1, record { part = among_all number finding.set by is.2.part; least = λ other part. is.2.least other (among_first number finding at other part) })
+      (is.0, is.1, record { subset = among_all number finding.set by is.2.subset; least = λ other subset. is.2.least other (among_first number finding at other subset) })
   evidence_by number finding at reach steps (status.Ranked trace c alarmed monitored) is =
       (is.0, is.1, (λ has. is.2 (has.0, among_first number finding at has.0 has.1)), is.3, is.4)
   evidence_by number finding at reach steps status.Open is = (is.0, (λ has. is.1 (has.0, among_first number finding at has.0 has.1)), is.2)
@@ -166,7 +154,7 @@ module _ (laws : TreeLaws) (stand_before : StandBefore) (graph : Tfpg) (k : ℕ)
         reach = own.reach;
         reach_is = subst (λ (s : List ℕ). IsReach graph s own.reach) same (is_table.reached.exact number own.set own.reach own.at_set own.at_reach);
         evidence = evidence_by number finding at own.reach (steps_so_far number (rounds ++ round ∷ [])) finding.status
-            (subst (λ (steps : List Judged). HasEvidence graph log budget (take number findings) own.reach steps finding finding.status) (sym (steps_more number rounds round log finding made.number at)) goes.evidence);
+            (subst (λ (steps : List Judged). HasEvidence graph log budget (take number findings) own.reach steps finding finding.status) (sym (steps_so_far-push number rounds round (length log.events) finding made.number at)) goes.evidence);
       }
 
   pub round_is : IsRound graph k budget rounds log line round
@@ -183,8 +171,8 @@ module _ (laws : TreeLaws) (stand_before : StandBefore) (graph : Tfpg) (k : ℕ)
   }
 
   -- with a budget that is enough no set is open
-  pub settled : IsEnough graph log budget → HasNoneOpen round
-  settled enough = list_any_none (λ (f : Finding). is_open f.status) findings (All-from_indexes (λ (f : Finding). is_open f.status ≡ false) findings (λ number finding at. (Turn number finding at).turn.settled enough))
+  pub none_open : IsEnough graph log budget → HasNoneOpen round
+  none_open enough = list_any_none (λ (f : Finding). is_open f.status) findings (All-from_indexes (λ (f : Finding). is_open f.status ≡ false) findings (λ number finding at. (Turn number finding at).turn.none_open enough))
 
   pub earned : AreEarned graph log budget rounds round
   earned number finding at =
@@ -195,9 +183,9 @@ module _ (laws : TreeLaws) (stand_before : StandBefore) (graph : Tfpg) (k : ℕ)
   pub represents : (number : ℕ) (set reach : List ℕ) (slot : Slot) → slice_get table.sets number ≡ Some set → slice_get table.reaches number ≡ Some reach → slice_get new number ≡ Some slot
       → SlotRepresents graph log set reach slot (steps_so_far number (rounds ++ round ∷ []))
   represents number set reach slot at_set at_reach at_slot =
-      let finding = at_same_index findings new number slot (new_each ∙ old_each ∙ sym made.complete) at_slot in
-      let before = at_same_index old new number slot new_each at_slot in
-      subst (SlotRepresents graph log set reach slot) (sym (steps_more number rounds round log finding.0 made.number finding.1))
+      let finding = slice_get-same_length findings new number slot (new_each ∙ old_each ∙ sym made.complete) at_slot in
+      let before = slice_get-same_length old new number slot new_each at_slot in
+      subst (SlotRepresents graph log set reach slot) (sym (steps_so_far-push number rounds round (length log.events) finding.0 made.number finding.1))
       (goes_at number set reach before.0 slot finding.0 at_set at_reach before.1 at_slot finding.1).represents
 
 -- The findings as the code has them make a round.

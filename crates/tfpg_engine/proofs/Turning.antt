@@ -25,7 +25,7 @@ use Rattle.tfpg_hyp.specs.Rounds.{IsRankedSubset, HasRankedSubset, IsLeastSubset
 use Rattle.tfpg_log.specs.Explains.{Explains}
 use Rattle.tfpg_search.specs.Enough.{IsEnough}
 use Rattle.tfpg_search.specs.Live.{HasNoNameTwice, IsUnsettled}
-use Rattle.tfpg_search.specs.Searching.{Searching, SearchRepresents}
+use Rattle.tfpg_search.specs.SearchState.{SearchState, SearchRepresents}
 use Rattle.tfpg_clause.specs.Paths.{with_steps}
 use Rattle.tfpg_search.specs.Searched.{AreSearchSteps, Finds, IsSearched}
 use Rattle.tfpg_search.specs.declared.found.Found.{Found}
@@ -33,7 +33,7 @@ use Rattle.tfpg_search.specs.declared.found.Found.TheVariants.{Shown, Closed, Sp
 use Rattle.tfpg_engine.specs.declared.slot.Slot.{Slot}
 use Rattle.tfpg_engine.specs.declared.slot.Slot.TheVariants.{Untouched, Searched, Rejected}
 use Rattle.tfpg_engine.specs.Earned.{IsEarned}
-use Rattle.tfpg_engine.specs.Engining.{SlotRepresents}
+use Rattle.tfpg_engine.specs.EngineState.{SlotRepresents}
 use Rattle.tfpg_engine.specs.inside.TreeLaws.{TreeLaws}
 use Rattle.tfpg_engine.specs.inside.Turns.{is_rejected_slot, kept, status_by, RanksByFraction, GoesOnFrom, IsTurn, AreFirstTurns}
 use Rattle.tfpg_engine.proofs.Going.{slot_partial}
@@ -57,13 +57,13 @@ module _ (graph : Tfpg) (log : Logbook) (budget : ℕ) (set reach : List ℕ) (n
   passed s = record { number = number; set = set; steps = []; status = s }
 
   earned_none : (earlier : List Judged) (s : Status) → is_open s ≡ false → HasNoNameTwice graph log reach earlier → IsEarned graph log budget reach earlier (passed s)
-  earned_none earlier s settled names = record {
+  earned_none earlier s none_open names = record {
     steps = record {
       each = λ front step back is. absurd (append_cons-not_nil front step back is);
       names = subst (HasNoNameTwice graph log reach) (sym (no_steps earlier)) names;
     };
     within = omega arith;
-    unsettled = λ holds. (let clash : true ≡ false = sym holds ∙ settled in cc);
+    unsettled = λ holds. (let clash : true ≡ false = sym holds ∙ none_open in cc);
   }
 
   rejected_goes : (slot : Slot) → is_rejected_slot slot ≡ true → (earlier : List Judged) → SlotRepresents graph log set reach slot earlier
@@ -78,7 +78,7 @@ module _ (graph : Tfpg) (log : Logbook) (budget : ℕ) (set reach : List ℕ) (n
 
   -- A rejected hypothesis is passed over.
   pub turn_rejected : (slot : Slot) → is_rejected_slot slot ≡ true → IsTurn graph log budget set reach number findings slot slot (passed status.Rejected)
-  turn_rejected slot is = record { number_is = refl; set_is = refl; whole = λ key key_is. cc; settled = λ enough. refl; goes_on = rejected_goes slot is }
+  turn_rejected slot is = record { number_is = refl; set_is = refl; whole = λ key key_is. cc; none_open = λ enough. refl; goes_on = rejected_goes slot is }
 
   -- So is one with a ranked proper subset.
   pub turn_covered : TreeLaws → (slot : Slot) (by : ℕ) → is_rejected_slot slot ≡ false → IsLeastSubset findings set by → IsTurn graph log budget set reach number findings slot slot (passed (status.Covered by))
@@ -86,7 +86,7 @@ module _ (graph : Tfpg) (log : Logbook) (budget : ℕ) (set reach : List ℕ) (n
     number_is = refl;
     set_is = refl;
     whole = λ key key_is. cc;
-    settled = λ enough. refl;
+    none_open = λ enough. refl;
     goes_on = λ earlier represents.
         let good = slot_partial laws graph log ordered set reach slot earlier open_yet represents in
         record {
@@ -98,7 +98,7 @@ module _ (graph : Tfpg) (log : Logbook) (budget : ℕ) (set reach : List ℕ) (n
 
   -- ---- a hypothesis that is searched
 
-  module _ (old : Slot) (before new : Searching) (steps : List Step) (none : HasRankedSubset findings set → ⊥)
+  module _ (old : Slot) (before new : SearchState) (steps : List Step) (none : HasRankedSubset findings set → ⊥)
       (begins : (earlier : List Judged) → SlotRepresents graph log set reach old earlier → SlotRepresents graph log set reach (Searched before) earlier)
       (same_set : new.set ≡ before.set) (same_reach : new.reach ≡ before.reach) (seen : new.seen ≡ length log.events) where
     abbrev searched_finding : Status → Finding
@@ -146,10 +146,10 @@ module _ (graph : Tfpg) (log : Logbook) (budget : ℕ) (set reach : List ℕ) (n
       }
 
     -- with a budget that is enough it is not open
-    settled_of : (found : Found) → (IsEnough graph log budget → found ≡ Spent → ⊥) → IsEnough graph log budget → is_open (status_of found) ≡ false
-    settled_of (Shown trace) never enough = refl
-    settled_of Closed never enough = refl
-    settled_of Spent never enough = absurd (never enough refl)
+    none_open_of : (found : Found) → (IsEnough graph log budget → found ≡ Spent → ⊥) → IsEnough graph log budget → is_open (status_of found) ≡ false
+    none_open_of (Shown trace) never enough = refl
+    none_open_of Closed never enough = refl
+    none_open_of Spent never enough = absurd (never enough refl)
 
     -- The finding on a hypothesis that is searched on.
     pub turn_searched : (found : Found) → (IsEnough graph log budget → found ≡ Spent → ⊥) → IsSearched graph log budget before new [] steps (Ok found)
@@ -158,7 +158,7 @@ module _ (graph : Tfpg) (log : Logbook) (budget : ℕ) (set reach : List ℕ) (n
       number_is = refl;
       set_is = refl;
       whole = whole_of found;
-      settled = settled_of found never;
+      none_open = none_open_of found never;
       goes_on = λ earlier represents.
           let start = begins earlier represents in
           let added : searched.added ≡ steps = sym searched.appended in
@@ -168,22 +168,18 @@ module _ (graph : Tfpg) (log : Logbook) (budget : ℕ) (set reach : List ℕ) (n
           (subst (λ (s : List Step). Finds graph log budget s (with_steps earlier log s) new found) added (searched.found earlier start.2));
     }
 
--- a test, as it was read
-pub is_by : {a b c : Bool} → a ≡ b → a ≡ c → b ≡ c
-is_by read is = sym read ∙ is
-
 -- ---- which ranked hypothesis covers a set
 
 module _ (findings : List Finding) (set : List ℕ) (number : ℕ) where
   -- the finding of this number does not rank a proper subset of the set
   pub not_yet : (read : Finding) (covers : Bool) → read ≡ get_or findings number read → ((other : ℕ) → IsRankedSubset findings set other → number ≤ other)
       → IsTrue covers ↔ (IsTrue (is_ranked read.status) × IsProperSubset read.set set) → covers ≡ false → (other : ℕ) → IsRankedSubset findings set other → number + 1 ≤ other
-  not_yet read covers is so_far test not_covering other part = omega (arith, lt_of_le-ne (so_far other part) (differs other part))
+  not_yet read covers is so_far test not_covering other subset = omega (arith, lt_of_le-ne (so_far other subset) (differs other subset))
     where
       differs : (other : ℕ) → IsRankedSubset findings set other → number ≡ other → ⊥
-      differs other part same =
-          let here : read ≡ part.finding = is ∙ get_or_from_slice_get findings number part.finding read (ap (slice_get findings) same ∙ part.numbered) in
-          let holds : IsTrue covers = test.1 (subst (λ (f : Finding). IsTrue (is_ranked f.status)) (sym here) part.ranked, subst (λ (f : Finding). IsProperSubset f.set set) (sym here) part.part) in
+      differs other subset same =
+          let here : read ≡ subset.finding = is ∙ get_or_from_slice_get findings number subset.finding read (ap (slice_get findings) same ∙ subset.numbered) in
+          let holds : IsTrue covers = test.1 (subst (λ (f : Finding). IsTrue (is_ranked f.status)) (sym here) subset.ranked, subst (λ (f : Finding). IsProperSubset f.set set) (sym here) subset.subset) in
           let clash : true ≡ false = sym holds ∙ not_covering in
           cc
 

@@ -1,4 +1,4 @@
--- What a round says of its steps, beyond the definition of a round: none of them is for nothing.
+-- What is promised of a round's steps beyond the definition of a round.
 use Rattle.std.specs.Prelude.{◌≡◌, ℕ, ◌≤◌, List, IsTrue, Some, slice_get}
 use Rattle.tfpg_graph.specs.Graph.{Tfpg}
 use Rattle.tfpg_graph.specs.Reach.{IsReach}

@@ -5,10 +5,10 @@ ghost use Rattle.tfpg_evidence.specs.declared.round.Round.{Round};
 ghost use Rattle.tfpg_hyp.specs.Hypotheses.{HasHypotheses};
 ghost use Rattle.tfpg_hyp.specs.declared.limits.TheConstants.{MAX_HYPOTHESES};
 ghost use Rattle.tfpg_log.specs.Accepted.{reply_to};
-ghost use Rattle.tfpg_log.specs.Log.{IsOf};
+ghost use Rattle.tfpg_log.specs.Log.{IsLogOf};
 ghost use Rattle.tfpg_log.specs.LogOfLines.{new_log};
 ghost use Rattle.tfpg_log.specs.declared.refusal.Refusal.{Refusal};
-ghost use Rattle.tfpg_engine.specs.Engining.{EngineRepresents, Brings};
+ghost use Rattle.tfpg_engine.specs.EngineState.{EngineRepresents, Brings};
 
 use crate::asked::Asked;
 use crate::round;
@@ -38,19 +38,19 @@ pub struct Engine {
 }
 
 impl Model for Engine {
-    ghost use Rattle.tfpg_engine.specs.Engining.{Engining};
-    ghost use Rattle.tfpg_engine.specs.inside.Slots.{IsEngine, engining_of};
+    ghost use Rattle.tfpg_engine.specs.EngineState.{EngineState};
+    ghost use Rattle.tfpg_engine.specs.inside.Slots.{IsEngine, engine_state_of};
 
-    ghost Value = { Engining };
+    ghost Value = { EngineState };
 
-    ghost view = { engining_of };
+    ghost view = { engine_state_of };
 
-    ghost invariant = { λ e. IsEngine (engining_of e) };
+    ghost invariant = { λ e. IsEngine (engine_state_of e) };
 }
 
 impl Engine {
     /// The engine of a graph, for all sets of at most `k` failure modes, with at most `budget` splits of each in a round.
-    /// Where there are more than 4,096 such sets, the fault says how many.
+    /// Where there are more than [`MAX_HYPOTHESES`](tfpg_hyp::MAX_HYPOTHESES) such sets, the fault says how many.
     pub fn new(alloc: Global, graph: Graph, k: u32, budget: u64) -> Result<Engine, TableFault>
         requires { 1 ≤ budget }
         ensures graph { IfOk result (λ engine. engine.graph ≡ graph) }
@@ -139,7 +139,7 @@ impl Engine {
     /// The log of the accepted lines, which is of the graph.
     pub fn log(&self) -> &Log
         ensures log { result.now ≡ self.now.log }
-        ensures of { IsOf self.now.graph result.now }
+        ensures of { IsLogOf self.now.graph result.now }
     {
         &self.log
     }

@@ -2,7 +2,7 @@
 //!
 //! - [`Engine`] has a graph, a log that grows, and all sets of at most `k` failure modes. [`Engine::event`] takes a line.
 //! - [`Told`] is what a line brings: a refusal, or a round. [`EventFault`] says why there is neither.
-//! - [`Slot`] is what contracts see of what the engine keeps of a hypothesis.
+//! - [`Slot`] is what the engine keeps of a hypothesis, as contracts see it.
 //!
 //! ```
 //! let mut engine = Engine::new(alloc, graph, 2, 1_000)?;

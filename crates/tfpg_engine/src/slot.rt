@@ -3,8 +3,8 @@
 ghost use Rattle.std.specs.Prelude.{◌≡◌, List, false, IfOk};
 ghost use Rattle.tfpg_log.specs.Log.{Logbook, first_events};
 ghost use Rattle.tfpg_clause.specs.Trees.{Judged};
-ghost use Rattle.tfpg_search.specs.Searching.{SearchRepresents};
-ghost use Rattle.tfpg_engine.specs.Engining.{SlotRepresents};
+ghost use Rattle.tfpg_search.specs.SearchState.{SearchRepresents};
+ghost use Rattle.tfpg_engine.specs.EngineState.{SlotRepresents};
 ghost use Rattle.tfpg_engine.specs.inside.Asking.{IsHypothesisOf};
 ghost use Rattle.tfpg_engine.specs.inside.Turns.{is_rejected_slot, kept};
 

@@ -1,5 +1,5 @@
 -- The lemmas of each part of the crate, in a folder named like that of the source.
-pub mod declared
+pub mod declaring
 pub mod reading
 pub mod writing
 pub mod reach

@@ -8,7 +8,7 @@ use Rattle.tfpg_graph.specs.declared.cause.GraphFault.{GraphFault}
 use Rattle.tfpg_graph.specs.declared.cause.GraphRefusal.{GraphRefusal}
 use Rattle.tfpg_graph.specs.declared.cause.GraphRefusal.TheVariants.{Fault, NoMemory}
 use Rattle.tfpg_graph.specs.Graph.{Tfpg, is_discrepancy, incoming}
-use Rattle.tfpg_graph.specs.Valid.{HasIncomingBefore}
+use Rattle.tfpg_graph.specs.Valid.{HasIncomingBefore, HasNoZeroCycle}
 use Rattle.tfpg_graph.specs.ZeroCycle.{LiesOnZeroCycle}
 use Rattle.tfpg_graph.specs.Statements.{Statement, statement_of, statements_of, declares_node, declares_edge, ends_text}
 use Rattle.tfpg_graph.specs.Declares.{declared_by}
@@ -45,10 +45,6 @@ pub record IsLineSaying (test : Statement → Bool) (lines : List (List ℕ)) (c
 -- the node of this number is a discrepancy with no edge into it
 abbrev pub LacksIncoming : Tfpg → ℕ → Type 0
 LacksIncoming graph node = (node < length graph.nodes) × IsTrue (is_discrepancy graph node) × (incoming graph node ≡ [])
-
--- no edge lies on a cycle of edges that may take no time
-abbrev pub HasNoZeroCycle : Tfpg → Type 0
-HasNoZeroCycle graph = (number : ℕ) → LiesOnZeroCycle graph number → ⊥
 
 -- the line of the first discrepancy with no edge into it
 pub record IsIncomingFault (lines : List (List ℕ)) (fault : GraphFault) : Type 0 where

@@ -99,9 +99,13 @@ incoming graph node = numbers_from 0 (λ edge. edge.target == node) graph.edges
 abbrev pub edges_into : Tfpg → ℕ → List Edge
 edges_into graph node = filter (λ edge. edge.target == node) graph.edges
 
+-- the bit of the mode is set in these
+abbrev pub has_mode_bit : ℕ → ℕ → Bool
+has_mode_bit bits mode = bit_at bits mode == 1
+
 -- An edge is active in a mode where the bit of the mode is set.
 abbrev pub is_active_in : Edge → ℕ → Bool
-is_active_in edge mode = bit_at edge.modes mode == 1
+is_active_in edge mode = has_mode_bit edge.modes mode
 
 -- the number of the node of this name
 abbrev pub node_named : Tfpg → List ℕ → Option ℕ

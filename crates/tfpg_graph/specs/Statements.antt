@@ -1,9 +1,8 @@
 -- What a line of a graph's text says by its words alone: no name is looked up, and no number is read.
-use Rattle.std.specs.Prelude.{◌≡◌, ◌≢◌, ◌≤◌, ℕ, All, Contains, List, [], ◌∷◌, length, Bool, true, false, ◌&&◌, nat_le, if◌then◌else◌, Option, Some, None, option_map, filter_map, codes, bytes_eq}
+use Rattle.std.specs.Prelude.{◌≡◌, ◌≢◌, ◌≤◌, ℕ, All, Contains, List, [], ◌∷◌, length, Bool, true, false, ◌&&◌, ◌==◌, nat_le, if◌then◌else◌, Option, Some, None, option_map, filter_map, codes, bytes_eq}
 use Rattle.tfpg_base.specs.Words.{has_empty_word, words_of, line_of}
 use Rattle.tfpg_base.specs.Lines.{is_too_long}
 use Rattle.tfpg_base.specs.declared.limits.TheConstants.{LONGEST_LINE}
-use Rattle.tfpg_graph.specs.Text.{is_empty_or_comment}
 
 -- the words that say what a node is, with the word for its number
 pub data NodeWords : Type 0 where
@@ -66,15 +65,10 @@ failure_in (name ∷ []) = None
 failure_in (name ∷ rarity ∷ []) = Some (DeclaresNode name (FailureWords rarity))
 failure_in (name ∷ rarity ∷ more ∷ others) = None
 
--- what the words after `or` say
-abbrev pub or_in : List (List ℕ) → Option Statement
-or_in [] = None
-or_in (name ∷ others) = option_map (λ lag. DeclaresNode name (OrWords lag)) (lag_in others)
-
--- what the words after `and` say
-abbrev pub and_in : List (List ℕ) → Option Statement
-and_in [] = None
-and_in (name ∷ others) = option_map (λ lag. DeclaresNode name (AndWords lag)) (lag_in others)
+-- what the words after `or` say, where `with_lag` is `OrWords`, and those after `and`, where it is `AndWords`
+abbrev pub discrepancy_in : (Option (List ℕ) → NodeWords) → List (List ℕ) → Option Statement
+discrepancy_in with_lag [] = None
+discrepancy_in with_lag (name ∷ others) = option_map (λ lag. DeclaresNode name (with_lag lag)) (lag_in others)
 
 -- what the words after `edge` say
 abbrev pub edge_in : List (List ℕ) → Option Statement
@@ -97,8 +91,8 @@ statement_in [] = None
 statement_in (keyword ∷ others) =
     if bytes_eq keyword (codes "mode") then mode_in others
     else (if bytes_eq keyword (codes "failure") then failure_in others
-    else (if bytes_eq keyword (codes "or") then or_in others
-    else (if bytes_eq keyword (codes "and") then and_in others
+    else (if bytes_eq keyword (codes "or") then discrepancy_in OrWords others
+    else (if bytes_eq keyword (codes "and") then discrepancy_in AndWords others
     else (if bytes_eq keyword (codes "edge") then edge_in others
     else (if bytes_eq keyword (codes "end") then end_in others else None)))))
 
@@ -111,6 +105,11 @@ statement_of line =
 -- what lines say, in order; the header, a line that is skipped, and one that has no shape say nothing
 abbrev pub statements_of : List (List ℕ) → List Statement
 statements_of lines = filter_map statement_of lines
+
+-- an empty line, or one that begins with `#`
+abbrev pub is_empty_or_comment : List ℕ → Bool
+is_empty_or_comment [] = true
+is_empty_or_comment (first ∷ others) = first == 35
 
 -- A line after the header that is empty or begins with `#` is skipped, unless it is too long.
 abbrev pub is_skipped : List ℕ → Bool

@@ -1,6 +1,5 @@
 -- The text of a graph: what each line spells.
-use Rattle.std.specs.Prelude.{◌≡◌, ℕ, ◌-◌, ◌≤◌, ◌^◌, List, [], ◌∷◌, ◌++◌, length, map, filter, All, Bool, true, not, ◌==◌, if◌then◌else◌, Option, Some, None, slice_get, codes, decimal, filter_map, flat_map, ◌⊎◌, ◌≢◌, ◌<◌, AllPairs}
-use Rattle.std.specs.Int.{bit_at}
+use Rattle.std.specs.Prelude.{◌≡◌, ℕ, ◌-◌, ◌≤◌, ◌^◌, List, [], ◌∷◌, ◌++◌, length, map, filter, All, Bool, true, not, ◌==◌, if◌then◌else◌, Option, Some, None, slice_get, codes, decimal, option_map, filter_map, flat_map, ◌⊎◌, ◌≢◌, ◌<◌, AllPairs}
 use Rattle.std.specs.List.{range_with_len, AllZip}
 use Rattle.tfpg_base.specs.SetBits.{bits_of}
 use Rattle.tfpg_base.specs.Words.{joined_by_commas, line_of}
@@ -9,7 +8,8 @@ use Rattle.tfpg_base.specs.declared.limits.TheConstants.{LONGEST_LINE}
 use Rattle.tfpg_graph.specs.declared.kind.Kind.{Kind}
 use Rattle.tfpg_graph.specs.declared.kind.Kind.TheVariants.{Failure, Or, And}
 use Rattle.tfpg_graph.specs.declared.edge.Edge.{Edge}
-use Rattle.tfpg_graph.specs.Graph.{Tfpg, Node, name_word}
+use Rattle.tfpg_graph.specs.Graph.{Tfpg, Node, name_word, has_mode_bit}
+use Rattle.tfpg_graph.specs.Statements.{NodeWords, FailureWords, OrWords, AndWords, DeclaresMode, DeclaresNode, words_of_statement, is_empty_or_comment}
 
 -- the first line
 abbrev pub header : List ℕ
@@ -17,32 +17,39 @@ header = codes "tfpg 1"
 
 -- the line of a mode
 abbrev pub mode_line : List ℕ → List ℕ
-mode_line name = line_of (codes "mode" ∷ name ∷ [])
+mode_line name = line_of (words_of_statement (DeclaresMode name))
 
--- a discrepancy's last words: whether it is monitored
-abbrev pub watch_words : Option ℕ → List (List ℕ)
-watch_words None = codes "hidden" ∷ []
-watch_words (Some lag) = codes "watch" ∷ decimal lag ∷ []
+-- the words that say what a node is
+abbrev pub words_of_kind : Kind → NodeWords
+words_of_kind (Failure rarity) = FailureWords (decimal rarity)
+words_of_kind (Or lag) = OrWords (option_map decimal lag)
+words_of_kind (And lag) = AndWords (option_map decimal lag)
 
 -- the words of a node's line
 abbrev pub node_words : List ℕ → Kind → List (List ℕ)
-node_words name (Failure rarity) = codes "failure" ∷ name ∷ decimal rarity ∷ []
-node_words name (Or lag) = codes "or" ∷ name ∷ watch_words lag
-node_words name (And lag) = codes "and" ∷ name ∷ watch_words lag
+node_words name kind = words_of_statement (DeclaresNode name (words_of_kind kind))
 
 -- the line of a node
 abbrev pub node_line : Node → List ℕ
 node_line node = line_of (node_words node.name node.kind)
+
+-- the line of a node, with its line end
+abbrev pub node_text : Node → List ℕ
+node_text node = with_line_end (node_line node)
 
 -- the word for a greatest delay
 abbrev pub tmax_word : Option ℕ → List ℕ
 tmax_word None = codes "inf"
 tmax_word (Some tmax) = decimal tmax
 
+-- The words of an edge's line before the word for its modes: the names of source and target, and the delays.
+abbrev pub edge_start_words : List ℕ → List ℕ → ℕ → Option ℕ → List (List ℕ)
+edge_start_words source target tmin tmax = codes "edge" ∷ source ∷ target ∷ decimal tmin ∷ tmax_word tmax ∷ []
+
 -- the line of an edge whose modes this word spells
 abbrev pub edge_line : Tfpg → Edge → List ℕ → List ℕ
 edge_line graph edge modes_word =
-    line_of (codes "edge" ∷ name_word graph edge.source ∷ name_word graph edge.target ∷ decimal edge.tmin ∷ tmax_word edge.tmax ∷ modes_word ∷ [])
+    line_of (edge_start_words (name_word graph edge.source) (name_word graph edge.target) edge.tmin edge.tmax ++ modes_word ∷ [])
 
 -- the bits of all the graph's modes
 abbrev pub all_modes : Tfpg → ℕ
@@ -59,11 +66,6 @@ SpellsModes graph bits word =
 -- The line spells this edge.
 abbrev pub SpellsEdge : Tfpg → Edge → List ℕ → Type 0
 SpellsEdge graph edge line = (word : List ℕ) × SpellsModes graph edge.modes word × (line ≡ edge_line graph edge word)
-
--- an empty line, or one that begins with `#`
-abbrev pub is_empty_or_comment : List ℕ → Bool
-is_empty_or_comment [] = true
-is_empty_or_comment (first ∷ others) = first == 35
 
 -- the lines that are neither empty nor begin with `#`
 abbrev pub content_lines : List (List ℕ) → List (List ℕ)
@@ -86,7 +88,7 @@ pub record Spells (text : List ℕ) (graph : Tfpg) : Type 0 where
 abbrev pub modes_word : Tfpg → ℕ → List ℕ
 modes_word graph bits =
     if bits == all_modes graph then codes "*"
-    else joined_by_commas (filter_map (slice_get graph.modes) (filter (λ mode. bit_at bits mode == 1) (range_with_len 0 (length graph.modes))))
+    else joined_by_commas (filter_map (slice_get graph.modes) (filter (has_mode_bit bits) (range_with_len 0 (length graph.modes))))
 
 -- the lines of the canonical text
 abbrev pub canonical_lines : Tfpg → List (List ℕ)

@@ -57,10 +57,14 @@ pub record IsValidSoFar (graph : Tfpg) : Type 0 where
 abbrev pub HasIncomingBefore : Tfpg → ℕ → Type 0
 HasIncomingBefore graph end = (node : ℕ) → node < end → IsTrue (is_discrepancy graph node) → incoming graph node ≢ []
 
+-- no cycle of edges may take no time
+abbrev pub HasNoZeroCycle : Tfpg → Type 0
+HasNoZeroCycle graph = (node steps : ℕ) → WalksInNoTime graph node node (suc steps) → ⊥
+
 -- A graph is valid where nothing is missing either: each discrepancy has an edge into it, no cycle may take no time,
 -- and there is a mode.
 pub record IsValid (graph : Tfpg) : Type 0 where
   pub so_far : IsValidSoFar graph
   pub has_incoming : HasIncomingBefore graph (length graph.nodes)
-  pub no_zero_cycle : (node steps : ℕ) → WalksInNoTime graph node node (suc steps) → ⊥
+  pub no_zero_cycle : HasNoZeroCycle graph
   pub has_mode : 0 < length graph.modes

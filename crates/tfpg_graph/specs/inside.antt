@@ -1,6 +1,5 @@
 -- What is declared so far, with its indexes, and then each part of the crate in a folder named like that of the source.
-pub mod Indexes
-pub mod Declaring
+pub mod declaring
 pub mod reading
 pub mod writing
 pub mod reach

@@ -32,7 +32,7 @@ impl Model for Declared {
 
     ghost Value = { Tfpg };
 
-    ghost use Rattle.tfpg_graph.specs.inside.Indexes.{graph_of, IsDeclared};
+    ghost use Rattle.tfpg_graph.specs.inside.declaring.Indexes.{graph_of, IsDeclared};
 
     ghost view = { graph_of };
 
@@ -40,7 +40,7 @@ impl Model for Declared {
 }
 
 impl Declared {
-    ghost use Rattle.tfpg_graph.specs.inside.Indexes.{nothing_declared, with_node, with_edge, with_mode};
+    ghost use Rattle.tfpg_graph.specs.inside.declaring.Indexes.{nothing_declared, with_node, with_edge, with_mode};
     ghost use Rattle.tfpg_graph.specs.Valid.{IsValidSoFar, HasIncomingBefore};
     ghost use Rattle.tfpg_graph.specs.Faults.{LacksIncoming};
 
@@ -234,7 +234,7 @@ impl Declared {
         self.incoming[node as usize].as_slice()
     }
 
-    /// The first discrepancy with no edge into it. Takes time in the number of nodes.
+    /// The first discrepancy with no edge into it. Takes time linear in the number of nodes.
     pub(crate) fn without_incoming(&self) -> Option<u32>
         ensures all { IfNone result (HasIncomingBefore self.now (length self.now.nodes)) }
         ensures lacking { IfSome result (LacksIncoming self.now) }

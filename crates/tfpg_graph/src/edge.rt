@@ -31,10 +31,12 @@ impl Edge {
         mode < u64::BITS && modes >> mode & 1 == 1
     }
 
-    /// The edge, active only in the modes in which the other is active too.
+    /// The edge, active only in the modes in which the other is active too, and else the same.
     pub fn active_with(&self, other: &Edge) -> Edge
-        ensures { (mode : ℕ) → is_active_in result mode ≡
+        ensures active { (mode : ℕ) → is_active_in result mode ≡
             (is_active_in self.now mode && is_active_in other.now mode) }
+        ensures ends { (result.source ≡ self.now.source) × (result.target ≡ self.now.target) }
+        ensures delays { (result.tmin ≡ self.now.tmin) × (result.tmax ≡ self.now.tmax) }
     {
         Edge {
             modes: self.modes & other.modes,

@@ -1,14 +1,14 @@
 //! A valid graph with its look-ups.
 
-ghost use Rattle.std.specs.Prelude.{◌≡◌, ◌<◌, ◌≤◌, length, slice_get, Some, unwrap_or, IfOk, All};
-ghost use Rattle.tfpg_graph.specs.Graph.{kind_at, is_monitored, lag_at, name_at, name_word, node_named, mode_named, edge_from_to, incoming, failures, failure_at, position_of_failure};
+ghost use Rattle.std.specs.Prelude.{◌≡◌, ◌<◌, ◌≤◌, length, slice_get, Some, unwrap_or, IfOk, IsTrue, All};
+ghost use Rattle.tfpg_graph.specs.Graph.{kind_at, is_kind_at, is_or, is_and, is_monitored, lag_at, name_at, name_word, node_named, mode_named, edge_from_to, incoming, failures, failure_at, position_of_failure};
 ghost use Rattle.tfpg_graph.specs.Valid.{IsValid};
 ghost use Rattle.tfpg_graph.specs.ZeroCycle.{HasZeroOrder};
 
 use crate::declared::Declared;
 use crate::edge::Edge;
 use crate::kind::Kind;
-use crate::limits::MAX_INCOMING;
+use crate::limits::{MAX_INCOMING, MAX_NODES};
 use std::marker::Model;
 use tfpg_base::NoMemory;
 
@@ -87,6 +87,22 @@ impl Graph {
         ensures { kind_at self.now node ≡ Some result }
     {
         self.declared.kind(node)
+    }
+
+    /// Whether it is an OR node. The number may be any.
+    pub fn is_or(&self, node: u32) -> bool
+        ensures value { result ≡ is_kind_at is_or self.now node }
+        ensures within { IsTrue result → (node < length self.now.nodes) × (node < MAX_NODES) }
+    {
+        node < self.node_count() && self.kind(node).is_or()
+    }
+
+    /// Whether it is an AND node. The number may be any.
+    pub fn is_and(&self, node: u32) -> bool
+        ensures value { result ≡ is_kind_at is_and self.now node }
+        ensures within { IsTrue result → (node < length self.now.nodes) × (node < MAX_NODES) }
+    {
+        node < self.node_count() && self.kind(node).is_and()
     }
 
     /// Whether it is a node that is monitored. The number may be any.
@@ -173,7 +189,7 @@ impl Graph {
     }
 
     /// The position of the node among the failure modes, where it is one.
-    pub fn position_of(&self, node: u32) -> Option<u32>
+    pub fn place_of(&self, node: u32) -> Option<u32>
         requires { node < length self.now.nodes }
         ensures { result ≡ position_of_failure self.now node }
     {

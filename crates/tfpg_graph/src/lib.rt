@@ -1,10 +1,12 @@
 //! Timed failure propagation graphs: failure modes and discrepancies as nodes, propagations with their delays and
 //! system modes as edges.
 //!
-//! - [`read`] reads the text of a graph, and [`write`] writes it. [`append_node`] writes the line of one node.
+//! - [`read`] reads the text of a graph, and [`write`] writes it. [`append_node`] writes the line of one node,
+//!   and [`append_edge_start`] that of one edge up to its greatest delay.
 //! - [`Graph`] is a valid graph with its look-ups. [`Kind`] and [`Edge`] are its parts.
 //! - [`NodeSet`] is a set of its nodes. [`Graph::reach`] returns the nodes that a set of failure modes reaches.
 //! - [`GraphCause`] says what is wrong with a text that spells no valid graph, and [`GraphFault`] in which line.
+//!   [`GraphRefusal`] is that fault, or out of memory.
 //! - [`MAX_NODES`] and the other limits say how much a graph may have of each thing.
 //! - [`laws`] has the laws of the definitions that the contracts cite.
 //!
@@ -37,4 +39,4 @@ pub use kind::Kind;
 pub use limits::{MAX_EDGES, MAX_FAILURES, MAX_INCOMING, MAX_MODES, MAX_NODES, MAX_RARITY};
 pub use reach::NodeSet;
 pub use reading::read;
-pub use writing::{append_node, write};
+pub use writing::{append_edge_start, append_node, write};

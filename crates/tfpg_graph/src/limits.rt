@@ -1,10 +1,12 @@
 //! How much a graph may have of each thing.
 
+use tfpg_base::MAX_MEMBERS;
+
 /// How many nodes a graph has at most.
 pub const MAX_NODES: u32 = 512;
 
-/// How many of its nodes are failure modes at most.
-pub const MAX_FAILURES: u32 = 64;
+/// How many of its nodes are failure modes at most: a set may have them all.
+pub const MAX_FAILURES: u32 = MAX_MEMBERS;
 
 /// How many edges it has at most.
 pub const MAX_EDGES: u32 = 2_048;

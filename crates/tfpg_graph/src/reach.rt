@@ -18,7 +18,7 @@ impl Graph {
     /// nodes, each OR discrepancy with a source among them, and each AND discrepancy with all its sources among them.
     ///
     /// It is the least fixed point, found by iteration: sweeps over all nodes, up and down in turn, until one adds
-    /// nothing. A sweep takes time in the number of nodes and edges. Where the numbers of the nodes rise or fall along
+    /// nothing. A sweep takes time linear in the number of nodes and edges. Where the numbers of the nodes rise or fall along
     /// the edges, three sweeps are enough; at worst each sweep adds one node. Takes no memory.
     pub fn reach(&self, set: Set) -> NodeSet
         requires members { All (λ position. position < length (failures self.now)) set }

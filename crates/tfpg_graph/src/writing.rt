@@ -2,9 +2,9 @@
 
 ghost use Rattle.std.specs.Prelude.{◌≡◌, length, flat_map};
 ghost use Rattle.tfpg_base.specs.Append.{Appends};
-ghost use Rattle.tfpg_graph.specs.Text.{canonical_text, Spells};
+ghost use Rattle.tfpg_graph.specs.Text.{canonical_text, node_text, Spells};
 ghost use Rattle.tfpg_graph.specs.Valid.{IsValid};
-ghost use Rattle.tfpg_graph.specs.inside.writing.Written.{mode_text, node_text, edge_text};
+ghost use Rattle.tfpg_graph.specs.inside.writing.Written.{mode_text, edge_text};
 
 mod write_edge;
 mod write_modes;
@@ -13,6 +13,7 @@ mod write_node;
 use crate::graph::Graph;
 use crate::writing::write_edge::append_edge;
 use tfpg_base::{NoMemory, append_line};
+pub use write_edge::append_edge_start;
 pub use write_node::append_node;
 
 /// Appends the canonical text of the graph: a line for each mode, node and edge in their order, no comment, and a star

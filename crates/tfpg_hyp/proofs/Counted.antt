@@ -37,16 +37,12 @@ absorbed (suc count) (suc size) =
     let here = absorbed count (suc size) in
     omega (arith, before, here)
 
--- the two sides of a step, multiplied out
-step_products : (here next size others : ℕ) → (size + 1) * next + size * here ≡ (size + others) * here → here * others ≡ next * (size + 1)
-step_products here next size others same = omega (arith, same)
-
 -- the multiplication and the division that lead to the next size
 pub choices-next : (count size : ℕ) → size ≤ count → (choices count size * (count - size)) / (size + 1) ≡ choices count (size + 1)
 choices-next count size within =
     let whole : count ≡ size + (count - size) = omega arith in
     let product : choices count size * (count - size) ≡ choices count (suc size) * (size + 1) =
-    step_products (choices count size) (choices count (suc size)) size (count - size) (absorbed count size ∙ ap (λ n. n * choices count size) whole) in
+    omega (arith, absorbed count size ∙ ap (λ n. n * choices count size) whole) in
     ap (λ n. n / (size + 1)) product ∙ mul-div_cancel (choices count (suc size)) (omega arith) ∙ ap (choices count) (sym (add-one size))
 
 -- the same of numbers that are equal to these

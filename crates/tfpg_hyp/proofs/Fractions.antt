@@ -1,33 +1,8 @@
--- The order of fractions, and that the ranking order is transitive.
-use Rattle.std.proofs.Common.{ℕ, ◌*◌, ◌<◌, ◌≤◌, ◌⊎◌, inl, inr, ⊎_elim, arith, ◌∙◌}
-use Rattle.std.proofs.Math.Nat.{mul-le-mul_right, mul-lt-mul_of_pos_right, le_of_mul-le-mul_right, lt_of_mul-lt-mul_right}
+-- That the ranking order is transitive.
+use Rattle.std.proofs.Common.{◌*◌, ◌<◌, ◌≤◌, ◌⊎◌, inl, inr, ⊎_elim, arith, ◌∙◌}
+use Rattle.tfpg_base.proofs.lists.Fractions.{fractions-le, fractions-lt_le, fractions-le_lt}
 use Rattle.tfpg_hyp.specs.declared.ranking_key.RankingKey.{RankingKey}
 use Rattle.tfpg_hyp.specs.Ranking.{IsMoreRobust, IsAsRobust, IsRankedBefore}
-
--- Three fractions, each as what is above and what is below.
-module _ (above_a below_a above_b below_b above_c below_c : ℕ) where
-  -- no less robust than what is no less robust
-  pub fractions-le : 1 ≤ below_b → above_b * below_a ≤ above_a * below_b → above_c * below_b ≤ above_b * below_c → above_c * below_a ≤ above_a * below_c
-  fractions-le some first second =
-      let left = mul-le-mul_right below_a second in
-      let right = mul-le-mul_right below_c first in
-      let products : above_c * below_a * below_b ≤ above_a * below_c * below_b = omega (arith, left, right) in
-      le_of_mul-le-mul_right products (omega (arith, some))
-
-  -- less than what is less or equal
-  pub fractions-lt_le : 1 ≤ below_c → above_b * below_a < above_a * below_b → above_c * below_b ≤ above_b * below_c → above_c * below_a < above_a * below_c
-  fractions-lt_le some first second =
-      let left = mul-le-mul_right below_a second in
-      let right = mul-lt-mul_of_pos_right {k = below_c} first (omega (arith, some)) in
-      let products : above_c * below_a * below_b < above_a * below_c * below_b = omega (arith, left, right) in
-      lt_of_mul-lt-mul_right below_b products
-
-  pub fractions-le_lt : 1 ≤ below_a → above_b * below_a ≤ above_a * below_b → above_c * below_b < above_b * below_c → above_c * below_a < above_a * below_c
-  fractions-le_lt some first second =
-      let left = mul-lt-mul_of_pos_right {k = below_a} second (omega (arith, some)) in
-      let right = mul-le-mul_right below_c first in
-      let products : above_c * below_a * below_b < above_a * below_c * below_b = omega (arith, left, right) in
-      lt_of_mul-lt-mul_right below_b products
 
 module _ (a b c : RankingKey) (whole_a : 1 ≤ a.robust.monitored) (whole_b : 1 ≤ b.robust.monitored) (whole_c : 1 ≤ c.robust.monitored) where
   as_robust : IsAsRobust a.robust b.robust → IsAsRobust b.robust c.robust → IsAsRobust a.robust c.robust

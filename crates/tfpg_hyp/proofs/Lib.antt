@@ -3,7 +3,7 @@ mod Chosen
 mod Counted
 mod Listed
 pub mod Tables
-mod Parts
+mod Subsets
 mod Fractions
 pub mod FindingsOfRound
 mod FittingSets

@@ -1,11 +1,14 @@
 -- The sets of all sizes up to one, listed in order: they are the hypotheses.
-use Rattle.std.proofs.Common.{◌≡◌, ℕ, suc, zero, ◌+◌, ◌-◌, ◌<◌, ◌≤◌, min, ltb, eqb, List, [], ◌∷◌, ◌++◌, length, map, inl, inr, ⊎_elim, refl, arith, sym, ◌∙◌, ap, subst, append_assoc, add-one}
+use Rattle.std.proofs.Common.{◌≡◌, ℕ, suc, zero, ◌+◌, ◌-◌, ◌<◌, min, List, [], ◌∷◌, ◌++◌, length, map, inl, inr, ⊎_elim, refl, arith, sym, ◌∙◌, ap, subst, append_assoc, add-one}
 use Rattle.std.specs.List.{All, AllPairs, Contains}
-use Rattle.std.proofs.lemmas.Bool.{cases_lt, cond-false, le-ltb, ne_eqb}
+use Rattle.std.proofs.lemmas.Bool.{cases_lt}
 use Rattle.std.proofs.lemmas.List.{append-nil, map-append, map-id}
-use Rattle.std.proofs.lemmas.List.Elements.{All-contains, Contains-get_or, Contains-append_left, Contains-append_right, Contains-append_cases}
+use Rattle.std.proofs.lemmas.List.Elements.{Contains-get_or, Contains-append_left, Contains-append_right, Contains-append_cases}
 use Rattle.tfpg_base.specs.Set.{with_member}
-use Rattle.tfpg_base.proofs.lists.Elements.{All-from_members, Contains-nil, Contains-cons_cases}
+use Rattle.tfpg_base.proofs.Sets.{with_member-last}
+use Rattle.tfpg_base.proofs.lists.Images.{map-map}
+use Rattle.tfpg_base.proofs.lists.Sequences.{min-cases}
+use Rattle.tfpg_base.proofs.lists.Elements.{Contains-nil}
 use Rattle.tfpg_base.proofs.lists.Ordered.{AllPairs-nil, AllPairs-append}
 use Rattle.tfpg_graph.specs.Graph.{Tfpg, failures}
 use Rattle.tfpg_hyp.specs.Table.{IsHypothesis, ComesFirst, IsListedBefore, IsTable}
@@ -95,54 +98,21 @@ counted-past count (suc more) =
     ap (choices_below count) next ∙ omega (arith, counted-past count more, choices-past count (count + 1 + more) (omega arith))
 
 -- so the sizes up to the number of failure modes are enough
-by_least : (F : ℕ → Type 0) (k count : ℕ) → (k ≤ count → F k) → (count < k → F count) → F (min k count)
-by_least F k count few many =
-    ⊎_elim (λ less. subst F (let e : count ≡ min k count = omega (arith, less) in e) (many less))
-    (λ not_less. subst F (let e : k ≡ min k count = omega (arith, not_less) in e) (few not_less)) (cases_lt count k)
-
 pub listed-least : (k count : ℕ) → chosen_below count (min k count + 1) ≡ chosen_below count (k + 1)
 listed-least k count =
-    by_least (λ n. chosen_below count (n + 1) ≡ chosen_below count (k + 1)) k count (λ few. refl)
+    min-cases (λ n. chosen_below count (n + 1) ≡ chosen_below count (k + 1)) k count (λ few. refl)
     (λ many. let e : count + 1 + (k - count) ≡ k + 1 = omega (arith, many) in sym (sym (ap (chosen_below count) e) ∙ listed-past count (k - count)))
 
 pub counted-least : (k count : ℕ) → choices_below count (min k count + 1) ≡ choices_below count (k + 1)
 counted-least k count =
-    by_least (λ n. choices_below count (n + 1) ≡ choices_below count (k + 1)) k count (λ few. refl)
+    min-cases (λ n. choices_below count (n + 1) ≡ choices_below count (k + 1)) k count (λ few. refl)
     (λ many. let e : count + 1 + (k - count) ≡ k + 1 = omega (arith, many) in sym (sym (ap (choices_below count) e) ∙ counted-past count (k - count)))
 
 -- ---- how they are appended
 
--- a greater member is appended to a set
-pub with_member-last : (index : ℕ) (members : List ℕ) → All (λ member. member < index) members → with_member index members ≡ members ++ index ∷ []
-with_member-last index [] below = refl
-with_member-last index (first ∷ others) below =
-    let less : first < index = below 0 0 (omega arith) in
-    cond-false (ltb index first) _ _ (le-ltb index first (omega (arith, less)))
-    ∙ cond-false (eqb index first) _ _ (ne_eqb index first (λ is. omega (arith, is, less)))
-    ∙ ap (λ rest. first ∷ rest) (with_member-last index others (λ k d within. below (suc k) d (omega arith)))
-
--- and it is then the greatest
-pub All-with_member : (index : ℕ) (members : List ℕ) → All (λ member. member < index) members → All (λ member. member < index + 1) (with_member index members)
-All-with_member index members below =
-    subst (All (λ member. member < index + 1)) (sym (with_member-last index members below))
-    (All-from_members (λ member. member < index + 1) (members ++ index ∷ [])
-    (λ member is_one. ⊎_elim (λ own. omega (arith, All-contains (λ m. m < index) members member below own))
-    (λ last. ⊎_elim (λ is. omega (arith, is)) (λ none. absurd (Contains-nil member none)) (Contains-cons_cases index [] member last))
-    (Contains-append_cases members (index ∷ []) member is_one)))
-
 -- with these members before each
 abbrev pub after : List ℕ → List (List ℕ) → List (List ℕ)
 after members sets = map (λ more. members ++ more) sets
-
--- no more members
-pub after-none : (members : List ℕ) (count least : ℕ) → after members (chosen count 0 least) ≡ members ∷ []
-after-none members zero least = ap (λ set. set ∷ []) (append-nil members)
-after-none members (suc count) least = ap (λ set. set ∷ []) (append-nil members)
-
--- one member first
-after-first : (members : List ℕ) (index : ℕ) (sets : List (List ℕ)) → after (members ++ index ∷ []) sets ≡ after members (map (λ set. index ∷ set) sets)
-after-first members index [] = refl
-after-first members index (set ∷ sets) = λ i. append_assoc members (index ∷ []) set i ∷ after-first members index sets i
 
 -- the sets with the least position, and then those without
 pub after-next : (members : List ℕ) (count size least : ℕ) → 0 < count → 0 < size → All (λ member. member < least) members
@@ -153,7 +123,8 @@ after-next members (suc count) (suc size) least some more below =
     let c : suc count - 1 ≡ count = omega arith in
     let s : suc size - 1 ≡ size = omega arith in
     (λ i. after (with_member-last least members below i) (chosen (c i) (s i) (least + 1)) ++ after members (chosen (c i) (suc size) (least + 1)))
-    ∙ (λ i. after-first members least (chosen count size (least + 1)) i ++ after members (chosen count (suc size) (least + 1)))
+    ∙ ap (λ (first : List (List ℕ)). first ++ after members (chosen count (suc size) (least + 1)))
+    ((λ i. map (λ set. append_assoc members (least ∷ []) set i) (chosen count size (least + 1))) ∙ sym (map-map (λ more. members ++ more) (λ set. least ∷ set) (chosen count size (least + 1))))
     ∙ sym (map-append (λ more_of. members ++ more_of) (map (λ set. least ∷ set) (chosen count size (least + 1))) (chosen count (suc size) (least + 1)))
 
 -- both appended to what was there

@@ -10,7 +10,7 @@ use Rattle.tfpg_base.specs.declared.constraint.Constraint.{Constraint}
 use Rattle.tfpg_graph.specs.declared.edge.Edge.{Edge}
 use Rattle.tfpg_graph.specs.Graph.{Tfpg, sizes_of, is_kind_at, is_or, is_and, edges_into}
 use Rattle.tfpg_graph.proofs.NodeAt.{kind_within}
-use Rattle.tfpg_log.specs.Log.{Logbook, IsOf, IsEventOf, first_events, quiet_at}
+use Rattle.tfpg_log.specs.Log.{Logbook, IsLogOf, IsEventOf, first_events, quiet_at}
 use Rattle.tfpg_log.specs.Spans.{joint_of}
 use Rattle.tfpg_log.proofs.SilentNodes.{quiet_within}
 use Rattle.tfpg_evidence.specs.declared.clause_name.ClauseName.{ClauseName}
@@ -40,13 +40,13 @@ allowed_named graph log (AndMust node number horizon) clause is =
 
 -- ---- silences
 
-first_events_of : (graph : Tfpg) (log : Logbook) (seen : ℕ) → IsOf graph log → IsOf graph (first_events log seen)
+first_events_of : (graph : Tfpg) (log : Logbook) (seen : ℕ) → IsLogOf graph log → IsLogOf graph (first_events log seen)
 first_events_of graph log seen of = record { own = All-take (IsEventOf graph) seen log.events of.own }
 
 -- ---- steps
 
 -- a reason that states a constraint names no node but those of the graph
-stated_named : (graph : Tfpg) (log : Logbook) (reach : List ℕ) (path : List PathSplit) (seen : ℕ) → IsOf graph log → (reason : Reason) (constraint : Constraint)
+stated_named : (graph : Tfpg) (log : Logbook) (reach : List ℕ) (path : List PathSplit) (seen : ℕ) → IsLogOf graph log → (reason : Reason) (constraint : Constraint)
     → stated graph log reach path seen reason ≡ Some constraint → IsReasonOf (sizes_of graph) reason
 stated_named graph log reach path seen of (Zero node) constraint is = ltb-true node (length graph.nodes) (then_some-true (ltb node (length graph.nodes)) _ constraint is).0
 stated_named graph log reach path seen of (Top node) constraint is = ltb-true node (length graph.nodes) (then_some-true (ltb node (length graph.nodes)) _ constraint is).0
@@ -59,7 +59,7 @@ stated_named graph log reach path seen of (Quiet event node) constraint is =
 stated_named graph log reach path seen of (Pick split index) constraint is = tt
 
 -- a right step names only what the graph has
-pub right_named : (graph : Tfpg) (log : Logbook) (reach : List ℕ) (path : List PathSplit) (seen subtrees : ℕ) → IsOf graph log → (step : Step) → IsRightStep graph log reach path seen subtrees step
+pub right_named : (graph : Tfpg) (log : Logbook) (reach : List ℕ) (path : List PathSplit) (seen subtrees : ℕ) → IsLogOf graph log → (step : Step) → IsRightStep graph log reach path seen subtrees step
     → IsStepOf (sizes_of graph) step
 right_named graph log reach path seen subtrees of (Split name) right =
     let clause = option_map-some length (alternatives graph (first_events log seen) name) subtrees right in

@@ -5,7 +5,7 @@ use Rattle.std.proofs.Math.Seq.{take-append_seam}
 use Rattle.std.proofs.lemmas.List.{take-map}
 use Rattle.std.proofs.lemmas.List.Elements.{All-same, All-map, All-weaker}
 use Rattle.tfpg_graph.specs.Graph.{Tfpg, sizes_of}
-use Rattle.tfpg_log.specs.Log.{Logbook, IsOf}
+use Rattle.tfpg_log.specs.Log.{Logbook, IsLogOf}
 use Rattle.tfpg_evidence.specs.declared.finding.Finding.{Finding}
 use Rattle.tfpg_evidence.specs.declared.finding.Status.{Status}
 use Rattle.tfpg_evidence.specs.declared.finding.Status.TheVariants.{Ranked, Covered, Rejected, Open}
@@ -18,7 +18,7 @@ use Rattle.tfpg_hyp.proofs.Named.{right_named}
 abbrev pub AreStepsOfGraph : Tfpg → List Judged → Type 0
 AreStepsOfGraph graph steps = All (λ (judged : Judged). IsStepOf (sizes_of graph) judged.step) steps
 
-module _ (graph : Tfpg) (log : Logbook) (reach : List ℕ) (of : IsOf graph log) where
+module _ (graph : Tfpg) (log : Logbook) (reach : List ℕ) (of : IsLogOf graph log) where
   places_named : (places : List StepPlace) → All (IsRight graph log reach) places → AreStepsOfGraph graph (map (λ (place : StepPlace). place.step) places)
   places_named places right =
       All-map (λ (judged : Judged). IsStepOf (sizes_of graph) judged.step) (λ (place : StepPlace). place.step) places

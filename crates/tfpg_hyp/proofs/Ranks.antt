@@ -1,7 +1,7 @@
 -- What the loops over failure modes and nodes have counted so far.
 use Rattle.std.proofs.Common.{◌≡◌, ℕ, ◌+◌, ◌<◌, ◌≤◌, true, false, cond, eqb, ltb, List, [], ◌∷◌, ◌++◌, length, Option, Some, None, refl, arith, sym, ◌∙◌, ap, subst}
 use Rattle.std.specs.List.{All, Contains, count_by, filter, slice_get}
-use Rattle.tfpg_base.specs.Set.{Rises}
+use Rattle.tfpg_base.specs.Set.{Rises, IsSet}
 use Rattle.std.specs.Option.{option_map, option_and_then, is_some}
 use Rattle.std.proofs.lemmas.Bool.{cond-true, cond-false, cond_both, ltb-false, ne_eqb, eq-eqb}
 use Rattle.std.proofs.lemmas.List.Sums.{sum_by_push, length-filter}
@@ -13,7 +13,6 @@ use Rattle.tfpg_graph.specs.Graph.{Tfpg, Node, is_monitored, kind_at, lag_of}
 use Rattle.tfpg_graph.specs.Valid.{IsValid, HasValidNumber}
 use Rattle.tfpg_base.proofs.lists.Elements.{All-at}
 use Rattle.tfpg_log.specs.Log.{Logbook, alarm_of}
-use Rattle.tfpg_base.specs.Set.{IsSet}
 use Rattle.tfpg_hyp.specs.declared.ranking_key.Fraction.{Fraction}
 use Rattle.tfpg_hyp.specs.Ranking.{rarity_at, cost_of, robustness_of, monitored_in, alarmed_in}
 use Rattle.tfpg_base.proofs.lists.Filtered.{filter-push_yes, filter-push_no, count_by-push}
@@ -130,14 +129,11 @@ module _ (graph : Tfpg) (log : Logbook) where
     counted-absent absent = subst (λ nodes. AreCounted graph log nodes alarmed monitored) (sym (below-absent node reach absent)) are
 
     module _ (rising : Rises reach) (member : Contains reach node) where
-      one_more : below node reach ++ node ∷ [] ≡ below (node + 1) reach
-      one_more = sym (below-member node reach rising member)
-
       pub counted-hidden : is_monitored graph node ≡ false → AreCounted graph log (below (node + 1) reach) alarmed monitored
-      counted-hidden hidden = subst (λ nodes. AreCounted graph log nodes alarmed monitored) one_more (AreCounted-hidden (below node reach) node alarmed monitored are hidden)
+      counted-hidden hidden = subst (λ nodes. AreCounted graph log nodes alarmed monitored) (sym (below-member node reach rising member)) (AreCounted-hidden (below node reach) node alarmed monitored are hidden)
 
       pub counted-alarmed : is_monitored graph node ≡ true → is_some (alarm_of log node) ≡ true → AreCounted graph log (below (node + 1) reach) (alarmed + 1) (monitored + 1)
-      counted-alarmed shown alarm = subst (λ nodes. AreCounted graph log nodes (alarmed + 1) (monitored + 1)) one_more (AreCounted-alarmed (below node reach) node alarmed monitored are shown alarm)
+      counted-alarmed shown alarm = subst (λ nodes. AreCounted graph log nodes (alarmed + 1) (monitored + 1)) (sym (below-member node reach rising member)) (AreCounted-alarmed (below node reach) node alarmed monitored are shown alarm)
 
       pub counted-silent : is_monitored graph node ≡ true → is_some (alarm_of log node) ≡ false → AreCounted graph log (below (node + 1) reach) alarmed (monitored + 1)
-      counted-silent shown silent = subst (λ nodes. AreCounted graph log nodes alarmed (monitored + 1)) one_more (AreCounted-silent (below node reach) node alarmed monitored are shown silent)
+      counted-silent shown silent = subst (λ nodes. AreCounted graph log nodes alarmed (monitored + 1)) (sym (below-member node reach rising member)) (AreCounted-silent (below node reach) node alarmed monitored are shown silent)

@@ -1,13 +1,10 @@
 -- A round is of its graph.
-use Rattle.std.proofs.Common.{◌≡◌, ℕ, ◌<◌, eqb, List, [], ◌∷◌, ◌++◌, length, get_or, map, Option, Some, refl, ap, subst, ◌∙◌, arith}
-use Rattle.std.specs.Prelude.{All, IsTrue, slice_get, option_map, unwrap_or}
-use Rattle.std.proofs.lemmas.Bool.{eq-eqb, ne_eqb}
+use Rattle.std.proofs.Common.{◌≡◌, ℕ, ◌<◌, List, [], ◌∷◌, ◌++◌, length, get_or, map, Option, Some, refl, ap, subst, ◌∙◌, arith}
+use Rattle.std.specs.Prelude.{All, IsTrue, slice_get}
 use Rattle.std.proofs.lemmas.Option.{slice_get-get_or, option_and_then_some}
-use Rattle.std.proofs.lemmas.List.{append-nil}
-use Rattle.std.proofs.lemmas.Grind.{flat_map-append}
 use Rattle.std.proofs.lemmas.List.Elements.{All-same}
 use Rattle.tfpg_graph.specs.Graph.{Tfpg, failures, AreFailures, sizes_of}
-use Rattle.tfpg_log.specs.Log.{Logbook, IsOf}
+use Rattle.tfpg_log.specs.Log.{Logbook, IsLogOf}
 use Rattle.tfpg_evidence.specs.declared.step.Step.{Step}
 use Rattle.tfpg_evidence.specs.declared.finding.Finding.{Finding}
 use Rattle.tfpg_evidence.specs.declared.finding.Status.{Status}
@@ -17,31 +14,22 @@ use Rattle.tfpg_evidence.specs.RoundOf.{IsStepOf, IsStatusOf, IsFindingOf, IsRan
 use Rattle.tfpg_base.specs.Choice.{each_of}
 use Rattle.tfpg_clause.specs.Trees.{Judged}
 use Rattle.tfpg_base.proofs.lists.Choices.{Contains-each_of, each_of-some}
-use Rattle.tfpg_base.proofs.lists.FirstFound.{find_first}
+use Rattle.tfpg_evidence.proofs.FindingsByNumber.{finding_numbered-first}
 use Rattle.tfpg_base.proofs.lists.Images.{All-unmap}
 use Rattle.tfpg_base.proofs.lists.Elements.{All-back, All-from_members, Contains-at}
-use Rattle.tfpg_hyp.specs.Rounds.{IsRound, HasEvidence, key_at, key_of_status, steps_in, steps_so_far}
+use Rattle.tfpg_hyp.specs.Rounds.{IsRound, HasEvidence, key_at, key_of_status, steps_so_far}
 use Rattle.tfpg_hyp.specs.declared.ranking_key.RankingKey.{RankingKey}
-use Rattle.tfpg_hyp.proofs.FindingsOfRound.{HasFindingAt, evidence}
+use Rattle.tfpg_hyp.proofs.FindingsOfRound.{HasFindingAt, evidence, steps_so_far-push}
 use Rattle.tfpg_hyp.proofs.NamedSteps.{AreStepsOfGraph, evidence_named}
 
 -- ---- the steps of this round
-
--- the steps of all rounds end with those of this one
-steps_end : (number : ℕ) (rounds : List Round) (round : Round) (finding : Finding) → slice_get round.findings number ≡ Some finding
-    → steps_so_far number (rounds ++ round ∷ []) ≡ steps_so_far number rounds ++ map (λ (step : Step). record { seen = round.number; step = step }) finding.steps
-steps_end number rounds round finding at =
-    flat_map-append (steps_in number) rounds (round ∷ [])
-    ∙ ap (λ (last : List Judged). steps_so_far number rounds ++ last)
-    (append-nil (steps_in number round)
-    ∙ ap (λ (found : Option Finding). map (λ (step : Step). record { seen = round.number; step = step }) (unwrap_or (option_map (λ (f : Finding). f.steps) found) [])) at)
 
 last_named : (graph : Tfpg) (number : ℕ) (rounds : List Round) (round : Round) (finding : Finding) → slice_get round.findings number ≡ Some finding
     → AreStepsOfGraph graph (steps_so_far number (rounds ++ round ∷ [])) → All (IsStepOf (sizes_of graph)) finding.steps
 last_named graph number rounds round finding at named =
     All-unmap (λ (judged : Judged). IsStepOf (sizes_of graph) judged.step) (λ (step : Step). record { seen = round.number; step = step }) finding.steps
     (All-back (λ (judged : Judged). IsStepOf (sizes_of graph) judged.step) (steps_so_far number rounds) (map (λ (step : Step). record { seen = round.number; step = step }) finding.steps)
-    (subst (AreStepsOfGraph graph) (steps_end number rounds round finding at) named))
+    (subst (AreStepsOfGraph graph) (steps_so_far-push number rounds round round.number finding refl at) named))
 
 -- ---- statuses
 
@@ -60,7 +48,7 @@ key_ranked number Open key at = absurd cc
 
 -- ---- the round
 
-module _ (graph : Tfpg) (k budget line : ℕ) (rounds : List Round) (log : Logbook) (round : Round) (of : IsOf graph log) (is_round : IsRound graph k budget rounds log line round) where
+module _ (graph : Tfpg) (k budget line : ℕ) (rounds : List Round) (log : Logbook) (round : Round) (of : IsLogOf graph log) (is_round : IsRound graph k budget rounds log line round) where
   -- the number of a finding is its index
   number_at : (number : ℕ) (finding : Finding) → HasFindingAt round number finding → finding.number ≡ number
   number_at number finding at = (evidence is_round number finding at).2.number_is
@@ -81,8 +69,8 @@ module _ (graph : Tfpg) (k budget line : ℕ) (rounds : List Round) (log : Logbo
   -- the finding of a number is found by it
   found_by_number : (number : ℕ) (finding : Finding) → HasFindingAt round number finding → finding_numbered round.findings number ≡ Some finding
   found_by_number number finding at =
-      find_first (λ (f : Finding). eqb f.number number) round.findings number finding at (eq-eqb finding.number number (number_at number finding at))
-      (λ other f lt there. (let own : f.number ≡ other = number_at other f there in ne_eqb f.number number (λ same. absurd (omega (arith, own, same, lt)))))
+      finding_numbered-first round.findings number number finding at (number_at number finding at)
+      (λ other f lt there is. (let own : f.number ≡ other = number_at other f there in omega (arith, own, is, lt)))
 
   ranked_in : (number : ℕ) (key : RankingKey) → key_at round.findings number ≡ Some key → IsRankedIn round.findings number
   ranked_in number key at =

@@ -10,10 +10,10 @@ use Rattle.tfpg_hyp.specs.Table.{IsHypothesis}
 
 -- Some hypothesis fits the log that is a proper subset of the set.
 pub record HasFittingSubset (graph : Tfpg) (log : Logbook) (k : ℕ) (set : List ℕ) : Type 0 where
-  pub part : List ℕ
-  pub hypothesis : IsHypothesis graph k part
-  pub proper : IsProperSubset part set
-  pub fits : Fits graph log part
+  pub subset : List ℕ
+  pub hypothesis : IsHypothesis graph k subset
+  pub proper : IsProperSubset subset set
+  pub fits : Fits graph log subset
 
 -- No finding on a proper subset of the set is open.
 abbrev pub AreNoneOpenBelow : List Finding → List ℕ → Type 0
@@ -36,7 +36,7 @@ pub record SayWhichSetsFit (graph : Tfpg) (log : Logbook) (k : ℕ) (findings : 
 
 -- The statuses are those of the minimal sets that fit: ranked are exactly the sets that fit while no proper subset does, covered
 -- exactly the others that fit, and rejected exactly those that do not.
-pub record AreThoseOfMinimalSets (graph : Tfpg) (log : Logbook) (k : ℕ) (findings : List Finding) : Type 0 where
+pub record AreStatusesOfMinimalSets (graph : Tfpg) (log : Logbook) (k : ℕ) (findings : List Finding) : Type 0 where
   pub ranked : (number : ℕ) (finding : Finding) → slice_get findings number ≡ Some finding
       → IsTrue (is_ranked finding.status) ↔ (Fits graph log finding.set × (HasFittingSubset graph log k finding.set → ⊥))
   pub covered : (number : ℕ) (finding : Finding) → slice_get findings number ≡ Some finding

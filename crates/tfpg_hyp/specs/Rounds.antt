@@ -33,7 +33,7 @@ pub record IsRankedSubset (findings : List Finding) (set : List ℕ) (number : �
   pub finding : Finding
   pub numbered : slice_get findings number ≡ Some finding
   pub ranked : IsTrue (is_ranked finding.status)
-  pub part : IsProperSubset finding.set set
+  pub subset : IsProperSubset finding.set set
 
 -- Some hypothesis is ranked whose set is a proper subset of the set.
 abbrev pub HasRankedSubset : List Finding → List ℕ → Type 0
@@ -41,7 +41,7 @@ HasRankedSubset findings set = (number : ℕ) × IsRankedSubset findings set num
 
 -- The number is the least of those of ranked hypotheses on a proper subset of the set.
 pub record IsLeastSubset (findings : List Finding) (set : List ℕ) (by : ℕ) : Type 0 where
-  pub part : IsRankedSubset findings set by
+  pub subset : IsRankedSubset findings set by
   pub least : (other : ℕ) → IsRankedSubset findings set other → by ≤ other
 
 -- What each status says of a set with this reach, whose steps of all rounds so far are these.

@@ -27,11 +27,11 @@ pub fn the_table_is_one()
 
 /// Each subset of a hypothesis is a hypothesis, and a proper one has the lesser number.
 pub fn subsets_stand_before_their_supersets()
-    ensures hypothesis { (graph : Tfpg) (k : ℕ) (part whole : List ℕ) →
-        IsSet part → IsSubset part whole → IsHypothesis graph k whole → IsHypothesis graph k part }
+    ensures hypothesis { (graph : Tfpg) (k : ℕ) (subset whole : List ℕ) →
+        IsSet subset → IsSubset subset whole → IsHypothesis graph k whole → IsHypothesis graph k subset }
     ensures before { (graph : Tfpg) (k : ℕ) (sets : List (List ℕ)) → IsTable graph k sets →
-        (number other : ℕ) (part whole : List ℕ) → slice_get sets number ≡ Some part →
-        slice_get sets other ≡ Some whole → IsProperSubset part whole → number < other }
+        (number other : ℕ) (subset whole : List ℕ) → slice_get sets number ≡ Some subset →
+        slice_get sets other ≡ Some whole → IsProperSubset subset whole → number < other }
 {}
 
 /// The ranking order is a strict total order of keys with different numbers whose robustness is a fraction.

@@ -4,7 +4,8 @@
 //!
 //! - [`Table`] lists all hypotheses of a graph in order, with what each reaches. Where there are more than
 //!   [`MAX_HYPOTHESES`], [`TableFault`] says how many.
-//! - [`cost`] and [`robust`] find what ranks a hypothesis, its [`RankingKey`], and [`is_ranked_before`] compares two keys.
+//! - [`cost`] and [`robust`] find what ranks a hypothesis, its [`RankingKey`], and [`before`] compares two keys. Robustness is
+//!   a [`Fraction`].
 //! - [`laws`] says what follows from the definitions of the table, of the ranking order and of a round.
 //!
 //! In this crate a round is a definition alone (`specs/Rounds.antt`). `tfpg_engine` makes rounds.
@@ -29,6 +30,6 @@ mod ranking_key;
 mod table;
 
 pub use limits::MAX_HYPOTHESES;
-pub use ranking::{cost, is_ranked_before, robust};
+pub use ranking::{before, cost, robust};
 pub use ranking_key::{Fraction, RankingKey};
 pub use table::{Table, TableFault};

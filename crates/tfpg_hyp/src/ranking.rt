@@ -52,7 +52,7 @@ pub fn robust(graph: &Graph, log: &Log, reach: &NodeSet) -> Fraction
 
 /// Whether the one key comes before the other: where it costs less, or costs the same and is more robust, or is as
 /// robust too and has the lesser number. Robustness is compared as the fraction that it is.
-pub fn is_ranked_before(a: &RankingKey, b: &RankingKey) -> bool
+pub fn before(a: &RankingKey, b: &RankingKey) -> bool
     requires first { 1 ≤ a.now.robust.monitored }
     requires second { 1 ≤ b.now.robust.monitored }
     ensures { IsTrue result ↔ IsRankedBefore a.now b.now }

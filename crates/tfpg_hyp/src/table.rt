@@ -16,7 +16,7 @@ use tfpg_graph::{Graph, NodeSet};
 /// Why there is no table.
 #[derive(Clone, Copy, Debug, PartialEq, Eq)]
 pub enum TableFault {
-    /// There are more than 4,096 hypotheses, and exactly this many.
+    /// There are more than [`MAX_HYPOTHESES`](crate::MAX_HYPOTHESES) hypotheses, and exactly this many.
     TooMany { count: u128 },
     NoMemory,
 }
@@ -56,8 +56,8 @@ impl Model for Table {
 }
 
 impl Table {
-    /// The table of all sets of at most `k` failure modes of the graph. Where there are more than 4,096 of them, the
-    /// fault says how many, and none is listed.
+    /// The table of all sets of at most `k` failure modes of the graph. Where there are more than
+    /// [`MAX_HYPOTHESES`](crate::MAX_HYPOTHESES) of them, the fault says how many, and none is listed.
     pub fn new(alloc: Global, graph: &Graph, k: u32) -> Result<Table, TableFault>
         ensures table { IfOk result (λ table. IsTableOf graph.now k table) }
         ensures too_many { (count : ℕ) → (result ≡ Err (TableFault.TooMany count)) ↔
@@ -72,7 +72,7 @@ impl Table {
         Ok(table)
     }
 
-    /// How many hypotheses it has: at most 4,096.
+    /// How many hypotheses it has: at most [`MAX_HYPOTHESES`](crate::MAX_HYPOTHESES).
     pub fn len(&self) -> u32
         ensures count { result ≡ length self.now.sets }
         ensures reaches { result ≡ length self.now.reaches }

@@ -1,32 +1,27 @@
 -- What the chain of the constraints of a cycle says of them.
-use Rattle.std.proofs.Common.{◌≡◌, ℕ, ◌+◌, ◌*◌, ◌^◌, ◌<◌, List, [], ◌∷◌, ◌++◌, Bool, true, false, cond, Option, Some, None, refl, sym, ap, subst, ◌∙◌, arith, ◌-◌, inl, inr}
-use Rattle.std.specs.Prelude.{ℤ, pos, negsuc, ◌+ℤ◌, ◌<ℤ◌, ◌≤ℤ◌, neg_ℤ, fold, map, is_none, option_map, ◌&&◌, ◌==◌}
+use Rattle.std.proofs.Common.{◌≡◌, ℕ, ◌+◌, ◌<◌, List, [], ◌∷◌, ◌++◌, Bool, true, false, cond, Option, Some, None, refl, sym, ap, subst, ◌∙◌, arith, ◌-◌, inl, inr}
+use Rattle.std.specs.Prelude.{ℤ, pos, negsuc, ◌+ℤ◌, ◌<ℤ◌, ◌≤ℤ◌, fold, map, is_none, option_map, ◌&&◌, ◌==◌}
 use Rattle.std.specs.Bool.{then_some}
 use Rattle.std.proofs.Math.Bool.{and_assoc}
 use Rattle.std.proofs.lemmas.Int.{ints}
-use Rattle.std.proofs.lemmas.List.{map-append}
+use Rattle.std.proofs.lemmas.List.Sums.{fold_push}
 use Rattle.std.proofs.lemmas.Bool.{eqb-true, eq-eqb, and_parts}
 use Rattle.tfpg_base.specs.Choice.{first_of, each_of}
 use Rattle.tfpg_base.specs.declared.constraint.Constraint.{Constraint}
 use Rattle.tfpg_evidence.specs.declared.reason.Reason.{Reason}
-use Rattle.tfpg_base.specs.ConstraintCycle.{IsChainTo, IsCycle, sum_of}
-use Rattle.tfpg_base.proofs.lists.Choices.{each_of-push}
+use Rattle.tfpg_base.specs.ConstraintCycle.{IsChainTo, IsCycle, IsNegativeCycle, sum_of}
 use Rattle.tfpg_kernel.specs.declared.chain.Chain.{Chain}
 use Rattle.tfpg_kernel.specs.declared.chain.ClosingFault.{ClosingFault}
 use Rattle.tfpg_kernel.specs.declared.chain.ClosingFault.TheVariants.{Unchained, NotNegative}
 use Rattle.tfpg_kernel.specs.Breaks.{fault_of, reasons_fault, ClosingBreaks}
-use Rattle.tfpg_kernel.specs.inside.Chains.{HasMagnitudeUpTo, new_chain, with_constraint, chain_of, is_round, is_negative, closing_fault, bad_of}
+use Rattle.tfpg_kernel.specs.inside.Chains.{new_chain, with_constraint, chain_of, is_round, is_negative, closing_fault, bad_of}
 
 -- the chain from a state on
 abbrev chain_from : Chain → List Constraint → Chain
 chain_from chain constraints = fold with_constraint chain constraints
 
-fold_push : (chain : Chain) (constraints : List Constraint) (last : Constraint) → chain_from chain (constraints ++ last ∷ []) ≡ with_constraint (chain_from chain constraints) last
-fold_push chain [] last = refl
-fold_push chain (c ∷ constraints) last = fold_push (with_constraint chain c) constraints last
-
 pub chain_push : (constraints : List Constraint) (last : Constraint) → chain_of (constraints ++ last ∷ []) ≡ with_constraint (chain_of constraints) last
-chain_push constraints last = fold_push new_chain constraints last
+chain_push constraints last = fold_push with_constraint new_chain constraints last
 
 sum_from : (chain : Chain) (constraints : List Constraint) → (chain_from chain constraints).sum ≡ fold (λ total constraint. total +ℤ constraint.bound) chain.sum constraints
 sum_from chain [] = refl
@@ -76,13 +71,13 @@ not_below_zero : (sum : ℤ) → is_negative sum ≡ false → pos 0 ≤ℤ sum
 not_below_zero (pos n) test = omega (arith, ints)
 not_below_zero (negsuc n) test = cc
 
--- No fault is left: the constraints chain into a cycle whose sum is negative.
-pub closes : (constraints : List Constraint) → closing_fault (chain_of constraints) ≡ None → IsCycle constraints × (sum_of constraints <ℤ pos 0)
+-- No fault is left: the constraints are a negative cycle.
+pub closes : (constraints : List Constraint) → closing_fault (chain_of constraints) ≡ None → IsNegativeCycle constraints
 closes constraints none = by (round_test (chain_of constraints)) refl (is_negative (chain_of constraints).sum) refl none
   where
     by : (round : Bool) → round_test (chain_of constraints) ≡ round → (negative : Bool) → is_negative (chain_of constraints).sum ≡ negative
-        → cond round (cond negative None (Some NotNegative)) (Some Unchained) ≡ None → IsCycle constraints × (sum_of constraints <ℤ pos 0)
-    by true round true negative none = (cycle_of constraints round, subst (λ (s : ℤ). s <ℤ pos 0) (sum_is constraints) (below_zero (chain_of constraints).sum negative))
+        → cond round (cond negative None (Some NotNegative)) (Some Unchained) ≡ None → IsNegativeCycle constraints
+    by true round true negative none = record { chained = cycle_of constraints round; negative = subst (λ (s : ℤ). s <ℤ pos 0) (sum_is constraints) (below_zero (chain_of constraints).sum negative) }
     by true round false negative none = cc
     by false round negative is none = cc
 
@@ -100,19 +95,6 @@ breaks constraints fault some = by (round_test (chain_of constraints)) refl (is_
         let same : Unchained ≡ fault = cc in
         subst (λ (f : ClosingFault). ClosingBreaks constraints (bad_of f)) same (inl (refl, λ (cycle : IsCycle constraints). let both : true ≡ false = sym (round_of constraints cycle) ∙ round in cc))
 
--- One more bound of 64 bits.
-pub within_more : (n : ℕ) (sum bound : ℤ) → HasMagnitudeUpTo (n * 2 ^ 63) sum → neg_ℤ (pos (2 ^ 63)) ≤ℤ bound → bound <ℤ pos (2 ^ 63) → HasMagnitudeUpTo ((n + 1) * 2 ^ 63) (sum +ℤ bound)
-within_more n sum bound within low high =
-    let under = within.low in
-    let over = within.high in
-    record { low = omega (arith, ints); high = omega (arith, ints) }
-
-pub within_room : (n : ℕ) (sum : ℤ) → n + 1 < 2 ^ 64 → HasMagnitudeUpTo (n * 2 ^ 63) sum → HasMagnitudeUpTo (2 ^ 127 - 2 ^ 63) sum
-within_room n sum few within =
-    let under = within.low in
-    let over = within.high in
-    record { low = omega (arith, ints); high = omega (arith, ints) }
-
 -- the first reason that states nothing gives the fault
 pub first_fault : (stated : Reason → Option Constraint) (front : List Reason) (reason : Reason) (rest : List Reason) (constraints : List Constraint)
     → each_of (map stated front) ≡ Some constraints → stated reason ≡ None → reasons_fault stated (front ++ reason ∷ rest) ≡ Some (fault_of reason)
@@ -127,8 +109,3 @@ first_fault stated (r ∷ front) reason rest constraints hold none = by (λ cs k
     by next (Some c) is None are whole = let none_at : option_map (λ (xs : List Constraint). c ∷ xs) None ≡ Some constraints = ap (option_map (λ (xs : List Constraint). c ∷ xs)) (sym are) ∙ whole in cc
     by next (Some c) is (Some cs) are whole =
         ap (λ (o : Option Constraint). first_of (then_some (is_none o) (fault_of r) ∷ map (λ (x : Reason). then_some (is_none (stated x)) (fault_of x)) (front ++ reason ∷ rest))) is ∙ next cs are
-
-pub each_more : (stated : Reason → Option Constraint) (front : List Reason) (reason : Reason) (constraints : List Constraint) (c : Constraint)
-    → each_of (map stated front) ≡ Some constraints → stated reason ≡ Some c → each_of (map stated (front ++ reason ∷ [])) ≡ Some (constraints ++ c ∷ [])
-each_more stated front reason constraints c hold is =
-    ap each_of (map-append stated front (reason ∷ [])) ∙ ap (λ (o : Option Constraint). each_of (map stated front ++ o ∷ [])) is ∙ each_of-push (map stated front) constraints c hold

@@ -1,11 +1,11 @@
 -- A step breaks one condition first, and none where it is right.
 use Rattle.std.proofs.Common.{◌≡◌, ℕ, List, [], ◌∷◌, Option, Some, None, refl, sym, ap, subst, ◌∙◌, inl, inr, arith}
-use Rattle.std.specs.Prelude.{map, option_map, is_none, pos, ◌<ℤ◌}
+use Rattle.std.specs.Prelude.{map, option_map, is_none}
 use Rattle.std.specs.Bool.{then_some}
 use Rattle.std.proofs.lemmas.Int.{ints}
 use Rattle.tfpg_base.specs.Choice.{first_of, each_of}
 use Rattle.tfpg_base.specs.declared.constraint.Constraint.{Constraint}
-use Rattle.tfpg_base.specs.ConstraintCycle.{IsCycle, sum_of}
+use Rattle.tfpg_base.specs.ConstraintCycle.{IsNegativeCycle}
 use Rattle.tfpg_graph.specs.Graph.{Tfpg}
 use Rattle.tfpg_log.specs.Log.{Logbook}
 use Rattle.tfpg_evidence.specs.declared.reason.Reason.{Reason}
@@ -21,9 +21,9 @@ closing_unique constraints one other (inl a) (inr b) = absurd (a.1 b.1)
 closing_unique constraints one other (inr a) (inl b) = absurd (b.1 a.1)
 closing_unique constraints one other (inr a) (inr b) = a.0 ∙ sym b.0
 
-closing_wrong : (constraints : List Constraint) (bad : BadStep) → ClosingBreaks constraints bad → IsCycle constraints → sum_of constraints <ℤ pos 0 → ⊥
-closing_wrong constraints bad (inl a) cycle negative = a.1 cycle
-closing_wrong constraints bad (inr a) cycle negative = let not = a.2 in omega (arith, ints)
+closing_wrong : (constraints : List Constraint) (bad : BadStep) → ClosingBreaks constraints bad → IsNegativeCycle constraints → ⊥
+closing_wrong constraints bad (inl a) cycle = a.1 cycle.chained
+closing_wrong constraints bad (inr a) cycle = let not = a.2 in let negative = cycle.negative in omega (arith, ints)
 
 -- where each reason states a constraint, none is at fault
 no_fault : (states : Reason → Option Constraint) (reasons : List Reason) (constraints : List Constraint) → each_of (map states reasons) ≡ Some constraints → reasons_fault states reasons ≡ None
@@ -48,12 +48,12 @@ cycle_unique states reasons one other (inr a) (inr b) =
     closing_unique b.0 one other (subst (λ (cs : List Constraint). ClosingBreaks cs one) same a.2) b.2
 
 cycle_wrong : (states : Reason → Option Constraint) (reasons : List Reason) (bad : BadStep) → CycleBreaks states reasons bad
-    → (constraints : List Constraint) → each_of (map states reasons) ≡ Some constraints → IsCycle constraints → sum_of constraints <ℤ pos 0 → ⊥
-cycle_wrong states reasons bad (inl a) constraints hold cycle negative = let none = no_fault states reasons constraints hold in cc
-cycle_wrong states reasons bad (inr a) constraints hold cycle negative =
+    → (constraints : List Constraint) → each_of (map states reasons) ≡ Some constraints → IsNegativeCycle constraints → ⊥
+cycle_wrong states reasons bad (inl a) constraints hold cycle = let none = no_fault states reasons constraints hold in cc
+cycle_wrong states reasons bad (inr a) constraints hold cycle =
     let both : Some a.0 ≡ Some constraints = sym a.1 ∙ hold in
     let same : a.0 ≡ constraints = cc in
-    closing_wrong constraints bad (subst (λ (cs : List Constraint). ClosingBreaks cs bad) same a.2) cycle negative
+    closing_wrong constraints bad (subst (λ (cs : List Constraint). ClosingBreaks cs bad) same a.2) cycle
 
 module _ (graph : Tfpg) (log : Logbook) (reach : List ℕ) where
   pub breaks_unique : (path : List PathSplit) (seen : ℕ) (step : Step) (one other : BadStep) → BreaksAt graph log reach path seen step one → BreaksAt graph log reach path seen step other → one ≡ other
@@ -62,4 +62,4 @@ module _ (graph : Tfpg) (log : Logbook) (reach : List ℕ) where
 
   pub breaks_wrong : (path : List PathSplit) (seen subtrees : ℕ) (step : Step) (bad : BadStep) → BreaksAt graph log reach path seen step bad → IsRightStep graph log reach path seen subtrees step → ⊥
   breaks_wrong path seen subtrees (Split name) bad breaks right = let both : None ≡ Some subtrees = sym breaks.1 ∙ right in cc
-  breaks_wrong path seen subtrees (Cycle reasons) bad breaks right = cycle_wrong (stated graph log reach path seen) reasons bad breaks right.constraints right.hold right.cycle right.negative
+  breaks_wrong path seen subtrees (Cycle reasons) bad breaks right = cycle_wrong (stated graph log reach path seen) reasons bad breaks right.constraints right.hold right.negative_cycle

@@ -2,22 +2,20 @@
 use Rattle.std.proofs.Common.{◌≡◌, ℕ, List, [], ◌∷◌, ◌++◌, length, Bool, true, false, Option, Some, None, refl, sym, ap, subst, ◌∙◌, inl, inr}
 use Rattle.tfpg_base.specs.declared.constraint.Constraint.{Constraint}
 use Rattle.tfpg_graph.specs.Graph.{Tfpg}
-use Rattle.tfpg_log.specs.Log.{Logbook, GoesOn, IsOrdered, first_events}
-use Rattle.tfpg_log.proofs.Events.{whole_log}
-use Rattle.tfpg_evidence.specs.declared.clause_name.ClauseName.{ClauseName}
+use Rattle.tfpg_log.specs.Log.{Logbook, GoesOn, IsOrdered}
 use Rattle.tfpg_evidence.specs.declared.reason.Reason.{Reason}
 use Rattle.tfpg_evidence.specs.declared.step.Step.{Step}
 use Rattle.tfpg_evidence.specs.declared.step.Step.TheVariants.{Split, Cycle}
-use Rattle.tfpg_clause.specs.Clauses.{count_of}
 use Rattle.tfpg_clause.specs.Trees.{Judged, PathSplit, stated, IsRefutation, IsPartial}
 use Rattle.tfpg_clause.specs.Laws.{PresentLeavesAreAlone, RefutationsAreNotPartial, LastStepsOfRefutationsAreRight, LastStepsOfPartialTreesAreRight, RefutationsStay, FramesStayAtTheLeaf, FramesFollowSplits, FramesFollowCycles, FramesEndInRefutations, FramesStateWhatPathsState}
 use Rattle.tfpg_clause.specs.Paths.{judged_by, with_step, IsRightNext, IsAtLeaf, new_frame, stated_by}
 use Rattle.tfpg_clause.specs.declared.path.Frame.{Frame}
+use Rattle.tfpg_clause.proofs.LeafSteps.{count_now}
 use Rattle.tfpg_kernel.specs.declared.taken.Taken.{Taken}
 use Rattle.tfpg_kernel.specs.declared.taken.Taken.TheVariants.{Partial, Closed, Bad}
 use Rattle.tfpg_kernel.specs.declared.taken.BadStep.{BadStep}
 use Rattle.tfpg_kernel.specs.declared.taken.BadStep.TheVariants.{AfterClosed}
-use Rattle.tfpg_kernel.specs.Checking.{Checking}
+use Rattle.tfpg_kernel.specs.CheckerState.{CheckerState}
 use Rattle.tfpg_kernel.specs.Breaks.{CycleBreaks, BreaksAt, IsFirstBroken}
 use Rattle.tfpg_kernel.specs.Represents.{Represented, CheckerRepresents}
 use Rattle.tfpg_kernel.specs.inside.StepResults.{IsStepResult}
@@ -54,7 +52,7 @@ module _ (laws : ResultLaws) (graph : Tfpg) (log : Logbook) (reach : List ℕ) w
 
   -- ---- the three results
 
-  module _ (steps : List Judged) (step : Step) (after : Checking) where
+  module _ (steps : List Judged) (step : Step) (after : CheckerState) where
     result_partial : IsPartial graph log reach (with_step steps log step) → CheckerRepresents graph log after (with_step steps log step) → IsStepResult graph log reach steps step Partial after
     result_partial partial represents = record {
       closed = (λ same. cc, λ refutation. absurd (laws.finished graph log reach (with_step steps log step) refutation partial));
@@ -100,16 +98,13 @@ module _ (laws : ResultLaws) (graph : Tfpg) (log : Logbook) (reach : List ℕ) w
     states_are : stated_by graph log reach frames ≡ stated graph log reach at.path (length log.events)
     states_are = λ i reason. laws.states_same graph log reach at.path frames reason ordered at.frames_are i
 
-    count_here : (name : ClauseName) (count : Option ℕ) → count_of graph log name ≡ count → count_of graph (first_events log (length log.events)) name ≡ count
-    count_here name count is = ap (λ (l : Logbook). count_of graph l name) (whole_log log) ∙ is
-
     broken : (step : Step) (cause : BadStep) → BreaksBy graph log reach frames step cause → IsFirstBroken graph log reach steps (judged_by log step) cause
-    broken (Split name) cause breaks = inr (at.path, at.leaf, (breaks.0, count_here name None breaks.1))
+    broken (Split name) cause breaks = inr (at.path, at.leaf, (breaks.0, count_now graph log name None breaks.1))
     broken (Cycle reasons) cause breaks = inr (at.path, at.leaf, subst (λ (f : Reason → Option Constraint). CycleBreaks f reasons cause) states_are breaks)
 
 -- ---- what a checker represents
 
-represents_by : (graph : Tfpg) (log : Logbook) (reach : List ℕ) (after : Checking) (steps : List Judged) (closed : Bool) → after.reach ≡ reach → after.closed ≡ closed
+represents_by : (graph : Tfpg) (log : Logbook) (reach : List ℕ) (after : CheckerState) (steps : List Judged) (closed : Bool) → after.reach ≡ reach → after.closed ≡ closed
     → Represented graph log reach after.path steps closed → CheckerRepresents graph log after steps
 represents_by graph log reach after steps closed same_reach same_closed is = record {
   steps_are =
@@ -117,7 +112,7 @@ represents_by graph log reach after steps closed same_reach same_closed is = rec
       (subst (λ (b : Bool). Represented graph log reach after.path steps b) (sym same_closed) is);
 }
 
-module _ (laws : ResultLaws) (graph : Tfpg) (earlier log : Logbook) (old : Checking) (steps : List Judged) (ordered : IsOrdered log) (goes_on : GoesOn earlier log)
+module _ (laws : ResultLaws) (graph : Tfpg) (earlier log : Logbook) (old : CheckerState) (steps : List Judged) (ordered : IsOrdered log) (goes_on : GoesOn earlier log)
     (represents : CheckerRepresents graph earlier old steps) where
   -- the steps are those that it represents at this log too
   stays : (closed : Bool) → Represented graph earlier old.reach old.path steps closed → Represented graph log old.reach old.path steps closed
@@ -133,7 +128,7 @@ module _ (laws : ResultLaws) (graph : Tfpg) (earlier log : Logbook) (old : Check
       let refutation : IsRefutation graph log old.reach steps = subst (λ (b : Bool). Represented graph log old.reach old.path steps b) closed now_is in
       result_bad laws graph log old.reach steps step old AfterClosed (inl (refl, refutation)) (record { steps_are = now_is })
 
-  module _ (step : Step) (new : Checking) (open_old : old.closed ≡ false) (kept : new.reach ≡ old.reach) where
+  module _ (step : Step) (new : CheckerState) (open_old : old.closed ≡ false) (kept : new.reach ≡ old.reach) where
     leaf_now : IsAtLeaf graph log old.reach old.path steps
     leaf_now = subst (λ (b : Bool). Represented graph log old.reach old.path steps b) open_old now_is
 
@@ -147,4 +142,4 @@ module _ (laws : ResultLaws) (graph : Tfpg) (earlier log : Logbook) (old : Check
         result_closed laws graph log old.reach steps step new refutation (represents_by graph log old.reach new (with_step steps log step) true kept moves.1 refutation)
     moved (Bad cause) moves =
         result_bad laws graph log old.reach steps step new cause (broken laws graph log old.reach ordered old.path steps leaf_now step cause moves.0)
-        (subst (λ (n : Checking). CheckerRepresents graph log n steps) (sym moves.1) (record { steps_are = now_is }))
+        (subst (λ (n : CheckerState). CheckerRepresents graph log n steps) (sym moves.1) (record { steps_are = now_is }))

@@ -1,6 +1,6 @@
 pub use Rattle.tfpg_clause.specs.Trees
 -- What the public contracts say.
-pub mod Checking
+pub mod CheckerState
 pub mod Breaks
 pub mod Represents
 -- What the code and its proofs need besides. No public clause reaches it.

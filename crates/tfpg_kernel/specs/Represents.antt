@@ -8,7 +8,7 @@ use Rattle.tfpg_clause.specs.Paths.{IsAtLeaf, with_step}
 use Rattle.tfpg_clause.specs.declared.path.Frame.{Frame}
 use Rattle.tfpg_kernel.specs.declared.taken.Taken.{Taken}
 use Rattle.tfpg_kernel.specs.declared.taken.Taken.TheVariants.{Partial, Closed, Bad}
-use Rattle.tfpg_kernel.specs.Checking.{Checking}
+use Rattle.tfpg_kernel.specs.CheckerState.{CheckerState}
 
 -- A checker that is closed represents a refutation, and one that is not a partial tree.
 abbrev pub Represented : Tfpg → Logbook → List ℕ → List Frame → List Judged → Bool → Type 0
@@ -16,7 +16,7 @@ Represented graph log reach frames steps true = IsRefutation graph log reach ste
 Represented graph log reach frames steps false = IsAtLeaf graph log reach frames steps
 
 -- The checker represents these steps: it took them, each judged by the first events of this log, and each was right.
-pub record CheckerRepresents (graph : Tfpg) (log : Logbook) (checker : Checking) (steps : List Judged) : Type 0 where
+pub record CheckerRepresents (graph : Tfpg) (log : Logbook) (checker : CheckerState) (steps : List Judged) : Type 0 where
   pub steps_are : Represented graph log checker.reach checker.path steps checker.closed
 
 -- the steps taken after a step with this result: a bad one is not among them

@@ -3,7 +3,7 @@
 ghost use Rattle.std.specs.Prelude.{◌≡◌, ◌≤◌, ◌<◌, ◌+◌, ◌↔◌, ℕ, List, [], ◌∷◌, ◌++◌, OnOk, false};
 ghost use Rattle.tfpg_graph.specs.Graph.{Tfpg};
 ghost use Rattle.tfpg_graph.specs.Reach.{IsReach};
-ghost use Rattle.tfpg_log.specs.Log.{Logbook, GoesOn, IsOf, IsOrdered};
+ghost use Rattle.tfpg_log.specs.Log.{Logbook, GoesOn, IsLogOf, IsOrdered};
 ghost use Rattle.tfpg_log.specs.Explains.{Fits};
 ghost use Rattle.tfpg_evidence.specs.declared.step.Step.TheVariants.{Split, Cycle};
 ghost use Rattle.tfpg_clause.specs.Trees.{Judged, IsRefutation, IsPartial};
@@ -22,7 +22,7 @@ use std::alloc::Global;
 use std::marker::Model;
 use tfpg_base::NoMemory;
 use tfpg_clause::laws::{a_refutation_leaves_no_trace, frames_are_at_the_present_leaf};
-use tfpg_clause::{Frame, advance, count};
+use tfpg_clause::{Frame, advance};
 use tfpg_evidence::{ClauseName, Reason, Step};
 use tfpg_graph::{Graph, NodeSet};
 use tfpg_log::Log;
@@ -38,9 +38,9 @@ pub struct Checker {
 
 impl Model for Checker {
     ghost use Rattle.std.specs.Prelude.{◌-◌, vec_len, vec_capacity};
-    ghost use Rattle.tfpg_kernel.specs.Checking.{Checking};
+    ghost use Rattle.tfpg_kernel.specs.CheckerState.{CheckerState};
 
-    ghost Value = { Checking };
+    ghost Value = { CheckerState };
 
     ghost view = { λ c. record {
       reach = c.reach;
@@ -83,7 +83,7 @@ impl Checker {
     /// it, and Bad exactly where the step breaks a condition, with the first that it breaks. Then nothing is changed. After
     /// Closed no trace explains the log, or one that goes on from it, from a set that reaches the checker's nodes.
     pub fn take(&mut self, graph: &Graph, log: &Log, step: &Step) -> Taken
-        requires of { IsOf graph.now log.now }
+        requires of { IsLogOf graph.now log.now }
         requires spare { 1 ≤ self.old.spare }
         ensures closed { (earlier : Logbook) (steps : List Judged) → GoesOn earlier log.now →
             CheckerRepresents graph.now earlier self.old steps →
@@ -103,7 +103,7 @@ impl Checker {
         ensures no_trace { (earlier later : Logbook) (steps : List Judged) (set : List ℕ) →
             GoesOn earlier log.now → CheckerRepresents graph.now earlier self.old steps → result ≡ Closed →
             IsReach graph.now set self.old.reach →
-            GoesOn log.now later → IsOf graph.now later → IsOrdered later → Fits graph.now later set → ⊥ }
+            GoesOn log.now later → IsLogOf graph.now later → IsOrdered later → Fits graph.now later set → ⊥ }
         ensures unchanged { (bad : BadStep) → result ≡ Bad bad → self.new ≡ self.old }
         ensures reach { self.new.reach ≡ self.old.reach }
         ensures spare { self.old.spare ≤ self.new.spare + 1 }
@@ -116,7 +116,7 @@ impl Checker {
 
     /// Takes the step, or returns the first condition that it breaks.
     fn take_step(&mut self, graph: &Graph, log: &Log, step: &Step) -> Taken
-        requires of { IsOf graph.now log.now }
+        requires of { IsLogOf graph.now log.now }
         requires spare { 1 ≤ self.old.spare }
         ensures result { (earlier : Logbook) (steps : List Judged) → GoesOn earlier log.now →
             CheckerRepresents graph.now earlier self.old steps →
@@ -144,16 +144,12 @@ impl Checker {
         ensures reach { self.new.reach ≡ self.old.reach }
         ensures spare { self.old.spare ≤ self.new.spare + 1 }
     {
-        match count(graph, log, name) {
-            Ok(alternatives) => {
-                self.enter(Frame {
-                    name,
-                    alternative: 1,
-                    alternatives,
-                });
+        match Frame::of_split(graph, log, name) {
+            Some(frame) => {
+                self.enter(frame);
                 Taken::Partial
             }
-            Err(_) => Taken::Bad(BadStep::NotAClause),
+            None => Taken::Bad(BadStep::NotAClause),
         }
     }
 
@@ -171,7 +167,7 @@ impl Checker {
     /// Closes the present leaf, where the reasons do: the next alternative of the deepest split that has one left is the
     /// present leaf then.
     fn close(&mut self, graph: &Graph, log: &Log, reasons: &[Reason]) -> Taken
-        requires of { IsOf graph.now log.now }
+        requires of { IsLogOf graph.now log.now }
         requires not_closed { self.old.closed ≡ false }
         ensures moves { Moves graph.now log.now self.old (Cycle reasons.now) result self.new }
         ensures reach { self.new.reach ≡ self.old.reach }

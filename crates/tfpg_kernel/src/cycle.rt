@@ -2,7 +2,7 @@
 
 ghost use Rattle.std.specs.Prelude.{◌≡◌, MatchResult};
 ghost use Rattle.std.specs.Option.{ok_or};
-ghost use Rattle.tfpg_log.specs.Log.{IsOf};
+ghost use Rattle.tfpg_log.specs.Log.{IsLogOf};
 ghost use Rattle.tfpg_kernel.specs.Breaks.{fault_of, CycleBreaks};
 ghost use Rattle.tfpg_clause.specs.Paths.{stated_by};
 ghost use Rattle.tfpg_clause.specs.Trees.{IsClosedBy};
@@ -23,7 +23,7 @@ pub(crate) fn check_cycle(
     path: &[Frame],
     reasons: &[Reason],
 ) -> Result<(), BadStep>
-    requires of { IsOf graph.now log.now }
+    requires of { IsLogOf graph.now log.now }
     ensures { MatchResult result
         (λ _. IsClosedBy (stated_by graph.now log.now reach.now path.now) reasons.now)
         (CycleBreaks (stated_by graph.now log.now reach.now path.now) reasons.now) }
@@ -47,7 +47,7 @@ fn stated_or_fault(
     path: &[Frame],
     reason: Reason,
 ) -> Result<Constraint, BadStep>
-    requires of { IsOf graph.now log.now }
+    requires of { IsLogOf graph.now log.now }
     ensures { result ≡ ok_or (stated_by graph.now log.now reach.now path.now reason) (fault_of reason) }
 {
     stated_by(graph, log, reach, path, reason).ok_or(fault_of(reason))

@@ -8,7 +8,7 @@ ghost use Rattle.tfpg_clause.specs.Trees.{Judged};
 ghost use Rattle.tfpg_kernel.specs.declared.taken.Taken.{Taken};
 ghost use Rattle.tfpg_kernel.specs.declared.taken.Taken.TheVariants.{Bad};
 ghost use Rattle.tfpg_kernel.specs.declared.taken.BadStep.TheVariants.{AfterClosed};
-ghost use Rattle.tfpg_kernel.specs.Checking.{Checking};
+ghost use Rattle.tfpg_kernel.specs.CheckerState.{CheckerState};
 ghost use Rattle.tfpg_kernel.specs.Represents.{CheckerRepresents};
 ghost use Rattle.tfpg_kernel.specs.inside.StepResults.{IsStepResult};
 ghost use Rattle.tfpg_kernel.specs.inside.Paths.{Moves};
@@ -21,11 +21,11 @@ use tfpg_clause::laws::{
 /// Each move of a checker is the result for its step: `refused` says it of a checker that is closed, and `moved` of one that
 /// is not. It does nothing.
 pub(crate) fn moves_are_results()
-    ensures refused { (graph : Tfpg) (earlier log : Logbook) (old : Checking) (steps : List Judged)
+    ensures refused { (graph : Tfpg) (earlier log : Logbook) (old : CheckerState) (steps : List Judged)
         (step : Step) → IsOrdered log → GoesOn earlier log → CheckerRepresents graph earlier old steps →
         old.closed ≡ true →
         IsStepResult graph log old.reach steps step (Bad AfterClosed) old }
-    ensures moved { (graph : Tfpg) (earlier log : Logbook) (old new : Checking) (steps : List Judged)
+    ensures moved { (graph : Tfpg) (earlier log : Logbook) (old new : CheckerState) (steps : List Judged)
         (step : Step) (result : Taken) → IsOrdered log → GoesOn earlier log →
         CheckerRepresents graph earlier old steps →
         old.closed ≡ false → new.reach ≡ old.reach → Moves graph log old step result new →

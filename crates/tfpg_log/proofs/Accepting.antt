@@ -1,6 +1,6 @@
 -- What an accepted event is, and that a log with it is of its graph.
 use Rattle.std.proofs.Common.{◌≡◌, ℕ, ◌<◌, ◌≤◌, List, [], ◌++◌, length, Option, Some, None, refl, sym, ap, subst, ◌∙◌, arith}
-use Rattle.std.specs.Prelude.{IsTrue, not, is_none, nat_lt, nat_le, bytes_eq, option_map, option_and_then, unwrap_or}
+use Rattle.std.specs.Prelude.{IsTrue, not, is_some, is_none, nat_lt, nat_le, bytes_eq, option_map, option_and_then, unwrap_or}
 use Rattle.std.specs.Bool.{then_some}
 use Rattle.std.specs.Option.{option_map_or}
 use Rattle.std.specs.Str.Parse.{digits_value}
@@ -9,7 +9,7 @@ use Rattle.std.proofs.lemmas.Bool.{ltb-false, leb-false, not-false}
 use Rattle.std.proofs.lemmas.List.Elements.{All-push, recursion_from_All}
 use Rattle.std.proofs.lemmas.List.Quantifiers.{position-Some}
 use Rattle.tfpg_base.specs.Choice.{first_of, unless_refused}
-use Rattle.tfpg_base.proofs.lists.Choices.{then_some-none, first_of-none, option_map-none}
+use Rattle.tfpg_base.proofs.lists.Choices.{is_some-there, then_some-none, first_of-none, option_map-none}
 use Rattle.tfpg_base.specs.declared.limits.TheConstants.{MAX_TIME}
 use Rattle.tfpg_graph.specs.Graph.{Tfpg, node_named, mode_named, is_monitored}
 use Rattle.tfpg_log.specs.declared.event.Event.{Event}
@@ -18,7 +18,7 @@ use Rattle.tfpg_log.specs.declared.event.Offered.TheVariants.{Accepted, Refused}
 use Rattle.tfpg_log.specs.declared.limits.TheConstants.{MAX_EVENTS}
 use Rattle.tfpg_log.specs.declared.refusal.Refusal.{Refusal}
 use Rattle.tfpg_log.specs.declared.refusal.Refusal.TheVariants.{BadLine, TimeTooLarge, TimeBack, UnknownName, NotMonitored, NotAMode, SecondAlarm, LogFull}
-use Rattle.tfpg_log.specs.Log.{Logbook, now_of, alarm_of, time_of_event, with_event, IsEventOf, IsOf}
+use Rattle.tfpg_log.specs.Log.{Logbook, now_of, alarm_of, time_of_event, with_event, IsEventOf, IsLogOf}
 use Rattle.tfpg_log.specs.LogStatements.{LogStatement, Alarm, Silent, Sweep, Tick, Mode, log_statement_of}
 use Rattle.tfpg_log.specs.Accepted.{time_refusals, statement_refusals, room_refusal, event_of, offered, reply_to_statement, reply_to}
 use Rattle.tfpg_log.specs.inside.LogIndex.{IsNoSecondAlarm}
@@ -54,10 +54,6 @@ monitor graph (Some node) unknown hidden = record {
   monitored = not-false (is_monitored graph node) (then_some-none (not (is_monitored graph node)) NotMonitored hidden);
 }
 
-there_is : (found : Option ℕ) (refusal : Refusal) → then_some (is_none found) refusal ≡ None → (number : ℕ) × (found ≡ Some number)
-there_is None refusal e = absurd cc
-there_is (Some number) refusal e = (number, refl)
-
 -- ---- an accepted event may come
 
 module _ (graph : Tfpg) (log : Logbook) (time : List ℕ) where
@@ -91,7 +87,8 @@ module _ (graph : Tfpg) (log : Logbook) (time : List ℕ) where
   may_come Sweep none = comes Sweep none (kinds.Sweep (digits_value 10 time)) refl none.1.1.1.0 tt tt
   may_come Tick none = comes Tick none (kinds.Tick (digits_value 10 time)) refl none.1.1.1.0 tt tt
   may_come (Mode name) none =
-      let found = there_is (mode_named graph name) NotAMode none.1.1.1.0 in
+      let found = is_some-there (mode_named graph name)
+      (not-false (is_some (mode_named graph name)) (then_some-none (is_none (mode_named graph name)) NotAMode none.1.1.1.0)) in
       let below : found.0 < length graph.modes = (position-Some (λ m. bytes_eq m name) graph.modes found.0 [] found.1).0 in
       subst (λ mode. MayCome graph log (kinds.Mode (digits_value 10 time) (unwrap_or mode 0))) (sym found.1)
       (comes (Mode name) none (kinds.Mode (digits_value 10 time) found.0) refl none.1.1.1.1.0 below tt)
@@ -115,5 +112,5 @@ pub accepted_may_come : (graph : Tfpg) (log : Logbook) (line : List ℕ) (event 
 accepted_may_come graph log line event e = by_statement graph log event (log_statement_of line) e
 
 -- A log with one more event that may come is of the graph.
-pub of-with_event : (graph : Tfpg) (log : Logbook) (event : Event) → IsOf graph log → MayCome graph log event → IsOf graph (with_event log event)
+pub of-with_event : (graph : Tfpg) (log : Logbook) (event : Event) → IsLogOf graph log → MayCome graph log event → IsLogOf graph (with_event log event)
 of-with_event graph log event of may = record { own = All-push (IsEventOf graph) log.events event of.own may.own }

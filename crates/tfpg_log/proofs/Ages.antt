@@ -25,14 +25,18 @@ module _ (log : Logbook) (trace : List Activation) (edge : Edge) where
     },
   )
 
-  -- What is at least a number plus one is at least the number.
-  pub has_lesser : (instant age : ℕ) → HasAge log trace edge instant (age + 1) → HasAge log trace edge instant age
-  has_lesser instant age has = record {
+  -- What is at least a number is at least any lesser one,
+  pub has_less : (instant age less : ℕ) → less ≤ age → HasAge log trace edge instant age → HasAge log trace edge instant less
+  has_less instant age less few has = record {
     start = has.start;
     source = has.source;
     since = omega (arith, has.since);
     active_since = λ other from upto. has.active_since other (omega arith) upto;
   }
+
+  -- so what is at least a number plus one is at least the number.
+  pub has_lesser : (instant age : ℕ) → HasAge log trace edge instant (age + 1) → HasAge log trace edge instant age
+  has_lesser instant age has = has_less instant (age + 1) age (omega arith) has
 
   -- No age is more than the time since the source became active.
   pub age_since_start : (instant age start : ℕ) → time_of trace edge.source ≡ Some start → HasAge log trace edge instant age → start + age ≤ instant

@@ -3,12 +3,12 @@ use Rattle.std.proofs.Common.{◌≡◌, ℕ, zero, suc, ◌≤◌, true, ltb, l
 use Rattle.std.specs.Prelude.{option_map, option_and_then, is_none, slice_get}
 use Rattle.std.proofs.lemmas.Bool.{eq-eqb}
 use Rattle.std.proofs.lemmas.Option.{slice_get_within}
-use Rattle.tfpg_base.proofs.lists.Choices.{option_map-some}
+use Rattle.tfpg_base.proofs.lists.Choices.{option_map-some, option_map-none}
 use Rattle.tfpg_log.specs.declared.event.Event.{Event}
 use Rattle.tfpg_log.specs.declared.event.Event.TheVariants.{Alarm}
 use Rattle.tfpg_log.specs.Log.{Logbook, event_at, is_alarm_of, alarm_among, alarm_index, alarm_of, alarm_event, time_of_event}
-use Rattle.tfpg_base.proofs.lists.Choices.{option_map-none}
-use Rattle.tfpg_base.proofs.lists.FirstFound.{is_from, leb-suc, find-position, position-passes, position-upto}
+use Rattle.tfpg_base.proofs.lists.FirstFound.{is_from, find-position, position-passes, position-upto}
+use Rattle.tfpg_base.proofs.lists.Sequences.{leb-suc}
 use Rattle.tfpg_log.proofs.AlarmIndexes.{alarm_is, none_before}
 
 -- The event of the number is an alarm of the node, at the time of its first alarm.

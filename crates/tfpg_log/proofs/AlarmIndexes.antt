@@ -6,9 +6,8 @@ use Rattle.tfpg_base.proofs.lists.Positions.{position-push_yes}
 use Rattle.tfpg_log.specs.declared.event.Event.{Event}
 use Rattle.tfpg_log.specs.declared.event.Event.TheVariants.{Alarm, Silent, Sweep, Tick, Mode}
 use Rattle.tfpg_log.specs.Log.{is_alarm_of, alarm_among, alarm_index, time_of_event}
-use Rattle.tfpg_base.proofs.lists.Choices.{option_map-none}
+use Rattle.tfpg_base.proofs.lists.Choices.{option_map-none, is_none-option_map}
 use Rattle.tfpg_base.proofs.lists.FirstFound.{is_from, position-find_none, find-take_none}
-use Rattle.tfpg_base.proofs.lists.Valued.{is_none-option_map}
 
 -- what passes as an alarm of the node is one
 pub alarm_is : (node : ℕ) (event : Event) → is_alarm_of node event ≡ true → event ≡ Alarm (time_of_event event) node

@@ -1,11 +1,7 @@
 -- The events of a log, in its beginnings and in the logs that go on from it.
-use Rattle.std.proofs.Common.{◌≡◌, ℕ, zero, suc, ◌<◌, List, [], ◌∷◌, length, get_or, take, Some, ap, ◌∙◌, arith}
-use Rattle.std.specs.Prelude.{slice_get, fold}
-use Rattle.std.proofs.Math.Seq.{take-suc}
-use Rattle.std.proofs.lemmas.Option.{slice_get_within, slice_get-get_or}
+use Rattle.std.proofs.Common.{◌≡◌, ℕ, zero, suc, List, [], ◌∷◌, length, Some, ap, arith}
 use Rattle.std.proofs.lemmas.List.{take_all}
 use Rattle.std.proofs.lemmas.List.Sums.{fold_push}
-use Rattle.tfpg_base.proofs.lists.Cuts.{slice_get-take}
 use Rattle.tfpg_base.proofs.lists.Written.{slice_get-append_some, slice_get-push_last}
 use Rattle.tfpg_log.specs.declared.event.Event.{Event}
 use Rattle.tfpg_log.specs.Log.{Logbook, now_of, event_at, first_events, with_event, time_of_event}
@@ -17,21 +13,6 @@ whole_log log = ap (λ (events : List Event). record { events = events }) (take_
 -- the log with one more event ends at that event's time
 pub now-with_event : (log : Logbook) (event : Event) → now_of (with_event log event) ≡ time_of_event event
 now-with_event log event = fold_push (λ last e. time_of_event e) 0 log.events event
-
--- the log up to an event ends at the event's time
-pub now-first_events : (log : Logbook) (number : ℕ) (event : Event) → event_at log number ≡ Some event → now_of (first_events log number) ≡ time_of_event event
-now-first_events log zero event e = absurd cc
-now-first_events log (suc before) event e =
-    let lt : before < length log.events = slice_get_within log.events before event e in
-    let there : slice_get log.events before ≡ Some (get_or log.events before event) = slice_get-get_or log.events before event lt in
-    let same : get_or log.events before event ≡ event = cc in
-    ap (fold (λ last e. time_of_event e) 0) (take-suc log.events before event lt)
-    ∙ fold_push (λ last e. time_of_event e) 0 (take before log.events) (get_or log.events before event) ∙ ap time_of_event same
-
--- an event is there in the log up to it
-pub event_at-first_events : (log : Logbook) (number : ℕ) (event : Event) → event_at log number ≡ Some event → event_at (first_events log number) number ≡ Some event
-event_at-first_events log zero event e = absurd cc
-event_at-first_events log (suc before) event e = slice_get-take (suc before) log.events before (omega arith) ∙ e
 
 -- an event stays in a log that goes on
 pub event_at-with_event : (log : Logbook) (number : ℕ) (event last : Event) → event_at log number ≡ Some event → event_at (with_event log last) number ≡ Some event

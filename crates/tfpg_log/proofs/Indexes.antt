@@ -18,7 +18,7 @@ use Rattle.tfpg_log.proofs.Events.{now-with_event}
 use Rattle.tfpg_log.proofs.Order.{ordered-with_event}
 use Rattle.tfpg_log.proofs.FirstAlarms.{first_alarms_kept}
 use Rattle.tfpg_log.proofs.NodesEvents.{node_kept, node_silenced, node_alarmed, last_sweep_kept, last_sweep_new}
-use Rattle.tfpg_log.proofs.ModeChanges.{mode_after-push, mode_before_change, mode_after_change, changes-push}
+use Rattle.tfpg_log.proofs.ModeChanges.{mode_after-append, mode_before_change, mode_after_change, changes-push}
 use Rattle.tfpg_log.proofs.SpanChanges.{times_rise, spans_with_change, begun_with_change, one_more_change}
 
 abbrev log_of : List Event → Logbook
@@ -31,7 +31,7 @@ same_spans events changes event no_change spans = record {
   rise = spans.rise;
   differ = spans.differ;
   hold = λ number instant within.
-      mode_after-push 0 events event instant ∙ no_change (mode_after 0 events instant) instant ∙ spans.hold number instant within;
+      mode_after-append 0 events (event ∷ []) instant ∙ no_change (mode_after 0 events instant) instant ∙ spans.hold number instant within;
 }
 
 -- what is kept of each node, where one more event came

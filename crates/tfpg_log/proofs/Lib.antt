@@ -16,7 +16,6 @@ pub mod Causes
 pub mod InReach
 pub mod NoFailures
 pub mod Ages
-pub mod Trials
 pub mod MaximalRuns
 pub mod SpanRuns
 pub mod WindowRuns

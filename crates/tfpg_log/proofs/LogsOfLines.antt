@@ -1,11 +1,12 @@
 -- The log of a list of lines is in order and of its graph.
-use Rattle.std.proofs.Common.{◌≡◌, ℕ, Bool, true, false, cond, List, [], ◌∷◌, ◌++◌, refl, arith}
+use Rattle.std.proofs.Common.{◌≡◌, ℕ, List, [], ◌∷◌, ◌++◌, refl, arith}
 use Rattle.std.specs.Prelude.{fold}
+use Rattle.std.proofs.lemmas.Bool.{cond_both}
 use Rattle.std.proofs.lemmas.List.Sums.{fold_push}
 use Rattle.tfpg_graph.specs.Graph.{Tfpg}
 use Rattle.tfpg_log.specs.declared.event.Offered.{Offered}
 use Rattle.tfpg_log.specs.declared.event.Offered.TheVariants.{Accepted, Refused}
-use Rattle.tfpg_log.specs.Log.{Logbook, IsOf, IsOrdered}
+use Rattle.tfpg_log.specs.Log.{Logbook, IsLogOf, IsOrdered}
 use Rattle.tfpg_log.specs.Accepted.{reply_to}
 use Rattle.tfpg_log.specs.LogOfLines.{new_log, log_after_reply, log_after, log_of_lines}
 use Rattle.tfpg_base.specs.Lines.{is_too_long}
@@ -18,7 +19,7 @@ log_of_lines-push graph lines line = fold_push (log_after graph) new_log lines l
 
 -- the log is in order, and of the graph
 record IsRightLog (graph : Tfpg) (log : Logbook) : Type 0 where
-  of_graph : IsOf graph log
+  of_graph : IsLogOf graph log
   ordered : IsOrdered log
 
 module _ (graph : Tfpg) where
@@ -28,15 +29,11 @@ module _ (graph : Tfpg) where
       record { of_graph = of-with_event graph log event right.of_graph may; ordered = ordered-with_event log event right.ordered may.not_back may.in_range }
   by_reply log line (Refused refusal) is right = right
 
-  by_length : (long : Bool) (log after : Logbook) → IsRightLog graph log → IsRightLog graph after → IsRightLog graph (cond long log after)
-  by_length true log after right then = right
-  by_length false log after right then = then
-
   still_right : (log : Logbook) (lines : List (List ℕ)) → IsRightLog graph log → IsRightLog graph (fold (log_after graph) log lines)
   still_right log [] right = right
   still_right log (line ∷ lines) right =
       still_right (log_after graph log line) lines
-      (by_length (is_too_long line) log (log_after_reply log (reply_to graph log line)) right (by_reply log line (reply_to graph log line) refl right))
+      (cond_both (is_too_long line) log (log_after_reply log (reply_to graph log line)) (IsRightLog graph) (λ _. right) (λ _. by_reply log line (reply_to graph log line) refl right))
 
   right_from_new : (lines : List (List ℕ)) → IsRightLog graph (log_of_lines graph lines)
   right_from_new lines =
@@ -47,7 +44,7 @@ module _ (graph : Tfpg) where
       })
 
   -- It is of its graph,
-  pub of-log_of_lines : (lines : List (List ℕ)) → IsOf graph (log_of_lines graph lines)
+  pub of-log_of_lines : (lines : List (List ℕ)) → IsLogOf graph (log_of_lines graph lines)
   of-log_of_lines lines = (right_from_new lines).of_graph
 
   -- and in order.

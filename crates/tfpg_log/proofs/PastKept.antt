@@ -1,9 +1,9 @@
 -- A log that goes on keeps its past.
-use Rattle.std.proofs.Common.{◌≡◌, ℕ, zero, suc, ◌-◌, ◌≤◌, Bool, cond, ltb, List, [], ◌∷◌, ◌++◌, length, take, Some, refl, sym, ap, subst, ◌∙◌, arith}
+use Rattle.std.proofs.Common.{◌≡◌, ℕ, zero, suc, ◌-◌, ◌≤◌, Bool, cond, List, [], ◌∷◌, ◌++◌, length, take, Some, refl, sym, ap, subst, ◌∙◌, arith}
 use Rattle.std.specs.Prelude.{◌↔◌, IsTrue, slice_get, find, option_map, option_and_then}
 use Rattle.std.specs.Option.{option_or}
 use Rattle.std.proofs.lemmas.Bool.{le-ltb}
-use Rattle.std.proofs.lemmas.List.{take-append-le}
+use Rattle.std.proofs.lemmas.List.{take-append-le, length-take}
 use Rattle.std.proofs.lemmas.List.Elements.{All-tail}
 use Rattle.tfpg_base.specs.declared.activation.Activation.{Activation}
 use Rattle.std.proofs.lemmas.List.Folds.{find-append}
@@ -13,11 +13,12 @@ use Rattle.tfpg_graph.specs.declared.edge.Edge.{Edge}
 use Rattle.tfpg_graph.specs.Graph.{Tfpg, is_active_in}
 use Rattle.tfpg_log.specs.declared.event.Event.{Event}
 use Rattle.tfpg_log.specs.declared.event.Event.TheVariants.{Alarm, Silent, Sweep, Tick, Mode}
-use Rattle.tfpg_log.specs.Log.{Logbook, GoesOn, IsOrdered, now_of, event_at, is_alarm_of, alarm_among, alarm_of, alarm_index, alarm_event, quiet_time, quiet_at, time_of_event, mode_after, mode_at}
+use Rattle.tfpg_log.specs.Log.{Logbook, GoesOn, IsOrdered, now_of, event_at, first_events, is_alarm_of, alarm_among, alarm_of, alarm_index, alarm_event, quiet_time, quiet_at, time_of_event, mode_after, mode_at}
 use Rattle.tfpg_log.specs.Rules.{HasAge}
 use Rattle.tfpg_log.specs.Spans.{span_number, span_at, window_of, joint_of}
 use Rattle.tfpg_base.proofs.lists.FirstFound.{position-append}
-use Rattle.tfpg_log.proofs.Order.{AreEventsInOrder, AreFrom, last_time, order_after, from_first, last_rises}
+use Rattle.tfpg_log.proofs.Order.{AreEventsInOrder, AreFrom, last_time, order_after, from_first, last_from}
+use Rattle.tfpg_log.proofs.ModeChanges.{mode_after-append}
 use Rattle.tfpg_log.proofs.SameModes.{same_number, same_span, same_window, same_joint}
 
 from_after : (instant : ℕ) (event : Event) (events : List Event) → AreFrom instant (event ∷ events) → AreFrom instant events
@@ -31,7 +32,7 @@ added_later time (event ∷ events) more order from =
 
 -- and the last time does not fall
 now_rises : (time : ℕ) (events more : List Event) → AreEventsInOrder (events ++ more) → AreFrom time (events ++ more) → last_time time events ≤ last_time time (events ++ more)
-now_rises time [] more order from = last_rises time more order from
+now_rises time [] more order from = last_from more time time (omega arith) from
 now_rises time (event ∷ events) more order from =
     now_rises (time_of_event event) events more (order_after event (events ++ more) order) (from_first event (events ++ more) order)
 
@@ -47,12 +48,7 @@ unchanged held instant (Mode time mode ∷ events) from =
     ∙ unchanged held instant events (from_after instant (Mode time mode) events from)
 
 mode_kept : (held instant : ℕ) (events more : List Event) → AreFrom instant more → mode_after held (events ++ more) instant ≡ mode_after held events instant
-mode_kept held instant [] more from = unchanged held instant more from
-mode_kept held instant (Alarm time node ∷ events) more from = mode_kept held instant events more from
-mode_kept held instant (Silent time node ∷ events) more from = mode_kept held instant events more from
-mode_kept held instant (Sweep time ∷ events) more from = mode_kept held instant events more from
-mode_kept held instant (Tick time ∷ events) more from = mode_kept held instant events more from
-mode_kept held instant (Mode time mode ∷ events) more from = mode_kept (cond (ltb time instant) mode held) instant events more from
+mode_kept held instant events more from = mode_after-append held events more instant ∙ unchanged (mode_after held events instant) instant more from
 
 -- An age is carried over where the modes up to the instant are the same.
 age_carried : (log other : Logbook) (trace : List Activation) (edge : Edge) (instant age : ℕ) → ((x : ℕ) → x ≤ instant → mode_at log x ≡ mode_at other x)
@@ -104,6 +100,12 @@ module _ (earlier later : Logbook) (is : IsOrdered later) (goes_on : GoesOn earl
   )
 
 -- ---- events, alarms and silences
+
+-- The first events stay, where there are so many.
+pub first_events_kept : (earlier later : Logbook) → GoesOn earlier later → (seen : ℕ) → seen ≡ length (take seen earlier.events) → first_events earlier seen ≡ first_events later seen
+first_events_kept earlier later goes_on seen is =
+    let few : seen ≤ length earlier.events = omega (arith, is, length-take seen earlier.events) in
+    λ i. record { events = sym (ap (take seen) goes_on.1 ∙ take-append-le seen earlier.events goes_on.0 few) i }
 
 -- An event keeps its number.
 pub events_kept : (earlier later : Logbook) → GoesOn earlier later → (number : ℕ) (event : Event) → event_at earlier number ≡ Some event → event_at later number ≡ Some event

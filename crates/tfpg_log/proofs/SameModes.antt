@@ -1,44 +1,25 @@
 -- Two logs whose instants have the same modes up to a limit have the same spans and windows up to it.
-use Rattle.std.proofs.Common.{◌≡◌, ℕ, zero, suc, ◌+◌, ◌≤◌, Bool, true, false, cond, eqb, leb, Option, Some, None, refl, sym, ap, ◌∙◌, arith}
+use Rattle.std.proofs.Common.{◌≡◌, ℕ, zero, suc, ◌+◌, ◌≤◌, Bool, cond, eqb, leb, Option, Some, None, refl, sym, ap, ◌∙◌, arith}
 use Rattle.std.specs.Prelude.{MatchOption, ◌&&◌, nat_le, option_and_then}
 use Rattle.std.specs.List.{list_all}
-use Rattle.std.proofs.lemmas.Bool.{le-leb, cond-true}
+use Rattle.std.proofs.lemmas.Bool.{le-leb, cond-true, cond_both}
+use Rattle.tfpg_base.specs.Trials.{least, greatest}
+use Rattle.tfpg_base.proofs.lists.Trials.{NonePassesUpTo, IsLeast, AgreeUpTo, least_found, agree_below, least_same, greatest_same}
 use Rattle.tfpg_graph.specs.declared.edge.Edge.{Edge}
 use Rattle.tfpg_graph.specs.Graph.{Tfpg, is_active_in, edges_into}
 use Rattle.tfpg_log.specs.declared.span.Span.{Span}
 use Rattle.tfpg_log.specs.declared.span.Window.{Window}
 use Rattle.tfpg_log.specs.Log.{Logbook, now_of, mode_at, is_active_at}
-use Rattle.std.specs.Option.{option_or}
-use Rattle.tfpg_log.specs.Spans.{least, greatest, span_number, span_between, span_at, run_start, run_end, window_between, window_round, are_active_at, window_of, joint_of}
-use Rattle.tfpg_log.proofs.Trials.{NonePassesUpTo, IsLeast, least_found}
+use Rattle.tfpg_log.specs.Spans.{span_number, span_between, span_at, run_start, run_end, window_between, window_round, are_active_at, window_of, joint_of}
 use Rattle.tfpg_log.proofs.SpanRuns.{found_span}
 
 -- ---- searches by tests that agree
 
--- the tests agree on each number up to a limit
-abbrev AgreeUpTo : (ℕ → Bool) → (ℕ → Bool) → ℕ → Type 0
-AgreeUpTo passes tests limit = (number : ℕ) → number ≤ limit → passes number ≡ tests number
-
 module _ (passes tests : ℕ → Bool) where
-  agree_below : (limit : ℕ) → AgreeUpTo passes tests (suc limit) → AgreeUpTo passes tests limit
-  agree_below limit agree number upto = agree number (omega arith)
-
-  least_same : (limit : ℕ) → AgreeUpTo passes tests limit → least passes limit ≡ least tests limit
-  least_same zero agree = ap (λ b. cond b (Some 0) None) (agree 0 (omega arith))
-  least_same (suc limit) agree =
-      ap (λ so_far. option_or so_far (cond (passes (suc limit)) (Some (suc limit)) None)) (least_same limit (agree_below limit agree))
-      ∙ ap (λ b. option_or (least tests limit) (cond b (Some (suc limit)) None)) (agree (suc limit) (omega arith))
-
-  greatest_same : (limit : ℕ) → AgreeUpTo passes tests limit → greatest passes limit ≡ greatest tests limit
-  greatest_same zero agree = ap (λ b. cond b (Some 0) None) (agree 0 (omega arith))
-  greatest_same (suc limit) agree =
-      ap (λ so_far. cond (passes (suc limit)) (Some (suc limit)) so_far) (greatest_same limit (agree_below limit agree))
-      ∙ ap (λ b. cond b (Some (suc limit)) (greatest tests limit)) (agree (suc limit) (omega arith))
-
   run_start_same : (instant : ℕ) → AgreeUpTo passes tests instant → run_start passes instant ≡ run_start tests instant
   run_start_same zero agree = refl
   run_start_same (suc instant) agree =
-      ap (λ start. cond (passes instant) start (suc instant)) (run_start_same instant (agree_below instant agree))
+      ap (λ start. cond (passes instant) start (suc instant)) (run_start_same instant (agree_below passes tests instant agree))
       ∙ ap (λ b. cond b (run_start tests instant) (suc instant)) (agree instant (omega arith))
 
 run_end_same : (passes tests : ℕ → Bool) (instant horizon : ℕ) → AgreeUpTo passes tests horizon → run_end passes instant horizon ≡ run_end tests instant horizon
@@ -49,14 +30,11 @@ run_end_same passes tests instant horizon agree =
     ap (λ b. nat_le instant last && (b && nat_le (run_start passes last) instant)) (agree last upto)
     ∙ ap (λ start. nat_le instant last && (tests last && nat_le start instant)) (run_start_same passes tests last (λ number below. agree number (omega arith))))
 
-start_within_by : (b : Bool) (start instant : ℕ) → start ≤ instant → cond b start (suc instant) ≤ suc instant
-start_within_by true start instant within = omega (arith, within)
-start_within_by false start instant within = omega arith
-
 -- a run begins at its instant or before
 start_within : (passes : ℕ → Bool) (instant : ℕ) → run_start passes instant ≤ instant
 start_within passes zero = omega arith
-start_within passes (suc instant) = start_within_by (passes instant) (run_start passes instant) instant (start_within passes instant)
+start_within passes (suc instant) =
+    cond_both (passes instant) (run_start passes instant) (suc instant) (λ x. x ≤ suc instant) (λ _. omega (arith, start_within passes instant)) (λ _. omega arith)
 
 -- ---- spans and windows
 

@@ -34,6 +34,13 @@ module _ (graph : Tfpg) (log : Logbook) (node : ℕ) where
   pub silence_at : (number time : ℕ) → quiet_at graph log number node ≡ Some time → IsSilenceAt log number time
   silence_at number time e = by_event number time (event_at log number) refl e
 
+  -- an event silences a node at its time
+  pub silence_read : (number time : ℕ) (event : Event) → quiet_at graph log number node ≡ Some time → event_at log number ≡ Some event → time ≡ time_of_event event
+  silence_read number time event silent at =
+      let is = silence_at number time silent in
+      let same : is.event ≡ event = cc (is.there, at) in
+      is.at ∙ ap time_of_event same
+
 -- an event of a log is not later than one after it
 not_later : (log : Logbook) → IsOrdered log → (number other : ℕ) (event next : Event) → event_at log number ≡ Some event → event_at log other ≡ Some next → number ≤ other
     → time_of_event event ≤ time_of_event next

@@ -8,10 +8,10 @@ use Rattle.tfpg_graph.specs.Graph.{Tfpg, is_monitored}
 use Rattle.tfpg_graph.proofs.NodeAt.{monitored_within}
 use Rattle.tfpg_log.specs.declared.event.Event.{Event}
 use Rattle.tfpg_log.specs.declared.event.Event.TheVariants.{Alarm, Silent, Sweep, Tick, Mode}
-use Rattle.tfpg_log.specs.Log.{Logbook, IsOf, IsEventOf, event_at, quiet_at, quiet_time}
+use Rattle.tfpg_log.specs.Log.{Logbook, IsLogOf, IsEventOf, event_at, quiet_at, quiet_time}
 
 -- what holds of each event holds of that of a number
-pub event_own : (graph : Tfpg) (log : Logbook) (number : ℕ) (event : Event) → IsOf graph log → event_at log number ≡ Some event → IsEventOf graph event
+pub event_own : (graph : Tfpg) (log : Logbook) (number : ℕ) (event : Event) → IsLogOf graph log → event_at log number ≡ Some event → IsEventOf graph event
 event_own graph log zero event of at = absurd cc
 event_own graph log (suc before) event of at = All-at (IsEventOf graph) log.events before event of.own at
 
@@ -25,7 +25,7 @@ silence_monitored graph before (Tick at) node time own is = absurd cc
 silence_monitored graph before (Mode at mode) node time own is = absurd cc
 
 -- A node that is silent is a node of the graph.
-pub quiet_within : (graph : Tfpg) (log : Logbook) (number node time : ℕ) → IsOf graph log → quiet_at graph log number node ≡ Some time → node < length graph.nodes
+pub quiet_within : (graph : Tfpg) (log : Logbook) (number node time : ℕ) → IsLogOf graph log → quiet_at graph log number node ≡ Some time → node < length graph.nodes
 quiet_within graph log number node time of is =
     option_and_then_some (λ (event : Event). quiet_time graph (take (number - 1) log.events) event node) (event_at log number) time is
     (λ event at rest. monitored_within graph node (silence_monitored graph (take (number - 1) log.events) event node time (event_own graph log number event of at) rest))

@@ -2,34 +2,21 @@
 use Rattle.std.proofs.Common.{◌≡◌, ℕ, zero, suc, ◌+◌, ◌≤◌, Bool, true, false, cond, eqb, leb, inl, inr, Option, Some, None, refl, sym, ap, subst, ◌∙◌, arith}
 use Rattle.std.specs.Prelude.{MatchOption, ◌↔◌}
 use Rattle.std.proofs.lemmas.Bool.{both_ways, eqb-true, eqb-false, eq-eqb, le-leb, leb-true, cond-true, cases_lt}
-use Rattle.std.proofs.lemmas.Bool.Decides.{nat_tests}
+use Rattle.tfpg_base.specs.Trials.{least, greatest}
+use Rattle.tfpg_base.proofs.lists.Sequences.{never_falls, count-same, same-from_count}
+use Rattle.tfpg_base.proofs.lists.Trials.{NonePassesUpTo, IsLeast, IsGreatest, least_found, greatest_found, least_there, greatest_there, least_upto, greatest_from}
 use Rattle.tfpg_log.specs.declared.span.Span.{Span}
 use Rattle.tfpg_log.specs.Log.{Logbook, now_of, mode_at}
-use Rattle.tfpg_log.specs.Spans.{least, greatest, span_number, span_between, span_at}
+use Rattle.tfpg_log.specs.Spans.{span_number, span_between, span_at}
 use Rattle.tfpg_log.specs.Runs.{IsMaximalRun, IsSpanOf}
 use Rattle.tfpg_log.proofs.MaximalRuns.{one_run}
-use Rattle.tfpg_log.proofs.Trials.{NonePassesUpTo, IsLeast, IsGreatest, least_found, greatest_found, least_there, greatest_there}
 
 -- ---- the numbers of spans
-
-count_rises : (before here count : ℕ) → count ≤ count + cond (eqb before here) 0 1
-count_rises before here count = omega arith
-
-mode_kept : (before here count : ℕ) → count + cond (eqb before here) 0 1 ≡ count → before ≡ here
-mode_kept before here count e = grind (arith, nat_tests)
-
--- a mode that stays counts as no change
-pub count_kept : (before here count : ℕ) → before ≡ here → count + cond (eqb before here) 0 1 ≡ count
-count_kept before here count e = grind (arith, nat_tests)
 
 module _ (log : Logbook) where
   -- A later instant has no lesser number.
   pub number_rises : (lo hi : ℕ) → lo ≤ hi → span_number log lo ≤ span_number log hi
-  number_rises lo zero upto = let same : lo ≡ 0 = omega arith in omega (arith, ap (span_number log) same)
-  number_rises lo (suc hi) upto = elim (cases_lt hi lo) [
-    | inl above ↦ (let same : lo ≡ suc hi = omega arith in omega (arith, ap (span_number log) same))
-    | inr below ↦ omega (arith, number_rises lo hi below, count_rises (mode_at log hi) (mode_at log (suc hi)) (span_number log hi))
-  ]
+  number_rises lo hi upto = never_falls (span_number log) (λ instant. omega arith) lo hi upto
 
   -- instants of one number have one mode
   one_mode : (lo hi : ℕ) → lo ≤ hi → span_number log hi ≡ span_number log lo → mode_at log hi ≡ mode_at log lo
@@ -37,9 +24,8 @@ module _ (log : Logbook) where
   one_mode lo (suc hi) upto e = elim (cases_lt hi lo) [
     | inl above ↦ (let same : suc hi ≡ lo = omega arith in ap (mode_at log) same)
     | inr below ↦ (let rises : span_number log lo ≤ span_number log hi = number_rises lo hi below in
-        let kept : span_number log (suc hi) ≡ span_number log hi =
-        omega (arith, e, rises, count_rises (mode_at log hi) (mode_at log (suc hi)) (span_number log hi)) in
-        let mode : mode_at log hi ≡ mode_at log (suc hi) = mode_kept (mode_at log hi) (mode_at log (suc hi)) (span_number log hi) kept in
+        let kept : span_number log (suc hi) ≡ span_number log hi = omega (arith, e, rises, number_rises hi (suc hi) (omega arith)) in
+        let mode : mode_at log hi ≡ mode_at log (suc hi) = same-from_count (mode_at log hi) (mode_at log (suc hi)) (span_number log hi) kept in
         sym mode ∙ one_mode lo hi below (sym kept ∙ e))
   ]
 
@@ -47,7 +33,7 @@ module _ (log : Logbook) where
   one_number : (before instant : ℕ) → before + 1 ≡ instant → mode_at log before ≡ mode_at log instant → span_number log before ≡ span_number log instant
   one_number before instant next mode =
       let same : suc before ≡ instant = omega arith in
-      sym (count_kept (mode_at log before) (mode_at log (suc before)) (span_number log before) (mode ∙ sym (ap (mode_at log) same))) ∙ ap (span_number log) same
+      sym (count-same (mode_at log before) (mode_at log (suc before)) (span_number log before) (mode ∙ sym (ap (mode_at log) same))) ∙ ap (span_number log) same
 
   module _ (number horizon : ℕ) where
     -- whether an instant has the number
@@ -131,19 +117,6 @@ module _ (log : Logbook) where
       → span_between log first last ≡ Some (record { lo = lo; hi = hi; mode = mode_at log lo })
   some_between lo hi first last e f = rw (e, f) refl
 
-  -- the least that passes is not above one that passes
-  least_upto : (passes : ℕ → Bool) (limit found number : ℕ) → IsLeast passes limit found → passes number ≡ true → found ≤ number
-  least_upto passes limit found number is here = elim (cases_lt number found) [
-    | inl below ↦ absurd (both_ways (passes number) (is.none_below number below) here)
-    | inr upto ↦ upto
-  ]
-
-  greatest_from : (passes : ℕ → Bool) (limit found number : ℕ) → IsGreatest passes limit found → number ≤ limit → passes number ≡ true → number ≤ found
-  greatest_from passes limit found number is within here = elim (cases_lt found number) [
-    | inl above ↦ absurd (both_ways (passes number) (is.none_above number above within) here)
-    | inr upto ↦ upto
-  ]
-
   -- Each instant lies in the span of its number.
   pub has_span : (instant horizon : ℕ) → instant ≤ horizon → horizon ≤ now_of log
       → (span : Span) × (span_at log (span_number log instant) horizon ≡ Some span) × (span.lo ≤ instant) × (instant ≤ span.hi)
@@ -157,6 +130,15 @@ module _ (log : Logbook) where
         least_upto (has_number number horizon) horizon first.0 instant first.2 here,
         greatest_from (has_number number horizon) horizon last.0 instant last.2 within here,
       )
+
+  -- So an instant up to now lies in the span of its number.
+  pub lies_inside : (number : ℕ) (span : Span) → span_at log number (now_of log) ≡ Some span → (instant : ℕ) → instant ≤ now_of log → span_number log instant ≡ number
+      → (span.lo ≤ instant) × (instant ≤ span.hi)
+  lies_inside number span here instant within numbered =
+      let there = has_span instant (now_of log) within (omega arith) in
+      let at : span_at log number (now_of log) ≡ Some there.0 = subst (λ n. span_at log n (now_of log) ≡ Some there.0) numbered there.1 in
+      let same : there.0 ≡ span = cc (at, here) in
+      subst (λ (s : Span). (s.lo ≤ instant) × (instant ≤ s.hi)) same (there.2, there.3)
 
   -- ---- the one span of a number
 

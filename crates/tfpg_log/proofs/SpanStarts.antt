@@ -3,6 +3,7 @@ use Rattle.std.proofs.Common.{◌≡◌, ℕ, zero, suc, ◌+◌, ◌<◌, ◌�
 use Rattle.std.specs.List.Sorted.{IsPartitionPoint}
 use Rattle.std.proofs.lemmas.Bool.{cases_lt, cases_Bool, and_parts, and_from, leb-true, le-leb, lt-ltb, ltb-true, ltb-false, cond-true, cond-false, both_ways}
 use Rattle.std.proofs.lemmas.Bool.Decides.{nat_tests}
+use Rattle.tfpg_base.proofs.lists.Sequences.{count-same, count-unlike}
 use Rattle.tfpg_log.specs.declared.mode_change.ModeChange.{ModeChange}
 use Rattle.tfpg_log.specs.declared.span.Span.{Span}
 use Rattle.tfpg_log.specs.Log.{Logbook, now_of, mode_at}
@@ -10,10 +11,7 @@ use Rattle.tfpg_log.specs.Spans.{span_number, span_at}
 use Rattle.tfpg_log.specs.Runs.{IsSpanOf}
 use Rattle.tfpg_log.specs.inside.SpanIndex.{change_at, begin_of_span, mode_of_span, end_of_span, span_in, IsInSpan, BeginSpans}
 use Rattle.tfpg_log.proofs.SpanChanges.{one_span}
-use Rattle.tfpg_log.proofs.SpanRuns.{count_kept, is_span, span_is_found}
-
-count_more : (before here count : ℕ) → (before ≡ here → ⊥) → count + cond (eqb before here) 0 1 ≡ suc count
-count_more before here count unlike = grind (arith, nat_tests)
+use Rattle.tfpg_log.proofs.SpanRuns.{is_span, span_is_found}
 
 -- Where so many changes come before an instant and the others do not, it lies in the span of that number.
 pub within_point : (changes : List ModeChange) (number instant : ℕ) → number ≤ length changes
@@ -55,13 +53,13 @@ module _ (log : Logbook) (changes : List ModeChange) (spans : BeginSpans (mode_a
       let kept : (number < length changes → suc instant < begin_of_span changes (suc number)) → IsInSpan changes count (suc instant) = λ unended.
       let still = still_within number instant within unended in
       subst (λ n. IsInSpan changes n (suc instant))
-      (sym (count_kept (mode_at log instant) (mode_at log (suc instant)) number (here ∙ sym (spans.hold number (suc instant) still)))) still in
+      (sym (count-same (mode_at log instant) (mode_at log (suc instant)) number (here ∙ sym (spans.hold number (suc instant) still)))) still in
       elim (cases_lt number (length changes)) [
         | inl more ↦ elim (cases_lt (suc instant) (begin_of_span changes (suc number))) [
           | inl unended ↦ kept (λ lt. unended)
           | inr begun ↦ (let next = next_within number instant within more begun in
               subst (λ n. IsInSpan changes n (suc instant))
-              (sym (count_more (mode_at log instant) (mode_at log (suc instant)) number
+              (sym (count-unlike (mode_at log instant) (mode_at log (suc instant)) number
               (λ same. spans.differ number more (sym here ∙ same ∙ spans.hold (suc number) (suc instant) next)))) next)
         ]
         | inr all ↦ kept (λ more. absurd (omega arith))

@@ -1,10 +1,11 @@
 -- Walking back from an active node to those that made it active. Where ranks rise along the edges that may take no time,
 -- the source of an edge that has carried the failure was active earlier, or at the same time with a lesser rank. So each
 -- walk back ends.
-use Rattle.std.proofs.Common.{◌≡◌, ℕ, zero, suc, ◌<◌, eqb, true, ◌⊎◌, ⊎_elim, inl, inr, List, Some, sym, subst, arith}
+use Rattle.std.proofs.Common.{◌≡◌, ℕ, ◌<◌, eqb, true, ◌⊎◌, ⊎_elim, inl, inr, List, Some, sym, subst, arith}
 use Rattle.std.specs.Prelude.{Contains}
 use Rattle.std.proofs.lemmas.Bool.{eqb-true, cases_lt}
 use Rattle.std.proofs.lemmas.List.Elements.{All-contains, All-filter, filter_passes}
+use Rattle.tfpg_base.proofs.lists.Sequences.{by_number_and_rank}
 use Rattle.tfpg_base.specs.declared.activation.Activation.{Activation}
 use Rattle.tfpg_base.specs.Trace.{time_of}
 use Rattle.tfpg_graph.specs.declared.edge.Edge.{Edge}
@@ -12,26 +13,6 @@ use Rattle.tfpg_graph.specs.Graph.{Tfpg, edges_into}
 use Rattle.tfpg_graph.specs.ZeroCycle.{HasZeroOrder}
 use Rattle.tfpg_log.specs.Log.{Logbook}
 use Rattle.tfpg_log.specs.Rules.{HasAge}
-
--- ---- by time, and at one time by rank
-
-module _ (rank : ℕ → ℕ) (P : ℕ → ℕ → Type 0)
-    (step : (node time : ℕ) → ((other earlier : ℕ) → earlier < time → P other earlier)
-    → ((other : ℕ) → rank other < rank node → P other time) → P node time) where
-  by_rank : (time : ℕ) → ((other earlier : ℕ) → earlier < time → P other earlier) → (bound node : ℕ) → rank node < bound → P node time
-  by_rank time before zero node below = absurd (omega arith)
-  by_rank time before (suc bound) node below = step node time before (λ other lesser. by_rank time before bound other (omega arith))
-
-  by_time : (bound node time : ℕ) → time < bound → P node time
-  by_time zero node time below = absurd (omega arith)
-  by_time (suc bound) node time below =
-      by_rank time (λ other earlier before. by_time bound other earlier (omega arith)) (suc (rank node)) node (omega arith)
-
-  -- What holds of a node at a time, wherever it holds earlier, and at that time of nodes of lesser rank, always holds.
-  pub by_time_and_rank : (node time : ℕ) → P node time
-  by_time_and_rank node time = by_time (suc time) node time (omega arith)
-
--- ---- along the edges of a trace
 
 -- an edge into a node that may take no time rises to it
 rises_into : (graph : Tfpg) (order : HasZeroOrder graph) (node : ℕ) (edge : Edge) → Contains (edges_into graph node) edge → edge.tmin ≡ 0
@@ -58,7 +39,7 @@ module _ (graph : Tfpg) (log : Logbook) (trace : List Activation) (order : HasZe
       → ((edge : Edge) → Contains (edges_into graph node) edge → (age : HasAge log trace edge time edge.tmin) → P edge.source age.start) → P node time)
       → (node time : ℕ) → time_of trace node ≡ Some time → P node time
   traced_back P step =
-      by_time_and_rank order.rank (λ node time. time_of trace node ≡ Some time → P node time)
+      by_number_and_rank order.rank (λ node time. time_of trace node ≡ Some time → P node time)
       (λ node time before lesser at. step node time at
       (λ edge into age. ⊎_elim (λ earlier. before edge.source age.start earlier age.source)
       (λ same. subst (λ t. time_of trace edge.source ≡ Some t → P edge.source t) (sym same.0) (lesser edge.source same.1) age.source)

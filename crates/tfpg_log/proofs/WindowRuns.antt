@@ -12,7 +12,7 @@ use Rattle.tfpg_log.specs.Log.{Logbook, mode_at, is_active_at}
 use Rattle.tfpg_log.specs.Spans.{span_number, span_at, run_start, run_end, window_between, window_round, are_active_at, window_of, joint_of}
 use Rattle.tfpg_log.specs.Runs.{IsMaximalRun, Overlaps, LiesIn, IsWindowRound}
 use Rattle.tfpg_log.proofs.MaximalRuns.{takes_in, one_run}
-use Rattle.tfpg_log.proofs.Trials.{NonePassesUpTo, IsGreatest, greatest_found, greatest_there}
+use Rattle.tfpg_base.proofs.lists.Trials.{NonePassesUpTo, IsGreatest, greatest_found, greatest_there}
 use Rattle.tfpg_log.proofs.SpanRuns.{is_span, found_span}
 
 -- ---- where a run begins and ends

@@ -5,7 +5,8 @@ use Rattle.std.specs.List.{list_any}
 use Rattle.tfpg_base.specs.Words.{words_of, line_of}
 use Rattle.tfpg_base.proofs.lists.Choices.{cond-some_second}
 use Rattle.tfpg_base.proofs.lists.SameBytes.{bytes_eq-true}
-use Rattle.tfpg_base.proofs.Separators.{join_with_byte-words_of, slice_split-join}
+use Rattle.tfpg_base.proofs.Separators.{join_with_byte-words_of}
+use Rattle.tfpg_base.proofs.lists.Lacking.{slice_split-join}
 use Rattle.tfpg_graph.specs.Statements.{IsLineWord}
 use Rattle.tfpg_graph.proofs.lemmas.reading.LinesSay.{no_empty_word, no_space}
 use Rattle.tfpg_graph.proofs.lemmas.reading.SaidLines.{parts_lack, line_words, are_words}

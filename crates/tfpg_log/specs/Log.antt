@@ -113,7 +113,7 @@ IsEventOf graph (Tick time) = Unit {0}
 IsEventOf graph (Mode time mode) = mode < length graph.modes
 
 -- A log is of a graph where each event names only monitored nodes and modes of the graph.
-pub record IsOf (graph : Tfpg) (log : Logbook) : Type 0 where
+pub record IsLogOf (graph : Tfpg) (log : Logbook) : Type 0 where
   pub own : All (IsEventOf graph) log.events
 
 -- The times of a log never fall from one event to the next, and none is too large. Each log made by offering lines is

@@ -1,22 +1,13 @@
 -- Spans of one mode, and the windows of spans in which an edge, or all edges into a node, are active.
-use Rattle.std.specs.Prelude.{ℕ, zero, suc, ◌+◌, Bool, ◌&&◌, nat_le, ◌==◌, if◌then◌else◌, Option, Some, None, option_and_then}
+use Rattle.std.specs.Prelude.{ℕ, zero, suc, ◌+◌, max, Bool, ◌&&◌, nat_le, ◌==◌, if◌then◌else◌, Option, Some, None, option_and_then}
+use Rattle.std.specs.Bool.{then_some}
 use Rattle.std.specs.List.{list_all}
-use Rattle.std.specs.Option.{option_or}
+use Rattle.tfpg_base.specs.Trials.{least, greatest}
 use Rattle.tfpg_graph.specs.declared.edge.Edge.{Edge}
 use Rattle.tfpg_graph.specs.Graph.{Tfpg, edges_into}
 use Rattle.tfpg_log.specs.declared.span.Span.{Span}
 use Rattle.tfpg_log.specs.declared.span.Window.{Window}
 use Rattle.tfpg_log.specs.Log.{Logbook, now_of, mode_at, is_active_at}
-
--- the least number up to a limit that passes
-abbrev pub least : (ℕ → Bool) → ℕ → Option ℕ
-least passes zero = if passes 0 then Some 0 else None
-least passes (suc limit) = option_or (least passes limit) (if passes (suc limit) then Some (suc limit) else None)
-
--- the greatest number up to a limit that passes
-abbrev pub greatest : (ℕ → Bool) → ℕ → Option ℕ
-greatest passes zero = if passes 0 then Some 0 else None
-greatest passes (suc limit) = if passes (suc limit) then Some (suc limit) else greatest passes limit
 
 -- the number of the span of an instant: how many times the mode changed from one instant to the next up to it
 abbrev pub span_number : Logbook → ℕ → ℕ
@@ -29,6 +20,10 @@ abbrev pub span_between : Logbook → Option ℕ → Option ℕ → Option Span
 span_between log None hi = None
 span_between log (Some lo) None = None
 span_between log (Some lo) (Some hi) = Some (record { lo = lo; hi = hi; mode = mode_at log lo })
+
+-- the first instant of the span that is not before this one
+abbrev pub first_from : Span → ℕ → Option ℕ
+first_from span instant = then_some (nat_le (max instant span.lo) span.hi) (max instant span.lo)
 
 -- the span of a number, of the instants up to a horizon that is not after now
 abbrev pub span_at : Logbook → ℕ → ℕ → Option Span

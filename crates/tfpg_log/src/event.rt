@@ -4,7 +4,8 @@ ghost use Rattle.std.specs.Prelude.{◌≡◌};
 
 use crate::Refusal;
 
-/// An accepted line. Times are in milliseconds, from 0 to 10^12, and never fall from one event to the next.
+/// An accepted line. Times are in milliseconds, from 0 to [`MAX_TIME`](tfpg_base::MAX_TIME), and never fall from one
+/// event to the next.
 #[derive(Clone, Copy, Debug, PartialEq, Eq)]
 pub enum Event {
     /// The monitor of a discrepancy raised its alarm.

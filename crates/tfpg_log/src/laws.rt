@@ -10,7 +10,7 @@ ghost use Rattle.tfpg_graph.specs.Valid.{IsValid};
 ghost use Rattle.tfpg_log.specs.declared.event.Event.{Event};
 ghost use Rattle.tfpg_log.specs.declared.span.Span.{Span};
 ghost use Rattle.tfpg_log.specs.declared.span.Window.{Window};
-ghost use Rattle.tfpg_log.specs.Log.{Logbook, GoesOn, IsOf, IsOrdered, now_of, event_at, alarm_of, alarm_event, mode_at, quiet_at, is_active_at};
+ghost use Rattle.tfpg_log.specs.Log.{Logbook, GoesOn, IsLogOf, IsOrdered, now_of, event_at, alarm_of, alarm_event, mode_at, quiet_at, is_active_at};
 ghost use Rattle.tfpg_log.specs.Quiet.{IsLastQuiet};
 ghost use Rattle.tfpg_log.specs.Rules.{IsActive, HasAge, IsAge};
 ghost use Rattle.tfpg_log.specs.Spans.{span_number, span_at, are_active_at, window_of, joint_of};
@@ -37,7 +37,7 @@ pub fn a_line_is_read_as_it_is_written()
 pub fn a_log_of_lines_is_of_its_graph()
     ensures grows { (graph : Tfpg) (lines : List (List ℕ)) (line : List ℕ) →
         log_of_lines graph (lines ++ line ∷ []) ≡ log_after graph (log_of_lines graph lines) line }
-    ensures of { (graph : Tfpg) (lines : List (List ℕ)) → IsOf graph (log_of_lines graph lines) }
+    ensures of { (graph : Tfpg) (lines : List (List ℕ)) → IsLogOf graph (log_of_lines graph lines) }
     ensures ordered { (graph : Tfpg) (lines : List (List ℕ)) → IsOrdered (log_of_lines graph lines) }
 {}
 

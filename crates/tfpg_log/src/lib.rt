@@ -3,6 +3,7 @@
 //! - [`Log`] is the log of accepted lines, with its look-ups.
 //! - [`Event`] is what a line of the log says, once it is accepted, and [`Offered`] what becomes of a line.
 //! - [`Refusal`] says why a line is refused.
+//! - [`MAX_EVENTS`] and [`MAX_MODE_CHANGES`] say how much a log may have.
 //! - [`Span`] is a run of instants of one mode, and [`Window`] a run of spans in which an edge is active.
 //! - [`laws`] has what the definitions come to: what ages, spans and windows are in other words, how ages follow from
 //!   windows, which events a node's alarm and its last silence are, that nothing becomes active outside a set's reach, and
@@ -11,7 +12,7 @@
 //! Its definitions, in `specs/`, are those that every crate above stands on: the mode of an instant, the age of an
 //! edge, the propagation rules, and which sets of failure modes fit the log.
 //!
-//! ```text
+//! ```
 //! let mut log = Log::new(rt.alloc());
 //! log.offer(&graph, b"5 sweep")?; // Offered::Accepted(Event::Sweep { time: 5 })
 //! log.offer(&graph, b"4 tick")?; // Offered::Refused(Refusal::TimeBack { last: 5 })

@@ -1,7 +1,7 @@
 //! The log of accepted lines, with its look-ups.
 
 ghost use Rattle.std.specs.Prelude.{◌≡◌, ◌≤◌, ◌<◌, ◌-◌, ℕ, length, take, true, ◌&&◌, if◌then◌else◌, nat_le, Some, None, is_none, IfOk, count_by, option_and_then, slice_get};
-ghost use Rattle.tfpg_log.specs.Log.{IsOf, IsOrdered, now_of, event_at, alarm_of, alarm_event, alarm_among, mode_at, quiet_at, is_mode_change};
+ghost use Rattle.tfpg_log.specs.Log.{IsLogOf, IsOrdered, now_of, event_at, alarm_of, alarm_event, alarm_among, mode_at, quiet_at, is_mode_change};
 ghost use Rattle.tfpg_log.specs.Spans.{span_number, span_at, window_round, window_of, joint_of};
 ghost use Rattle.tfpg_log.specs.inside.ActiveModes.{has_mode};
 ghost use Rattle.tfpg_log.specs.declared.limits.TheConstants.{MAX_EVENTS, MAX_MODE_CHANGES};
@@ -27,8 +27,8 @@ use tfpg_graph::Graph;
 
 /// The events that were accepted so far, numbered from 1, and with them the time. A new log is of every graph.
 ///
-/// No look-up takes memory, and most take constant time. Those of the mode and of the span of an instant take time in the
-/// logarithm of the number of mode changes. Those of windows go through the spans of the window, and for all edges into a
+/// No look-up takes memory, and most take constant time. Those of the mode and of the span of an instant take time
+/// logarithmic in the number of mode changes. Those of windows go through the spans of the window, and for all edges into a
 /// node at once also through these edges.
 #[derive(Debug, Drop)]
 pub struct Log {
@@ -60,7 +60,7 @@ impl Log {
     /// The log without events. Takes no memory.
     pub fn new(alloc: Global) -> Log
         ensures empty { result ≡ new_log }
-        ensures of { (graph : Tfpg) → IsOf graph result }
+        ensures of { (graph : Tfpg) → IsLogOf graph result }
     {
         Log {
             events: Vec::new(alloc),
@@ -81,7 +81,8 @@ impl Log {
         }
     }
 
-    /// How many events it has: at most 16,384. Their times never fall, and none is above 10^12.
+    /// How many events it has: at most [`MAX_EVENTS`](crate::MAX_EVENTS). Their times never fall, and none is above
+    /// [`MAX_TIME`](tfpg_base::MAX_TIME).
     pub fn len(&self) -> u32
         ensures len { result ≡ length self.now.events }
         ensures ordered { IsOrdered self.now }
@@ -96,6 +97,14 @@ impl Log {
         ensures { event_at self.now number ≡ Some result }
     {
         self.events[number as usize - 1]
+    }
+
+    /// The event of this number, where there is one. The number may be any.
+    pub fn find_event(&self, number: u32) -> Option<Event>
+        ensures { result ≡ event_at self.now number }
+    {
+        let index = number.checked_sub(1)?;
+        self.events.get(index as usize).copied()
     }
 
     /// The time of the node's first alarm, in milliseconds, where it has one. The node may be any number.
@@ -120,7 +129,7 @@ impl Log {
     }
 
     /// The mode of an instant, in milliseconds: that of the last change whose time is below it, and else mode 0. Takes
-    /// time in the logarithm of the number of mode changes.
+    /// time logarithmic in the number of mode changes.
     pub fn mode_at(&self, instant: u64) -> u32
         ensures { result ≡ mode_at self.now instant }
     {
@@ -128,7 +137,7 @@ impl Log {
     }
 
     /// The number of the span of an instant, in milliseconds: how many times the mode changed from one instant to the
-    /// next up to it. There is none of an instant after now. Takes time in the logarithm of the number of mode changes.
+    /// next up to it. There is none of an instant after now. Takes time logarithmic in the number of mode changes.
     pub fn span_of(&self, instant: u64) -> Option<u32>
         ensures { result ≡ (if nat_le instant (now_of self.now)
             then Some (span_number self.now instant) else None) }
@@ -180,8 +189,8 @@ impl Log {
         ensures { result ≡ quiet_at graph.now self.now number node }
     {
         match self.find_event(number)? {
-            Event::Silent { time, node: silent } => time_where(silent == node, time),
-            Event::Sweep { time } => time_where(self.is_swept(graph, number, node), time),
+            Event::Silent { time, node: silent } => (silent == node).then_some(time),
+            Event::Sweep { time } => self.is_swept(graph, number, node).then_some(time),
             Event::Alarm { .. } | Event::Tick { .. } | Event::Mode { .. } => None,
         }
     }
@@ -263,14 +272,6 @@ impl Log {
         }
     }
 
-    /// The event of this number, where there is one.
-    fn find_event(&self, number: u32) -> Option<Event>
-        ensures { result ≡ event_at self.now number }
-    {
-        let index = number.checked_sub(1)?;
-        self.events.get(index as usize).copied()
-    }
-
     /// Whether a sweep of this number is a silence of the node.
     fn is_swept(&self, graph: &Graph, number: u32, node: u32) -> bool
         ensures { result ≡ (is_monitored graph.now node
@@ -299,11 +300,4 @@ fn later_of(one: Option<u32>, other: Option<u32>) -> Option<u32>
         (Some(first), None) => Some(first),
         (None, _) => other,
     }
-}
-
-/// The time, where the test holds.
-fn time_where(holds: bool, time: u64) -> Option<u64>
-    ensures { result ≡ (if holds then Some time else None) }
-{
-    if holds { Some(time) } else { None }
 }

@@ -23,7 +23,7 @@ pub(crate) struct LogLine<'a> {
     pub(crate) statement: LogStatement<'a>,
 }
 
-/// The line, where it has one of the five shapes. Takes time in its length.
+/// The line, where it has one of the five shapes. Takes time linear in its length.
 pub(crate) fn read_line(line: &[u8]) -> Option<LogLine<'_>>
     ensures { option_map log_line_seen result ≡ log_statement_of line.now }
 {

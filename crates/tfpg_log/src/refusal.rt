@@ -21,8 +21,8 @@ pub enum Refusal {
     SecondAlarm { first: u64 },
     /// The node has an alarm, at `first`.
     SilentAfterAlarm { first: u64 },
-    /// 16,384 events were accepted.
+    /// [`MAX_EVENTS`](crate::MAX_EVENTS) events were accepted.
     LogFull,
-    /// 1,024 mode changes were accepted.
+    /// [`MAX_MODE_CHANGES`](crate::MAX_MODE_CHANGES) mode changes were accepted.
     ModesFull,
 }

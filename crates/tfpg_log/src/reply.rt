@@ -5,7 +5,7 @@ ghost use Rattle.std.specs.Str.Parse.{digits_value};
 ghost use Rattle.tfpg_base.specs.Choice.{first_of, unless_refused};
 ghost use Rattle.tfpg_graph.specs.Graph.{node_named, is_monitored};
 ghost use Rattle.tfpg_log.specs.declared.refusal.Refusal.{Refusal};
-ghost use Rattle.tfpg_log.specs.Log.{IsOf};
+ghost use Rattle.tfpg_log.specs.Log.{IsLogOf};
 ghost use Rattle.tfpg_log.specs.LogStatements.{Alarm, Silent, Mode};
 ghost use Rattle.tfpg_log.specs.Accepted.{time_refusals, monitor_refusals, room_refusal, statement_refusals, event_of, offered, reply_to};
 ghost use Rattle.tfpg_log.specs.LogOfLines.{log_after_reply};
@@ -22,18 +22,18 @@ impl Log {
     /// What becomes of the line. It is accepted, and then its event is the last; or it is refused, and then the log stays
     /// as it was. It also stays so where memory runs out. A refused line takes no memory. The line may have any length.
     ///
-    /// Takes time in the length of the line, and at most one look-up by name, however long the log is. Now and then a list
+    /// Takes time linear in the length of the line, and at most one look-up by name, however long the log is. Now and then a list
     /// grows and is moved, which evens out over the calls. An alarm or a silence may lengthen the list of what is kept of
     /// each node, up to its own.
     pub fn offer(&mut self, graph: &Graph, line: &[u8]) -> Result<Offered, NoMemory>
-        requires { IsOf graph.now self.old }
+        requires { IsLogOf graph.now self.old }
         ensures reply { IfOk result (λ reply. reply ≡ reply_to graph.now self.old line.now) }
         ensures log { IfOk result (λ reply. self.new ≡ log_after_reply self.old reply) }
         ensures refused { (refusal : Refusal) →
             reply_to graph.now self.old line.now ≡ Offered.Refused refusal →
             result ≡ Ok (Offered.Refused refusal) }
         ensures err { OnErr result (self.new ≡ self.old) }
-        ensures of { IsOf graph.now self.new }
+        ensures of { IsLogOf graph.now self.new }
     {
         let offered = reply(graph, self, line);
         match offered {
@@ -46,7 +46,7 @@ impl Log {
     }
 }
 
-/// What becomes of the line. Takes time in its length, and at most one look-up by name.
+/// What becomes of the line. Takes time linear in its length, and at most one look-up by name.
 fn reply(graph: &Graph, log: &Log, line: &[u8]) -> Offered
     ensures { result ≡ reply_to graph.now log.now line.now }
 {

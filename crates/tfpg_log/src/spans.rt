@@ -13,7 +13,7 @@ use crate::mode_change::ModeChange;
 use crate::span::Span;
 use tfpg_base::NoMemory;
 
-/// The number of the span of the instant. Takes time in the logarithm of the number of changes.
+/// The number of the span of the instant. Takes time logarithmic in the number of changes.
 pub(crate) fn span_number(changes: &[ModeChange], instant: u64) -> usize
     requires { IsNonDecreasingBy (λ (change : ModeChange). change.time) changes.now }
     ensures { IsInSpan changes.now result instant }

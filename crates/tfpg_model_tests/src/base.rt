@@ -291,6 +291,31 @@ fn words_are_cut_at_each_space(rt: HostRuntime) {
 }
 
 #[test]
+fn a_fault_is_counted(rt: HostRuntime) {
+    let mut faults = FaultCount::new();
+    assert_eq!(rt; faults.count, 0);
+    faults.raise();
+    assert_eq!(rt; faults.count, 1);
+}
+
+#[test]
+fn filled_words_have_no_empty_one(rt: HostRuntime) {
+    assert!(rt; Words::filled(b"5 alarm N").is_some());
+    assert!(rt; Words::filled(b"5 alarm  N").is_none());
+    assert!(rt; Words::filled(b"1 2 3 4 5 6 7 8 9 10").is_none());
+}
+
+#[test]
+fn a_word_is_cut_at_its_commas(rt: HostRuntime) -> Result<(), Fail> {
+    let parts = parts_at_commas(rt.alloc(), b"N,,D")?;
+    match parts.as_slice() {
+        [b"N", b"", b"D"] => {}
+        other => panic!(&rt; "{other:?}"),
+    }
+    Ok(())
+}
+
+#[test]
 fn the_earlier_of_two_times_is_found(rt: HostRuntime) {
     for (row, one, other, found) in &[
         ("the first", Some(3), Some(5), Some(3)),

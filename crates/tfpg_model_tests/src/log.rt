@@ -2,7 +2,7 @@
 //! logs are.
 
 ghost use Rattle.std.specs.Prelude.{◌≡◌, IfOk};
-ghost use Rattle.tfpg_log.specs.Log.{IsOf};
+ghost use Rattle.tfpg_log.specs.Log.{IsLogOf};
 
 use std::alloc::Global;
 use std::process::Abort;
@@ -284,7 +284,7 @@ const REFUSED_WHEN_FULL: [(&str, &str, Refusal); 11] = [
 
 /// The log of the lines.
 pub(crate) fn log_of(alloc: Global, graph: &Graph, lines: &[&[u8]]) -> Result<Log, Fail>
-    ensures { IfOk result (IsOf graph.now) }
+    ensures { IfOk result (IsLogOf graph.now) }
 {
     let mut log = Log::new(alloc);
     for line in lines {
@@ -295,8 +295,8 @@ pub(crate) fn log_of(alloc: Global, graph: &Graph, lines: &[&[u8]]) -> Result<Lo
 
 /// Offers the line so many times.
 fn offer_often(log: &mut Log, graph: &Graph, line: &[u8], count: u32) -> Result<(), Fail>
-    requires { IsOf graph.now log.old }
-    ensures { IsOf graph.now log.new }
+    requires { IsLogOf graph.now log.old }
+    ensures { IsLogOf graph.now log.new }
 {
     for _turn in 0..count {
         log.offer(graph, line)?;
@@ -311,8 +311,8 @@ fn assert_refused(
     graph: &Graph,
     rows: &[(&'static str, &'static str, Refusal)],
 ) -> Result<(), Fail>
-    requires { IsOf graph.now log.old }
-    ensures { IsOf graph.now log.new }
+    requires { IsLogOf graph.now log.old }
+    ensures { IsLogOf graph.now log.new }
 {
     for (row, line, refusal) in rows {
         let offered = log.offer(graph, line.as_bytes())?;
@@ -323,7 +323,7 @@ fn assert_refused(
 
 /// What becomes of the line that is offered to a copy of the log.
 fn offered_to_copy(log: &Log, graph: &Graph, line: &[u8]) -> Result<Offered, Fail>
-    requires { IsOf graph.now log.now }
+    requires { IsLogOf graph.now log.now }
 {
     let mut copy = log.copy()?;
     Ok(copy.offer(graph, line)?)
@@ -351,7 +351,12 @@ fn takes_no_more_than_its_limits(rt: HostRuntime) -> Result<(), Fail> {
     offer_often(&mut log, &graph, b"10 alarm A", 1)?;
     assert_eq!(rt; log.len(), MAX_MODE_CHANGES + 1);
     assert_refused(&rt, &mut log, &graph, &REFUSED_WITH_ALL_MODES)?;
-    offer_often(&mut log, &graph, b"10 tick", 15_359)?;
+    offer_often(
+        &mut log,
+        &graph,
+        b"10 tick",
+        MAX_EVENTS - MAX_MODE_CHANGES - 1,
+    )?;
     assert_eq!(rt; log.len(), MAX_EVENTS);
     assert_refused(&rt, &mut log, &graph, &REFUSED_WHEN_FULL)?;
     assert_eq!(rt; log.len(), MAX_EVENTS);
@@ -540,6 +545,35 @@ fn joint_at(graph: &Graph, log: &Log, node: u32, number: u32, horizon: u64) -> O
         return None;
     }
     log.joint_of(graph, node, number, horizon)
+}
+
+#[test]
+fn an_event_is_found_by_its_number(rt: HostRuntime) -> Result<(), Fail> {
+    let graph = read(rt.alloc(), GRAPH)?;
+    let mut log = Log::new(rt.alloc());
+    log.offer(&graph, b"5 sweep")?;
+    log.offer(&graph, b"8 tick")?;
+    assert_eq!(rt; log.find_event(0), None);
+    assert_eq!(rt; log.find_event(2), Some(Event::Tick { time: 8 }));
+    assert_eq!(rt; log.find_event(3), None);
+    Ok(())
+}
+
+#[test]
+fn a_span_has_a_first_instant_from_another_on(rt: HostRuntime) {
+    let span = Span {
+        lo: 5,
+        hi: 9,
+        mode: 1,
+    };
+    for (row, instant, wanted) in &[
+        ("before its first instant", 3, Some(5)),
+        ("within it", 7, Some(7)),
+        ("at its last instant", 9, Some(9)),
+        ("after it", 10, None),
+    ] {
+        assert_eq!(rt; span.first_from(*instant), *wanted, "{row}");
+    }
 }
 
 #[test]

@@ -5,7 +5,7 @@ ghost use Rattle.std.specs.Prelude.{◌<◌, length, All, IsTrue};
 use crate::log::log_of;
 use std::alloc::Global;
 use std::test::Fail;
-use tfpg_base::{Set, Trace};
+use tfpg_base::{MAX_MEMBERS, Set, Trace};
 use tfpg_graph::{Graph, read};
 use tfpg_trace::{Verdict, explains};
 
@@ -291,11 +291,11 @@ fn trace_of(alloc: Global, times: &[(u32, u64)]) -> Result<Trace, Fail> {
     Ok(trace)
 }
 
-/// The set of these positions, where they are below 64.
+/// The set of these positions, where they are below [`MAX_MEMBERS`].
 fn set_of(positions: &[u32]) -> Set {
     let mut set = Set::empty();
     for position in positions {
-        if *position < 64 {
+        if *position < MAX_MEMBERS {
             set = set.with(*position);
         }
     }

@@ -1,17 +1,18 @@
 -- Findings by their numbers.
-use Rattle.std.proofs.Common.{◌≡◌, ℕ, ◌<◌, eqb, List, length, get_or, All, Option, Some, None, Ok, Err, slice_get, sym, ap, ◌∙◌, arith, ⊎_elim}
+use Rattle.std.proofs.Common.{◌≡◌, ℕ, ◌<◌, eqb, List, length, get_or, All, Some, None, Ok, Err, slice_get, sym, ap, ◌∙◌, arith, ⊎_elim}
 use Rattle.std.specs.List.{AllPairs}
 use Rattle.std.specs.List.Sorted.{IsBinarySearchResult}
 use Rattle.std.specs.Ordering.{nat_cmp}
 use Rattle.std.proofs.lemmas.Cmp.{ranked}
-use Rattle.std.proofs.lemmas.Bool.{eq-eqb, ne_eqb, cases_lt}
+use Rattle.std.proofs.lemmas.Bool.{ne_eqb, cases_lt}
 use Rattle.std.proofs.lemmas.List.Elements.{All-contains}
 use Rattle.std.proofs.lemmas.Option.{slice_get-get_or}
 use Rattle.tfpg_base.proofs.lists.Elements.{AllPairs-at}
-use Rattle.tfpg_base.proofs.lists.FirstFound.{find_first, find-All_fail, find-passes}
+use Rattle.tfpg_base.proofs.lists.FirstFound.{find-All_fail, find-passes}
 use Rattle.tfpg_base.proofs.lists.Ordered.{comparisons_rise}
 use Rattle.tfpg_evidence.specs.declared.finding.Finding.{Finding}
 use Rattle.tfpg_evidence.specs.RoundOf.{finding_numbered}
+use Rattle.tfpg_evidence.proofs.FindingsByNumber.{finding_numbered-first}
 
 -- each number is below all later ones
 abbrev pub RiseByNumber : List Finding → Type 0
@@ -22,9 +23,9 @@ pub finding_numbered-at : (findings : List Finding) (number index : ℕ) (found 
     → get_or findings index found ≡ found → found.number ≡ number → finding_numbered findings number ≡ Some found
 finding_numbered-at findings number index found rising within at is =
     let there : slice_get findings index ≡ Some found = slice_get-get_or findings index found within ∙ ap Some at in
-    find_first (λ (f : Finding). eqb f.number number) findings index found there (eq-eqb found.number number is)
-    (λ j earlier before at_j. ne_eqb earlier.number number (λ same.
-    let less : earlier.number < found.number = AllPairs-at (λ (a b : Finding). a.number < b.number) findings j index earlier found rising at_j there before in omega arith))
+    finding_numbered-first findings number index found there is
+    (λ earlier finding before at_earlier same.
+    let less : finding.number < found.number = AllPairs-at (λ (a b : Finding). a.number < b.number) findings earlier index finding found rising at_earlier there before in omega arith)
 
 -- what a binary search by number found is the finding of the number
 pub finding_numbered-found : (findings : List Finding) (number index : ℕ) (found : Finding) → RiseByNumber findings → index < length findings

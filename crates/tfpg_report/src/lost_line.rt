@@ -7,7 +7,7 @@ ghost use Rattle.tfpg_report.specs.Blocks.{lost_text};
 use itoa::Buffer;
 use tfpg_base::{NoMemory, append_line};
 
-/// Appends the line of a panel that was lost at the round before, or for which memory ran out. Panels count from 1.
+/// Appends the line of a panel that was lost at the round before, or for which memory ran out. Panels are counted from 1.
 /// Where memory runs out, a part of the line may stand after the old bytes.
 pub fn lost(panel: u64, no_memory: bool, into: &mut Vec<u8>) -> Result<(), NoMemory>
     ensures { Appends result into.old.items into.new.items

@@ -10,7 +10,7 @@ use itoa::Buffer;
 use tfpg_base::{NoMemory, append_line};
 use tfpg_log::Refusal;
 
-/// Appends the block of a line that was refused. Lines count from 1. Where memory runs out, a part of the block may
+/// Appends the block of a line that was refused. Lines are counted from 1. Where memory runs out, a part of the block may
 /// stand after the old bytes.
 pub fn refused(line: u64, cause: RefusedLine, into: &mut Vec<u8>) -> Result<(), NoMemory>
     ensures { Appends result into.old.items into.new.items (refused_text line cause) }

@@ -37,7 +37,7 @@ fn append_pieces(pieces: &[&[u8]], into: &mut Vec<u8>) -> Result<(), NoMemory>
     Ok(())
 }
 
-/// Appends a set: a hyphen for the empty one, else the names of its members with commas between. Costs linear time in the
+/// Appends a set: a hyphen for the empty one, else the names of its members with commas between. Takes time linear in the
 /// count of failure modes, besides its text.
 pub fn append_set(graph: &Graph, set: Set, into: &mut Vec<u8>) -> Result<(), NoMemory>
     requires { AreFailures graph.now set }

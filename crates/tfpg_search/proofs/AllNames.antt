@@ -1,13 +1,11 @@
 -- The clause names of a log are finitely many: they can be listed.
-use Rattle.std.proofs.Common.{◌≡◌, ℕ, zero, suc, ◌+◌, ◌<◌, ◌≤◌, List, [], ◌∷◌, ◌++◌, length, Bool, true, false, Option, Some, None, refl, ap, subst, ◌∙◌, arith}
+use Rattle.std.proofs.Common.{◌≡◌, ℕ, zero, suc, ◌+◌, ◌<◌, ◌≤◌, List, [], ◌∷◌, ◌++◌, length, Bool, true, false, Option, Some, None, refl, ap, ◌∙◌, arith}
 use Rattle.std.specs.Prelude.{Contains, map, filter, flat_map, nat_le, ◌==◌, ◌&&◌, if◌then◌else◌, is_some, option_and_then, slice_get, filter_map}
 use Rattle.std.specs.Bool.{then_some}
-use Rattle.std.specs.Option.{option_or}
 use Rattle.std.specs.List.{list_any, range_with_len}
 use Rattle.std.proofs.lemmas.Bool.{and_parts, and_from, eqb-true, eq-eqb}
 use Rattle.std.proofs.lemmas.Bool.Decides.{nat_tests}
-use Rattle.std.proofs.lemmas.List.FromFn.{length-range_with_len, get_or-range_with_len}
-use Rattle.std.proofs.lemmas.Option.{slice_get_within}
+use Rattle.std.proofs.lemmas.Option.{slice_get_within, none-some, MatchOption-at_some}
 use Rattle.tfpg_base.specs.declared.constraint.Constraint.{Constraint}
 use Rattle.tfpg_graph.specs.declared.edge.Edge.{Edge}
 use Rattle.tfpg_graph.specs.Graph.{Tfpg, is_kind_at, is_or, is_and, edges_into}
@@ -15,7 +13,8 @@ use Rattle.tfpg_graph.proofs.NodeAt.{kind_within}
 use Rattle.tfpg_log.specs.declared.span.Span.{Span}
 use Rattle.tfpg_log.specs.declared.span.Window.{Window}
 use Rattle.tfpg_log.specs.Log.{Logbook, now_of, mode_at, time_of_event, is_active_at}
-use Rattle.tfpg_log.specs.Spans.{least, greatest, span_number, span_between, span_at, window_round, window_of, joint_of, are_active_at}
+use Rattle.tfpg_base.specs.Trials.{least, greatest}
+use Rattle.tfpg_log.specs.Spans.{span_number, span_between, span_at, window_round, window_of, joint_of, are_active_at}
 use Rattle.tfpg_evidence.specs.declared.clause_name.ClauseName.{ClauseName}
 use Rattle.tfpg_evidence.specs.declared.clause_name.ClauseName.TheVariants.{OrMay, AndMay, OrMust, AndMust}
 use Rattle.tfpg_base.specs.Choice.{each_of}
@@ -23,7 +22,10 @@ use Rattle.tfpg_clause.specs.Clauses.{alternatives, outside_span, arrival, due_o
 use Rattle.tfpg_clause.specs.Order.{horizon_of}
 use Rattle.tfpg_search.specs.Enough.{IsNameAt, AreNamesAt}
 use Rattle.tfpg_base.proofs.lists.Elements.{slice_get-contains, list_any-found, list_any-passes}
-use Rattle.tfpg_base.proofs.lists.Choices.{is_some-there}
+use Rattle.tfpg_base.proofs.lists.Trials.{NonePassesUpTo, IsLeast, least_found}
+use Rattle.tfpg_base.proofs.lists.Choices.{is_some-there, is_some-option_and_then, option_and_then-some, then_some-true}
+use Rattle.tfpg_base.proofs.lists.Sequences.{ap-three_equal, three_equal-itself}
+use Rattle.tfpg_base.proofs.lists.Ranges.{Contains-range_with_len}
 use Rattle.tfpg_base.proofs.lists.Distinct.{once, in_once, from_once, once_differ}
 use Rattle.tfpg_base.proofs.lists.Images.{Contains-flat_map}
 use Rattle.tfpg_base.proofs.lists.Passing.{Contains-filter, Contains-filter_only}
@@ -33,9 +35,6 @@ use Rattle.tfpg_base.proofs.lists.Passing.{Contains-filter, Contains-filter_only
 -- the numbers below a limit
 abbrev numbers : ℕ → List ℕ
 numbers limit = range_with_len 0 limit
-
-in_numbers : (limit k : ℕ) → k < limit → Contains (numbers limit) k
-in_numbers limit k less = (k, omega (arith, less, length-range_with_len 0 limit), (let same : 0 + k ≡ k = omega arith in get_or-range_with_len 0 limit k k less ∙ same))
 
 abbrev names_of_subject : ℕ → ℕ → ℕ → List ClauseName
 names_of_subject horizon span subject = OrMay subject span horizon ∷ AndMay subject span horizon ∷ OrMust subject span horizon ∷ AndMust subject span horizon ∷ []
@@ -52,9 +51,9 @@ names_below limit = flat_map (names_of_horizon limit) (numbers limit)
 
 in_names : (limit horizon span subject : ℕ) (name : ClauseName) → Contains (names_of_subject horizon span subject) name → horizon < limit → span < limit → subject < limit → Contains (names_below limit) name
 in_names limit horizon span subject name there low_horizon low_span low_subject =
-    Contains-flat_map (names_of_horizon limit) (numbers limit) horizon name (in_numbers limit horizon low_horizon)
-    (Contains-flat_map (names_of_span limit horizon) (numbers limit) span name (in_numbers limit span low_span)
-    (Contains-flat_map (names_of_subject horizon span) (numbers limit) subject name (in_numbers limit subject low_subject) there))
+    Contains-flat_map (names_of_horizon limit) (numbers limit) horizon name (Contains-range_with_len limit horizon low_horizon)
+    (Contains-flat_map (names_of_span limit horizon) (numbers limit) span name (Contains-range_with_len limit span low_span)
+    (Contains-flat_map (names_of_subject horizon span) (numbers limit) subject name (Contains-range_with_len limit subject low_subject) there))
 
 -- the test of being the same name
 abbrev same_numbers : ℕ → ℕ → ℕ → ℕ → ℕ → ℕ → Bool
@@ -78,38 +77,29 @@ same_name (AndMust a b c) (AndMay x y z) = false
 same_name (AndMust a b c) (OrMust x y z) = false
 same_name (AndMust a b c) (AndMust x y z) = same_numbers a b c x y z
 
-three_are : {Y : Type 0} (f : ℕ → ℕ → ℕ → Y) (a b c x y z : ℕ) → same_numbers a b c x y z ≡ true → f a b c ≡ f x y z
-three_are f a b c x y z is =
-    let all = and_parts (a == x) ((b == y) && (c == z)) is in
-    let others = and_parts (b == y) (c == z) all.1 in
-    ap (λ n. f n b c) (eqb-true a x all.0) ∙ ap (λ n. f x n c) (eqb-true b y others.0) ∙ ap (λ n. f x y n) (eqb-true c z others.1)
-
-three_itself : (a b c : ℕ) → same_numbers a b c a b c ≡ true
-three_itself a b c = and_from (a == a) ((b == b) && (c == c)) (eq-eqb a a refl) (and_from (b == b) (c == c) (eq-eqb b b refl) (eq-eqb c c refl))
-
 exact_name : (one other : ClauseName) → same_name one other ≡ true → one ≡ other
-exact_name (OrMay a b c) (OrMay x y z) is = three_are OrMay a b c x y z is
+exact_name (OrMay a b c) (OrMay x y z) is = ap-three_equal OrMay a b c x y z is
 exact_name (OrMay a b c) (AndMay x y z) is = cc
 exact_name (OrMay a b c) (OrMust x y z) is = cc
 exact_name (OrMay a b c) (AndMust x y z) is = cc
 exact_name (AndMay a b c) (OrMay x y z) is = cc
-exact_name (AndMay a b c) (AndMay x y z) is = three_are AndMay a b c x y z is
+exact_name (AndMay a b c) (AndMay x y z) is = ap-three_equal AndMay a b c x y z is
 exact_name (AndMay a b c) (OrMust x y z) is = cc
 exact_name (AndMay a b c) (AndMust x y z) is = cc
 exact_name (OrMust a b c) (OrMay x y z) is = cc
 exact_name (OrMust a b c) (AndMay x y z) is = cc
-exact_name (OrMust a b c) (OrMust x y z) is = three_are OrMust a b c x y z is
+exact_name (OrMust a b c) (OrMust x y z) is = ap-three_equal OrMust a b c x y z is
 exact_name (OrMust a b c) (AndMust x y z) is = cc
 exact_name (AndMust a b c) (OrMay x y z) is = cc
 exact_name (AndMust a b c) (AndMay x y z) is = cc
 exact_name (AndMust a b c) (OrMust x y z) is = cc
-exact_name (AndMust a b c) (AndMust x y z) is = three_are AndMust a b c x y z is
+exact_name (AndMust a b c) (AndMust x y z) is = ap-three_equal AndMust a b c x y z is
 
 name_itself : (name : ClauseName) → same_name name name ≡ true
-name_itself (OrMay a b c) = three_itself a b c
-name_itself (AndMay a b c) = three_itself a b c
-name_itself (OrMust a b c) = three_itself a b c
-name_itself (AndMust a b c) = three_itself a b c
+name_itself (OrMay a b c) = three_equal-itself a b c
+name_itself (AndMay a b c) = three_equal-itself a b c
+name_itself (OrMust a b c) = three_equal-itself a b c
+name_itself (AndMust a b c) = three_equal-itself a b c
 
 -- ---- what is allowed has small numbers
 
@@ -121,26 +111,6 @@ number_small log (suc instant) = by (number_small log instant) (mode_at log inst
     by before true = omega (arith, before)
     by before false = omega (arith, before)
 
--- the least number that passes is within the limit, and passes
-least_is : (passes : ℕ → Bool) (limit n : ℕ) → least passes limit ≡ Some n → (n ≤ limit) × (passes n ≡ true)
-least_is passes zero n is = by (passes 0) refl is
-  where
-    by : (b : Bool) → passes 0 ≡ b → (if b then Some 0 else None) ≡ Some n → (n ≤ 0) × (passes n ≡ true)
-    by true at gives = (let same : 0 ≡ n = cc in (omega (arith, same), subst (λ k. passes k ≡ true) same at))
-    by false at gives = absurd cc
-least_is passes (suc limit) n is = by (λ k at. least_is passes limit k at) (least passes limit) refl is
-  where
-    own : (b : Bool) → passes (suc limit) ≡ b → (if b then Some (suc limit) else None) ≡ Some n → (n ≤ suc limit) × (passes n ≡ true)
-    own true at gives = (let same : suc limit ≡ n = cc in (omega (arith, same), subst (λ k. passes k ≡ true) same at))
-    own false at gives = absurd cc
-
-    by : ((k : ℕ) → least passes limit ≡ Some k → (k ≤ limit) × (passes k ≡ true)) → (found : Option ℕ) → least passes limit ≡ found → option_or found (if passes (suc limit) then Some (suc limit) else None) ≡ Some n → (n ≤ suc limit) × (passes n ≡ true)
-    by next None at gives = own (passes (suc limit)) refl gives
-    by next (Some k) at gives =
-        let same : k ≡ n = cc in
-        let there = next k at in
-        (omega (arith, there.0, same), subst (λ m. passes m ≡ true) same there.1)
-
 -- a span that there is has a number up to its horizon, which is not after now
 pub record HasNumbersUpTo (log : Logbook) (number horizon : ℕ) : Type 0 where
   pub span_small : number ≤ horizon
@@ -149,15 +119,13 @@ pub record HasNumbersUpTo (log : Logbook) (number horizon : ℕ) : Type 0 where
 pub span_small_at : (log : Logbook) (number horizon : ℕ) → is_some (span_at log number horizon) ≡ true → HasNumbersUpTo log number horizon
 span_small_at log number horizon some = by (nat_le horizon (now_of log)) refl some
   where
-    passes : ℕ → Bool
-    passes instant = span_number log instant == number
-
     found_by : (lo : Option ℕ) → least (λ instant. span_number log instant == number) horizon ≡ lo → (hi : Option ℕ) → is_some (span_between log lo hi) ≡ true → number ≤ horizon
     found_by None at hi there = absurd cc
     found_by (Some lo) at hi there =
-        let is = least_is (λ instant. span_number log instant == number) horizon lo at in
-        let same : span_number log lo ≡ number = eqb-true (span_number log lo) number is.1 in
-        omega (arith, is.0, same, number_small log lo)
+        let passes = λ (instant : ℕ). span_number log instant == number in
+        let is = MatchOption-at_some (NonePassesUpTo passes horizon) (IsLeast passes horizon) lo at (least_found passes horizon) in
+        let same : span_number log lo ≡ number = eqb-true (span_number log lo) number is.here in
+        omega (arith, is.within, same, number_small log lo)
 
     by : (b : Bool) → nat_le horizon (now_of log) ≡ b
         → is_some (if b then span_between log (least (λ instant. span_number log instant == number) horizon) (greatest (λ instant. span_number log instant == number) horizon) else None) ≡ true
@@ -170,36 +138,29 @@ span_small_at log number horizon some = by (nat_le horizon (now_of log)) refl so
 
 -- ---- allowed names
 
-first_there : {X Y : Type 0} (f : X → Option Y) (found : Option X) → is_some (option_and_then f found) ≡ true → is_some found ≡ true
-first_there f None is = cc
-first_there f (Some x) is = refl
-
-never_there : {X Y : Type 0} (f : X → Option Y) (found : Option X) → ((x : X) → f x ≡ None) → is_some (option_and_then f found) ≡ true → ⊥
-never_there f None none is = cc
-never_there f (Some x) none is = let same : is_some (f x) ≡ false = ap is_some (none x) in cc
-
-if_holds : {X : Type 0} (holds : Bool) (x : X) → is_some (then_some holds x) ≡ true → holds ≡ true
-if_holds true x is = refl
-if_holds false x is = cc
-
 module _ (log : Logbook) where
   -- a may clause has a span, and its test holds
   may_there : (holds : Bool) (target : ℕ) (edges : List Edge) (number horizon : ℕ) → is_some (may_by log holds target edges number horizon) ≡ true
       → HasNumbersUpTo log number horizon × (holds ≡ true)
   may_there holds target edges number horizon some = (
-    span_small_at log number horizon (first_there (λ (s : Span). then_some holds (outside_span target s ++ filter_map (arrival log number horizon s) edges)) (span_at log number horizon) some),
+    span_small_at log number horizon (is_some-option_and_then (λ (s : Span). then_some holds (outside_span target s ++ filter_map (arrival log number horizon s) edges)) (span_at log number horizon) some),
     by (span_at log number horizon) some,
   )
     where
       by : (span : Option Span) → is_some (option_and_then (λ (s : Span). then_some holds (outside_span target s ++ filter_map (arrival log number horizon s) edges)) span) ≡ true → holds ≡ true
       by None there = cc
-      by (Some s) there = if_holds holds (outside_span target s ++ filter_map (arrival log number horizon s) edges) there
+      by (Some s) there =
+          let alternatives = outside_span target s ++ filter_map (arrival log number horizon s) edges in
+          let found = is_some-there (then_some holds alternatives) there in
+          (then_some-true holds alternatives found.0 found.1).0
 
   -- a must clause has a window, and its test holds
   must_there : (holds : Bool) (target : ℕ) (edges : List Edge) (window : Option Window) (number horizon : ℕ) → is_some (must_by log holds target edges window number horizon) ≡ true
       → (is_some window ≡ true) × (holds ≡ true)
   must_there false target edges window number horizon some = absurd cc
-  must_there true target edges None number horizon some = absurd (never_there _ (each_of (map (due_over log number horizon) edges)) (λ x. refl) some)
+  must_there true target edges None number horizon some =
+      let made = is_some-there (must_by log true target edges None number horizon) some in
+      absurd (none-some made.0 (option_and_then-some _ (each_of (map (due_over log number horizon) edges)) made.0 made.1).2)
   must_there true target edges (Some w) number horizon some = (refl, refl)
 
 module _ (graph : Tfpg) (log : Logbook) where
@@ -212,7 +173,7 @@ module _ (graph : Tfpg) (log : Logbook) where
   allowed name = is_some (alternatives graph log name)
 
   of_window : {X : Type 0} (f : Span → Option X) (number horizon : ℕ) → is_some (option_and_then f (span_at log number horizon)) ≡ true → HasNumbersUpTo log number horizon
-  of_window f number horizon some = span_small_at log number horizon (first_there f (span_at log number horizon) some)
+  of_window f number horizon some = span_small_at log number horizon (is_some-option_and_then f (span_at log number horizon) some)
 
   of_edge : (f : Edge → Option (List (List Constraint))) (number : ℕ) (found : Option Edge) → slice_get graph.edges number ≡ found → is_some (option_and_then f found) ≡ true
       → (number < length graph.edges) × (edge : Edge) × (is_some (f edge) ≡ true)

@@ -1,6 +1,7 @@
 -- What each call of the system of a leaf leaves.
 use Rattle.std.proofs.Common.{◌≡◌, ℕ, ◌+◌, ◌*◌, ◌<◌, List, [], ◌∷◌, ◌++◌, length, get_or, set, map, take, Option, Some, refl, sym, ◌∙◌, ap, subst, inr, arith}
 use Rattle.std.specs.Prelude.{pos, option_and_then, All}
+use Rattle.std.proofs.Math.Seq.{take-append_seam}
 use Rattle.std.proofs.lemmas.Option.{slice_get_within, slice_get-get_or, slice_get_read}
 use Rattle.tfpg_base.specs.declared.constraint.Constraint.{Constraint}
 use Rattle.tfpg_evidence.specs.declared.reason.Reason.{Reason}
@@ -9,7 +10,7 @@ use Rattle.tfpg_diff.specs.declared.why.Why.{Why}
 use Rattle.tfpg_diff.specs.declared.why.Why.TheVariants.{Given}
 use Rattle.tfpg_diff.specs.declared.bounds.Bounds.{Bounds}
 use Rattle.tfpg_diff.specs.Demands.{Demands, Bounded}
-use Rattle.tfpg_diff.specs.State.{widest, with_floor, with_ceiling, with_pick, popped_to}
+use Rattle.tfpg_diff.specs.SystemState.{widest, with_floor, with_ceiling, with_pick, popped_to}
 use Rattle.tfpg_diff.specs.inside.Kept.{demands_of}
 use Rattle.tfpg_diff.specs.Cycle.{NamesNegativeCycle}
 use Rattle.tfpg_diff.proofs.Bounding.{under, over}
@@ -41,13 +42,20 @@ module _ (demands : Demands) (reasons read : List Reason) (tags lent : List Why)
 
 -- The fields of the system are what contracts see of it.
 module _ (leaf : Leaf) (demands : Demands) (reasons : List Reason) (view : leaf_of demands reasons ≡ leaf) (tagged : IsTagged demands reasons) where
-  -- a reason that is written back leaves what there was
-  pub restored : (new : Demands) (index : ℕ) (reason old : Reason) → new ≡ demands → old ≡ get_or reasons index old → index < length reasons →
-      leaf_of new (set (set reasons index reason) index old) ≡ leaf
-  restored new index reason old same read within =
-      ap (λ (d : Demands). leaf_of d (set (set reasons index reason) index old)) same
-      ∙ ap (leaf_of demands) (set_back reasons index old reason (slice_get_read reasons (length reasons) index old refl within read))
-      ∙ view
+  -- a reason that is put back in the list that was lent leaves what there was
+  pub put_back : (index len : ℕ) (reason old : Reason) (lent back rest : List Reason) → index < length reasons → old ≡ get_or reasons index old →
+      lent ≡ set reasons index reason → back ≡ set lent index old → len ≡ length reasons → take len (back ++ rest) ≡ reasons
+  put_back index len reason old lent back rest within read is_lent is_back many =
+      let same : back ≡ reasons =
+      is_back ∙ ap (λ (rs : List Reason). set rs index old) is_lent ∙ set_back reasons index old reason (slice_get_read reasons (length reasons) index old refl within read) in
+      ap (λ (n : ℕ). take n (back ++ rest)) (many ∙ ap length (sym same)) ∙ take-append_seam back rest ∙ same
+
+  -- so it is the leaf that it was
+  pub restored : (new : Demands) (left : List Reason) → new ≡ demands → left ≡ reasons → leaf_of new left ≡ leaf
+  restored new left same are = ap (λ (d : Demands). leaf_of d left) same ∙ ap (leaf_of demands) are ∙ view
+
+  pub restored_tagged : (new : Demands) (left : List Reason) → new ≡ demands → left ≡ reasons → IsTagged new left
+  restored_tagged new left same are = subst (λ (d : Demands). IsTagged d left) (sym same) (subst (IsTagged demands) (sym are) tagged)
 
   module _ (v : ℕ) (within : v < length leaf.demands.bounds) where
     -- the bounds that the node has

@@ -6,7 +6,6 @@ use Rattle.std.proofs.lemmas.List.Elements.{All-head, All-tail, All-weaker, All-
 use Rattle.tfpg_base.specs.declared.constraint.Constraint.{Constraint}
 use Rattle.tfpg_graph.specs.Graph.{Tfpg}
 use Rattle.tfpg_log.specs.Log.{Logbook, GoesOn, IsOrdered}
-use Rattle.tfpg_evidence.specs.declared.clause_name.ClauseName.{ClauseName}
 use Rattle.tfpg_evidence.specs.declared.reason.Reason.{Reason}
 use Rattle.tfpg_evidence.specs.declared.reason.Reason.TheVariants.{Zero, Top, Unreached, From, Upto, Quiet, Pick}
 use Rattle.tfpg_clause.specs.Facts.{fact}
@@ -18,20 +17,16 @@ use Rattle.tfpg_diff.specs.declared.why.Why.{Why}
 use Rattle.tfpg_diff.specs.declared.why.Why.TheVariants.{Floor, Ceiling, Given}
 use Rattle.tfpg_search.specs.Leaf.{Leaf, tagged_by, pick_reasons, IsStated}
 use Rattle.tfpg_search.specs.Picks.{IsAllowed, constraint_count, picks_from, picks_of_from}
-use Rattle.tfpg_search.specs.Searching.{Searching, IsAtItsLeaf}
+use Rattle.tfpg_search.specs.SearchState.{SearchState, IsAtItsLeaf}
 use Rattle.tfpg_search.specs.inside.ClauseLaws.{ClauseLaws}
+use Rattle.tfpg_clause.proofs.Kept.{alternatives_stay}
 use Rattle.tfpg_search.proofs.Picking.{of_frame}
 use Rattle.tfpg_search.proofs.Standing.{fact_stated}
 
 module _ (laws : ClauseLaws) (graph : Tfpg) (earlier later : Logbook) (ordered : IsOrdered later) (goes_on : GoesOn earlier later) where
   -- an allowed frame names the same alternatives
-  same_clause : (name : ClauseName) (count : ℕ) (o : Option (List (List Constraint))) → alternatives graph earlier name ≡ o → option_map length o ≡ Some count
-      → alternatives graph later name ≡ alternatives graph earlier name
-  same_clause name count None is counted = cc
-  same_clause name count (Some clause) is counted = laws.clause_stays graph earlier later name clause ordered goes_on is ∙ sym is
-
   same_frame : (frame : Frame) → IsAllowed graph earlier frame → alternatives graph later frame.name ≡ alternatives graph earlier frame.name
-  same_frame frame allowed = same_clause frame.name frame.alternatives (alternatives graph earlier frame.name) refl allowed
+  same_frame frame allowed = alternatives_stay graph earlier later ordered goes_on frame.name frame.alternatives allowed
 
   still_allowed : (frame : Frame) → IsAllowed graph earlier frame → IsAllowed graph later frame
   still_allowed frame allowed = ap (option_map length) (same_frame frame allowed) ∙ allowed
@@ -46,17 +41,17 @@ module _ (laws : ClauseLaws) (graph : Tfpg) (earlier later : Logbook) (ordered :
       ap (λ (n : ℕ). picks_from start 1 n ++ picks_of_from graph later (start + 1) deeper) (same_count frame (All-head (IsAllowed graph earlier) frame deeper allowed))
       ∙ ap (λ (rs : List Reason). picks_from start 1 (constraint_count graph earlier frame) ++ rs) (same_picks (start + 1) deeper (All-tail (IsAllowed graph earlier) frame deeper allowed))
 
-  of_frame_stays : (frames : List Frame) (k index : ℕ) (c : Constraint) → All (IsAllowed graph earlier) frames → of_frame graph earlier (slice_get frames k) index ≡ Some c
-      → of_frame graph later (slice_get frames k) index ≡ Some c
-  of_frame_stays [] k index c allowed is = cc
-  of_frame_stays (frame ∷ deeper) zero index c allowed is =
-      ap (option_and_then (λ clause. constraint_at clause frame.alternative index)) (same_frame frame (All-head (IsAllowed graph earlier) frame deeper allowed)) ∙ is
-  of_frame_stays (frame ∷ deeper) (suc k) index c allowed is = of_frame_stays deeper k index c (All-tail (IsAllowed graph earlier) frame deeper allowed) is
+  of_frame_stays : (frames : List Frame) (k number : ℕ) (c : Constraint) → All (IsAllowed graph earlier) frames → of_frame graph earlier (slice_get frames k) number ≡ Some c
+      → of_frame graph later (slice_get frames k) number ≡ Some c
+  of_frame_stays [] k number c allowed is = cc
+  of_frame_stays (frame ∷ deeper) zero number c allowed is =
+      ap (option_and_then (λ clause. constraint_at clause frame.alternative number)) (same_frame frame (All-head (IsAllowed graph earlier) frame deeper allowed)) ∙ is
+  of_frame_stays (frame ∷ deeper) (suc k) number c allowed is = of_frame_stays deeper k number c (All-tail (IsAllowed graph earlier) frame deeper allowed) is
 
-  framed_stays : (frames : List Frame) (split index : ℕ) (c : Constraint) → All (IsAllowed graph earlier) frames → framed graph earlier frames split index ≡ Some c
-      → framed graph later frames split index ≡ Some c
-  framed_stays frames zero index c allowed is = cc
-  framed_stays frames (suc k) index c allowed is = of_frame_stays frames k index c allowed is
+  framed_stays : (frames : List Frame) (split number : ℕ) (c : Constraint) → All (IsAllowed graph earlier) frames → framed graph earlier frames split number ≡ Some c
+      → framed graph later frames split number ≡ Some c
+  framed_stays frames zero number c allowed is = cc
+  framed_stays frames (suc k) number c allowed is = of_frame_stays frames k number c allowed is
 
   module _ (reach : List ℕ) where
     abbrev still : (r : Reason) (c : Constraint) → fact graph earlier reach r ≡ Some c → fact graph later reach r ≡ Some c
@@ -64,7 +59,7 @@ module _ (laws : ClauseLaws) (graph : Tfpg) (earlier later : Logbook) (ordered :
 
     stated_stays : (frames : List Frame) → All (IsAllowed graph earlier) frames → (r : Reason) (c : Constraint) → stated_by graph earlier reach frames r ≡ Some c
         → stated_by graph later reach frames r ≡ Some c
-    stated_stays frames allowed (Pick split index) c is = framed_stays frames split index c allowed is
+    stated_stays frames allowed (Pick split number) c is = framed_stays frames split number c allowed is
     stated_stays frames allowed (Zero node) c is = still (Zero node) c is
     stated_stays frames allowed (Top node) c is = still (Top node) c is
     stated_stays frames allowed (Unreached node horizon) c is = still (Unreached node horizon) c is
@@ -97,7 +92,7 @@ module _ (laws : ClauseLaws) (graph : Tfpg) (earlier later : Logbook) (ordered :
         through (Some r) c some = stated_stays frames allowed r c some
 
   -- The search stands at its leaf at the later log, whatever it has seen.
-  pub carried : (search : Searching) (seen : ℕ) → IsAtItsLeaf graph earlier search → IsAtItsLeaf graph later (record search { seen = seen })
+  pub carried : (search : SearchState) (seen : ℕ) → IsAtItsLeaf graph earlier search → IsAtItsLeaf graph later (record search { seen = seen })
   carried search seen at = record {
     reach_is = at.reach_is;
     variables = at.variables;

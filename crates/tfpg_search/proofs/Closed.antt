@@ -13,7 +13,7 @@ use Rattle.tfpg_clause.specs.Paths.{framed, stated_by, path_after, next_alternat
 use Rattle.tfpg_clause.specs.declared.path.Frame.{Frame}
 use Rattle.tfpg_search.specs.Leaf.{Leaf, pick_reasons}
 use Rattle.tfpg_search.specs.Picks.{IsAllowed, picks_of}
-use Rattle.tfpg_search.specs.Searching.{Searching, IsAtItsLeaf}
+use Rattle.tfpg_search.specs.SearchState.{SearchState, IsAtItsLeaf}
 use Rattle.tfpg_search.specs.inside.Leaving.{KeepsBounds, Leaves}
 use Rattle.tfpg_search.specs.inside.Moves.{untaken}
 use Rattle.tfpg_search.proofs.Names.{range_after}
@@ -33,7 +33,7 @@ keeps_of : (o : Option ℕ) (old new : Leaf) → Leaves o old new → KeepsBound
 keeps_of None old new same = subst (KeepsBounds old) (sym same) (record { variables = refl; stated = λ fact stated is. is })
 keeps_of (Some count) old new leaves = leaves.0
 
-module _ (graph : Tfpg) (log : Logbook) (old : Searching) (at : IsAtItsLeaf graph log old) where
+module _ (graph : Tfpg) (log : Logbook) (old : SearchState) (at : IsAtItsLeaf graph log old) where
   -- so many picks stood before a split that there are at least as many now
   pub counted : (split before : ℕ) → slice_get old.entered split ≡ Some before → before ≤ length (pick_reasons old.leaf)
   counted split before there =
@@ -89,19 +89,19 @@ module _ (graph : Tfpg) (log : Logbook) (old : Searching) (at : IsAtItsLeaf grap
         ∙ ap (λ (rs : List Reason). take (length (picks_of graph log (take stay old.path))) rs) at.picks.reasons
         ∙ picks_take graph log 1 old.path stay (length old.entered) bound
 
-    states_next : (r : Reason) (c : Constraint) (k index : ℕ) → k < stay → r ≡ Pick (1 + k) index → stated_by graph log old.reach old.path r ≡ Some c
+    states_next : (r : Reason) (c : Constraint) (k number : ℕ) → k < stay → r ≡ Pick (1 + k) number → stated_by graph log old.reach old.path r ≡ Some c
         → stated_by graph log old.reach next r ≡ Some c
-    states_next r c k index less pick states =
-        let number : 1 + k ≡ suc k = omega arith in
-        let pick_is : r ≡ Pick (suc k) index = pick ∙ ap (λ (n : ℕ). Pick n index) number in
-        let before : framed graph log old.path (suc k) index ≡ Some c = ap (λ (x : Reason). stated_by graph log old.reach old.path x) (sym pick_is) ∙ states in
+    states_next r c k number less pick states =
+        let same_split : 1 + k ≡ suc k = omega arith in
+        let pick_is : r ≡ Pick (suc k) number = pick ∙ ap (λ (n : ℕ). Pick n number) same_split in
+        let before : framed graph log old.path (suc k) number ≡ Some c = ap (λ (x : Reason). stated_by graph log old.reach old.path x) (sym pick_is) ∙ states in
         let there : (f : Frame) → slice_get old.path k ≡ Some f → slice_get next k ≡ Some f =
         λ f found.
         ap (λ (fs : List Frame). slice_get fs k) after.next_is
         ∙ slice_get-append_left front (next_alternative after.frame ∷ []) k less
         ∙ sym (ap (λ (fs : List Frame). slice_get fs k) after.frames_are ∙ slice_get-append_left front (after.frame ∷ after.deeper) k less)
         ∙ found in
-        let now : framed graph log next (suc k) index ≡ Some c = of_same graph log (slice_get old.path k) (slice_get next k) index c there before in
+        let now : framed graph log next (suc k) number ≡ Some c = of_same graph log (slice_get old.path k) (slice_get next k) number c there before in
         ap (λ (x : Reason). stated_by graph log old.reach next x) pick_is ∙ now
 
     stands_there : (left : Leaf) → Leaves (slice_get old.entered stay) old.leaf left
@@ -120,7 +120,7 @@ module _ (graph : Tfpg) (log : Logbook) (old : Searching) (at : IsAtItsLeaf grap
               (λ r c states. fact_stated graph log old.reach next r c states)
               (λ index r c there states.
               let pick = picks_are graph log 1 front index r (ap (λ (fs : List Frame). slice_get (picks_of graph log fs) index) (sym front_is) ∙ ap (λ (rs : List Reason). slice_get rs index) (sym reasons) ∙ there) in
-              states_next r c pick.k pick.index pick.within pick.is states);
+              states_next r c pick.k pick.number pick.within pick.is states);
           picks = record {
             few = (let l = long in let s = still_long in omega arith);
             many = (let l = long in let s = still_long in omega arith);

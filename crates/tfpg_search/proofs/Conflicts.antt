@@ -11,9 +11,9 @@ use Rattle.tfpg_diff.specs.declared.why.Why.{Why}
 use Rattle.tfpg_diff.specs.declared.why.Why.TheVariants.{Floor, Ceiling, Given}
 use Rattle.tfpg_diff.specs.declared.demand.Demand.{Demand}
 use Rattle.tfpg_diff.specs.Demands.{Demands, Demanded}
-use Rattle.tfpg_diff.specs.Cycle.{IsNegativeCycle, NamesNegativeCycle}
+use Rattle.tfpg_diff.specs.Cycle.{IsNegativeCycleOf, NamesNegativeCycle}
 use Rattle.tfpg_diff.specs.Named.{AreDemandsNamed}
-use Rattle.tfpg_diff.proofs.Naming.{AreDemandsNamed-parts, IsCycleOf-named}
+use Rattle.tfpg_diff.proofs.Naming.{AreDemandsNamed-parts, AreNamesOfNegativeCycle-named}
 use Rattle.tfpg_search.specs.declared.add_fault.AddFault.{AddFault}
 use Rattle.tfpg_search.specs.declared.add_fault.AddFault.TheVariants.{Conflict, NoMemory}
 use Rattle.tfpg_search.specs.Leaf.{tagged_by, IsStated}
@@ -61,7 +61,7 @@ module _ (demands : Demands) (reasons : List Reason) (tagged : IsTagged demands 
   -- so is each tag of a cycle
   pub HasReason-cycle : (tags : List Why) → NamesNegativeCycle demands tags → All (HasReason reasons) tags
   HasReason-cycle tags found =
-      let cycle : IsNegativeCycle demands tags found.0 = found.1 in
+      let cycle : IsNegativeCycleOf demands tags found.0 = found.1 in
       subst (All (HasReason reasons)) cycle.tags_are
       (All-map (HasReason reasons) (λ (e : Demand). e.why) found.0 (λ i d inside. HasReason-demanded _ (cycle.demanded i d inside)))
 
@@ -107,12 +107,11 @@ Closes-cycle stated demands reasons tags NoMemory names found is = tt
 Closes-cycle stated demands reasons tags (Conflict list) names found is =
     let by_reason : AreDemandsNamed demands (λ (why : Why). stated (reason_of reasons why)) =
     λ e demanded. stated_of-named stated reasons e.why e.constraint (names e demanded) in
-    let cycle = IsCycleOf-named demands (λ (why : Why). stated (reason_of reasons why)) tags by_reason found in (
+    let cycle = AreNamesOfNegativeCycle-named demands (λ (why : Why). stated (reason_of reasons why)) tags by_reason found in (
       cycle.0,
       record {
         are_named = ap (λ (rs : List Reason). each_of (map stated rs)) is ∙ ap each_of (map-map stated (reason_of reasons) tags) ∙ cycle.1.are_named;
-        chained = cycle.1.chained;
+        negative_cycle = cycle.1.negative_cycle;
         simple = cycle.1.simple;
-        negative = cycle.1.negative;
       },
     )

@@ -1,29 +1,23 @@
 -- Times as a trace, one node more.
 use Rattle.std.proofs.Common.{◌≡◌, ℕ, suc, ◌+◌, ◌<◌, ◌≤◌, List, [], ◌∷◌, ◌++◌, length, take, get_or, Bool, true, false, if◌then◌else◌, refl, sym, ap, ◌∙◌, arith}
-use Rattle.std.specs.Prelude.{nat_le, ◌==◌}
+use Rattle.std.specs.Prelude.{nat_le}
 use Rattle.std.proofs.lemmas.List.{take_all, take_more, length-take-le}
-use Rattle.std.proofs.lemmas.Bool.{le-leb, lt-leb, le-ltb, ne_eqb}
+use Rattle.std.proofs.lemmas.Bool.{le-leb, lt-leb}
 use Rattle.std.proofs.lemmas.Bool.Decides.{nat_tests}
 use Rattle.tfpg_base.specs.declared.activation.Activation.{Activation}
 use Rattle.tfpg_base.specs.Trace.{with_time}
+use Rattle.tfpg_base.proofs.Traces.{with_time-above}
 use Rattle.tfpg_clause.specs.Cut.{cut_from, cut}
 
 abbrev at : ℕ → ℕ → Activation
 at node time = record { node = node; time = time }
-
--- a time of a node after all others goes to the end
-later : (first n time y : ℕ) (others : List Activation) → with_time (first + suc n) time (at first y ∷ others) ≡ at first y ∷ with_time (first + suc n) time others
-later first n time y others =
-    ap (λ (b : Bool). if b then at (first + suc n) time ∷ at first y ∷ others
-    else (if (first + suc n) == first then at (first + suc n) time ∷ others else at first y ∷ with_time (first + suc n) time others)) (le-ltb (first + suc n) first (omega arith))
-    ∙ ap (λ (b : Bool). if b then at (first + suc n) time ∷ others else at first y ∷ with_time (first + suc n) time others) (ne_eqb (first + suc n) first (λ same. omega (arith, same)))
 
 module _ (instant time : ℕ) where
   active_more : (first y : ℕ) (times : List ℕ) → cut_from (first + 1) instant (times ++ time ∷ []) ≡ with_time (first + suc (length times)) time (cut_from (first + 1) instant times)
       → (b : Bool) → (if b then at first y ∷ cut_from (first + 1) instant (times ++ time ∷ []) else cut_from (first + 1) instant (times ++ time ∷ []))
       ≡ with_time (first + suc (length times)) time (if b then at first y ∷ cut_from (first + 1) instant times else cut_from (first + 1) instant times)
   active_more first y times rest true =
-      ap (λ (ts : List Activation). at first y ∷ ts) rest ∙ sym (later first (length times) time y (cut_from (first + 1) instant times))
+      ap (λ (ts : List Activation). at first y ∷ ts) rest ∙ sym (with_time-above (first + suc (length times)) time (at first y) (cut_from (first + 1) instant times) (omega arith))
   active_more first y times rest false = rest
 
   cut_active : time ≤ instant → (first : ℕ) (times : List ℕ) → cut_from first instant (times ++ time ∷ []) ≡ with_time (first + length times) time (cut_from first instant times)
@@ -43,9 +37,6 @@ module _ (instant : ℕ) (times : List ℕ) (node : ℕ) (within : node < length
   abbrev time : ℕ
   time = get_or times node 0
 
-  one_more : take (node + 1) times ≡ take node times ++ time ∷ []
-  one_more = take_more times node 0 within
-
   number : 0 + length (take node times) ≡ node
   number = let short : length (take node times) ≡ node = length-take-le node times (omega arith) in omega arith
 
@@ -61,10 +52,10 @@ module _ (instant : ℕ) (times : List ℕ) (node : ℕ) (within : node < length
           ∙ ap (λ (ts : List Activation). with_time node time ts) are
           ∙ ap (λ (n : ℕ). with_time n time (cut instant (take node times))) (sym number)
           ∙ sym (cut_active instant time upto 0 (take node times))
-          ∙ ap (λ (xs : List ℕ). cut instant xs) (sym one_more)
+          ∙ ap (λ (xs : List ℕ). cut instant xs) (sym (take_more times node 0 within))
       by false test inactive =
           let past_it : instant < time = grind (arith, nat_tests) in
-          inactive ∙ are ∙ sym (cut_inactive instant time past_it 0 (take node times)) ∙ ap (λ (xs : List ℕ). cut instant xs) (sym one_more)
+          inactive ∙ are ∙ sym (cut_inactive instant time past_it 0 (take node times)) ∙ ap (λ (xs : List ℕ). cut instant xs) (sym (take_more times node 0 within))
 
 pub all_cut : (instant : ℕ) (times : List ℕ) (node : ℕ) (trace : List Activation) → length times ≤ node → trace ≡ cut instant (take node times) → trace ≡ cut instant times
 all_cut instant times node trace past_it are = are ∙ ap (λ (xs : List ℕ). cut instant xs) (take_all node times past_it)

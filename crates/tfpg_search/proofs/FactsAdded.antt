@@ -10,7 +10,7 @@ use Rattle.tfpg_graph.specs.Graph.{Tfpg, lag_at}
 use Rattle.tfpg_graph.specs.Reach.{is_among}
 use Rattle.tfpg_log.specs.declared.event.Event.{Event}
 use Rattle.tfpg_log.specs.declared.event.Event.TheVariants.{Alarm, Silent, Sweep, Tick, Mode}
-use Rattle.tfpg_log.specs.Log.{Logbook, IsOf, now_of, event_at, quiet_at}
+use Rattle.tfpg_log.specs.Log.{Logbook, IsLogOf, now_of, event_at, quiet_at}
 use Rattle.tfpg_log.proofs.SilentNodes.{event_own, quiet_within}
 use Rattle.tfpg_evidence.specs.declared.reason.Reason.{Reason}
 use Rattle.tfpg_evidence.specs.declared.reason.Reason.TheVariants.{Zero, Top, Unreached, From, Upto, Quiet, Pick}
@@ -22,7 +22,7 @@ use Rattle.tfpg_diff.specs.declared.bounds.Bounds.{Bounds}
 use Rattle.tfpg_diff.specs.declared.why.Why.TheVariants.{Given}
 use Rattle.tfpg_diff.specs.Demands.{Demands, Bounded}
 use Rattle.tfpg_diff.specs.Solution.{IsSolution}
-use Rattle.tfpg_diff.specs.State.{widest, raised, lowered, changed_at, with_floor, with_ceiling}
+use Rattle.tfpg_diff.specs.SystemState.{widest, raised, lowered, changed_at, with_floor, with_ceiling}
 use Rattle.tfpg_search.specs.inside.ClauseLaws.{ClauseLaws}
 use Rattle.tfpg_search.specs.inside.Facts.{AreFactsIn}
 
@@ -45,7 +45,7 @@ pub record BoundsAbove (graph : Tfpg) (constraint : Constraint) : Type 0 where
 abbrev pub IsBound : Tfpg → Constraint → Type 0
 IsBound graph constraint = BoundsBelow graph constraint ⊎ BoundsAbove graph constraint
 
-module _ (graph : Tfpg) (log : Logbook) (of : IsOf graph log) where
+module _ (graph : Tfpg) (log : Logbook) (of : IsLogOf graph log) where
   -- an alarm is of a node of the graph
   pub alarm_within : (number time node : ℕ) → event_at log number ≡ Some (Alarm time node) → node < length graph.nodes
   alarm_within number time node at = monitored_within graph node (event_own graph log number (Alarm time node) of at)

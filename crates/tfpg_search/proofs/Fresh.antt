@@ -10,7 +10,7 @@ use Rattle.tfpg_base.specs.Bounds.{at_most, at_least}
 use Rattle.tfpg_diff.specs.declared.bounds.Bounds.{Bounds}
 use Rattle.tfpg_diff.specs.declared.pick.Pick.{Pick}
 use Rattle.tfpg_diff.specs.Demands.{Demands, Bounded}
-use Rattle.tfpg_diff.specs.State.{widest, unbounded_from}
+use Rattle.tfpg_diff.specs.SystemState.{widest, unbounded_from}
 use Rattle.tfpg_diff.specs.inside.Kept.{demands_of}
 use Rattle.tfpg_diff.proofs.Fresh.{length-unbounded_from}
 use Rattle.tfpg_search.specs.Leaf.{tagged_by, IsStated}

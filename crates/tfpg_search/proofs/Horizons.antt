@@ -1,6 +1,6 @@
 -- The horizons of the names on the path of a search are times of events.
-use Rattle.std.proofs.Common.{◌≡◌, ℕ, ◌≤◌, List, [], ◌∷◌, length, take, drop, Option, Some, None, refl, sym, subst, arith}
-use Rattle.std.specs.Prelude.{All, Contains, fold}
+use Rattle.std.proofs.Common.{◌≡◌, ℕ, ◌≤◌, List, [], ◌∷◌, length, take, drop, Option, Some, None, sym, subst}
+use Rattle.std.specs.Prelude.{All, Contains}
 use Rattle.std.proofs.lemmas.List.{take-append-drop}
 use Rattle.std.proofs.lemmas.List.Elements.{All-push, All-weaker, Contains-append_left}
 use Rattle.tfpg_graph.specs.Graph.{Tfpg}
@@ -13,24 +13,14 @@ use Rattle.tfpg_clause.specs.Paths.{new_frame, path_after}
 use Rattle.tfpg_clause.specs.declared.path.Frame.{Frame}
 use Rattle.tfpg_search.specs.Enough.{IsEventTime}
 use Rattle.tfpg_search.specs.inside.Moves.{StepLeads, Leads}
-use Rattle.tfpg_base.proofs.lists.Elements.{Contains-head, Contains-tail}
+use Rattle.tfpg_base.proofs.lists.Elements.{fold-last}
 use Rattle.tfpg_search.proofs.PathAfter.{all_after}
 
 -- ---- now is the time of an event
 
-last_time : (held : ℕ) (event : Event) (events : List Event) → (e : Event) × Contains (event ∷ events) e × (time_of_event e ≡ fold (λ last e. time_of_event e) held (event ∷ events))
-last_time held event [] = (event, Contains-head event [], refl)
-last_time held event (next ∷ events) =
-    let later = last_time (time_of_event event) next events in
-    (later.0, Contains-tail event (next ∷ events) later.0 later.1, later.2)
-
-some_last : (events : List Event) → 1 ≤ length events → (e : Event) × Contains events e × (time_of_event e ≡ fold (λ last e. time_of_event e) 0 events)
-some_last [] some = absurd (omega (arith, some))
-some_last (event ∷ events) some = last_time 0 event events
-
 pub now_is_a_time : (log : Logbook) → 1 ≤ length log.events → IsEventTime log (now_of log)
 now_is_a_time log some =
-    let last = some_last log.events some in
+    let last = fold-last time_of_event 0 log.events some in
     record { event = last.0; accepted = last.1; at = last.2 }
 
 -- ---- horizons

@@ -1,4 +1,4 @@
--- At a settled leaf the solutions of the system are the times that solve what holds at the leaf.
+-- At a loaded leaf the solutions of the system are the times that solve what holds at the leaf.
 use Rattle.std.proofs.Common.{◌≡◌, ℕ, zero, suc, ◌+◌, ◌<◌, List, length, get_or, Option, Some, sym, ap, subst, ◌∙◌, arith}
 use Rattle.std.specs.Prelude.{slice_get, option_and_then, pos}
 use Rattle.std.proofs.lemmas.List.{take_all}
@@ -21,8 +21,8 @@ use Rattle.tfpg_diff.specs.Solution.{IsSolution, IsLatest}
 use Rattle.tfpg_search.specs.inside.ClauseLaws.{ClauseLaws}
 use Rattle.tfpg_search.specs.Leaf.{tagged_by, pick_reasons}
 use Rattle.tfpg_search.specs.Picks.{picks_of}
-use Rattle.tfpg_search.specs.Searching.{Searching, IsAtItsLeaf}
-use Rattle.tfpg_search.specs.inside.Moves.{SolvesFramed, IsLatestFramed, IsSettled}
+use Rattle.tfpg_search.specs.SearchState.{SearchState, IsAtItsLeaf}
+use Rattle.tfpg_search.specs.inside.Moves.{SolvesFramed, IsLatestFramed, IsLoaded}
 use Rattle.tfpg_base.proofs.lists.Choices.{option_and_then-some}
 use Rattle.tfpg_base.proofs.lists.Elements.{All-from_indexes}
 use Rattle.tfpg_search.proofs.Picking.{picks_have}
@@ -33,20 +33,20 @@ named_fact facts reasons (Floor node) c is = (Zero node, is)
 named_fact facts reasons (Ceiling node) c is = (Top node, is)
 named_fact facts reasons (Given tag) c is = let found = option_and_then-some facts (slice_get reasons tag) c is in (found.0, found.2)
 
-module _ (laws : ClauseLaws) (graph : Tfpg) (log : Logbook) (search : Searching) (at : IsAtItsLeaf graph log search) (settled : IsSettled graph log search)
+module _ (laws : ClauseLaws) (graph : Tfpg) (log : Logbook) (search : SearchState) (at : IsAtItsLeaf graph log search) (loaded : IsLoaded graph log search)
     (as_many : length search.leaf.demands.picks ≡ length (pick_reasons search.leaf)) where
   abbrev states : Reason → Option Constraint
   states = stated_by graph log search.reach search.path
 
   all_picks : pick_reasons search.leaf ≡ picks_of graph log search.path
   all_picks =
-      at.picks.reasons ∙ ap (λ (fs : List Frame). picks_of graph log fs) (take_all (length search.entered) search.path (let all = settled.all_entered in omega arith))
+      at.picks.reasons ∙ ap (λ (fs : List Frame). picks_of graph log fs) (take_all (length search.entered) search.path (let all = loaded.all_entered in omega arith))
 
   module _ (times : List ℕ) (solution : IsSolution search.leaf.demands times) where
     -- the constraint of each pick on the path is met
-    pick_met : (i split index : ℕ) (c : Constraint) → slice_get (pick_reasons search.leaf) i ≡ Some (Pick split index) → framed graph log search.path split index ≡ Some c → Meets times c
-    pick_met i split index c there is =
-        let within : i < length search.leaf.demands.picks = let w = slice_get_within (pick_reasons search.leaf) i (Pick split index) there in omega arith in
+    pick_met : (i split number : ℕ) (c : Constraint) → slice_get (pick_reasons search.leaf) i ≡ Some (Pick split number) → framed graph log search.path split number ≡ Some c → Meets times c
+    pick_met i split number c there is =
+        let within : i < length search.leaf.demands.picks = let w = slice_get_within (pick_reasons search.leaf) i (Pick split number) there in omega arith in
         let unread : PickOf = record { constraint = c; tag = 0 } in
         let pick : PickOf = get_or search.leaf.demands.picks i unread in
         let states_it : option_and_then states (slice_get (pick_reasons search.leaf) i) ≡ Some pick.constraint =
@@ -55,21 +55,21 @@ module _ (laws : ClauseLaws) (graph : Tfpg) (log : Logbook) (search : Searching)
         let same : c ≡ pick.constraint = cc in
         subst (Meets times) (sym same) (All-get_or (λ (p : PickOf). Meets times p.constraint) search.leaf.demands.picks i unread within solution.met)
 
-    picks_met : (split index : ℕ) (c : Constraint) → framed graph log search.path split index ≡ Some c → Meets times c
-    picks_met zero index c is = absurd cc
-    picks_met (suc k) index c is =
-        let number : 1 + k ≡ suc k = omega arith in
-        let have = picks_have graph log 1 search.path k index c is in
-        let there : slice_get (pick_reasons search.leaf) have.0 ≡ Some (Pick (suc k) index) =
-        ap (λ (rs : List Reason). slice_get rs have.0) all_picks ∙ have.1 ∙ ap (λ (n : ℕ). Some (Pick n index)) number in
-        pick_met have.0 (suc k) index c there is
+    picks_met : (split number : ℕ) (c : Constraint) → framed graph log search.path split number ≡ Some c → Meets times c
+    picks_met zero number c is = absurd cc
+    picks_met (suc k) number c is =
+        let same_split : 1 + k ≡ suc k = omega arith in
+        let have = picks_have graph log 1 search.path k number c is in
+        let there : slice_get (pick_reasons search.leaf) have.0 ≡ Some (Pick (suc k) number) =
+        ap (λ (rs : List Reason). slice_get rs have.0) all_picks ∙ have.1 ∙ ap (λ (n : ℕ). Some (Pick n number)) same_split in
+        pick_met have.0 (suc k) number c there is
 
     solves : SolvesFramed graph log search.reach search.path times
-    solves = record { one_each = solution.complete ∙ at.variables; facts = settled.facts times solution; picks = picks_met }
+    solves = record { one_each = solution.complete ∙ at.variables; facts = loaded.facts times solution; picks = picks_met }
 
   module _ (times : List ℕ) (solves : SolvesFramed graph log search.reach search.path times) where
     met_by_reason : (r : Reason) (c : Constraint) → states r ≡ Some c → Meets times c
-    met_by_reason (Pick split index) c is = solves.picks split index c is
+    met_by_reason (Pick split number) c is = solves.picks split number c is
     met_by_reason (Zero node) c is = solves.facts (Zero node) c is
     met_by_reason (Top node) c is = solves.facts (Top node) c is
     met_by_reason (Unreached node horizon) c is = solves.facts (Unreached node horizon) c is

@@ -21,7 +21,7 @@ mod Carried
 mod Moving
 -- Calls of a search.
 mod CutTimes
-mod Settling
+mod Loading
 mod Rounds
 pub mod Beginning
 -- The budget that is always enough.

@@ -30,7 +30,7 @@ module _ (laws : ClauseLaws) (graph : Tfpg) (log : Logbook) (reach : List ℕ) (
   module _ (frames : List Frame) (earlier : List Judged) (at : IsAtLeaf graph log reach frames earlier) where
     -- what is picked on the path is what the frames say
     same_picks : framed graph log frames ≡ picked graph log at.path
-    same_picks = λ i split index. laws.states_same graph log reach at.path frames (Pick split index) ordered at.frames_are i
+    same_picks = λ i split number. laws.states_same graph log reach at.path frames (Pick split number) ordered at.frames_are i
 
     pub live_here : (name : ClauseName) → IsLiveFramed graph log reach frames name → IsLive graph log reach earlier name
     live_here name live = record {
@@ -94,7 +94,7 @@ module _ (laws : ClauseLaws) (graph : Tfpg) (log : Logbook) (reach : List ℕ) (
       )
 
   closed_by : (frames : List Frame) (reasons : List Reason) → IsSimpleCycle (stated_by graph log reach frames) reasons → IsClosedBy (stated_by graph log reach frames) reasons
-  closed_by frames reasons closes = record { constraints = closes.0; hold = closes.1.are_named; cycle = closes.1.chained; negative = closes.1.negative }
+  closed_by frames reasons closes = record { constraints = closes.0; hold = closes.1.are_named; negative_cycle = closes.1.negative_cycle }
 
   after_cycle : (frames : List Frame) (earlier : List Judged) → Here frames earlier → (reasons : List Reason) (next : Option (List Frame)) → IsSimpleCycle (stated_by graph log reach frames) reasons
       → path_after frames ≡ next → LeadsTo graph log reach (with_step earlier log (Cycle reasons)) next

@@ -1,13 +1,13 @@
 -- Some node has the greatest number of edges into it.
-use Rattle.std.proofs.Common.{◌≡◌, ◌⊎◌, ℕ, ◌<◌, ◌≤◌, List, [], ◌∷◌, length, Bool, true, false, refl, subst, inl, inr, arith}
-use Rattle.std.specs.Prelude.{All, Contains, cond, filter, ◌==◌}
-use Rattle.std.proofs.lemmas.Bool.{cases_lt}
-use Rattle.std.proofs.lemmas.Bool.Decides.{nat_tests}
-use Rattle.std.proofs.lemmas.List.Elements.{All-nil, All-cons, All-contains, All-weaker}
+use Rattle.std.proofs.Common.{◌≡◌, ◌⊎◌, ℕ, ◌<◌, ◌≤◌, List, [], ◌∷◌, length, refl, subst, inl, inr, arith}
+use Rattle.std.specs.Prelude.{All, ◌==◌}
+use Rattle.std.proofs.lemmas.Bool.{cases_lt, eqb-true}
+use Rattle.std.proofs.lemmas.List.Elements.{All-nil, All-cons, All-weaker}
 use Rattle.tfpg_graph.specs.declared.edge.Edge.{Edge}
 use Rattle.tfpg_graph.specs.Graph.{Tfpg, edges_into}
 use Rattle.tfpg_search.specs.Enough.{IsMaximumIncoming}
-use Rattle.tfpg_base.proofs.lists.Elements.{Contains-head, Contains-tail}
+use Rattle.tfpg_base.proofs.lists.Elements.{All-at, Contains-at, slice_get-there}
+use Rattle.tfpg_base.proofs.lists.Passing.{Contains-filter_only}
 
 module _ (graph : Tfpg) where
   abbrev count : ℕ → ℕ
@@ -40,22 +40,12 @@ module _ (graph : Tfpg) where
         within = All-cons (λ (e : Edge). count e.target ≤ others.maximum) edge edges not_greater others.within;
       }
 
-  -- where some edge enters a node, it is the target of an edge
-  enters : (node : ℕ) (edges : List Edge) → 0 < length (filter (λ (e : Edge). e.target == node) edges) → (edge : Edge) × Contains edges edge × (edge.target ≡ node)
-  enters node [] some = absurd (omega arith)
-  enters node (e ∷ edges) some = by (λ later. enters node edges later) (e.target == node) refl some
-    where
-      by : (0 < length (filter (λ (x : Edge). x.target == node) edges) → (edge : Edge) × Contains edges edge × (edge.target ≡ node))
-          → (b : Bool) → (e.target == node) ≡ b → 0 < length (cond b (e ∷ filter (λ (x : Edge). x.target == node) edges) (filter (λ (x : Edge). x.target == node) edges))
-          → (edge : Edge) × Contains (e ∷ edges) edge × (edge.target ≡ node)
-      by next true at there = (e, Contains-head e edges, grind (arith, nat_tests))
-      by next false at there = (let found = next there in (found.0, Contains-tail e edges found.0 found.1, found.2))
-
   no_more : (node : ℕ) → (0 < count node) ⊎ (count node ≤ 0) → count node ≤ (greatest graph.edges).maximum
   no_more node (inl some) =
-      let edge = enters node graph.edges some in
-      subst (λ k. count k ≤ (greatest graph.edges).maximum) edge.2
-      (All-contains (λ (e : Edge). count e.target ≤ (greatest graph.edges).maximum) graph.edges edge.0 (greatest graph.edges).within edge.1)
+      let edge = slice_get-there (edges_into graph node) 0 some in
+      let at = Contains-filter_only (λ (e : Edge). e.target == node) graph.edges edge.0 (Contains-at (edges_into graph node) 0 edge.0 edge.1) in
+      subst (λ k. count k ≤ (greatest graph.edges).maximum) (eqb-true edge.0.target node at.2)
+      (All-at (λ (e : Edge). count e.target ≤ (greatest graph.edges).maximum) graph.edges at.0 edge.0 (greatest graph.edges).within at.1)
   no_more node (inr none) = omega (arith, none)
 
   pub maximum_incoming : (maximum : ℕ) × IsMaximumIncoming graph maximum

@@ -2,11 +2,12 @@
 --
 -- Let n names be allowed. The present leaf under q splits counts a ^ (n - q), and so does each alternative of the split number q + 1
 -- that is not entered yet.
-use Rattle.std.proofs.Common.{◌≡◌, ℕ, zero, suc, ◌+◌, ◌-◌, ◌*◌, ◌^◌, ◌<◌, ◌≤◌, List, [], ◌∷◌, ◌++◌, length, Some, sym, ap, subst, ◌∙◌, arith}
+use Rattle.std.proofs.Common.{◌≡◌, ℕ, zero, suc, ◌+◌, ◌-◌, ◌*◌, ◌^◌, ◌<◌, ◌≤◌, List, [], ◌∷◌, ◌++◌, length, Some, sym, subst, arith}
 use Rattle.std.specs.Prelude.{All}
 use Rattle.std.proofs.lemmas.List.Elements.{All-head, All-tail}
 use Rattle.std.proofs.lemmas.Nat.{row_fits}
-use Rattle.std.proofs.Math.Nat.{pow-succ', add-mul, one-le-pow}
+use Rattle.std.proofs.Math.Nat.{pow-succ', one-le-pow}
+use Rattle.tfpg_base.proofs.lists.Sequences.{rows_fit-two, sub-mul_next}
 use Rattle.tfpg_evidence.specs.declared.clause_name.ClauseName.{ClauseName}
 use Rattle.tfpg_clause.specs.Paths.{path_after, next_alternative, new_frame}
 use Rattle.tfpg_clause.specs.declared.path.Frame.{Frame}
@@ -40,35 +41,20 @@ module _ (a : ℕ) (some : 1 ≤ a) where
 
   -- ---- a split
 
-  -- (c + 1) * p and p more fit into a * p, where c + 1 is less than a
-  two_rows : (c p : ℕ) → c + 1 < a → c * p + p + p ≤ a * p
-  two_rows c p less =
-      let same : p ≤ p = omega arith in
-      let first : (c + 1) * p + p ≤ a * p = row_fits (c + 1) p a p less same in
-      let parts : (c + 1) * p ≡ c * p + 1 * p = add-mul c 1 p in
-      omega (arith, first, parts)
-
   pub split_lowers : (frames : List Frame) (name : ClauseName) (count n : ℕ) → length frames < n → 1 ≤ count → count < a → weight (frames ++ new_frame name count ∷ []) n + 1 ≤ weight frames n
   split_lowers [] name count zero less low high = absurd (omega arith)
   split_lowers [] name count (suc n) less low high =
-      let rows : (count - 1) * a ^ n + a ^ n + a ^ n ≤ a * a ^ n = two_rows (count - 1) (a ^ n) (omega (arith, low, high)) in
+      let rows : (count - 1) * a ^ n + a ^ n + a ^ n ≤ a * a ^ n = rows_fit-two a (count - 1) (a ^ n) (omega (arith, low, high)) in
       omega (arith, rows, one-le-pow n a some, pow-succ' a n)
   split_lowers (frame ∷ deeper) name count zero less low high = absurd (omega arith)
   split_lowers (frame ∷ deeper) name count (suc n) less low high = omega (arith, split_lowers deeper name count n (omega arith) low high)
 
   -- ---- a cycle
 
-  one_less : (one other p : ℕ) → other < one → (one - other) * p ≡ (one - (other + 1)) * p + p
-  one_less one other p less =
-      let same : one - other ≡ (one - (other + 1)) + 1 = omega (arith, less) in
-      let parts : ((one - (other + 1)) + 1) * p ≡ (one - (other + 1)) * p + 1 * p = add-mul (one - (other + 1)) 1 p in
-      let whole : (one - other) * p ≡ (one - (other + 1)) * p + 1 * p = ap (λ k. k * p) same ∙ parts in
-      omega (arith, whole)
-
   next_lowers : (front : List Frame) (frame : Frame) (deeper : List Frame) (n : ℕ) → length (front ++ frame ∷ deeper) ≤ n → frame.alternative < frame.alternatives
       → weight (front ++ next_alternative frame ∷ []) n + 1 ≤ weight (front ++ frame ∷ deeper) n
   next_lowers [] frame deeper zero within more = absurd (omega arith)
-  next_lowers [] frame deeper (suc n) within more = omega (arith, one_less frame.alternatives frame.alternative (a ^ n) more, weight_some deeper n (omega arith))
+  next_lowers [] frame deeper (suc n) within more = omega (arith, sub-mul_next frame.alternatives frame.alternative (a ^ n) more, weight_some deeper n (omega arith))
   next_lowers (first ∷ front) frame deeper zero within more = absurd (omega arith)
   next_lowers (first ∷ front) frame deeper (suc n) within more = omega (arith, next_lowers front frame deeper n (omega arith) more)
 

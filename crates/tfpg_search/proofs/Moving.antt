@@ -18,24 +18,23 @@ use Rattle.tfpg_clause.specs.Facts.{fact}
 use Rattle.tfpg_clause.specs.Clauses.{alternatives, count_of, constraint_at, IsOver, IsSmall}
 use Rattle.tfpg_base.specs.Choice.{item_at}
 use Rattle.tfpg_graph.specs.Valid.{IsValid}
-use Rattle.tfpg_search.proofs.Picking.{of_frame, alternative_of, constraint_in, constraint_in_is, index_in, index_out, picks_push}
+use Rattle.tfpg_search.proofs.Picking.{of_frame, alternative_of, constraint_in, constraint_in_is, picks_push}
 use Rattle.tfpg_search.specs.inside.ClauseLaws.{ClauseLaws}
 use Rattle.tfpg_search.specs.declared.add_fault.AddFault.{AddFault}
-use Rattle.tfpg_search.specs.inside.Closing.{Closes}
+use Rattle.tfpg_search.specs.inside.Closing.{Closes, IsSimpleCycle}
 use Rattle.tfpg_clause.specs.Paths.{framed, stated_by, path_after, new_frame}
 use Rattle.tfpg_clause.specs.declared.path.Frame.{Frame}
-use Rattle.tfpg_diff.specs.State.{popped_to}
+use Rattle.tfpg_diff.specs.SystemState.{popped_to}
 use Rattle.tfpg_diff.specs.Solution.{IsSolution}
 use Rattle.tfpg_base.specs.Constraint.{Meets}
 use Rattle.tfpg_search.specs.Leaf.{Leaf, pick_reasons, IsStated}
-use Rattle.tfpg_search.specs.inside.Closing.{IsSimpleCycle}
 use Rattle.tfpg_search.specs.Picks.{constraint_count, picks_from}
-use Rattle.tfpg_search.specs.inside.Leaving.{constraint_count_at}
-use Rattle.tfpg_search.specs.Searching.{Searching, IsAtItsLeaf, HasEnteredAll}
-use Rattle.tfpg_search.specs.inside.Leaving.{Leaves, Pushing, PushesOne}
-use Rattle.tfpg_search.specs.inside.Moves.{IsLiveFramed, Grows, KeepsSet, IsSettled, untaken}
+use Rattle.tfpg_search.specs.inside.Leaving.{constraint_count_at, Leaves, Pushing, PushesOne}
+use Rattle.tfpg_search.specs.SearchState.{SearchState, IsAtItsLeaf, HasEnteredAll}
+use Rattle.tfpg_search.specs.inside.Moves.{IsLiveFramed, Grows, KeepsSet, IsLoaded, untaken}
 use Rattle.tfpg_search.proofs.Growing.{grows_none, grows_one}
 use Rattle.tfpg_search.proofs.Standing.{leaf_stands, split_stands, enter_stands, left_again}
+use Rattle.tfpg_base.proofs.lists.Choices.{number_in, number_out}
 use Rattle.tfpg_base.proofs.lists.Written.{slice_get-push_last}
 use Rattle.tfpg_search.proofs.Closed.{counted, next_stands, next_some, next_fewer}
 
@@ -55,17 +54,12 @@ module _ (items entered : List ℕ) (kept : ℕ) (inside old : Leaf) (items_are 
       let there : slice_get entered kept ≡ None = ap (λ (xs : List ℕ). slice_get xs kept) (sym items_are) ∙ slice_get_past items kept (omega arith) in
       subst (λ (o : Option ℕ). Leaves o old old) (sym there) refl
 
--- there is one, where there is not none
-pub some_left : (n m : ℕ) → n ≡ m → (m ≡ 0 → ⊥) → 1 ≤ n
-some_left zero m is not_none = absurd (not_none (sym is))
-some_left (suc n) m is not_none = omega arith
-
 -- ---- pushing
 
 -- each constraint on a path is small
-pub framed_small : ClauseLaws → (graph : Tfpg) (log : Logbook) → IsValid graph → (frames : List Frame) (split index : ℕ) (c : Constraint) → framed graph log frames split index ≡ Some c → IsOver (length graph.nodes) c
-framed_small laws graph log valid frames zero index c is = cc
-framed_small laws graph log valid frames (suc k) index c is = by (slice_get frames k) is
+pub framed_small : ClauseLaws → (graph : Tfpg) (log : Logbook) → IsValid graph → (frames : List Frame) (split number : ℕ) (c : Constraint) → framed graph log frames split number ≡ Some c → IsOver (length graph.nodes) c
+framed_small laws graph log valid frames zero number c is = cc
+framed_small laws graph log valid frames (suc k) number c is = by (slice_get frames k) is
   where
     in_alternative : (alternative : List Constraint) (p : ℕ) → IsSmall (length graph.nodes) alternative → item_at alternative p ≡ Some c → IsOver (length graph.nodes) c
     in_alternative alternative zero small at = cc
@@ -73,32 +67,32 @@ framed_small laws graph log valid frames (suc k) index c is = by (slice_get fram
         subst (IsOver (length graph.nodes)) (get_or_from_slice_get alternative i c c at)
         (All-get_or (IsOver (length graph.nodes)) alternative i c (slice_get_within alternative i c at) small.over)
 
-    in_clause : (clause : List (List Constraint)) (number : ℕ) → All (IsSmall (length graph.nodes)) clause → constraint_at clause number index ≡ Some c → IsOver (length graph.nodes) c
+    in_clause : (clause : List (List Constraint)) (chosen : ℕ) → All (IsSmall (length graph.nodes)) clause → constraint_at clause chosen number ≡ Some c → IsOver (length graph.nodes) c
     in_clause clause zero small at = cc
     in_clause clause (suc i) small at = one (slice_get clause i) refl at
       where
-        one : (o : Option (List Constraint)) → slice_get clause i ≡ o → option_and_then (λ (alternative : List Constraint). item_at alternative index) o ≡ Some c → IsOver (length graph.nodes) c
+        one : (o : Option (List Constraint)) → slice_get clause i ≡ o → option_and_then (λ (alternative : List Constraint). item_at alternative number) o ≡ Some c → IsOver (length graph.nodes) c
         one None there none = cc
         one (Some alternative) there some =
-            in_alternative alternative index
+            in_alternative alternative number
             (subst (IsSmall (length graph.nodes)) (get_or_from_slice_get clause i alternative alternative there)
             (All-get_or (IsSmall (length graph.nodes)) clause i alternative (slice_get_within clause i alternative there) small))
             some
 
     named : (frame : Frame) (clause : Option (List (List Constraint))) → alternatives graph log frame.name ≡ clause
-        → option_and_then (λ (c : List (List Constraint)). constraint_at c frame.alternative index) clause ≡ Some c → IsOver (length graph.nodes) c
+        → option_and_then (λ (c : List (List Constraint)). constraint_at c frame.alternative number) clause ≡ Some c → IsOver (length graph.nodes) c
     named frame None there none = cc
     named frame (Some clause) there some = in_clause clause frame.alternative (laws.small graph log frame.name clause valid there) some
 
-    by : (o : Option Frame) → option_and_then (λ (frame : Frame). option_and_then (λ clause. constraint_at clause frame.alternative index) (alternatives graph log frame.name)) o ≡ Some c
+    by : (o : Option Frame) → option_and_then (λ (frame : Frame). option_and_then (λ clause. constraint_at clause frame.alternative number) (alternatives graph log frame.name)) o ≡ Some c
         → IsOver (length graph.nodes) c
     by None none = cc
     by (Some frame) some = named frame (alternatives graph log frame.name) refl some
 
 -- an alternative on a path has at most three constraints
-pub few_indexes : ClauseLaws → (graph : Tfpg) (log : Logbook) → IsValid graph → (frames : List Frame) (split : ℕ) → constraint_count_at graph log frames split ≤ MAX_CONSTRAINTS
-few_indexes laws graph log valid frames zero = omega arith
-few_indexes laws graph log valid frames (suc k) = by (slice_get frames k)
+pub few_numbers : ClauseLaws → (graph : Tfpg) (log : Logbook) → IsValid graph → (frames : List Frame) (split : ℕ) → constraint_count_at graph log frames split ≤ MAX_CONSTRAINTS
+few_numbers laws graph log valid frames zero = omega arith
+few_numbers laws graph log valid frames (suc k) = by (slice_get frames k)
   where
     chosen_few : (o : Option (List Constraint)) → ((alternative : List Constraint) → o ≡ Some alternative → length alternative ≤ MAX_CONSTRAINTS) → option_map_or length o 0 ≤ MAX_CONSTRAINTS
     chosen_few None few = omega arith
@@ -121,27 +115,27 @@ few_indexes laws graph log valid frames (suc k) = by (slice_get frames k)
 
 -- a frame has a constraint with each number from 1 up to how many it has, and with no other
 module _ (graph : Tfpg) (log : Logbook) (frames : List Frame) where
-  indexes_by : (o : Option Frame) (index : ℕ)
-      → (IsTrue (is_some (of_frame graph log o index)) → index ≤ option_map_or (constraint_count graph log) o 0)
-      × (of_frame graph log o index ≡ None → 1 ≤ index → option_map_or (constraint_count graph log) o 0 < index)
-  indexes_by None index = (λ some. cc, λ none low. omega arith)
-  indexes_by (Some frame) index =
-      let same = constraint_in_is (alternatives graph log frame.name) frame.alternative index in (
-        λ some. upto (constraint_in (alternative_of graph log frame) index) refl (subst (λ (o : Option Constraint). IsTrue (is_some o)) same some),
-        λ none low. index_out (alternative_of graph log frame) index (sym same ∙ none) low,
+  numbers_by : (o : Option Frame) (number : ℕ)
+      → (IsTrue (is_some (of_frame graph log o number)) → number ≤ option_map_or (constraint_count graph log) o 0)
+      × (of_frame graph log o number ≡ None → 1 ≤ number → option_map_or (constraint_count graph log) o 0 < number)
+  numbers_by None number = (λ some. cc, λ none low. omega arith)
+  numbers_by (Some frame) number =
+      let same = constraint_in_is (alternatives graph log frame.name) frame.alternative number in (
+        λ some. upto (constraint_in (alternative_of graph log frame) number) refl (subst (λ (o : Option Constraint). IsTrue (is_some o)) same some),
+        λ none low. number_out (alternative_of graph log frame) number (sym same ∙ none) low,
       )
     where
-      upto : (o : Option Constraint) → constraint_in (alternative_of graph log frame) index ≡ o → IsTrue (is_some o) → index ≤ constraint_count graph log frame
+      upto : (o : Option Constraint) → constraint_in (alternative_of graph log frame) number ≡ o → IsTrue (is_some o) → number ≤ constraint_count graph log frame
       upto None is some = cc
-      upto (Some c) is some = (index_in (alternative_of graph log frame) index c is).1
+      upto (Some c) is some = (number_in (alternative_of graph log frame) number c is).1
 
-  pub at_most_there : (split index : ℕ) → IsTrue (is_some (framed graph log frames split index)) → index ≤ constraint_count_at graph log frames split
-  at_most_there zero index some = cc
-  at_most_there (suc k) index some = (indexes_by (slice_get frames k) index).0 some
+  pub at_most_there : (split number : ℕ) → IsTrue (is_some (framed graph log frames split number)) → number ≤ constraint_count_at graph log frames split
+  at_most_there zero number some = cc
+  at_most_there (suc k) number some = (numbers_by (slice_get frames k) number).0 some
 
-  pub none_there : (split index : ℕ) → framed graph log frames split index ≡ None → 1 ≤ index → constraint_count_at graph log frames split < index
-  none_there zero index none low = omega arith
-  none_there (suc k) index none low = (indexes_by (slice_get frames k) index).1 none low
+  pub none_there : (split number : ℕ) → framed graph log frames split number ≡ None → 1 ≤ number → constraint_count_at graph log frames split < number
+  none_there zero number none low = omega arith
+  none_there (suc k) number none low = (numbers_by (slice_get frames k) number).1 none low
 
 module _ (graph : Tfpg) (log : Logbook) (reach : List ℕ) (path : List Frame) (old : Leaf) where
   abbrev Pushed : Leaf → Type 0
@@ -185,17 +179,17 @@ module _ (graph : Tfpg) (log : Logbook) (reach : List ℕ) (path : List Frame) (
   }
 
 -- What holds of the reach and the path of a search holds of those of another one with the same.
-at_other : (one other : Searching) → other.reach ≡ one.reach → other.path ≡ one.path → (P : List ℕ → List Frame → Type 0) → P other.reach other.path → P one.reach one.path
+at_other : (one other : SearchState) → other.reach ≡ one.reach → other.path ≡ one.path → (P : List ℕ → List Frame → Type 0) → P other.reach other.path → P one.reach one.path
 at_other one other same_reach same_path P holds = subst (λ (r : List ℕ). P r one.path) same_reach (subst (P other.reach) same_path holds)
 
 -- the picks go on by one more constraint of the alternative
-module _ (graph : Tfpg) (log : Logbook) (now loop : Searching) (same : loop ≡ record now { leaf = loop.leaf })
+module _ (graph : Tfpg) (log : Logbook) (now loop : SearchState) (same : loop ≡ record now { leaf = loop.leaf })
     (pushing : Pushing graph log now.reach now.path now.leaf loop.leaf) where
   loop_path : loop.path ≡ now.path
-  loop_path = ap (λ (s : Searching). s.path) same
+  loop_path = ap (λ (s : SearchState). s.path) same
 
   loop_reach : loop.reach ≡ now.reach
-  loop_reach = ap (λ (s : Searching). s.reach) same
+  loop_reach = ap (λ (s : SearchState). s.reach) same
 
   pub loop_stated : IsStated (fact graph log loop.reach) (stated_by graph log loop.reach loop.path) loop.leaf
   loop_stated =
@@ -204,9 +198,9 @@ module _ (graph : Tfpg) (log : Logbook) (now loop : Searching) (same : loop ≡ 
   pub loop_closes : (fault : AddFault) → Closes (stated_by graph log loop.reach loop.path) fault → Closes (stated_by graph log now.reach now.path) fault
   loop_closes fault closes = at_other now loop loop_reach loop_path (λ (r : List ℕ) (fs : List Frame). Closes (stated_by graph log r fs) fault) closes
 
-  module _ (new : Searching) (new_same : new ≡ record loop { leaf = new.leaf }) (step : Pushing graph log loop.reach loop.path loop.leaf new.leaf) where
+  module _ (new : SearchState) (new_same : new ≡ record loop { leaf = new.leaf }) (step : Pushing graph log loop.reach loop.path loop.leaf new.leaf) where
     pub step_same : new ≡ record now { leaf = new.leaf }
-    step_same = new_same ∙ ap (λ (s : Searching). record s { leaf = new.leaf }) same
+    step_same = new_same ∙ ap (λ (s : SearchState). record s { leaf = new.leaf }) same
 
     pub step_pushing : Pushing graph log now.reach now.path now.leaf new.leaf
     step_pushing =
@@ -225,42 +219,42 @@ module _ (graph : Tfpg) (log : Logbook) (now loop : Searching) (same : loop ≡ 
       pub step_picks : PushesOne (framed graph log loop.path split (before + 1)) (Pick split (before + 1)) loop.leaf new.leaf true
           → pick_reasons new.leaf ≡ pick_reasons now.leaf ++ picks_from split 1 (before + 1)
       step_picks one =
-          let number : suc before ≡ before + 1 = omega arith in
-          let index : 1 + before ≡ before + 1 = omega arith in
+          let next : suc before ≡ before + 1 = omega arith in
+          let last : 1 + before ≡ before + 1 = omega arith in
           one.0
           ∙ ap (λ (rs : List Reason). rs ++ Pick split (before + 1) ∷ []) picks
           ∙ append_assoc (pick_reasons now.leaf) (picks_from split 1 before) (Pick split (before + 1) ∷ [])
-          ∙ ap (λ (n : ℕ). pick_reasons now.leaf ++ (picks_from split 1 before ++ Pick split n ∷ [])) (sym index)
+          ∙ ap (λ (n : ℕ). pick_reasons now.leaf ++ (picks_from split 1 before ++ Pick split n ∷ [])) (sym last)
           ∙ ap (λ (rs : List Reason). pick_reasons now.leaf ++ rs) (sym (picks_push split 1 before))
-          ∙ ap (λ (n : ℕ). pick_reasons now.leaf ++ picks_from split 1 n) number
+          ∙ ap (λ (n : ℕ). pick_reasons now.leaf ++ picks_from split 1 n) next
 
       pub step_within : PushesOne (framed graph log loop.path split (before + 1)) (Pick split (before + 1)) loop.leaf new.leaf true → before + 1 ≤ constraint_count_at graph log now.path split
       step_within one =
           at_most_there graph log now.path split (before + 1) (subst (λ (fs : List Frame). IsTrue (is_some (framed graph log fs split (before + 1)))) loop_path one.1)
 
 -- all constraints were pushed
-pub all_pushed : ClauseLaws → (graph : Tfpg) (log : Logbook) → IsValid graph → (now : Searching) (leaf : Leaf) (split before : ℕ) → MAX_CONSTRAINTS ≤ before → before ≤ constraint_count_at graph log now.path split
+pub all_pushed : ClauseLaws → (graph : Tfpg) (log : Logbook) → IsValid graph → (now : SearchState) (leaf : Leaf) (split before : ℕ) → MAX_CONSTRAINTS ≤ before → before ≤ constraint_count_at graph log now.path split
     → pick_reasons leaf ≡ pick_reasons now.leaf ++ picks_from split 1 before → pick_reasons leaf ≡ pick_reasons now.leaf ++ picks_from split 1 (constraint_count_at graph log now.path split)
 all_pushed laws graph log valid now leaf split before past within picks =
-    let few = few_indexes laws graph log valid now.path split in
+    let few = few_numbers laws graph log valid now.path split in
     let all : before ≡ constraint_count_at graph log now.path split = grind arith in
     picks ∙ ap (λ (n : ℕ). pick_reasons now.leaf ++ picks_from split 1 n) all
 
 -- ---- moves
 
-module _ (graph : Tfpg) (log : Logbook) (old : Searching) (at : IsAtItsLeaf graph log old) (before : List Step) where
+module _ (graph : Tfpg) (log : Logbook) (old : SearchState) (at : IsAtItsLeaf graph log old) (before : List Step) where
   -- nothing happened
   pub nothing : (end : Option (List Frame)) × Grows graph log old.reach old.path before before 0 end
   nothing = (Some old.path, grows_none graph log old.reach old.path before)
 
   -- ---- a split
 
-  pub split_ok : (new : Searching) (after : List Step) (name : ClauseName) (count : ℕ) → HasEnteredAll old → IsLiveFramed graph log old.reach old.path name
+  pub split_ok : (new : SearchState) (after : List Step) (name : ClauseName) (count : ℕ) → HasEnteredAll old → IsLiveFramed graph log old.reach old.path name
       → count_of graph log name ≡ Some count → 0 < count → new ≡ record old { path = old.path ++ new_frame name count ∷ [] } → after ≡ before ++ Split name ∷ []
       → IsAtItsLeaf graph log new × Grows graph log old.reach old.path before after 1 (Some new.path)
   split_ok new after name count all live counted some same appended = (
     subst (IsAtItsLeaf graph log) (sym same) (split_stands graph log old at name count all counted some),
-    grows_one graph log old.reach old.path before after (Split name) (Some new.path) appended (count, counted, live, ap (λ (s : Searching). Some s.path) same),
+    grows_one graph log old.reach old.path before after (Split name) (Some new.path) appended (count, counted, live, ap (λ (s : SearchState). Some s.path) same),
   )
 
   -- ---- a closed leaf
@@ -269,28 +263,28 @@ module _ (graph : Tfpg) (log : Logbook) (old : Searching) (at : IsAtItsLeaf grap
     closes_to : (end : Option (List Frame)) → path_after old.path ≡ end → Grows graph log old.reach old.path before after 0 end
     closes_to end is = grows_one graph log old.reach old.path before after (Cycle reasons) end appended (cycle, sym is)
 
-    module _ (middle : Searching) (same : middle ≡ record old { path = middle.path }) (is : path_after old.path ≡ Some middle.path) where
+    module _ (middle : SearchState) (same : middle ≡ record old { path = middle.path }) (is : path_after old.path ≡ Some middle.path) where
       pub close_counted : (kept number : ℕ) → slice_get middle.entered kept ≡ Some number → number ≤ length (pick_reasons middle.leaf)
       close_counted kept number there =
-          subst (λ (l : Leaf). number ≤ length (pick_reasons l)) (sym (ap (λ (s : Searching). s.leaf) same))
-          (counted graph log old at kept number (ap (λ (s : Searching). slice_get s.entered kept) (sym same) ∙ there))
+          subst (λ (l : Leaf). number ≤ length (pick_reasons l)) (sym (ap (λ (s : SearchState). s.leaf) same))
+          (counted graph log old at kept number (ap (λ (s : SearchState). slice_get s.entered kept) (sym same) ∙ there))
 
       pub close_some : length middle.path ≡ 0 → ⊥
       close_some = next_some graph log old at middle.path is
 
-      pub close_ok : (new : Searching) (kept : ℕ) → kept ≡ length middle.path - 1 → new ≡ record middle { entered = take kept middle.entered; leaf = new.leaf }
+      pub close_ok : (new : SearchState) (kept : ℕ) → kept ≡ length middle.path - 1 → new ≡ record middle { entered = take kept middle.entered; leaf = new.leaf }
           → Leaves (slice_get middle.entered kept) middle.leaf new.leaf
           → IsAtItsLeaf graph log new × Grows graph log old.reach old.path before after 0 (Some new.path) × (untaken new.path < untaken old.path)
       close_ok new kept number new_is leaves =
-          let path_is : new.path ≡ middle.path = ap (λ (s : Searching). s.path) new_is in
-          let entered_is : middle.entered ≡ old.entered = ap (λ (s : Searching). s.entered) same in
-          let leaf_is : middle.leaf ≡ old.leaf = ap (λ (s : Searching). s.leaf) same in
+          let path_is : new.path ≡ middle.path = ap (λ (s : SearchState). s.path) new_is in
+          let entered_is : middle.entered ≡ old.entered = ap (λ (s : SearchState). s.entered) same in
+          let leaf_is : middle.leaf ≡ old.leaf = ap (λ (s : SearchState). s.leaf) same in
           let left : Leaves (slice_get old.entered kept) old.leaf new.leaf =
           subst (λ (l : Leaf). Leaves (slice_get old.entered kept) l new.leaf) leaf_is (subst (λ (es : List ℕ). Leaves (slice_get es kept) middle.leaf new.leaf) entered_is leaves) in
           let stands : IsAtItsLeaf graph log (record old { path = middle.path; entered = take kept old.entered; leaf = new.leaf }) =
           next_stands graph log old at middle.path is kept number new.leaf left in
           let all : new ≡ record old { path = middle.path; entered = take kept old.entered; leaf = new.leaf } =
-          new_is ∙ ap (λ (s : Searching). record s { path = middle.path; entered = take kept s.entered; leaf = new.leaf }) same in (
+          new_is ∙ ap (λ (s : SearchState). record s { path = middle.path; entered = take kept s.entered; leaf = new.leaf }) same in (
             subst (IsAtItsLeaf graph log) (sym all) stands,
             closes_to (Some new.path) (is ∙ ap (λ (fs : List Frame). Some fs) (sym path_is)),
             subst (λ (fs : List Frame). untaken fs < untaken old.path) (sym path_is) (next_fewer graph log old at middle.path is),
@@ -298,24 +292,21 @@ module _ (graph : Tfpg) (log : Logbook) (old : Searching) (at : IsAtItsLeaf grap
 
 -- ---- entering
 
-module _ (graph : Tfpg) (log : Logbook) (old : Searching) (at : IsAtItsLeaf graph log old) where
-  module _ (marked : Searching) (marked_is : marked ≡ record old { entered = old.entered ++ length (pick_reasons old.leaf) ∷ [] }) where
+module _ (graph : Tfpg) (log : Logbook) (old : SearchState) (at : IsAtItsLeaf graph log old) where
+  module _ (marked : SearchState) (marked_is : marked ≡ record old { entered = old.entered ++ length (pick_reasons old.leaf) ∷ [] }) where
     pub marked_stated : IsStated (fact graph log marked.reach) (stated_by graph log marked.reach marked.path) marked.leaf
     marked_stated =
-        subst (λ (s : Searching). IsStated (fact graph log s.reach) (stated_by graph log s.reach s.path) s.leaf) (sym marked_is) at.stated
+        subst (λ (s : SearchState). IsStated (fact graph log s.reach) (stated_by graph log s.reach s.path) s.leaf) (sym marked_is) at.stated
 
     pub marked_closes : (fault : AddFault) → Closes (stated_by graph log marked.reach marked.path) fault → Closes (stated_by graph log old.reach old.path) fault
-    marked_closes fault closes = subst (λ (s : Searching). Closes (stated_by graph log s.reach s.path) fault) marked_is closes
+    marked_closes fault closes = subst (λ (s : SearchState). Closes (stated_by graph log s.reach s.path) fault) marked_is closes
 
-    module _ (pushed : Searching) (pushed_is : pushed ≡ record marked { leaf = pushed.leaf }) (pushing : Pushing graph log marked.reach marked.path marked.leaf pushed.leaf) where
+    module _ (pushed : SearchState) (pushed_is : pushed ≡ record marked { leaf = pushed.leaf }) (pushing : Pushing graph log marked.reach marked.path marked.leaf pushed.leaf) where
       whole : pushed ≡ record old { entered = old.entered ++ length (pick_reasons old.leaf) ∷ []; leaf = pushed.leaf }
-      whole = pushed_is ∙ ap (λ (s : Searching). record s { leaf = pushed.leaf }) marked_is
+      whole = pushed_is ∙ ap (λ (s : SearchState). record s { leaf = pushed.leaf }) marked_is
 
       pushing_old : Pushing graph log old.reach old.path old.leaf pushed.leaf
-      pushing_old = subst (λ (s : Searching). Pushing graph log s.reach s.path s.leaf pushed.leaf) marked_is pushing
-
-      pub pushed_path : pushed.path ≡ old.path
-      pushed_path = ap (λ (s : Searching). s.path) whole
+      pushing_old = subst (λ (s : SearchState). Pushing graph log s.reach s.path s.leaf pushed.leaf) marked_is pushing
 
       module _ (count : ℕ) (count_is : count ≡ length old.entered) where
         module _ (not_all : count ≡ length old.path → ⊥) (split : ℕ) (split_is : split ≡ count + 1)
@@ -327,14 +318,14 @@ module _ (graph : Tfpg) (log : Logbook) (old : Searching) (at : IsAtItsLeaf grap
           entered_stands =
               let number : split ≡ length old.entered + 1 = split_is ∙ ap (λ (n : ℕ). n + 1) count_is in
               let picks_old : pick_reasons pushed.leaf ≡ pick_reasons old.leaf ++ picks_from split 1 (constraint_count_at graph log old.path split) =
-              subst (λ (s : Searching). pick_reasons pushed.leaf ≡ pick_reasons s.leaf ++ picks_from split 1 (constraint_count_at graph log s.path split)) marked_is picks in
+              subst (λ (s : SearchState). pick_reasons pushed.leaf ≡ pick_reasons s.leaf ++ picks_from split 1 (constraint_count_at graph log s.path split)) marked_is picks in
               let picks_there : pick_reasons pushed.leaf ≡ pick_reasons old.leaf ++ picks_from (length old.entered + 1) 1 (constraint_count_at graph log old.path (length old.entered + 1)) =
               subst (λ (n : ℕ). pick_reasons pushed.leaf ≡ pick_reasons old.leaf ++ picks_from n 1 (constraint_count_at graph log old.path n)) number picks_old in
               subst (IsAtItsLeaf graph log) (sym whole) (enter_stands graph log old at left_out pushed.leaf pushing_old picks_there)
 
         pub left_counted : (number : ℕ) → slice_get pushed.entered count ≡ Some number → number ≤ length (pick_reasons pushed.leaf)
         left_counted number there =
-            let entered_is : pushed.entered ≡ old.entered ++ length (pick_reasons old.leaf) ∷ [] = ap (λ (s : Searching). s.entered) whole in
+            let entered_is : pushed.entered ≡ old.entered ++ length (pick_reasons old.leaf) ∷ [] = ap (λ (s : SearchState). s.entered) whole in
             let here : slice_get (old.entered ++ length (pick_reasons old.leaf) ∷ []) (length old.entered) ≡ Some number =
             ap (λ (es : List ℕ). slice_get es (length old.entered)) (sym entered_is) ∙ ap (λ (n : ℕ). slice_get pushed.entered n) (sym count_is) ∙ there in
             let same : length (pick_reasons old.leaf) ≡ number =
@@ -343,45 +334,45 @@ module _ (graph : Tfpg) (log : Logbook) (old : Searching) (at : IsAtItsLeaf grap
             ap (λ (rs : List Reason). length rs) pushing_old.more.1 ∙ length-append (pick_reasons old.leaf) pushing_old.more.0 in
             omega arith
 
-        pub left_stands : (new : Searching) → new ≡ record pushed { entered = take count pushed.entered; leaf = new.leaf }
+        pub left_stands : (new : SearchState) → new ≡ record pushed { entered = take count pushed.entered; leaf = new.leaf }
             → Leaves (slice_get pushed.entered count) pushed.leaf new.leaf → IsAtItsLeaf graph log new × KeepsSet old new × (new.path ≡ old.path)
         left_stands new new_is leaves =
             let marks : List ℕ = old.entered ++ length (pick_reasons old.leaf) ∷ [] in
-            let entered_is : pushed.entered ≡ old.entered ++ length (pick_reasons old.leaf) ∷ [] = ap (λ (s : Searching). s.entered) whole in
+            let entered_is : pushed.entered ≡ old.entered ++ length (pick_reasons old.leaf) ∷ [] = ap (λ (s : SearchState). s.entered) whole in
             let left : Leaves (slice_get (old.entered ++ length (pick_reasons old.leaf) ∷ []) (length old.entered)) pushed.leaf new.leaf =
             subst (λ (n : ℕ). Leaves (slice_get (old.entered ++ length (pick_reasons old.leaf) ∷ []) n) pushed.leaf new.leaf) count_is
             (subst (λ (es : List ℕ). Leaves (slice_get es count) pushed.leaf new.leaf) entered_is leaves) in
             let all : new ≡ record old { entered = take (length old.entered) (old.entered ++ length (pick_reasons old.leaf) ∷ []); leaf = new.leaf } =
             new_is
-            ∙ ap (λ (s : Searching). record s { entered = take count s.entered; leaf = new.leaf }) whole
+            ∙ ap (λ (s : SearchState). record s { entered = take count s.entered; leaf = new.leaf }) whole
             ∙ ap (λ (n : ℕ). record old { entered = take n (old.entered ++ length (pick_reasons old.leaf) ∷ []); leaf = new.leaf }) count_is in (
               subst (IsAtItsLeaf graph log) (sym all) (left_again graph log old at pushed.leaf new.leaf pushing_old left),
-              record { set = ap (λ (s : Searching). s.set) all; reach = ap (λ (s : Searching). s.reach) all; seen = ap (λ (s : Searching). s.seen) all },
-              ap (λ (s : Searching). s.path) all,
+              record { set = ap (λ (s : SearchState). s.set) all; reach = ap (λ (s : SearchState). s.reach) all; seen = ap (λ (s : SearchState). s.seen) all },
+              ap (λ (s : SearchState). s.path) all,
             )
 
   -- ---- the facts are added
 
-  pub facts_stand : (new : Searching) → new ≡ record old { leaf = new.leaf } → length new.leaf.demands.bounds ≡ length old.leaf.demands.bounds
+  pub facts_stand : (new : SearchState) → new ≡ record old { leaf = new.leaf } → length new.leaf.demands.bounds ≡ length old.leaf.demands.bounds
       → pick_reasons new.leaf ≡ pick_reasons old.leaf
       → ((stated : Reason → Option Constraint) → IsStated (fact graph log old.reach) stated old.leaf → IsStated (fact graph log old.reach) stated new.leaf)
       → IsAtItsLeaf graph log new × KeepsSet old new × (new.path ≡ old.path)
   facts_stand new new_is variables reasons stated = (
     subst (IsAtItsLeaf graph log) (sym new_is) (leaf_stands graph log old at new.leaf variables (stated (stated_by graph log old.reach old.path) at.stated) reasons),
-    record { set = ap (λ (s : Searching). s.set) new_is; reach = ap (λ (s : Searching). s.reach) new_is; seen = ap (λ (s : Searching). s.seen) new_is },
-    ap (λ (s : Searching). s.path) new_is,
+    record { set = ap (λ (s : SearchState). s.set) new_is; reach = ap (λ (s : SearchState). s.reach) new_is; seen = ap (λ (s : SearchState). s.seen) new_is },
+    ap (λ (s : SearchState). s.path) new_is,
   )
 
--- All facts are added where all alternatives were entered: the leaf is settled.
-pub add_settled : (graph : Tfpg) (log : Logbook) (middle new : Searching) → new ≡ record middle { leaf = new.leaf } → HasEnteredAll middle → (result : Result (Unit {0}) AddFault)
+-- All facts are added where all alternatives were entered: the leaf is loaded.
+pub add_loaded : (graph : Tfpg) (log : Logbook) (middle new : SearchState) → new ≡ record middle { leaf = new.leaf } → HasEnteredAll middle → (result : Result (Unit {0}) AddFault)
     → OnOk result ((reason : Reason) (constraint : Constraint) → fact graph log middle.reach reason ≡ Some constraint → (times : List ℕ) → IsSolution new.leaf.demands times → Meets times constraint)
-    → OnOk result (IsSettled graph log new)
-add_settled graph log middle new same all (Ok done) facts =
-    subst (λ (s : Searching). IsSettled graph log s) (sym same)
+    → OnOk result (IsLoaded graph log new)
+add_loaded graph log middle new same all (Ok done) facts =
+    subst (λ (s : SearchState). IsLoaded graph log s) (sym same)
     (record { all_entered = all; facts = λ times solution reason constraint is. facts reason constraint is times solution })
-add_settled graph log middle new same all (Err fault) facts = tt
+add_loaded graph log middle new same all (Err fault) facts = tt
 
-pub add_closes : (graph : Tfpg) (log : Logbook) (old middle : Searching) → KeepsSet old middle → middle.path ≡ old.path → (result : Result (Unit {0}) AddFault)
+pub add_closes : (graph : Tfpg) (log : Logbook) (old middle : SearchState) → KeepsSet old middle → middle.path ≡ old.path → (result : Result (Unit {0}) AddFault)
     → IfErr result (Closes (stated_by graph log middle.reach middle.path)) → IfErr result (Closes (stated_by graph log old.reach old.path))
 add_closes graph log old middle keeps path result closes =
     at_other old middle keeps.reach path (λ (r : List ℕ) (fs : List Frame). IfErr result (Closes (stated_by graph log r fs))) closes

@@ -1,5 +1,5 @@
 -- The names on the path of a search: no name stands twice, since the latest solution meets the clause of each.
-use Rattle.std.proofs.Common.{◌≡◌, ◌≢◌, ℕ, zero, suc, ◌<◌, ◌≤◌, List, [], ◌∷◌, ◌++◌, length, get_or, Option, Some, None, refl, sym, ap, subst, ◌∙◌, arith, append_assoc}
+use Rattle.std.proofs.Common.{◌≡◌, ◌≢◌, ℕ, zero, suc, ◌<◌, ◌≤◌, List, [], ◌∷◌, ◌++◌, length, get_or, Some, refl, sym, ap, subst, ◌∙◌, arith, append_assoc}
 use Rattle.std.specs.Prelude.{All, AllPairs, map, slice_get, option_map, option_and_then}
 use Rattle.std.proofs.lemmas.List.{map-append}
 use Rattle.std.proofs.lemmas.List.Elements.{All-nil, All-cons, All-head, All-tail, All-get_or, All-map, All-append, Contains-get_or}
@@ -8,13 +8,14 @@ use Rattle.std.proofs.lemmas.Option.{slice_get-get_or}
 use Rattle.tfpg_base.specs.declared.constraint.Constraint.{Constraint}
 use Rattle.tfpg_base.specs.Constraint.{Meets}
 use Rattle.tfpg_graph.specs.Graph.{Tfpg}
-use Rattle.tfpg_log.specs.Log.{Logbook, GoesOn, IsOrdered, first_events}
+use Rattle.tfpg_log.specs.Log.{Logbook, IsOrdered, first_events}
 use Rattle.tfpg_evidence.specs.declared.clause_name.ClauseName.{ClauseName}
 use Rattle.tfpg_clause.specs.Clauses.{alternatives, count_of, constraint_at, MeetsClause, Violates}
 use Rattle.tfpg_base.specs.Choice.{item_at}
 use Rattle.tfpg_clause.specs.Trees.{PathSplit}
 use Rattle.tfpg_clause.specs.Paths.{AreFramesOf, framed, path_after, next_alternative, new_frame}
 use Rattle.tfpg_clause.specs.declared.path.Frame.{Frame}
+use Rattle.tfpg_clause.proofs.Kept.{alternatives_stay}
 use Rattle.tfpg_search.specs.Picks.{IsAllowed, IsInRange, AreInRange}
 use Rattle.tfpg_search.specs.inside.ClauseLaws.{ClauseLaws}
 use Rattle.tfpg_base.proofs.lists.Elements.{All-front, All-from_indexes, AllPairs-front}
@@ -37,18 +38,13 @@ same_names graph log (split ∷ path) (frame ∷ frames) are =
 -- ---- the frames that name allowed clauses, in one of their alternatives
 
 module _ (graph : Tfpg) (log : Logbook) where
-  count_later : ClauseLaws → (earlier : Logbook) → IsOrdered log → GoesOn earlier log → (name : ClauseName) (count : ℕ) (clause : Option (List (List Constraint))) → alternatives graph earlier name ≡ clause
-      → option_map length clause ≡ Some count → count_of graph log name ≡ Some count
-  count_later laws earlier ordered goes_on name count None is counted = cc
-  count_later laws earlier ordered goes_on name count (Some clause) is counted = ap (option_map length) (laws.clause_stays graph earlier log name clause ordered goes_on is) ∙ counted
-
   pub all_allowed : ClauseLaws → IsOrdered log → (path : List PathSplit) (frames : List Frame) → AreFramesOf graph log path frames → All (IsAllowed graph log) frames
   all_allowed laws ordered [] [] are = All-nil (IsAllowed graph log)
   all_allowed laws ordered [] (frame ∷ frames) are = absurd are
   all_allowed laws ordered (split ∷ path) [] are = absurd are
   all_allowed laws ordered (split ∷ path) (frame ∷ frames) are =
       let of_split : count_of graph log split.name ≡ Some frame.alternatives =
-      count_later laws (first_events log split.seen) ordered (laws.first log split.seen) split.name frame.alternatives (alternatives graph (first_events log split.seen) split.name) refl are.0.alternatives in
+      ap (option_map length) (alternatives_stay graph (first_events log split.seen) log ordered (laws.first log split.seen) split.name frame.alternatives are.0.alternatives) ∙ are.0.alternatives in
       All-cons (IsAllowed graph log) frame frames (ap (count_of graph log) are.0.name ∙ of_split) (all_allowed laws ordered path frames are.1)
 
   module _ (times : List ℕ) where

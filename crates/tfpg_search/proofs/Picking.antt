@@ -1,10 +1,8 @@
 -- The picks of a path: which they are, and where each stands.
 use Rattle.std.proofs.Common.{◌≡◌, ℕ, zero, suc, ◌+◌, ◌<◌, ◌≤◌, List, [], ◌∷◌, ◌++◌, length, take, min, Option, Some, None, refl, sym, ap, ◌∙◌, inl, inr, arith, append_assoc}
 use Rattle.std.specs.Prelude.{slice_get, option_and_then}
-use Rattle.std.specs.Option.{option_map_or}
 use Rattle.std.proofs.Math.Seq.{take-append-add}
 use Rattle.std.proofs.lemmas.List.{append-nil, length-append, length-take}
-use Rattle.std.proofs.lemmas.Option.{slice_get_within}
 use Rattle.tfpg_base.specs.declared.constraint.Constraint.{Constraint}
 use Rattle.tfpg_graph.specs.Graph.{Tfpg}
 use Rattle.tfpg_log.specs.Log.{Logbook}
@@ -14,57 +12,47 @@ use Rattle.tfpg_clause.specs.Clauses.{alternatives, constraint_at}
 use Rattle.tfpg_base.specs.Choice.{item_at}
 use Rattle.tfpg_clause.specs.declared.path.Frame.{Frame}
 use Rattle.tfpg_search.specs.Picks.{constraint_count, picks_from, picks_of_from}
-use Rattle.tfpg_base.proofs.lists.Elements.{slice_get-none}
+use Rattle.tfpg_base.proofs.lists.Choices.{number_in}
 use Rattle.tfpg_base.proofs.lists.Written.{slice_get-append_cases, slice_get-append_some, slice_get-append_right}
 
 -- ---- the picks of one alternative
 
-pub pick_of : (split index count i : ℕ) (r : Reason) → slice_get (picks_from split index count) i ≡ Some r → (p : ℕ) × (r ≡ Pick split p)
-pick_of split index zero i r is = cc
-pick_of split index (suc count) zero r is = let same : Pick split index ≡ r = cc in (index, sym same)
-pick_of split index (suc count) (suc i) r is = pick_of split (index + 1) count i r is
+pub pick_of : (split number count i : ℕ) (r : Reason) → slice_get (picks_from split number count) i ≡ Some r → (p : ℕ) × (r ≡ Pick split p)
+pick_of split number zero i r is = cc
+pick_of split number (suc count) zero r is = let same : Pick split number ≡ r = cc in (number, sym same)
+pick_of split number (suc count) (suc i) r is = pick_of split (number + 1) count i r is
 
-pub pick_at : (split index count i : ℕ) → i < count → slice_get (picks_from split index count) i ≡ Some (Pick split (index + i))
-pick_at split index zero i less = absurd (omega arith)
-pick_at split index (suc count) zero less = let same : index ≡ index + 0 = omega arith in ap (λ (n : ℕ). Some (Pick split n)) same
-pick_at split index (suc count) (suc i) less =
-    let same : index + 1 + i ≡ index + suc i = omega arith in
-    pick_at split (index + 1) count i (omega arith) ∙ ap (λ (n : ℕ). Some (Pick split n)) same
+pub pick_at : (split number count i : ℕ) → i < count → slice_get (picks_from split number count) i ≡ Some (Pick split (number + i))
+pick_at split number zero i less = absurd (omega arith)
+pick_at split number (suc count) zero less = let same : number ≡ number + 0 = omega arith in ap (λ (n : ℕ). Some (Pick split n)) same
+pick_at split number (suc count) (suc i) less =
+    let same : number + 1 + i ≡ number + suc i = omega arith in
+    pick_at split (number + 1) count i (omega arith) ∙ ap (λ (n : ℕ). Some (Pick split n)) same
 
-pub picks_push : (split index count : ℕ) → picks_from split index (suc count) ≡ picks_from split index count ++ Pick split (index + count) ∷ []
-picks_push split index zero = let same : index ≡ index + 0 = omega arith in ap (λ (n : ℕ). Pick split n ∷ []) same
-picks_push split index (suc count) =
-    let same : index + 1 + count ≡ index + suc count = omega arith in
-    ap (λ (rs : List Reason). Pick split index ∷ rs) (picks_push split (index + 1) count)
-    ∙ ap (λ (n : ℕ). Pick split index ∷ picks_from split (index + 1) count ++ Pick split n ∷ []) same
+pub picks_push : (split number count : ℕ) → picks_from split number (suc count) ≡ picks_from split number count ++ Pick split (number + count) ∷ []
+picks_push split number zero = let same : number ≡ number + 0 = omega arith in ap (λ (n : ℕ). Pick split n ∷ []) same
+picks_push split number (suc count) =
+    let same : number + 1 + count ≡ number + suc count = omega arith in
+    ap (λ (rs : List Reason). Pick split number ∷ rs) (picks_push split (number + 1) count)
+    ∙ ap (λ (n : ℕ). Pick split number ∷ picks_from split (number + 1) count ++ Pick split n ∷ []) same
 
 -- ---- constraints of an alternative
 
 -- the constraint with this number in an alternative, where there is one
 abbrev pub constraint_in : Option (List Constraint) → ℕ → Option Constraint
-constraint_in alternative index = option_and_then (λ (constraints : List Constraint). item_at constraints index) alternative
+constraint_in alternative number = option_and_then (λ (constraints : List Constraint). item_at constraints number) alternative
 
-pub constraint_in_is : (clause : Option (List (List Constraint))) (number index : ℕ)
-    → option_and_then (λ (c : List (List Constraint)). constraint_at c number index) clause ≡ constraint_in (option_and_then (λ (c : List (List Constraint)). item_at c number) clause) index
-constraint_in_is None number index = refl
-constraint_in_is (Some clause) number index = refl
-
-pub index_in : (alternative : Option (List Constraint)) (index : ℕ) (c : Constraint) → constraint_in alternative index ≡ Some c → (1 ≤ index) × (index ≤ option_map_or length alternative 0)
-index_in None index c is = cc
-index_in (Some constraints) zero c is = cc
-index_in (Some constraints) (suc before) c is = let within = slice_get_within constraints before c is in (omega arith, omega arith)
-
-pub index_out : (alternative : Option (List Constraint)) (index : ℕ) → constraint_in alternative index ≡ None → 1 ≤ index → option_map_or length alternative 0 < index
-index_out None index is low = omega arith
-index_out (Some constraints) zero is low = absurd (omega arith)
-index_out (Some constraints) (suc before) is low = let past = slice_get-none constraints before is in omega arith
+pub constraint_in_is : (clause : Option (List (List Constraint))) (alternative number : ℕ)
+    → option_and_then (λ (c : List (List Constraint)). constraint_at c alternative number) clause ≡ constraint_in (option_and_then (λ (c : List (List Constraint)). item_at c alternative) clause) number
+constraint_in_is None alternative number = refl
+constraint_in_is (Some clause) alternative number = refl
 
 -- ---- the picks of a path
 
 module _ (graph : Tfpg) (log : Logbook) where
   -- the constraint with this number in the alternative of a frame
   abbrev pub of_frame : Option Frame → ℕ → Option Constraint
-  of_frame frame index = option_and_then (λ (f : Frame). option_and_then (λ clause. constraint_at clause f.alternative index) (alternatives graph log f.name)) frame
+  of_frame frame number = option_and_then (λ (f : Frame). option_and_then (λ clause. constraint_at clause f.alternative number) (alternatives graph log f.name)) frame
 
   -- the alternative of a frame
   abbrev pub alternative_of : Frame → Option (List Constraint)
@@ -73,9 +61,9 @@ module _ (graph : Tfpg) (log : Logbook) where
   -- The reason is a pick at one of the splits of these frames.
   pub record IsPickOf (start : ℕ) (frames : List Frame) (r : Reason) : Type 0 where
     pub k : ℕ
-    pub index : ℕ
+    pub number : ℕ
     pub within : k < length frames
-    pub is : r ≡ Pick (start + k) index
+    pub is : r ≡ Pick (start + k) number
 
   pub picks_are : (start : ℕ) (frames : List Frame) (i : ℕ) (r : Reason) → slice_get (picks_of_from graph log start frames) i ≡ Some r → IsPickOf start frames r
   picks_are start [] i r is = cc
@@ -84,37 +72,37 @@ module _ (graph : Tfpg) (log : Logbook) where
         | inl first ↦
             let pick = pick_of start 1 (constraint_count graph log frame) i r first in
             let same : start ≡ start + 0 = omega arith in
-            record { k = 0; index = pick.0; within = omega arith; is = pick.1 ∙ ap (λ (n : ℕ). Pick n pick.0) same }
+            record { k = 0; number = pick.0; within = omega arith; is = pick.1 ∙ ap (λ (n : ℕ). Pick n pick.0) same }
         | inr others ↦
             let pick = picks_are (start + 1) deeper others.0 r others.1 in
             let same : start + 1 + pick.k ≡ start + suc pick.k = omega arith in
-            record { k = suc pick.k; index = pick.index; within = (let w = pick.within in omega arith); is = pick.is ∙ ap (λ (n : ℕ). Pick n pick.index) same }
+            record { k = suc pick.k; number = pick.number; within = (let w = pick.within in omega arith); is = pick.is ∙ ap (λ (n : ℕ). Pick n pick.number) same }
       ]
 
   -- each constraint of an alternative on the path is picked
-  pub picks_have : (start : ℕ) (frames : List Frame) (k index : ℕ) (c : Constraint) → of_frame (slice_get frames k) index ≡ Some c
-      → (i : ℕ) × (slice_get (picks_of_from graph log start frames) i ≡ Some (Pick (start + k) index))
-  picks_have start [] k index c is = cc
-  picks_have start (frame ∷ deeper) zero index c is =
-      let range = index_in (alternative_of frame) index c (sym (constraint_in_is (alternatives graph log frame.name) frame.alternative index) ∙ is) in
-      first index range.0 range.1
+  pub picks_have : (start : ℕ) (frames : List Frame) (k number : ℕ) (c : Constraint) → of_frame (slice_get frames k) number ≡ Some c
+      → (i : ℕ) × (slice_get (picks_of_from graph log start frames) i ≡ Some (Pick (start + k) number))
+  picks_have start [] k number c is = cc
+  picks_have start (frame ∷ deeper) zero number c is =
+      let range = number_in (alternative_of frame) number c (sym (constraint_in_is (alternatives graph log frame.name) frame.alternative number) ∙ is) in
+      first number range.0 range.1
     where
       first : (p : ℕ) → 1 ≤ p → p ≤ constraint_count graph log frame → (i : ℕ) × (slice_get (picks_of_from graph log start (frame ∷ deeper)) i ≡ Some (Pick (start + 0) p))
       first zero low high = absurd (omega arith)
       first (suc before) low high =
-          let same_index : 1 + before ≡ suc before = omega arith in
+          let same_number : 1 + before ≡ suc before = omega arith in
           let same_split : start ≡ start + 0 = omega arith in (
             before,
             slice_get-append_some (picks_from start 1 (constraint_count graph log frame)) (picks_of_from graph log (start + 1) deeper) before (Pick (start + 0) (suc before))
                 (pick_at start 1 (constraint_count graph log frame) before (omega arith)
-                ∙ ap (λ (n : ℕ). Some (Pick start n)) same_index
+                ∙ ap (λ (n : ℕ). Some (Pick start n)) same_number
                 ∙ ap (λ (n : ℕ). Some (Pick n (suc before))) same_split),
           )
-  picks_have start (frame ∷ deeper) (suc k) index c is =
-      let there = picks_have (start + 1) deeper k index c is in
+  picks_have start (frame ∷ deeper) (suc k) number c is =
+      let there = picks_have (start + 1) deeper k number c is in
       let same : start + 1 + k ≡ start + suc k = omega arith in
       let front = picks_from start 1 (constraint_count graph log frame) in
-      (length front + there.0, slice_get-append_right front (picks_of_from graph log (start + 1) deeper) there.0 ∙ there.1 ∙ ap (λ (n : ℕ). Some (Pick n index)) same)
+      (length front + there.0, slice_get-append_right front (picks_of_from graph log (start + 1) deeper) there.0 ∙ there.1 ∙ ap (λ (n : ℕ). Some (Pick n number)) same)
 
   pub picks_last : (start : ℕ) (frames : List Frame) (frame : Frame)
       → picks_of_from graph log start (frames ++ frame ∷ []) ≡ picks_of_from graph log start frames ++ picks_from (start + length frames) 1 (constraint_count graph log frame)

@@ -7,18 +7,18 @@ use Rattle.tfpg_base.specs.declared.no_memory.NoMemory.{NoMemory}
 use Rattle.tfpg_graph.specs.Graph.{Tfpg}
 use Rattle.tfpg_log.specs.Log.{Logbook, IsOrdered, first_events}
 use Rattle.tfpg_evidence.specs.declared.step.Step.{Step}
-use Rattle.tfpg_clause.specs.Trees.{Judged, IsPartial, split_count}
+use Rattle.tfpg_clause.specs.Trees.{Judged, split_count}
 use Rattle.tfpg_clause.specs.Clauses.{alternatives}
 use Rattle.tfpg_clause.specs.Order.{horizon_of}
 use Rattle.tfpg_clause.specs.declared.path.Frame.{Frame}
 use Rattle.tfpg_search.specs.declared.found.Found.{Found}
 use Rattle.tfpg_search.specs.declared.found.Found.TheVariants.{Shown, Closed, Spent}
-use Rattle.tfpg_search.specs.Live.{HasDistinctNames, HasNoNameTwice}
-use Rattle.tfpg_search.specs.Searching.{Searching, IsAtItsLeaf, SearchRepresents, RepresentsSome, HasEnteredAll}
+use Rattle.tfpg_search.specs.SearchState.{SearchState, IsAtItsLeaf, SearchRepresents, RepresentsSome, HasEnteredAll}
 use Rattle.tfpg_clause.specs.Paths.{with_steps}
 use Rattle.tfpg_search.specs.Searched.{AreSearchSteps, FindsOrNot, IsSearched}
 use Rattle.tfpg_search.specs.inside.ClauseLaws.{ClauseLaws}
 use Rattle.tfpg_search.specs.inside.Moves.{Leads, LeadsTo, FoundAtLeaf, SearchesOn}
+use Rattle.tfpg_search.proofs.Beginning.{names_of_partial}
 use Rattle.tfpg_search.proofs.Lifted.{live_here, lift}
 use Rattle.tfpg_search.proofs.Carried.{carried}
 use Rattle.tfpg_search.specs.Enough.{IsEventTime, IsNameAt, IsEnough}
@@ -27,23 +27,14 @@ use Rattle.tfpg_search.proofs.Names.{frame_name, all_allowed}
 use Rattle.tfpg_search.proofs.Horizons.{AtTimes, now_is_a_time, times_stay, times_after}
 use Rattle.tfpg_search.proofs.Enough.{not_spent}
 
--- ---- the steps of earlier rounds
-
-module _ (laws : ClauseLaws) (graph : Tfpg) (log : Logbook) (seen : ℕ) (ordered : IsOrdered log) (reach : List ℕ) where
-  names_stay : (steps : List Judged) → IsPartial graph (first_events log seen) reach steps → HasNoNameTwice graph (first_events log seen) reach steps → HasNoNameTwice graph log reach steps
-  names_stay steps partial names front back path is leaf =
-      let there = laws.leaf_there graph (first_events log seen) reach front (laws.partial_front graph (first_events log seen) reach front back (subst (IsPartial graph (first_events log seen) reach) is partial)) in
-      let same : there.0 ≡ path = laws.one_leaf graph log reach front there.0 path (laws.leaf_stays graph (first_events log seen) log reach front there.0 ordered (laws.first log seen) there.1) leaf in
-      subst HasDistinctNames same (names front back there.0 is there.1)
-
 -- ---- a call
 
 -- The search stands at the whole log.
-pub seen_stands : ClauseLaws → (graph : Tfpg) (log : Logbook) (old new : Searching) → IsOrdered log → RepresentsSome graph log old → new ≡ record old { seen = length log.events } → IsAtItsLeaf graph log new
+pub seen_stands : ClauseLaws → (graph : Tfpg) (log : Logbook) (old new : SearchState) → IsOrdered log → RepresentsSome graph log old → new ≡ record old { seen = length log.events } → IsAtItsLeaf graph log new
 seen_stands laws graph log old new ordered some same =
     subst (IsAtItsLeaf graph log) (sym same) (carried laws graph (first_events log old.seen) log ordered (laws.first log old.seen) old (length log.events) some.1.system)
 
-module _ (laws : ClauseLaws) (graph : Tfpg) (log : Logbook) (ordered : IsOrdered log) (budget : ℕ) (new : Searching) (seen : new.seen ≡ length log.events) where
+module _ (laws : ClauseLaws) (graph : Tfpg) (log : Logbook) (ordered : IsOrdered log) (budget : ℕ) (new : SearchState) (seen : new.seen ≡ length log.events) where
   represents : (steps : List Judged) → LeadsTo graph log new.reach steps (Some new.path) → AtTimes log new.path → IsAtItsLeaf graph log new → HasEnteredAll new → SearchRepresents graph log new steps
   represents steps leads times stands all = record { seen = seen; leaf = leads.0; names = leads.1; horizons = times; system = stands; all_entered = all }
 
@@ -59,23 +50,24 @@ module _ (laws : ClauseLaws) (graph : Tfpg) (log : Logbook) (ordered : IsOrdered
       )
   finds added steps splits end (Err no_memory) count leads times ends = tt
 
-module _ (laws : ClauseLaws) (graph : Tfpg) (log : Logbook) (budget : ℕ) (old middle new : Searching) (before after : List Step) (result : Result Found NoMemory) (ordered : IsOrdered log) (some : 1 ≤ length log.events)
+module _ (laws : ClauseLaws) (graph : Tfpg) (log : Logbook) (budget : ℕ) (old middle new : SearchState) (before after : List Step) (result : Result Found NoMemory) (ordered : IsOrdered log) (some : 1 ≤ length log.events)
     (middle_is : middle ≡ record old { seen = length log.events }) (reach : new.reach ≡ middle.reach) (seen : new.seen ≡ middle.seen)
     (on : SearchesOn graph log budget middle new before after result) where
   reach_is : new.reach ≡ old.reach
-  reach_is = reach ∙ ap (λ (s : Searching). s.reach) middle_is
+  reach_is = reach ∙ ap (λ (s : SearchState). s.reach) middle_is
 
   seen_is : new.seen ≡ length log.events
-  seen_is = seen ∙ ap (λ (s : Searching). s.seen) middle_is
+  seen_is = seen ∙ ap (λ (s : SearchState). s.seen) middle_is
 
   leads : Leads graph log old.reach (Some old.path) on.grows.added on.end
-  leads = subst (λ (s : Searching). Leads graph log s.reach (Some s.path) on.grows.added on.end) middle_is on.grows.leads
+  leads = subst (λ (s : SearchState). Leads graph log s.reach (Some s.path) on.grows.added on.end) middle_is on.grows.leads
 
   module _ (earlier : List Judged) (represented : SearchRepresents graph (first_events log old.seen) old earlier) where
     at_start : LeadsTo graph log old.reach earlier (Some old.path)
     at_start = (
       laws.frames_stay graph (first_events log old.seen) log old.reach old.path earlier ordered (laws.first log old.seen) represented.leaf,
-      names_stay laws graph log old.seen ordered old.reach earlier represented.leaf.leaf.partial represented.names,
+      names_of_partial laws.leaf_there laws.one_leaf laws.leaf_stays graph (first_events log old.seen) log ordered (laws.first log old.seen) old.reach earlier
+          laws.partial_front represented.leaf.leaf.partial represented.names,
       represented.system.range,
     )
 

@@ -19,27 +19,25 @@ use Rattle.tfpg_clause.specs.Paths.{framed, stated_by, new_frame}
 use Rattle.tfpg_clause.specs.declared.path.Frame.{Frame}
 use Rattle.tfpg_search.specs.Leaf.{Leaf, pick_reasons, IsStated}
 use Rattle.tfpg_search.specs.Picks.{IsAllowed, constraint_count, picks_from, picks_of}
-use Rattle.tfpg_search.specs.inside.Leaving.{constraint_count_at}
-use Rattle.tfpg_search.specs.Searching.{Searching, IsAtItsLeaf, HasEnteredAll}
-use Rattle.tfpg_search.specs.inside.Leaving.{KeepsBounds, Leaves, Pushing}
+use Rattle.tfpg_search.specs.inside.Leaving.{constraint_count_at, KeepsBounds, Leaves, Pushing}
+use Rattle.tfpg_search.specs.SearchState.{SearchState, IsAtItsLeaf, HasEnteredAll}
 use Rattle.tfpg_search.proofs.Names.{range_push}
 use Rattle.tfpg_search.proofs.Picking.{of_frame, picks_last}
+use Rattle.tfpg_base.proofs.lists.Choices.{option_and_then-some}
 use Rattle.tfpg_base.proofs.lists.Written.{slice_get-push_cases, slice_get-push_last, slice_get-append_some}
 
 -- ---- what is stated
 
 module _ (facts stated other : Reason → Option Constraint) (leaf : Leaf) where
-  through : (o : Option Reason) (c : Constraint) → ((r : Reason) → o ≡ Some r → stated r ≡ Some c → other r ≡ Some c) → option_and_then stated o ≡ Some c → option_and_then other o ≡ Some c
-  through None c same is = cc
-  through (Some r) c same is = same r refl is
-
   -- all is stated by other reasons that state what the picks do
   pub restated : IsStated facts stated leaf → ((r : Reason) (c : Constraint) → facts r ≡ Some c → other r ≡ Some c)
       → ((index : ℕ) (r : Reason) (c : Constraint) → slice_get (pick_reasons leaf) index ≡ Some r → stated r ≡ Some c → other r ≡ Some c) → IsStated facts other leaf
   restated is wider same = record {
     wider = wider;
     bounds = is.bounds;
-    picks = λ index pick at. through (slice_get (pick_reasons leaf) index) pick.constraint (λ r there states. same index r pick.constraint there states) (is.picks index pick at);
+    picks = λ index pick at.
+        let one = option_and_then-some stated (slice_get (pick_reasons leaf) index) pick.constraint (is.picks index pick at) in
+        ap (option_and_then other) one.1 ∙ same index one.0 pick.constraint one.1 one.2;
   }
 
 -- what is read past the end
@@ -47,18 +45,18 @@ abbrev no_frame : Frame
 no_frame = record { name = OrMay 0 0 0; alternative = 0; alternatives = 0 }
 
 module _ (graph : Tfpg) (log : Logbook) where
-  pub of_same : (one other : Option Frame) (index : ℕ) (c : Constraint) → ((f : Frame) → one ≡ Some f → other ≡ Some f) → of_frame graph log one index ≡ Some c → of_frame graph log other index ≡ Some c
-  of_same None other index c same is = cc
-  of_same (Some f) other index c same is = ap (λ (o : Option Frame). of_frame graph log o index) (same f refl) ∙ is
+  pub of_same : (one other : Option Frame) (number : ℕ) (c : Constraint) → ((f : Frame) → one ≡ Some f → other ≡ Some f) → of_frame graph log one number ≡ Some c → of_frame graph log other number ≡ Some c
+  of_same None other number c same is = cc
+  of_same (Some f) other number c same is = ap (λ (o : Option Frame). of_frame graph log o number) (same f refl) ∙ is
 
-  framed_push : (frames : List Frame) (last : Frame) (split index : ℕ) (c : Constraint) → framed graph log frames split index ≡ Some c → framed graph log (frames ++ last ∷ []) split index ≡ Some c
-  framed_push frames last zero index c is = cc
-  framed_push frames last (suc k) index c is = of_same (slice_get frames k) (slice_get (frames ++ last ∷ []) k) index c (λ f at. slice_get-append_some frames (last ∷ []) k f at) is
+  framed_push : (frames : List Frame) (last : Frame) (split number : ℕ) (c : Constraint) → framed graph log frames split number ≡ Some c → framed graph log (frames ++ last ∷ []) split number ≡ Some c
+  framed_push frames last zero number c is = cc
+  framed_push frames last (suc k) number c is = of_same (slice_get frames k) (slice_get (frames ++ last ∷ []) k) number c (λ f at. slice_get-append_some frames (last ∷ []) k f at) is
 
   module _ (reach : List ℕ) where
-    pub states_more : (frames others : List Frame) → ((split index : ℕ) (c : Constraint) → framed graph log frames split index ≡ Some c → framed graph log others split index ≡ Some c)
+    pub states_more : (frames others : List Frame) → ((split number : ℕ) (c : Constraint) → framed graph log frames split number ≡ Some c → framed graph log others split number ≡ Some c)
         → (r : Reason) (c : Constraint) → stated_by graph log reach frames r ≡ Some c → stated_by graph log reach others r ≡ Some c
-    states_more frames others more (Pick split index) c is = more split index c is
+    states_more frames others more (Pick split number) c is = more split number c is
     states_more frames others more (Zero node) c is = is
     states_more frames others more (Top node) c is = is
     states_more frames others more (Unreached node horizon) c is = is
@@ -68,7 +66,7 @@ module _ (graph : Tfpg) (log : Logbook) where
 
     -- a fact is stated on any path
     pub fact_stated : (frames : List Frame) (r : Reason) (c : Constraint) → fact graph log reach r ≡ Some c → stated_by graph log reach frames r ≡ Some c
-    fact_stated frames (Pick split index) c is = cc
+    fact_stated frames (Pick split number) c is = cc
     fact_stated frames (Zero node) c is = is
     fact_stated frames (Top node) c is = is
     fact_stated frames (Unreached node horizon) c is = is
@@ -76,7 +74,7 @@ module _ (graph : Tfpg) (log : Logbook) where
     fact_stated frames (Upto event) c is = is
     fact_stated frames (Quiet event node) c is = is
 
-  module _ (old : Searching) (at : IsAtItsLeaf graph log old) where
+  module _ (old : SearchState) (at : IsAtItsLeaf graph log old) where
     -- ---- the system changes, and its picks stay
 
     pub leaf_stands : (leaf : Leaf) → length leaf.demands.bounds ≡ length old.leaf.demands.bounds → IsStated (fact graph log old.reach) (stated_by graph log old.reach old.path) leaf
@@ -133,8 +131,8 @@ module _ (graph : Tfpg) (log : Logbook) where
       whole_path : take (length old.entered + 1) old.path ≡ take (length old.entered) old.path ++ last_frame ∷ []
       whole_path = take_more old.path (length old.entered) no_frame (let one = one_left in omega arith)
 
-      last_indexes : constraint_count_at graph log old.path (length old.entered + 1) ≡ constraint_count graph log last_frame
-      last_indexes =
+      last_count : constraint_count_at graph log old.path (length old.entered + 1) ≡ constraint_count graph log last_frame
+      last_count =
           let number : length old.entered + 1 ≡ suc (length old.entered) = omega arith in
           ap (λ (n : ℕ). option_map_or (constraint_count graph log) (item_at old.path n) 0) number
           ∙ ap (λ (o : Option Frame). option_map_or (constraint_count graph log) o 0) last_at
@@ -147,7 +145,7 @@ module _ (graph : Tfpg) (log : Logbook) where
           let number : 1 + length front ≡ length old.entered + 1 = omega arith in
           pushed
           ∙ ap (λ (rs : List Reason). rs ++ picks_from (length old.entered + 1) 1 (constraint_count_at graph log old.path (length old.entered + 1))) at.picks.reasons
-          ∙ ap (λ (n : ℕ). picks_of graph log front ++ picks_from (length old.entered + 1) 1 n) last_indexes
+          ∙ ap (λ (n : ℕ). picks_of graph log front ++ picks_from (length old.entered + 1) 1 n) last_count
           ∙ ap (λ (n : ℕ). picks_of graph log front ++ picks_from n 1 (constraint_count graph log last_frame)) (sym number)
           ∙ sym (picks_last graph log 1 front last_frame)
           ∙ ap (λ (fs : List Frame). picks_of graph log fs) (sym whole_path)

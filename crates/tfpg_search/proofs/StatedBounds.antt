@@ -1,5 +1,5 @@
 -- Which facts bound the time of a node.
-use Rattle.std.proofs.Common.{◌≡◌, ℕ, zero, suc, ◌+◌, ◌-◌, ◌<◌, ◌≤◌, Bool, true, false, not, ◌&&◌, leb, ltb, List, length, Option, Some, None, refl, sym, ◌∙◌, ap, inl, inr, ⊎_elim, ◌⊎◌, arith}
+use Rattle.std.proofs.Common.{◌≡◌, ℕ, ◌+◌, ◌-◌, ◌<◌, ◌≤◌, Bool, true, false, not, ◌&&◌, leb, ltb, List, length, Option, Some, None, refl, sym, ◌∙◌, ap, inl, inr, ⊎_elim, ◌⊎◌, arith}
 use Rattle.std.specs.Prelude.{pos, unwrap_or, option_map, option_and_then}
 use Rattle.std.proofs.lemmas.Bool.{leb-true, le-leb, lt-ltb, and_parts, and_from, not-true}
 use Rattle.std.specs.Bool.{then_some}
@@ -10,7 +10,7 @@ use Rattle.tfpg_log.specs.declared.event.Event.{Event}
 use Rattle.tfpg_log.specs.declared.event.Event.TheVariants.{Alarm, Silent, Sweep, Tick, Mode}
 use Rattle.tfpg_log.specs.Log.{Logbook, IsOrdered, now_of, event_at, alarm_event, quiet_at, time_of_event}
 use Rattle.tfpg_log.proofs.AlarmEvents.{alarm_event_is}
-use Rattle.tfpg_log.proofs.Order.{event_by_now}
+use Rattle.tfpg_log.proofs.Order.{number_by_now}
 use Rattle.tfpg_log.proofs.SilenceTimes.{silence_at}
 use Rattle.tfpg_evidence.specs.declared.reason.Reason.{Reason}
 use Rattle.tfpg_evidence.specs.declared.reason.Reason.TheVariants.{Zero, Top, Unreached, From, Upto, Quiet, Pick}
@@ -162,11 +162,6 @@ module _ (graph : Tfpg) (log : Logbook) (reach : List ℕ) (node bound : ℕ) wh
   high_cause (Quiet number u) is = absurd (no_high_of_silence u (quiet_at graph log number u) is)
   high_cause (Pick split index) is = absurd cc
 
--- an event of a number is not after now
-pub number_by_now : (log : Logbook) (number : ℕ) (event : Event) → IsOrdered log → event_at log number ≡ Some event → time_of_event event ≤ now_of log
-number_by_now log zero event ordered at = absurd cc
-number_by_now log (suc index) event ordered at = event_by_now log index event ordered at
-
 module _ (graph : Tfpg) (log : Logbook) (reach : List ℕ) (node : ℕ) (ordered : IsOrdered log) where
   -- no fact gives a greater lower bound than after now
   pub low_by_now : (reason : Reason) (bound : ℕ) → fact graph log reach reason ≡ Some (at_least node bound) → bound ≤ now_of log + 1
@@ -237,11 +232,3 @@ module _ (log : Logbook) (node number : ℕ) (event : Event) (first : alarm_even
       let times : active.time ≡ time_of_event event = ap time_of_event alarm in
       omega (arith, active.is, times))
       (high_cause graph log reach node bound reason is)
-
--- an event silences a node at its time
-pub silence_read : (graph : Tfpg) (log : Logbook) (node number time : ℕ) (event : Event) → quiet_at graph log number node ≡ Some time →
-    event_at log number ≡ Some event → time ≡ time_of_event event
-silence_read graph log node number time event silent at =
-    let is = silence_at graph log node number time silent in
-    let same : is.event ≡ event = cc (is.there, at) in
-    is.at ∙ ap time_of_event same

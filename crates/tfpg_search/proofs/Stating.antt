@@ -11,7 +11,7 @@ use Rattle.tfpg_diff.specs.declared.why.Why.TheVariants.{Floor, Ceiling, Given}
 use Rattle.tfpg_diff.specs.declared.bounds.Bounds.{Bounds}
 use Rattle.tfpg_diff.specs.declared.pick.Pick.{Pick}
 use Rattle.tfpg_diff.specs.Demands.{Demands, Bounded}
-use Rattle.tfpg_diff.specs.State.{with_pick, popped_to}
+use Rattle.tfpg_diff.specs.SystemState.{with_pick, popped_to}
 use Rattle.tfpg_diff.specs.inside.Kept.{demands_of}
 use Rattle.tfpg_diff.proofs.Changes.{Bounded-set}
 use Rattle.tfpg_base.proofs.lists.Written.{slice_get-set_other, slice_get-push_before, slice_get-push_last, slice_get-push_cases}

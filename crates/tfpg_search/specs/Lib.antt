@@ -7,7 +7,7 @@ pub mod Live
 pub mod Leaf
 pub mod Picks
 pub mod Enough
-pub mod Searching
+pub mod SearchState
 pub mod Searched
 -- What the code and its proofs need besides. No public clause reaches it.
 pub mod inside

@@ -4,11 +4,11 @@ ghost use Rattle.std.specs.Prelude.{◌≡◌, ◌<◌, ◌≤◌, ◌+◌, ◌*
 ghost use Rattle.tfpg_base.specs.declared.constraint.Constraint.{Constraint};
 ghost use Rattle.tfpg_base.specs.Constraint.{Meets};
 ghost use Rattle.tfpg_evidence.specs.declared.reason.Reason.{Reason};
-ghost use Rattle.tfpg_log.specs.Log.{IsOf};
+ghost use Rattle.tfpg_log.specs.Log.{IsLogOf};
 ghost use Rattle.tfpg_base.specs.Bounds.{at_most, at_least};
 ghost use Rattle.tfpg_clause.specs.Facts.{fact};
 ghost use Rattle.tfpg_diff.specs.Solution.{IsSolution};
-ghost use Rattle.tfpg_diff.specs.State.{with_floor, with_ceiling};
+ghost use Rattle.tfpg_diff.specs.SystemState.{with_floor, with_ceiling};
 ghost use Rattle.tfpg_search.specs.Leaf.{pick_reasons, IsStated};
 ghost use Rattle.tfpg_search.specs.inside.Closing.{Closes};
 
@@ -31,7 +31,7 @@ impl LeafSystem {
         reach: &NodeSet,
         work: &mut Steps<L>,
     ) -> Result<(), AddFault>
-        requires of { IsOf graph.now log.now }
+        requires of { IsLogOf graph.now log.now }
         requires nodes { length self.old.demands.bounds ≡ length graph.now.nodes }
         ensures facts { OnOk result ((reason : Reason) (constraint : Constraint) →
             fact graph.now log.now reach.now reason ≡ Some constraint →

@@ -1,7 +1,7 @@
 //! The system of the present leaf: the bounds of the facts below, the constraints of the alternatives on the path above,
 //! each with its reason.
 
-ghost use Rattle.std.specs.Prelude.{◌≡◌, ◌<◌, ◌≤◌, ◌+◌, ◌*◌, ◌++◌, ◌∷◌, [], ℕ, pos, length, take, All, Option, Some, Ok, Err, IfOk, OnOk, OnErr, IfErr};
+ghost use Rattle.std.specs.Prelude.{◌≡◌, ◌<◌, ◌≤◌, ◌+◌, ◌*◌, ◌++◌, ◌∷◌, [], ℕ, pos, length, take, map, slice_set, All, Option, Some, Ok, Err, IfOk, OnOk, OnErr, IfErr};
 ghost use Rattle.tfpg_base.specs.declared.limits.TheConstants.{NEVER};
 ghost use Rattle.tfpg_base.specs.declared.constraint.Constraint.{Constraint};
 ghost use Rattle.tfpg_evidence.specs.declared.reason.Reason.{Reason};
@@ -10,14 +10,16 @@ ghost use Rattle.tfpg_base.specs.Bounds.{at_most, at_least};
 ghost use Rattle.tfpg_diff.specs.declared.bounds.Bounds.{Bounds};
 ghost use Rattle.tfpg_diff.specs.Demands.{Bounded};
 ghost use Rattle.tfpg_diff.specs.Solution.{IsLatest};
-ghost use Rattle.tfpg_diff.specs.State.{with_floor, with_ceiling, with_pick, popped_to};
+ghost use Rattle.tfpg_diff.specs.SystemState.{with_floor, with_ceiling, with_pick, popped_to};
 ghost use Rattle.tfpg_search.specs.Leaf.{pick_reasons, IsStated};
-ghost use Rattle.tfpg_search.specs.inside.Closing.{Closes};
+ghost use Rattle.tfpg_search.specs.inside.Closing.{Closes, IsFaultOf};
+ghost use Rattle.tfpg_search.specs.inside.Tags.{HasReason, reason_of};
 
 use crate::add_fault::AddFault;
 use crate::closing::closed;
 use std::alloc::Global;
 use std::marker::Model;
+use std::mem;
 use std::sync::ledger::Ledger;
 use tfpg_base::{Constraint, NoMemory, Steps};
 use tfpg_diff::{Bounds, Conflict, System};
@@ -113,15 +115,10 @@ impl LeafSystem {
         ensures step { work.new ≡ work.old + 1 }
     {
         let index = node as usize;
-        let old = self.reasons[index];
-        self.reasons[index] = reason;
+        let old = mem::replace(&mut self.reasons[index], reason);
         match self.system.raise(node, least, u64::from(node), work) {
             Ok(()) => Ok(()),
-            Err(Conflict) => {
-                let fault = closed(self.alloc, self.system.cycle(), &self.reasons);
-                self.reasons[index] = old;
-                Err(fault)
-            }
+            Err(Conflict) => Err(refused(self.alloc, &self.system, &mut self.reasons, index, old)),
         }
     }
 
@@ -150,15 +147,10 @@ impl LeafSystem {
     {
         let tag = u64::from(self.system.variable_count()) + u64::from(node);
         let index = tag as usize;
-        let old = self.reasons[index];
-        self.reasons[index] = reason;
+        let old = mem::replace(&mut self.reasons[index], reason);
         match self.system.lower(node, ceiling, tag, work) {
             Ok(()) => Ok(()),
-            Err(Conflict) => {
-                let fault = closed(self.alloc, self.system.cycle(), &self.reasons);
-                self.reasons[index] = old;
-                Err(fault)
-            }
+            Err(Conflict) => Err(refused(self.alloc, &self.system, &mut self.reasons, index, old)),
         }
     }
 
@@ -207,4 +199,22 @@ impl LeafSystem {
         self.system.pop_to(len as u64);
         self.reasons.truncate(bounds + len);
     }
+}
+
+/// The conflict that the system found, by these reasons. The old one is put back at the index.
+fn refused(
+    alloc: Global,
+    system: &System,
+    reasons: &mut [Reason],
+    index: usize,
+    old: Reason,
+) -> AddFault
+    requires index { index < length reasons.old }
+    requires tags { All (HasReason reasons.old) system.now.cycle }
+    ensures fault { IsFaultOf (map (reason_of reasons.old) system.now.cycle) result }
+    ensures put_back { reasons.new ≡ slice_set reasons.old index old }
+{
+    let fault = closed(alloc, system.cycle(), reasons);
+    reasons[index] = old;
+    fault
 }

@@ -3,15 +3,15 @@
 ghost use Rattle.std.specs.Prelude.{◌≡◌, ◌≤◌, ◌<◌, [], All, IfOk, Ok, length};
 ghost use Rattle.tfpg_graph.specs.Graph.{failures};
 ghost use Rattle.tfpg_graph.specs.Reach.{IsReach};
-ghost use Rattle.tfpg_log.specs.Log.{IsOf, IsOrdered};
+ghost use Rattle.tfpg_log.specs.Log.{IsLogOf, IsOrdered};
 ghost use Rattle.tfpg_log.specs.LogOfLines.{new_log};
-ghost use Rattle.tfpg_search.specs.Searching.{SearchRepresents, RepresentsSome, IsAtItsLeaf};
+ghost use Rattle.tfpg_search.specs.SearchState.{SearchRepresents, RepresentsSome, IsAtItsLeaf};
 ghost use Rattle.tfpg_search.specs.Enough.{IsEnough};
 ghost use Rattle.tfpg_search.specs.Searched.{IsSearched};
 ghost use Rattle.tfpg_search.specs.inside.Moves.{KeepsSet, SearchesOn};
 
 mod entering;
-mod settling;
+mod loading;
 
 use crate::clause_laws::clause_laws;
 use crate::found::Found;
@@ -38,9 +38,9 @@ pub struct Search {
 }
 
 impl Model for Search {
-    ghost use Rattle.tfpg_search.specs.Searching.{Searching};
+    ghost use Rattle.tfpg_search.specs.SearchState.{SearchState};
 
-    ghost Value = { Searching };
+    ghost Value = { SearchState };
 
     ghost view = { λ s. record {
       set = s.set;
@@ -52,7 +52,7 @@ impl Model for Search {
     } };
 }
 
-/// What was seen at a settled leaf.
+/// What was seen at a loaded leaf.
 #[derive(Drop)]
 pub(crate) enum Look {
     /// The latest solution, cut at now, is a trace that explains the log.
@@ -102,7 +102,7 @@ impl Search {
         steps: &mut StepList,
         work: &mut Steps<L>,
     ) -> Result<Found, NoMemory>
-        requires of { IsOf graph.now log.now }
+        requires of { IsLogOf graph.now log.now }
         requires event { 1 ≤ length log.now.events }
         requires budget { 1 ≤ budget }
         requires represents { RepresentsSome graph.now log.now self.old }
@@ -126,7 +126,7 @@ impl Search {
         steps: &mut StepList,
         work: &mut Steps<L>,
     ) -> Result<Found, NoMemory>
-        requires of { IsOf graph.now log.now }
+        requires of { IsLogOf graph.now log.now }
         requires stands { IsAtItsLeaf graph.now log.now self.old }
         ensures keeps { KeepsSet self.old self.new }
         ensures searches { SearchesOn graph.now log.now budget self.old self.new steps.old steps.new result }

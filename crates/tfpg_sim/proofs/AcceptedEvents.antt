@@ -1,29 +1,29 @@
 -- The line of an event that may come next is accepted as this event.
-use Rattle.std.proofs.Common.{◌≡◌, ℕ, ◌<◌, ◌≤◌, false, not, eqb, ltb, leb, List, [], ◌∷◌, ◌++◌, length, get_or, IsTrue, Option, Some, None, unwrap_or, codes, refl, ap, ◌∙◌, arith, length-append}
+use Rattle.std.proofs.Common.{◌≡◌, ℕ, ◌<◌, ◌≤◌, false, not, ltb, leb, List, [], ◌∷◌, ◌++◌, length, get_or, IsTrue, Option, Some, None, unwrap_or, codes, refl, ap, ◌∙◌, arith, length-append}
 use Rattle.std.specs.Prelude.{decimal, is_none, option_map, option_and_then, count_by}
 use Rattle.std.specs.Bool.{then_some}
 use Rattle.std.specs.Option.{option_map_or}
 use Rattle.std.specs.List.{AllByRecursion}
 use Rattle.std.specs.Str.Parse.{digits_value}
 use Rattle.std.proofs.lemmas.Bool.{le-ltb, lt-leb}
-use Rattle.std.proofs.lemmas.List.Elements.{All-cons, All-append, All-from_recursion}
+use Rattle.std.proofs.lemmas.List.Elements.{All-nil, All-cons, All-from_recursion}
 use Rattle.std.proofs.lemmas.Fmt.{decimal_is_IsNumeral}
 use Rattle.std.proofs.lemmas.Option.{slice_get-get_or}
-use Rattle.tfpg_base.specs.Choice.{first_of, unless_refused}
+use Rattle.tfpg_base.specs.Choice.{unless_refused}
 use Rattle.tfpg_base.specs.Lines.{with_line_end, HasNoLineEnd, is_too_long}
 use Rattle.tfpg_base.specs.declared.limits.TheConstants.{LONGEST_LINE, MAX_TIME}
 use Rattle.tfpg_base.specs.Words.{line_of, is_name, is_number}
 use Rattle.tfpg_base.proofs.Numbers.{is_number-decimal}
-use Rattle.tfpg_base.proofs.Separators.{lacks_checked}
+use Rattle.tfpg_base.proofs.lists.Lacking.{lacks_checked}
 use Rattle.tfpg_base.proofs.WordLengths.{name_short, number_short}
 use Rattle.tfpg_base.proofs.lists.Choices.{first_of-all_none}
+use Rattle.tfpg_base.proofs.lists.SameBytes.{position-bytes}
 use Rattle.tfpg_graph.specs.Graph.{Tfpg, mode_named, is_monitored, name_word}
 use Rattle.tfpg_graph.specs.Valid.{IsValid}
 use Rattle.tfpg_graph.proofs.lemmas.reading.LinesSay.{IsWord, IsWord-name, IsWord-decimal, keyword, no_empty_word, no_space}
 use Rattle.tfpg_graph.proofs.lemmas.reading.SaidLines.{line_words}
 use Rattle.tfpg_graph.proofs.lemmas.reading.SpelledEdges.{is_name-name_word, node_named-name_word}
-use Rattle.tfpg_graph.proofs.lemmas.reading.SpelledValues.{position-named}
-use Rattle.tfpg_graph.proofs.lemmas.writing.CleanLines.{clean_name, clean_number}
+use Rattle.tfpg_graph.proofs.lemmas.writing.CleanLines.{clean_name, clean_number, clean_words}
 use Rattle.tfpg_log.specs.declared.event.Event.{Event}
 use Rattle.tfpg_log.specs.declared.event.Event.TheVariants as event
 use Rattle.tfpg_log.specs.declared.event.Offered.TheVariants.{Accepted, Refused}
@@ -76,16 +76,15 @@ event_line-said graph (event.Mode time mode) = refl
 
 -- ---- words
 
--- a word and more words have no line end where both have none
-pub clean : (word : List ℕ) (words : List (List ℕ)) → HasNoLineEnd word → HasNoLineEnd (line_of words) → HasNoLineEnd (line_of (word ∷ words))
-clean word [] own rest = own
-clean word (next ∷ words) own rest =
-    All-append (λ byte. eqb byte 10 ≡ false) word (32 ∷ line_of (next ∷ words)) own (All-cons (λ byte. eqb byte 10 ≡ false) 32 (line_of (next ∷ words)) refl rest)
+-- a line of a time and a keyword has no line end
+timed_clean : (time : ℕ) (word : List ℕ) → time ≤ MAX_TIME → HasNoLineEnd word → HasNoLineEnd (line_of (decimal time ∷ word ∷ []))
+timed_clean time word small own = clean_words (decimal time) (word ∷ []) (clean_number time small) (All-cons HasNoLineEnd word [] own (All-nil HasNoLineEnd))
 
--- so has a line of a time, a keyword and a name
+-- nor has one of a time, a keyword and a name
 pub named_clean : (time : ℕ) (word name : List ℕ) → time ≤ MAX_TIME → HasNoLineEnd word → IsTrue (is_name name) → HasNoLineEnd (line_of (decimal time ∷ word ∷ name ∷ []))
 named_clean time word name small own named =
-    clean (decimal time) (word ∷ name ∷ []) (clean_number time small) (clean word (name ∷ []) own (clean_name name named))
+    clean_words (decimal time) (word ∷ name ∷ []) (clean_number time small)
+    (All-cons HasNoLineEnd word (name ∷ []) own (All-cons HasNoLineEnd name [] (clean_name name named) (All-nil HasNoLineEnd)))
 
 -- and such a line is short
 named_short : (time : ℕ) (word name : List ℕ) → time ≤ MAX_TIME → length word ≤ 6 → IsTrue (is_name name) → length (line_of (decimal time ∷ word ∷ name ∷ [])) ≤ LONGEST_LINE
@@ -100,17 +99,13 @@ named_short time word name small short named =
 
 -- ---- tests
 
--- where no test refuses, there is no first refusal
-none_first : (tests : List (Option Refusal)) → AreNone tests → first_of tests ≡ None
-none_first tests are = first_of-all_none tests (All-from_recursion (λ test. test ≡ None) tests are)
-
 module _ (graph : Tfpg) (valid : IsValid graph) (log : Logbook) where
   -- the name of a mode is found
   mode_at : (mode : ℕ) → mode < length graph.modes → mode_word graph mode ≡ get_or graph.modes mode []
   mode_at mode within = ap (λ o. unwrap_or o []) (slice_get-get_or graph.modes mode [] within)
 
   mode_found : (mode : ℕ) → mode < length graph.modes → mode_named graph (mode_word graph mode) ≡ Some mode
-  mode_found mode within = ap (mode_named graph) (mode_at mode within) ∙ position-named graph.modes mode [] valid.so_far.modes_differ within
+  mode_found mode within = ap (mode_named graph) (mode_at mode within) ∙ position-bytes (λ (name : List ℕ). name) graph.modes mode [] valid.so_far.modes_differ within
 
   node_name : (node : ℕ) → node < length graph.nodes → IsTrue (is_name (name_word graph node))
   node_name node within = is_name-name_word graph node within valid.so_far.node_names
@@ -164,10 +159,11 @@ module _ (graph : Tfpg) (valid : IsValid graph) (log : Logbook) where
         → AreNone (statement_refusals graph log statement) → event_of graph (digits_value 10 (decimal time)) statement ≡ made
         → reply_to graph log (line_of (decimal time ∷ words_of_log_statement statement)) ≡ Accepted made
     accepted statement made words none is =
+        let tests : List (Option Refusal) = time_refusals (now_of log) (decimal time) ++ statement_refusals graph log statement in
         ap (λ read. option_map_or (λ (parts : List ℕ × LogStatement). reply_to_statement graph log parts.0 parts.1) read (Refused BadLine))
         (read statement words)
         ∙ ap (λ refusal. offered (unless_refused refusal (event_of graph (digits_value 10 (decimal time)) statement)))
-        (none_first (time_refusals (now_of log) (decimal time) ++ statement_refusals graph log statement) (number, (not_late, (not_before, none))))
+        (first_of-all_none tests (All-from_recursion (λ test. test ≡ None) tests (number, (not_late, (not_before, none)))))
         ∙ ap Accepted is
 
   -- The line of an event that may come next is accepted as this event.
@@ -215,7 +211,7 @@ module _ (graph : Tfpg) (valid : IsValid graph) (log : Logbook) where
       named_clean time (codes "alarm") (name_word graph node) next.in_range (lacks_checked 10 (codes "alarm") refl) (node_name node (monitored_within graph node next.own))
   is_clean (event.Silent time node) next =
       named_clean time (codes "silent") (name_word graph node) next.in_range (lacks_checked 10 (codes "silent") refl) (node_name node (monitored_within graph node next.own))
-  is_clean (event.Sweep time) next = clean (decimal time) (codes "sweep" ∷ []) (clean_number time next.in_range) (lacks_checked 10 (codes "sweep") refl)
-  is_clean (event.Tick time) next = clean (decimal time) (codes "tick" ∷ []) (clean_number time next.in_range) (lacks_checked 10 (codes "tick") refl)
+  is_clean (event.Sweep time) next = timed_clean time (codes "sweep") next.in_range (lacks_checked 10 (codes "sweep") refl)
+  is_clean (event.Tick time) next = timed_clean time (codes "tick") next.in_range (lacks_checked 10 (codes "tick") refl)
   is_clean (event.Mode time mode) next =
       named_clean time (codes "mode") (mode_word graph mode) next.in_range (lacks_checked 10 (codes "mode") refl) (mode_name mode next.own)

@@ -3,7 +3,7 @@ use Rattle.std.proofs.Common.{◌≡◌, ℕ, suc, ◌≤◌, cond, List, [], �
 use Rattle.std.specs.Prelude.{count_by, is_some, option_map}
 use Rattle.std.specs.List.{flat_map}
 use Rattle.std.proofs.lemmas.Bool.{cond-false}
-use Rattle.std.proofs.lemmas.List.Elements.{All-head, All-tail, All-contains, All-cons, All-nil, Contains-append_right}
+use Rattle.std.proofs.lemmas.List.Elements.{All-contains, All-cons, All-nil, Contains-append_right}
 use Rattle.std.proofs.lemmas.List.Sums.{sum_by-append, sum_by-cons}
 use Rattle.std.proofs.lemmas.List.{take-map}
 use Rattle.std.proofs.lemmas.List.Folds.{flat_map-map}
@@ -21,6 +21,7 @@ use Rattle.tfpg_log.specs.Accepted.{reply_to}
 use Rattle.tfpg_log.specs.Log.{Logbook, is_alarm_of, alarm_among, is_mode_change, time_of_event, IsEventOf}
 use Rattle.tfpg_base.proofs.lists.FirstFound.{find-All_fail}
 use Rattle.tfpg_log.specs.LogOfLines.{log_after_reply, log_after, log_of_lines}
+use Rattle.tfpg_log.proofs.Order.{last_upto}
 use Rattle.tfpg_sim.specs.declared.entry.Entry.{Entry}
 use Rattle.tfpg_sim.specs.AcceptedLog.{AreAccepted}
 use Rattle.tfpg_sim.specs.Draws.{latenesses}
@@ -39,12 +40,6 @@ lines_again lines clean_lines =
     ap lines_of (sym (append-nil (flat_map with_line_end lines))) ∙ lines_of-after lines [] clean_lines ∙ append-nil lines
 
 -- ---- what comes before an event
-
--- now is not later than what no event is later than
-pub now_upto : (events : List Event) (start time : ℕ) → start ≤ time → All (λ e. time_of_event e ≤ time) events → fold (λ last e. time_of_event e) start events ≤ time
-now_upto [] start time upto all = upto
-now_upto (first ∷ events) start time upto all =
-    now_upto events (time_of_event first) time (All-head (λ e. time_of_event e ≤ time) first events all) (All-tail (λ e. time_of_event e ≤ time) first events all)
 
 -- where no event is an alarm of the node, none is found
 no_alarm : (events : List Event) (node : ℕ) → All (IsOther node) events → alarm_among events node ≡ None
@@ -96,7 +91,7 @@ module _ (graph : Tfpg) (valid : IsValid graph) (entries : List Entry) (script :
     pub comes_next : IsNextEvent graph (record { events = front }) e
     comes_next = record {
       own = own_event e its;
-      not_back = now_upto front 0 (time_of_event e) (omega arith) (λ k d within. Precedes-times _ e (earlier k d within));
+      not_back = last_upto front 0 (time_of_event e) (omega arith) (λ k d within. Precedes-times _ e (earlier k d within));
       in_range = let upto = by_stop e its in omega (arith, small graph entries script);
       unalarmed = none_before e its earlier;
       room = let few = logged.few in

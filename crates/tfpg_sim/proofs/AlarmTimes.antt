@@ -1,13 +1,15 @@
 -- When a node is alarmed: after its activation, within its lag, and not after a sweep that comes then.
-use Rattle.std.proofs.Common.{◌≡◌, ℕ, zero, suc, ◌+◌, ◌%◌, ◌<◌, ◌≤◌, ⊎_elim, cond, min, leb, List, [], ◌∷◌, length, get_or, filter_map, Contains, IsTrue, Option, Some, None, unwrap_or, slice_get, refl, sym, ap, ◌∙◌, subst, arith}
+use Rattle.std.proofs.Common.{◌≡◌, ℕ, ◌+◌, ◌%◌, ◌<◌, ◌≤◌, ⊎_elim, cond, min, leb, List, [], ◌∷◌, length, get_or, filter_map, Contains, IsTrue, Option, Some, None, unwrap_or, slice_get, refl, sym, ap, ◌∙◌, subst, arith}
 use Rattle.std.specs.Prelude.{AllPairs, nat_le, is_some, option_map, option_and_then}
 use Rattle.std.specs.Bool.{then_some}
-use Rattle.std.proofs.lemmas.Bool.{cond_both, le-leb, leb-true, false≢true}
+use Rattle.std.proofs.lemmas.Bool.{cond_both, le-leb, leb-true}
 use Rattle.std.proofs.lemmas.List.Elements.{All-contains}
-use Rattle.tfpg_base.proofs.lists.Elements.{AllPairs-head, AllPairs-tail, Contains-cons_cases, Contains-nil}
+use Rattle.std.proofs.lemmas.Option.{get_or_from_slice_get}
+use Rattle.tfpg_base.proofs.lists.Elements.{AllPairs-head, AllPairs-tail, Contains-cons_cases, Contains-nil, slice_get-there}
 use Rattle.tfpg_base.specs.declared.activation.Activation.{Activation}
 use Rattle.tfpg_base.specs.Trace.{time_of}
-use Rattle.tfpg_base.proofs.lists.Choices.{option_and_then-some, then_some-true}
+use Rattle.tfpg_base.proofs.lists.Choices.{option_and_then-some, option_map-some, is_some-there, then_some-true}
+use Rattle.tfpg_base.proofs.lists.Scans.{scan_at, length-scan}
 use Rattle.tfpg_base.proofs.lists.FirstFound.{find-passes}
 use Rattle.tfpg_graph.specs.Graph.{Tfpg, Node, lag_of, lag_at, is_monitored}
 use Rattle.tfpg_graph.proofs.NodeAt.{monitored_within}
@@ -21,47 +23,35 @@ use Rattle.tfpg_sim.specs.declared.limits.TheConstants.{DELAY_STREAM}
 
 -- ---- latenesses
 
-length-latenesses_from : (state : Lcg) (nodes : List Node) → length (latenesses_from state nodes) ≡ length nodes
-length-latenesses_from state [] = refl
-length-latenesses_from state (node ∷ nodes) = ap suc (length-latenesses_from (after_lag state (lag_of node.kind)) nodes)
-
 -- the lateness of a node is drawn for it
 lateness_at : (state : Lcg) (nodes : List Node) (n : ℕ) → n < length nodes
     → (before : Lcg) × (node : Node) × (slice_get nodes n ≡ Some node) × (get_or (latenesses_from state nodes) n None ≡ lateness_of before node)
-lateness_at state [] n within = absurd (omega arith)
-lateness_at state (node ∷ nodes) zero within = (state, node, refl, refl)
-lateness_at state (node ∷ nodes) (suc n) within = lateness_at (after_lag state (lag_of node.kind)) nodes n (omega arith)
-
--- it is within the lag
-within_lag : (value late : ℕ) (lag : Option ℕ) → option_map (λ lag. value % (lag + 1)) lag ≡ Some late → (greatest : ℕ) × (lag ≡ Some greatest) × (late ≤ greatest)
-within_lag value late None is = absurd (let none : None ≡ Some late = is in cc)
-within_lag value late (Some lag) is =
-    let same : value % (lag + 1) ≡ late = cc in
-    let below : value % (lag + 1) < lag + 1 = omega arith in
-    (lag, refl, omega arith)
-
--- and a node with a lag has one
-has_lateness : (value : ℕ) (lag : Option ℕ) → IsTrue (is_some lag) → (late : ℕ) × (option_map (λ lag. value % (lag + 1)) lag ≡ Some late)
-has_lateness value None no_lag = absurd (false≢true no_lag)
-has_lateness value (Some lag) some = (value % (lag + 1), refl)
+lateness_at state nodes n within =
+    let there = slice_get-there nodes n within in
+    let at = scan_at (λ (before : Lcg) (node : Node). after_lag before (lag_of node.kind)) lateness_of state nodes n there.0 there.1 in
+    (at.0, there.0, there.1, get_or_from_slice_get (latenesses_from state nodes) n (lateness_of at.0 there.0) None at.1)
 
 module _ (graph : Tfpg) (number : ℕ) where
   pub length-latenesses : length (latenesses graph number) ≡ length graph.nodes
-  length-latenesses = length-latenesses_from (after_edges (generator number DELAY_STREAM) graph.edges) graph.nodes
+  length-latenesses =
+      length-scan (λ (before : Lcg) (node : Node). after_lag before (lag_of node.kind)) lateness_of (after_edges (generator number DELAY_STREAM) graph.edges) graph.nodes
 
+  -- the lateness of a node is within its lag
   pub lateness_within : (node late : ℕ) → node < length graph.nodes → get_or (latenesses graph number) node None ≡ Some late
       → (lag : ℕ) × (lag_at graph node ≡ Some lag) × (late ≤ lag)
   lateness_within node late within is =
       let at = lateness_at (after_edges (generator number DELAY_STREAM) graph.edges) graph.nodes node within in
-      let found = within_lag (drawn at.0) late (lag_of at.1.kind) (sym at.3 ∙ is) in
-      (found.0, ap (λ (o : Option Node). option_and_then lag_of (option_map (λ n. n.kind) o)) at.2 ∙ found.1, found.2)
+      let found = option_map-some (λ lag. drawn at.0 % (lag + 1)) (lag_of at.1.kind) late (sym at.3 ∙ is) in
+      let below : drawn at.0 % (found.0 + 1) < found.0 + 1 = omega arith in
+      (found.0, ap (λ (o : Option Node). option_and_then lag_of (option_map (λ n. n.kind) o)) at.2 ∙ found.1, omega (arith, below, found.2))
 
+  -- and a node that is monitored has one
   pub monitored_lateness : (node : ℕ) → IsTrue (is_monitored graph node) → (late : ℕ) × (get_or (latenesses graph number) node None ≡ Some late)
   monitored_lateness node monitored =
       let at = lateness_at (after_edges (generator number DELAY_STREAM) graph.edges) graph.nodes node (monitored_within graph node monitored) in
       let lag : lag_at graph node ≡ lag_of at.1.kind = ap (λ (o : Option Node). option_and_then lag_of (option_map (λ n. n.kind) o)) at.2 in
-      let found = has_lateness (drawn at.0) (lag_of at.1.kind) (sym (ap is_some lag) ∙ monitored) in
-      (found.0, at.3 ∙ found.1)
+      let found = is_some-there (lag_of at.1.kind) (sym (ap is_some lag) ∙ monitored) in
+      (drawn at.0 % (found.0 + 1), at.3 ∙ ap (option_map (λ l. drawn at.0 % (l + 1))) found.1)
 
 -- ---- the first sweep
 
@@ -97,14 +87,14 @@ sweep_early instant time (entry ∷ entries) order member late =
 -- ---- when an alarm is due
 
 module _ (entries : List Entry) (active late : ℕ) where
-  min_between : (sweep : Option ℕ) → ((found : ℕ) → sweep ≡ Some found → active ≤ found)
-      → (active ≤ min (unwrap_or sweep (active + late)) (active + late)) × (min (unwrap_or sweep (active + late)) (active + late) ≤ active + late)
-  min_between None not_early = (omega arith, omega arith)
-  min_between (Some found) not_early = let upto = not_early found refl in (omega arith, omega arith)
-
   -- not before the activation, and not later than the lateness says
   pub due_between : (active ≤ due_time entries active late) × (due_time entries active late ≤ active + late)
-  due_between = min_between (first_sweep active entries) (λ found is. sweep_late active found entries is)
+  due_between = by (first_sweep active entries) (λ found is. sweep_late active found entries is)
+    where
+      by : (sweep : Option ℕ) → ((found : ℕ) → sweep ≡ Some found → active ≤ found)
+          → (active ≤ min (unwrap_or sweep (active + late)) (active + late)) × (min (unwrap_or sweep (active + late)) (active + late) ≤ active + late)
+      by None not_early = (omega arith, omega arith)
+      by (Some found) not_early = let upto = not_early found refl in (omega arith, omega arith)
 
   -- and not after a sweep that is not before the activation
   pub due_by_sweep : (time : ℕ) → SweepUpto active entries time → due_time entries active late ≤ time

@@ -17,7 +17,7 @@ use Rattle.tfpg_sim.specs.declared.flight.Flight.{Flight}
 use Rattle.tfpg_sim.specs.inside.Flights.{Lands, LandsBy}
 use Rattle.tfpg_sim.specs.inside.Arrivals.{flight_over, AreNearTimes, AreNearDelays, AreNearFlights, far}
 use Rattle.tfpg_sim.specs.Simulation.{Carries, Arrives, IsFirst}
-use Rattle.tfpg_sim.proofs.ScriptOrder.{time_holds}
+use Rattle.tfpg_base.proofs.TraceTimes.{time_holds}
 
 -- the first instant at which the one holds is that of the other
 pub IsFirst-same : (Holds Other : ℕ → Type 0) (limit : ℕ) (first : Option ℕ) → ((x : ℕ) → Holds x → Other x) → ((x : ℕ) → Other x → Holds x)

@@ -1,8 +1,9 @@
 -- The simulated trace explains the simulated log from the simulated set.
-use Rattle.std.proofs.Common.{◌≡◌, ℕ, suc, ◌<◌, ◌≤◌, ⊎_elim, Bool, true, false, not, eqb, List, [], ◌∷◌, length, take, drop, fold, All, Contains, IsTrue, Option, Some, None, option_map, unwrap_or, refl, sym, ap, ◌∙◌, subst, arith}
+use Rattle.std.proofs.Common.{◌≡◌, ℕ, suc, ◌<◌, ◌≤◌, ⊎_elim, Bool, true, false, not, eqb, List, [], ◌∷◌, length, take, drop, fold, Contains, IsTrue, Option, Some, None, option_map, unwrap_or, refl, sym, ap, ◌∙◌, subst, arith}
 use Rattle.std.proofs.lemmas.Bool.{cond_both, eqb-true}
-use Rattle.std.proofs.lemmas.List.Elements.{All-head, All-tail, All-contains, All-weaker}
-use Rattle.tfpg_base.proofs.lists.Elements.{Contains-head, Contains-tail, Contains-cons_cases, Contains-nil, All-from_members}
+use Rattle.std.proofs.lemmas.List.Elements.{All-contains, All-weaker}
+use Rattle.tfpg_base.proofs.lists.Elements.{Contains-head, Contains-tail, Contains-cons_cases, Contains-nil, All-from_members, AllPairs-cons, slice_get-contains}
+use Rattle.tfpg_base.proofs.lists.Ordered.{AllPairs-nil}
 use Rattle.tfpg_base.proofs.Sets.{Contains-with_member, with_member-keeps}
 use Rattle.tfpg_base.proofs.TraceTimes.{time_there}
 use Rattle.tfpg_base.proofs.lists.Cuts.{cut_at}
@@ -19,6 +20,7 @@ use Rattle.tfpg_log.specs.Explains.{Explains, IsMember}
 use Rattle.tfpg_log.specs.Log.{Logbook, now_of, mode_at, time_of_event}
 use Rattle.tfpg_log.specs.LogOfLines.{log_of_lines}
 use Rattle.tfpg_log.specs.Rules.{HasAge, IsDue, KeepsMay, KeepsMust}
+use Rattle.tfpg_log.proofs.Order.{AreEventsInOrder, last_upto, before_last}
 use Rattle.tfpg_trace.proofs.FailureModes.{stands_there, no_failure}
 use Rattle.tfpg_sim.specs.declared.entry.Entry.{Entry}
 use Rattle.tfpg_sim.specs.declared.entry.Entry.TheVariants.{Start, Mode, Sweep, Tick, Stop}
@@ -30,7 +32,7 @@ use Rattle.tfpg_sim.specs.Simulated.{IsSimulationOf}
 use Rattle.tfpg_sim.specs.SimulatedLog.{log_events, with_started}
 use Rattle.tfpg_sim.specs.Simulation.{Arrives, IsFirst, script_log, start_of}
 use Rattle.tfpg_sim.specs.inside.Entries.{IsScript}
-use Rattle.tfpg_sim.proofs.AcceptedLines.{by_stop, its, now_upto, log_there, lines_accepted}
+use Rattle.tfpg_sim.proofs.AcceptedLines.{by_stop, its, log_there, lines_accepted}
 use Rattle.tfpg_sim.proofs.KeptRules.{keeps}
 use Rattle.tfpg_sim.proofs.LoggedEvents.{AreLogged, logged}
 use Rattle.tfpg_sim.proofs.PutAlarms.{MayStandInOrder, Precedes-times}
@@ -40,20 +42,11 @@ use Rattle.tfpg_sim.proofs.ShownEvents.{shown}
 
 -- ---- now
 
--- now is not before what no later event is before
-now_late : (events : List Event) (start time : ℕ) → time ≤ start → All (λ e. time ≤ time_of_event e) events → time ≤ fold (λ last e. time_of_event e) start events
-now_late [] start time from all = from
-now_late (first ∷ events) start time from all =
-    now_late events (time_of_event first) time (All-head (λ e. time ≤ time_of_event e) first events all) (All-tail (λ e. time ≤ time_of_event e) first events all)
-
--- so now is not before an event, where the times do not fall
-now_from : (events : List Event) (start : ℕ) (e : Event) → MayStandInOrder events → Contains events e → time_of_event e ≤ fold (λ last x. time_of_event x) start events
-now_from [] start e order member = absurd (Contains-nil e member)
-now_from (first ∷ events) start e order member =
-    ⊎_elim
-    (λ here. subst (λ (x : Event). time_of_event x ≤ fold (λ last y. time_of_event y) (time_of_event first) events) here
-    (now_late events (time_of_event first) (time_of_event first) (omega arith) (λ k d within. Precedes-times first _ (order.0 k d within))))
-    (λ there. now_from events (time_of_event first) e order.1 there) (Contains-cons_cases first events e member)
+-- the times of events that may stand in order do not fall
+times_in_order : (events : List Event) → MayStandInOrder events → AreEventsInOrder events
+times_in_order [] order = AllPairs-nil (λ earlier later. time_of_event earlier ≤ time_of_event later)
+times_in_order (first ∷ events) order =
+    AllPairs-cons (λ earlier later. time_of_event earlier ≤ time_of_event later) first events (λ k d within. Precedes-times first _ (order.0 k d within)) (times_in_order events order.1)
 
 -- ---- what the script starts
 
@@ -162,10 +155,12 @@ module _ (graph : Tfpg) (script : List ℕ) (number : ℕ) (simulated : Simulate
 
   -- now is the stop
   stop_by_now : time_so_far entries ≤ now_of log
-  stop_by_now = now_from events 0 (event.Tick (time_so_far entries)) logs.order logs.last
+  stop_by_now =
+      let tick : Event = event.Tick (time_so_far entries) in
+      before_last 0 events logs.last.0 tick (times_in_order events logs.order) (slice_get-contains events tick logs.last)
 
   now_by_stop : now_of log ≤ time_so_far entries
-  now_by_stop = now_upto events 0 (time_so_far entries) (omega arith) (λ k d within. by_stop graph valid entries is_script trace number events logs _ (logs.each k d within))
+  now_by_stop = last_upto events 0 (time_so_far entries) (omega arith) (λ k d within. by_stop graph valid entries is_script trace number events logs _ (logs.each k d within))
 
   -- a node is active by the stop
   active_by_stop : (node time : ℕ) → node < length graph.nodes → time_of trace node ≡ Some time → time ≤ time_so_far entries
@@ -178,9 +173,6 @@ module _ (graph : Tfpg) (script : List ℕ) (number : ℕ) (simulated : Simulate
       by false discrepancy =
           (subst (IsFirst (Arrives graph (script_log entries) (delays graph number) trace node) (time_so_far entries)) at
           (is.trace.discrepancies node within (ap not discrepancy))).0
-
-  activation_time : (activation : Activation) → Contains trace activation → time_of trace activation.node ≡ Some activation.time
-  activation_time activation member = time_there trace is.trace.trace_of.0 activation member
 
   -- a failure mode in it is a member of the set
   started : (node time : ℕ) → time_of trace node ≡ Some time → IsTrue (is_kind_at is_failure graph node) → IsMember graph simulated.set node
@@ -203,9 +195,9 @@ module _ (graph : Tfpg) (script : List ℕ) (number : ℕ) (simulated : Simulate
     trace_of = is.trace.trace_of;
     by_now = All-from_members (λ (a : Activation). a.time ≤ now_of log) trace (λ a member.
         let within = All-contains (λ (b : Activation). b.node < length graph.nodes) trace a is.trace.trace_of.1 member in
-        let upto = active_by_stop a.node a.time within (activation_time a member) in omega (arith, stop_by_now));
+        let upto = active_by_stop a.node a.time within (time_there trace is.trace.trace_of.0 a member) in omega (arith, stop_by_now));
     from_set = All-from_members (λ (a : Activation). IsTrue (is_kind_at is_failure graph a.node) → IsMember graph simulated.set a.node) trace
-        (λ a member failure. started a.node a.time (activation_time a member) failure);
+        (λ a member failure. started a.node a.time (time_there trace is.trace.trace_of.0 a member) failure);
     rules = λ node within. record {
       may = λ instant upto. may_there graph (script_log entries) log alike trace node instant
           (keeps graph entries number trace valid is.trace node instant within (omega (arith, upto, now_by_stop))).0;

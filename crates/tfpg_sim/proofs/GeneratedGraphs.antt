@@ -11,7 +11,8 @@ use Rattle.std.proofs.lemmas.List.Elements.{All-nil, All-cons, All-push, All-app
 use Rattle.std.proofs.lemmas.List.Quantifiers.{all_pairs_push}
 use Rattle.std.proofs.lemmas.List.Sums.{sum_by-append, sum_by-cons, sum_by_push, count_by-le-length}
 use Rattle.std.proofs.lemmas.Option.{slice_get-get_or}
-use Rattle.tfpg_base.proofs.Numbers.{AllDigits-from_number, list_all-from_AllDigits, is_number-decimal}
+use Rattle.tfpg_base.proofs.Numbers.{AllDigits-from_number, is_number-decimal}
+use Rattle.tfpg_base.proofs.lists.Digits.{list_all-from_AllDigits}
 use Rattle.tfpg_base.proofs.lists.Numbered.{length-numbers_from}
 use Rattle.tfpg_base.specs.declared.limits.TheConstants.{MAX_CASE_SIZE, MAX_TIME}
 use Rattle.tfpg_base.specs.Words.{is_name, is_letter, is_name_byte}
@@ -24,7 +25,7 @@ use Rattle.rand_pcg.specs.Lcg.{Lcg}
 use Rattle.tfpg_sim.specs.Draws.{generator}
 use Rattle.tfpg_sim.specs.inside.GraphText.{HasDrawnModes}
 use Rattle.tfpg_sim.specs.Generated.{after_words, discrepancy_count, draw, drawn_name, failure_kinds, has_two, is_and_drawn, lag_drawn, kind_drawn, first_source, second_source, edge_drawn, edges_drawn, draft_after, named_nodes, drawn_graph, draft_of, generated_graph}
-use Rattle.tfpg_sim.specs.declared.limits.TheConstants.{FAILURE_COUNT, GRAPH_STREAM}
+use Rattle.tfpg_sim.specs.declared.limits.TheConstants.{FAILURE_COUNT, GENERATED_DELAYS, GRAPH_STREAM}
 
 -- ---- names
 
@@ -56,25 +57,22 @@ is_name-drawn_name node small = ⊎_elim
     (λ low. ap is_name (failure_name node low) ∙ lettered_name 70 node refl small)
     (λ high. ap is_name (discrepancy_name node high) ∙ lettered_name 68 (node - FAILURE_COUNT) refl (omega arith)) (cases_lt node FAILURE_COUNT)
 
--- no two letters with numbers are one
-letter_same : (a b m n : ℕ) → lettered a m ≡ lettered b n → a ≡ b
-letter_same a b m n same = cc
-
-number_same : (a b m n : ℕ) → lettered a m ≡ lettered b n → decimal m ≡ decimal n
-number_same a b m n same = cc
-
 -- no two nodes have one name
 name_once : (one other : ℕ) → one < 1000 → other < 1000 → drawn_name one ≡ drawn_name other → one ≡ other
 name_once one other small too same = ⊎_elim
     (λ low. ⊎_elim
     (λ also. decimal_injective one other (omega arith) (omega arith)
-    (number_same 70 70 one other (sym (failure_name one low) ∙ same ∙ failure_name other also)))
-    (λ high. absurd (let both : 70 ≡ 68 = letter_same 70 68 one (other - FAILURE_COUNT) (sym (failure_name one low) ∙ same ∙ discrepancy_name other high) in omega arith))
+    (let names : lettered 70 one ≡ lettered 70 other = sym (failure_name one low) ∙ same ∙ failure_name other also in cc))
+    (λ high. absurd
+    (let names : lettered 70 one ≡ lettered 68 (other - FAILURE_COUNT) = sym (failure_name one low) ∙ same ∙ discrepancy_name other high in
+    let both : ◌≡◌ {A = ℕ} 70 68 = cc in omega arith))
     (cases_lt other FAILURE_COUNT))
     (λ high. ⊎_elim
-    (λ low. absurd (let both : 68 ≡ 70 = letter_same 68 70 (one - FAILURE_COUNT) other (sym (discrepancy_name one high) ∙ same ∙ failure_name other low) in omega arith))
+    (λ low. absurd
+    (let names : lettered 68 (one - FAILURE_COUNT) ≡ lettered 70 other = sym (discrepancy_name one high) ∙ same ∙ failure_name other low in
+    let both : ◌≡◌ {A = ℕ} 68 70 = cc in omega arith))
     (λ also. let one_number : one - FAILURE_COUNT ≡ other - FAILURE_COUNT = decimal_injective (one - FAILURE_COUNT) (other - FAILURE_COUNT) (omega arith) (omega arith)
-    (number_same 68 68 (one - FAILURE_COUNT) (other - FAILURE_COUNT) (sym (discrepancy_name one high) ∙ same ∙ discrepancy_name other also)) in omega arith)
+    (let names : lettered 68 (one - FAILURE_COUNT) ≡ lettered 68 (other - FAILURE_COUNT) = sym (discrepancy_name one high) ∙ same ∙ discrepancy_name other also in cc) in omega arith)
     (cases_lt other FAILURE_COUNT))
     (cases_lt one FAILURE_COUNT)
 
@@ -161,11 +159,11 @@ is_drawn end source node state low high earlier = record {
   low = low;
   high = high;
   earlier = earlier;
-  least = let below : draw 50 0 state < 50 = omega arith in omega arith;
+  least = let below : draw GENERATED_DELAYS 0 state < GENERATED_DELAYS = omega arith in omega arith;
   greatest =
-      let below : draw 50 0 state < 50 = omega arith in
-      let more : draw 50 1 state < 50 = omega arith in
-      cond_both (eqb (draw 16 2 state) 0) None (Some (draw 50 0 state + draw 50 1 state)) (λ o. IfSome o (λ tmax. (draw 50 0 state ≤ tmax) × (tmax ≤ MAX_TIME)))
+      let below : draw GENERATED_DELAYS 0 state < GENERATED_DELAYS = omega arith in
+      let more : draw GENERATED_DELAYS 1 state < GENERATED_DELAYS = omega arith in
+      cond_both (eqb (draw 16 2 state) 0) None (Some (draw GENERATED_DELAYS 0 state + draw GENERATED_DELAYS 1 state)) (λ o. IfSome o (λ tmax. (draw GENERATED_DELAYS 0 state ≤ tmax) × (tmax ≤ MAX_TIME)))
       (λ _. tt) (λ _. (omega arith, omega arith));
   modes = cond_both (eqb (draw 8 3 state) 0) 1 3 (λ m. (m ≡ 1) ⊎ (m ≡ 3)) (λ _. inl refl) (λ _. inr refl);
 }

@@ -1,10 +1,10 @@
 -- The script of a generated graph is right, and starts one failure mode or two.
-use Rattle.std.proofs.Common.{◌≡◌, ℕ, zero, suc, ◌+◌, ◌<◌, ◌≤◌, ◌⊎◌, inl, inr, ⊎_elim, Bool, true, false, not, ◌||◌, cond, eqb, nat_lt, nat_le, List, [], ◌∷◌, ◌++◌, length, fold, All, Option, Some, None, Ok, Err, slice_get, codes, refl, sym, ap, ◌∙◌, subst, arith, length-append, append_assoc}
+use Rattle.std.proofs.Common.{◌≡◌, ℕ, zero, suc, ◌+◌, ◌<◌, ◌≤◌, ◌⊎◌, inl, inr, ⊎_elim, Bool, true, false, not, ◌||◌, cond, eqb, nat_le, List, [], ◌∷◌, ◌++◌, length, fold, All, Option, Some, None, Ok, Err, slice_get, codes, refl, sym, ap, ◌∙◌, subst, arith, length-append, append_assoc}
 use Rattle.std.specs.Prelude.{decimal, unwrap_or, option_map, option_and_then, filter_map, slice_index_or}
 use Rattle.std.specs.Bool.{then_some}
 use Rattle.std.specs.Option.{option_map_or}
 use Rattle.std.specs.List.{list_all}
-use Rattle.std.proofs.lemmas.Bool.{cond_both, le-leb}
+use Rattle.std.proofs.lemmas.Bool.{le-leb}
 use Rattle.std.proofs.lemmas.List.{get_or_append_left}
 use Rattle.std.proofs.lemmas.List.Elements.{All-nil, All-cons}
 use Rattle.std.proofs.lemmas.List.Quantifiers.{position-Some}
@@ -15,9 +15,10 @@ use Rattle.tfpg_base.specs.Lines.{lines_of, HasNoLineEnd}
 use Rattle.tfpg_base.specs.Set.{with_member, IsSet}
 use Rattle.tfpg_base.specs.declared.limits.TheConstants.{MAX_CASE_SIZE, MAX_MEMBERS, MAX_TIME}
 use Rattle.tfpg_base.specs.Words.{line_of}
-use Rattle.tfpg_base.proofs.Sets.{IsSet-with_member}
+use Rattle.tfpg_base.proofs.Sets.{IsSet-with_member, length-with_member_le}
 use Rattle.tfpg_base.proofs.Numbers.{number_of-decimal}
-use Rattle.tfpg_base.proofs.Separators.{name_lacks, decimal_lacks, slice_split-join, lacks_checked}
+use Rattle.tfpg_base.proofs.Separators.{name_lacks}
+use Rattle.tfpg_base.proofs.lists.Lacking.{decimal_lacks, slice_split-join, lacks_checked}
 use Rattle.tfpg_graph.specs.declared.kind.Kind.{Kind}
 use Rattle.tfpg_graph.specs.declared.kind.Kind.TheVariants.{Failure}
 use Rattle.tfpg_graph.specs.declared.limits.TheConstants.{MAX_FAILURES}
@@ -172,14 +173,6 @@ never_at_fault number size line some few fault =
     absurd cc
 
 -- ---- the set and the log
-
--- a member more makes a set at most one longer
-length-with_member_le : (index : ℕ) (set : List ℕ) → length (with_member index set) ≤ length set + 1
-length-with_member_le index [] = omega arith
-length-with_member_le index (first ∷ others) =
-    cond_both (nat_lt index first) (index ∷ first ∷ others) _ (λ s. length s ≤ length (first ∷ others) + 1) (λ _. omega arith)
-    (λ _. cond_both (eqb index first) (first ∷ others) (first ∷ with_member index others) (λ s. length s ≤ length (first ∷ others) + 1) (λ _. omega arith)
-    (λ _. omega (arith, length-with_member_le index others)))
 
 module _ (graph : Tfpg) (few_failures : length (failures graph) ≤ MAX_FAILURES) where
   -- a start makes a set at most one longer, and keeps it a set

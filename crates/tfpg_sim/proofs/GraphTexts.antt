@@ -1,6 +1,6 @@
 -- The text of a generated graph is its canonical text.
 use Rattle.std.proofs.Common.{◌≡◌, ℕ, suc, ◌+◌, ◌<◌, ◌⊎◌, ⊎_elim, List, [], ◌∷◌, ◌++◌, length, get_or, take, All, Option, unwrap_or, codes, refl, sym, ap, ◌∙◌, subst, arith, append_assoc, append-nil, add-one}
-use Rattle.std.specs.Prelude.{decimal, option_map}
+use Rattle.std.specs.Prelude.{option_map}
 use Rattle.std.specs.List.{flat_map}
 use Rattle.std.proofs.lemmas.Grind.{flat_map-append}
 use Rattle.std.proofs.lemmas.List.{take_more, length-take}
@@ -13,9 +13,8 @@ use Rattle.tfpg_graph.specs.declared.edge.Edge.{Edge}
 use Rattle.tfpg_graph.specs.declared.kind.Kind.{Kind}
 use Rattle.tfpg_graph.specs.declared.kind.Kind.TheVariants.{Failure}
 use Rattle.tfpg_graph.specs.Graph.{Tfpg, Node, name_at}
-use Rattle.tfpg_graph.specs.Text.{tmax_word, modes_word, canonical_text, Spells}
+use Rattle.tfpg_graph.specs.Text.{node_text, edge_start_words, edge_line, modes_word, canonical_text, Spells}
 use Rattle.tfpg_graph.specs.Valid.{IsValid, IsValidEdge}
-use Rattle.tfpg_graph.specs.inside.writing.Written.{node_text, edge_text}
 use Rattle.tfpg_graph.proofs.lemmas.writing.Spelled.{Spells-canonical}
 use Rattle.tfpg_graph.proofs.lemmas.writing.TextPieces.{canonical_text-pieces}
 use Rattle.tfpg_sim.specs.Generated.{drawn_name, failure_kinds, named_nodes, drawn_graph}
@@ -75,9 +74,10 @@ module _ (kinds : List Kind) (edges : List Edge) where
       (λ one. subst (λ m. modes_word graph m ≡ drawn_modes_word m) (sym one) refl)
       (λ both. subst (λ m. modes_word graph m ≡ drawn_modes_word m) (sym both) refl) is
 
-  edge_is : (edge : Edge) → IsValidEdge graph edge → HasDrawnModes edge → edge_text graph edge ≡ edge_text_by_number edge
-  edge_is edge valid modes = λ i. with_line_end (line_of (codes "edge" ∷ name_is edge.source valid.source i ∷ name_is edge.target valid.target i
-      ∷ decimal edge.tmin ∷ tmax_word edge.tmax ∷ modes_are edge.modes modes i ∷ []))
+  edge_is : (edge : Edge) → IsValidEdge graph edge → HasDrawnModes edge
+      → with_line_end (edge_line graph edge (modes_word graph edge.modes)) ≡ edge_text_by_number edge
+  edge_is edge valid modes = λ i. with_line_end (line_of (edge_start_words (name_is edge.source valid.source i) (name_is edge.target valid.target i)
+      edge.tmin edge.tmax ++ modes_are edge.modes modes i ∷ []))
 
   nodes_are : flat_map node_text graph.nodes ≡ flat_map node_text (named_nodes 0 (failure_kinds FAILURE_COUNT)) ++ flat_map node_text (named_nodes FAILURE_COUNT kinds)
   nodes_are =
@@ -94,7 +94,7 @@ module _ (kinds : List Kind) (edges : List Edge) where
       ap (λ t. t ++ flat_map edge_text_by_number edges ++ end) (append_assoc drawn_head_text first others)
       ∙ ap (λ t. drawn_head_text ++ t ++ flat_map edge_text_by_number edges ++ end) (sym nodes_are)
       ∙ ap (λ t. drawn_head_text ++ flat_map node_text graph.nodes ++ t ++ end)
-      (sym (flat_map-same (edge_text graph) edge_text_by_number edges (λ k d within. edge_is (get_or edges k d) (valid.so_far.edges k d within) (modes k d within))))
+      (sym (flat_map-same (λ (edge : Edge). with_line_end (edge_line graph edge (modes_word graph edge.modes))) edge_text_by_number edges (λ k d within. edge_is (get_or edges k d) (valid.so_far.edges k d within) (modes k d within))))
       ∙ sym (canonical_text-pieces graph)
 
   -- So it spells the graph.

@@ -15,6 +15,7 @@ use Rattle.tfpg_graph.proofs.lemmas.reach.Sources.{number_of_edge}
 use Rattle.tfpg_graph.proofs.NodeAt.{or_alone, and_alone}
 use Rattle.tfpg_log.specs.Log.{Logbook}
 use Rattle.tfpg_log.specs.Rules.{IsActive, HasAge, KeepsMay, IsDue, KeepsMust}
+use Rattle.tfpg_log.proofs.Ages.{has_less}
 use Rattle.rand_pcg.specs.Lcg.{Lcg}
 use Rattle.tfpg_sim.specs.declared.entry.Entry.{Entry}
 use Rattle.tfpg_sim.specs.Script.{time_so_far}
@@ -41,15 +42,6 @@ delay_at graph number n edge valid at =
           delay_upto edge.tmin (drawn found.0) m edge.tmax is bounds.0),
     )
 
--- an age of so much is one of less
-HasAge-less : (log : Logbook) (trace : List Activation) (edge : Edge) (x age less : ℕ) → less ≤ age → HasAge log trace edge x age → HasAge log trace edge x less
-HasAge-less log trace edge x age less upto has = record {
-  start = has.start;
-  source = has.source;
-  since = let since = has.since in omega arith;
-  active_since = λ y after within. has.active_since y (omega arith) within;
-}
-
 module _ (graph : Tfpg) (entries : List Entry) (number : ℕ) (trace : List Activation) (valid : IsValid graph)
     (simulated : IsSimulated graph entries (delays graph number) trace) (node instant : ℕ) (within : node < length graph.nodes) (upto : instant ≤ time_so_far entries) where
   abbrev log : Logbook
@@ -61,7 +53,7 @@ module _ (graph : Tfpg) (entries : List Entry) (number : ℕ) (trace : List Acti
       let drawn = delay_at graph number n edge valid at in
       let same : carries.edge ≡ edge = (let both : Some carries.edge ≡ Some edge = sym carries.is ∙ at in cc) in
       let own : carries.delay ≡ drawn.0 = (let both : Some carries.delay ≡ Some drawn.0 = sym carries.drawn ∙ drawn.1 in cc) in
-      HasAge-less log trace edge instant carries.delay edge.tmin (let low = drawn.2 in omega arith)
+      has_less log trace edge instant carries.delay edge.tmin (let low = drawn.2 in omega arith)
       (subst (λ e. HasAge log trace e instant carries.delay) same carries.age)
 
   -- an edge that has had its greatest delay carries the failure
@@ -73,7 +65,7 @@ module _ (graph : Tfpg) (entries : List Entry) (number : ℕ) (trace : List Acti
         is = at;
         delay = drawn.0;
         drawn = drawn.1;
-        age = HasAge-less log trace edge instant due.0 drawn.0 (drawn.3 due.0 due.1) due.2;
+        age = has_less log trace edge instant due.0 drawn.0 (drawn.3 due.0 due.1) due.2;
       }
 
   -- the edge of a number is one into the node

@@ -14,7 +14,8 @@ use Rattle.tfpg_log.specs.declared.event.Event.TheVariants as event
 use Rattle.tfpg_log.specs.Log.{time_of_event, is_mode_change, mode_after}
 use Rattle.tfpg_sim.specs.declared.entry.Entry.{Entry}
 use Rattle.tfpg_sim.specs.declared.entry.Entry.TheVariants.{Start, Mode, Sweep, Tick, Stop}
-use Rattle.tfpg_sim.specs.Script.{time_of_entry, time_so_far, last_of, has_stopped, is_stop, changes_mode}
+use Rattle.tfpg_base.specs.Choice.{last_of}
+use Rattle.tfpg_sim.specs.Script.{time_of_entry, time_so_far, has_stopped, is_stop, changes_mode}
 use Rattle.tfpg_sim.specs.declared.limits.TheConstants.{MAX_ENTRIES}
 use Rattle.tfpg_log.specs.declared.limits.TheConstants.{MAX_MODE_CHANGES}
 use Rattle.tfpg_sim.specs.Simulation.{event_of_entry}

@@ -36,9 +36,6 @@ module _ (times : List (Option ℕ)) (count : ℕ) where
         let others : last ≤ x = (before x).1 (λ index less. each index (omega arith)) in omega arith),
   )
 
-  pub each_none : (all : ℕ) → get_or times count None ≡ None → count < all → (x : ℕ) → ⊥ ↔ EachBelow times all x
-  each_none all is within x = ((λ never. absurd never), (λ each. subst (λ t. IsReached t x) is (each count within)))
-
   pub some_more : (first time result : Option ℕ) → get_or times count None ≡ time → ((x : ℕ) → IsReached first x ↔ SomeBelow times count x)
       → ((x : ℕ) → IsReached result x ↔ ReachedByEither first time x) → (x : ℕ) → IsReached result x ↔ SomeBelow times (count + 1) x
   some_more first time result is before either x = (

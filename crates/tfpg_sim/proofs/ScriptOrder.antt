@@ -5,32 +5,29 @@ use Rattle.std.specs.Option.{option_or, option_map_or}
 use Rattle.std.proofs.lemmas.Bool.{cond-true, cond-false, ne_eqb, eq-eqb, cases_eq, not-true, and_parts}
 use Rattle.std.proofs.lemmas.Bool.Decides.{nat_tests}
 use Rattle.std.proofs.lemmas.List.{take_all, get_or-take, length-take, length_push}
-use Rattle.std.proofs.lemmas.List.Elements.{All-nil, All-cons, All-append, All-contains}
+use Rattle.std.proofs.lemmas.List.Elements.{All-nil, All-cons, All-append}
 use Rattle.std.proofs.lemmas.Option.{slice_get-get_or}
 use Rattle.tfpg_base.specs.declared.activation.Activation.{Activation}
 use Rattle.tfpg_base.specs.Trace.{time_of, with_time}
 use Rattle.tfpg_base.specs.declared.limits.TheConstants.{MAX_TIME}
-use Rattle.tfpg_base.proofs.TraceTimes.{activation_there}
 use Rattle.tfpg_base.proofs.Traces.{time_of-with_time, time_of-with_time_other}
 use Rattle.tfpg_graph.specs.Graph.{Tfpg}
 use Rattle.tfpg_sim.specs.declared.entry.Entry.{Entry}
 use Rattle.tfpg_sim.specs.declared.entry.Entry.TheVariants.{Start, Mode, Sweep, Tick, Stop}
-use Rattle.tfpg_sim.specs.Script.{time_of_entry, time_so_far, last_of, may_follow, is_new, starts, has_stopped}
+use Rattle.tfpg_base.specs.Choice.{last_of}
+use Rattle.tfpg_sim.specs.Script.{time_of_entry, time_so_far, may_follow, is_new, starts, has_stopped}
 use Rattle.tfpg_sim.specs.declared.limits.TheConstants.{MAX_ENTRIES}
 use Rattle.tfpg_sim.specs.inside.Entries.{IsEntryOf, IsScript}
 use Rattle.tfpg_sim.specs.Simulation.{start_of}
 use Rattle.tfpg_sim.specs.inside.Settling.{IsFailureStart, with_start}
 use Rattle.tfpg_base.proofs.lists.Elements.{All-at}
-use Rattle.tfpg_base.proofs.lists.Written.{slice_get-push_last}
+use Rattle.tfpg_base.proofs.lists.Choices.{option_or-none}
+use Rattle.tfpg_base.proofs.lists.Written.{slice_get-push_at}
 use Rattle.tfpg_base.proofs.lists.Cuts.{take-item, take-next}
 
-last-push : (entries : List Entry) (entry : Entry) → last_of (entries ++ entry ∷ []) ≡ Some entry
-last-push entries entry =
-    let at : length (entries ++ entry ∷ []) - 1 ≡ length entries = omega (arith, length_push entries entry) in
-    ap (slice_get (entries ++ entry ∷ [])) at ∙ slice_get-push_last entries entry
-
 time-push : (entries : List Entry) (entry : Entry) → time_so_far (entries ++ entry ∷ []) ≡ time_of_entry entry
-time-push entries entry = ap (λ o. option_map_or time_of_entry o 0) (last-push entries entry)
+time-push entries entry =
+    ap (λ o. option_map_or time_of_entry o 0) (slice_get-push_at entries entry (length (entries ++ entry ∷ []) - 1) (omega (arith, length_push entries entry)))
 
 -- what a line that may follow says of those before it
 not_back : (before : List Entry) (entry : Entry) → may_follow before entry ≡ true → time_so_far before ≤ time_of_entry entry
@@ -92,10 +89,6 @@ module _ (graph : Tfpg) (entries : List Entry) (script : IsScript graph entries)
 
 -- ---- what a script starts
 
-option_or-none : (o : Option ℕ) → option_or o None ≡ o
-option_or-none None = refl
-option_or-none (Some x) = refl
-
 -- what one line more starts
 start_of-push : (entries : List Entry) (entry : Entry) (node : ℕ) → start_of (entries ++ entry ∷ []) node ≡ option_or (start_of entries node) (start_of (entry ∷ []) node)
 start_of-push [] entry node = refl
@@ -136,10 +129,6 @@ All-with_time P (first ∷ others) node time all one =
     by true here more = All-cons P (record { node = node; time = time }) (first ∷ others) one all
     by false true more = All-cons P (record { node = node; time = time }) others one (λ k d within. all (suc k) d (omega arith))
     by false false more = All-cons P first (with_time node time others) (all 0 first (omega arith)) more
-
--- what holds of all activations holds of one that a trace gives
-pub time_holds : (P : Activation → Type 0) (trace : List Activation) (node time : ℕ) → All P trace → time_of trace node ≡ Some time → P (record { node = node; time = time })
-time_holds P trace node time all is = All-contains P trace (record { node = node; time = time }) all (activation_there trace node time is)
 
 module _ (graph : Tfpg) (entries : List Entry) (script : IsScript graph entries) (i : ℕ) (entry : Entry) (at : slice_get entries i ≡ Some entry) (trace : List Activation) where
   -- the trace with one line more

@@ -4,7 +4,7 @@ use Rattle.std.specs.Prelude.{find}
 use Rattle.std.proofs.lemmas.Bool.{eq-eqb, leb-false, false≢true}
 use Rattle.std.proofs.lemmas.List.Elements.{All-contains, Contains-append_cases}
 use Rattle.tfpg_base.proofs.lists.Elements.{Contains-cons_cases}
-use Rattle.tfpg_base.proofs.lists.Valued.{is_some-option_map}
+use Rattle.tfpg_base.proofs.lists.Choices.{is_some-option_map}
 use Rattle.tfpg_base.specs.declared.activation.Activation.{Activation}
 use Rattle.tfpg_graph.specs.Graph.{Tfpg}
 use Rattle.tfpg_log.specs.declared.event.Event.{Event}

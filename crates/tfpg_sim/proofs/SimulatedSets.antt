@@ -1,11 +1,10 @@
 -- A simulated set has failure modes of its graph alone.
-use Rattle.std.proofs.Common.{◌≡◌, ℕ, ◌<◌, ◌==◌, ⊎_elim, List, [], ◌∷◌, length, fold, All, Option, Some, None, refl, sym, subst}
+use Rattle.std.proofs.Common.{◌≡◌, ℕ, ◌<◌, ◌==◌, List, [], ◌∷◌, length, fold, All, Option, Some, None, refl, sym, subst}
 use Rattle.std.specs.Prelude.{unwrap_or, option_map}
-use Rattle.std.proofs.lemmas.List.Elements.{All-nil, All-contains}
+use Rattle.std.proofs.lemmas.List.Elements.{All-nil}
 use Rattle.std.proofs.lemmas.List.Quantifiers.{position-Some}
 use Rattle.tfpg_base.specs.Set.{with_member}
-use Rattle.tfpg_base.proofs.Sets.{with_member-only}
-use Rattle.tfpg_base.proofs.lists.Elements.{All-from_members}
+use Rattle.tfpg_base.proofs.Sets.{All-with_member}
 use Rattle.tfpg_graph.specs.Graph.{Tfpg, failures, position_of_failure}
 use Rattle.tfpg_sim.specs.declared.entry.Entry.{Entry}
 use Rattle.tfpg_sim.specs.declared.entry.Entry.TheVariants.{Start, Mode, Sweep, Tick, Stop}
@@ -17,17 +16,13 @@ module _ (graph : Tfpg) where
   abbrev InGraph : ℕ → Type 0
   InGraph index = index < length (failures graph)
 
-  with_member_in : (index : ℕ) (set : List ℕ) → InGraph index → All InGraph set → All InGraph (with_member index set)
-  with_member_in index set is all = All-from_members InGraph (with_member index set) (λ other member.
-      ⊎_elim (λ same. subst InGraph same is) (λ old. All-contains InGraph set other all old) (with_member-only index set other member))
-
   -- a line starts failure modes of the graph
   started_in : (entry : Entry) (set : List ℕ) → All InGraph set → All InGraph (with_started graph set entry)
   started_in (Start time node) set all = by (position_of_failure graph node) refl
     where
       by : (o : Option ℕ) → position_of_failure graph node ≡ o → All InGraph (unwrap_or (option_map (λ index. with_member index set) o) set)
       by None is = all
-      by (Some index) is = with_member_in index set (position-Some (λ failure. failure == node) (failures graph) index 0 is).0 all
+      by (Some index) is = All-with_member InGraph index set (position-Some (λ failure. failure == node) (failures graph) index 0 is).0 all
   started_in (Mode time mode) set all = all
   started_in (Sweep time) set all = all
   started_in (Tick time) set all = all

@@ -1,15 +1,14 @@
 -- The spans of the modes of a script, line by line.
-use Rattle.std.proofs.Common.{◌≡◌, ℕ, ◌+◌, ◌<◌, ◌≤◌, cond, nat_lt, nat_le, List, [], ◌∷◌, ◌++◌, length, take, filter_map, All, AllPairs, get_or, refl, sym, ap, subst, ◌∙◌, arith}
-use Rattle.std.proofs.lemmas.List.{append-nil, get_or-take, get_or_default, length-take}
+use Rattle.std.proofs.Common.{◌≡◌, ℕ, ◌+◌, ◌<◌, ◌≤◌, nat_lt, nat_le, List, [], ◌∷◌, ◌++◌, filter_map, All, refl, sym, ap, subst, ◌∙◌, arith}
+use Rattle.std.proofs.lemmas.List.{append-nil}
 use Rattle.tfpg_base.specs.declared.limits.TheConstants.{MAX_TIME}
 use Rattle.std.proofs.lemmas.Bool.{cond-true, cond-false, lt-ltb, le-ltb, cond_both}
 use Rattle.std.proofs.lemmas.Bool.Decides.{nat_tests}
 use Rattle.std.proofs.lemmas.List.Elements.{filter_map-append, All-nil, All-cons, All-append}
 use Rattle.tfpg_base.proofs.lists.Elements.{All-front, All-middle}
 use Rattle.tfpg_log.specs.declared.span.Span.{Span}
-use Rattle.tfpg_log.specs.declared.event.Event.{Event}
-use Rattle.tfpg_log.specs.declared.event.Event.TheVariants as event
 use Rattle.tfpg_log.specs.Log.{Logbook, mode_at, mode_after}
+use Rattle.tfpg_log.proofs.ModeChanges.{mode_after-append}
 use Rattle.tfpg_sim.specs.inside.Arrivals.{AreNearSpans, far}
 use Rattle.tfpg_sim.specs.declared.entry.Entry.{Entry}
 use Rattle.tfpg_sim.specs.declared.entry.Entry.TheVariants.{Start, Mode, Sweep, Tick, Stop}
@@ -17,15 +16,6 @@ use Rattle.tfpg_sim.specs.Script.{time_of_entry}
 use Rattle.tfpg_sim.specs.Simulation.{event_of_entry, script_log}
 use Rattle.tfpg_sim.specs.inside.ModeSpans.{AreSpans, closed_by, current_after}
 use Rattle.tfpg_sim.proofs.Landing.{spans_rise}
-
--- the mode after more events
-mode_after-append : (held : ℕ) (events more : List Event) (x : ℕ) → mode_after held (events ++ more) x ≡ mode_after (mode_after held events x) more x
-mode_after-append held [] more x = refl
-mode_after-append held (event.Alarm time node ∷ events) more x = mode_after-append held events more x
-mode_after-append held (event.Silent time node ∷ events) more x = mode_after-append held events more x
-mode_after-append held (event.Sweep time ∷ events) more x = mode_after-append held events more x
-mode_after-append held (event.Tick time ∷ events) more x = mode_after-append held events more x
-mode_after-append held (event.Mode time mode ∷ events) more x = mode_after-append (cond (nat_lt time x) mode held) events more x
 
 -- the mode with one line more
 mode_at-push : (entries : List Entry) (entry : Entry) (x : ℕ)
@@ -53,9 +43,6 @@ pub record IsSplit (stop : ℕ) (entries : List Entry) (spans : List Span) (curr
   pub after : (x : ℕ) → current.lo ≤ x → mode_at (script_log entries) x ≡ current.mode
   pub late : (time : ℕ) → All (λ entry. time_of_entry entry ≤ time) entries → current.lo ≤ time + 1
   pub end : current.hi ≡ stop
-
-pub split_none : (stop : ℕ) → IsSplit stop [] [] (record { lo = 0; hi = stop; mode = 0 })
-split_none stop = record { are = refl; after = λ x from. refl; late = λ time all. omega arith; end = refl }
 
 -- a line that is no change of mode
 split_same : (stop : ℕ) (entries : List Entry) (spans : List Span) (current : Span) (entry : Entry)
@@ -114,14 +101,6 @@ pub split_past : (stop : ℕ) (entries : List Entry) (spans : List Span) (curren
     → All (λ entry. time_of_entry entry ≤ stop) entries → stop < current.lo → AreSpans (script_log entries) (stop + 1) 0 spans
 split_past stop entries spans current split all past =
     subst (λ b. AreSpans (script_log entries) b 0 spans) (let upto = split.late stop all in let same : current.lo ≡ stop + 1 = omega arith in same) split.are
-
--- the earlier lines are not later
-pub earlier_all : (entries : List Entry) (i : ℕ) (d : Entry) → AllPairs (λ a b. time_of_entry a ≤ time_of_entry b) entries → i < length entries
-    → All (λ earlier. time_of_entry earlier ≤ time_of_entry (get_or entries i d)) (take i entries)
-earlier_all entries i d order within = λ k e below.
-    let less : k < i = omega (arith, length-take i entries) in
-    subst (λ x. time_of_entry x ≤ time_of_entry (get_or entries i d)) (sym (get_or-take i entries k e less))
-    (subst (λ x. time_of_entry (get_or entries k e) ≤ time_of_entry x) (get_or_default entries i e d within) (order k i e less within))
 
 -- the spans begin at small times
 pub small_more : (spans : List Span) (current : Span) (entry : Entry) → AreNearSpans spans → current.lo ≤ far

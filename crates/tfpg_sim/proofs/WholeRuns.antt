@@ -9,7 +9,8 @@ use Rattle.tfpg_sim.specs.declared.entry.Entry.{Entry}
 use Rattle.tfpg_sim.specs.Script.{time_so_far}
 use Rattle.tfpg_sim.specs.Simulation.{Arrives, IsFirst, IsSimulated, script_log, start_of}
 use Rattle.tfpg_sim.specs.inside.Settling.{candidate_at, AreCandidates, IsEarliest, IsUnderWay, IsFailureStart, waiting_count}
-use Rattle.tfpg_sim.proofs.ScriptOrder.{All-with_time, time_holds}
+use Rattle.tfpg_base.proofs.TraceTimes.{time_holds}
+use Rattle.tfpg_sim.proofs.ScriptOrder.{All-with_time}
 use Rattle.tfpg_sim.proofs.SettledNodes.{settle, its_first}
 use Rattle.std.proofs.lemmas.Bool.{cases_eq, not-true}
 
@@ -66,13 +67,6 @@ module _ (graph : Tfpg) (entries : List Entry) (delays : List ℕ) (stop : ℕ) 
       by node within unlike None at = subst (IsFirst (Arrives graph (script_log entries) delays trace node) stop) (none node ∙ sym at)
           ((way.known.each node within).waiting unlike at)
 
--- one less of one number, and no more of another
-plus_less : (a b x y : ℕ) → a ≡ b → x ≡ 0 → y ≡ 1 → a + x < b + y
-plus_less a b x y same gone there = omega arith
-
-less_plus : (a b x y : ℕ) → a < b → x ≡ y → a + x < b + y
-less_plus a b x y less same = omega arith
-
 -- one node fewer is not active
 module _ (trace : List Activation) (node time : ℕ) where
   waiting_same : (n : ℕ) → n ≤ node → waiting_count (with_time node time trace) n ≡ waiting_count trace n
@@ -87,10 +81,15 @@ module _ (trace : List Activation) (node time : ℕ) where
   pub waiting_less : time_of trace node ≡ None → (n : ℕ) → node < n → waiting_count (with_time node time trace) n < waiting_count trace n
   waiting_less none zero within = absurd (omega arith)
   waiting_less none (suc n) within = ⊎_elim
-      (λ here. plus_less (waiting_count (with_time node time trace) n) (waiting_count trace n) _ _ (waiting_same n (omega (arith, here)))
-      (ap (λ o. cond (is_none o) 1 0) (ap (time_of (with_time node time trace)) (sym here) ∙ time_of-with_time trace node time))
-      (ap (λ o. cond (is_none o) 1 0) (ap (time_of trace) (sym here) ∙ none)))
-      (λ unlike. less_plus (waiting_count (with_time node time trace) n) (waiting_count trace n) _ _
-      (waiting_less none n (let less : node < n = grind arith in less))
-      (ap (λ o. cond (is_none o) 1 0) (time_of-with_time_other trace node time n unlike)))
+      (λ here. omega (
+        arith,
+        waiting_same n (omega (arith, here)),
+        ap {B = ℕ} (λ o. cond (is_none o) 1 0) (ap (time_of (with_time node time trace)) (sym here) ∙ time_of-with_time trace node time),
+        ap {B = ℕ} (λ o. cond (is_none o) 1 0) (ap (time_of trace) (sym here) ∙ none),
+      ))
+      (λ unlike. omega (
+        arith,
+        waiting_less none n (let less : node < n = grind arith in less),
+        ap {B = ℕ} (λ o. cond (is_none o) 1 0) (time_of-with_time_other trace node time n unlike),
+      ))
       (cases_eq node n)

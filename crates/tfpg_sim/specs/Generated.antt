@@ -8,7 +8,7 @@ use Rattle.tfpg_graph.specs.declared.kind.Kind.{Kind}
 use Rattle.tfpg_graph.specs.declared.kind.Kind.TheVariants.{Failure, Or, And}
 use Rattle.tfpg_graph.specs.Graph.{Tfpg, Node}
 use Rattle.tfpg_sim.specs.Draws.{generator}
-use Rattle.tfpg_sim.specs.declared.limits.TheConstants.{FAILURE_COUNT, GRAPH_STREAM}
+use Rattle.tfpg_sim.specs.declared.limits.TheConstants.{FAILURE_COUNT, GENERATED_DELAYS, GRAPH_STREAM}
 
 -- the next word of a generator
 unfoldable pub next_word : Lcg → ℕ
@@ -41,10 +41,11 @@ abbrev pub failure_kinds : ℕ → List Kind
 failure_kinds zero = []
 failure_kinds (suc index) = failure_kinds index ++ Failure (index + 1) ∷ []
 
--- the two nodes that are drawn as the sources of a node; they may be the same
+-- the first node that is drawn as a source of a node
 abbrev pub first_source : ℕ → Lcg → ℕ
 first_source node state = draw node 0 state
 
+-- the second one, which may be the same
 abbrev pub second_source : ℕ → Lcg → ℕ
 second_source node state = draw node 1 state
 
@@ -69,8 +70,8 @@ abbrev pub edge_drawn : ℕ → ℕ → Lcg → Edge
 edge_drawn source target state = record {
   source = source;
   target = target;
-  tmin = draw 50 0 state;
-  tmax = if draw 16 2 state == 0 then None else Some (draw 50 0 state + draw 50 1 state);
+  tmin = draw GENERATED_DELAYS 0 state;
+  tmax = if draw 16 2 state == 0 then None else Some (draw GENERATED_DELAYS 0 state + draw GENERATED_DELAYS 1 state);
   modes = if draw 8 3 state == 0 then 1 else 3;
 }
 

@@ -3,6 +3,7 @@ use Rattle.std.specs.Prelude.{ℕ, ◌+◌, ◌-◌, List, [], ◌∷◌, ◌++�
 use Rattle.std.specs.List.{list_any}
 use Rattle.std.specs.Bool.{then_some}
 use Rattle.std.specs.Option.{option_map_or}
+use Rattle.tfpg_base.specs.Choice.{last_of}
 use Rattle.tfpg_base.specs.Words.{words_of, number_of}
 use Rattle.tfpg_base.specs.Lines.{lines_of}
 use Rattle.tfpg_base.specs.declared.limits.TheConstants.{MAX_TIME}
@@ -77,10 +78,6 @@ starts failure (Mode time mode) = false
 starts failure (Sweep time) = false
 starts failure (Tick time) = false
 starts failure (Stop time) = false
-
--- the last of these lines
-abbrev pub last_of : List Entry → Option Entry
-last_of entries = slice_get entries (length entries - 1)
 
 -- the time of the last line, and 0 where there is none
 abbrev pub time_so_far : List Entry → ℕ

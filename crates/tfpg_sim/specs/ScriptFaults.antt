@@ -4,7 +4,7 @@ use Rattle.tfpg_sim.specs.declared.entry.Entry.{Entry}
 use Rattle.tfpg_sim.specs.declared.fault.SimFault.{SimFault}
 use Rattle.tfpg_sim.specs.declared.fault.SimFault.TheVariants.{BadScript, NoMemory}
 
--- The fault is a line of the script only where it is the first at fault.
-abbrev pub IsFaultAt : Result (List Entry) ℕ → SimFault → Type 0
-IsFaultAt script (BadScript line) = script ≡ Err line
-IsFaultAt script NoMemory = Unit {0}
+-- A fault that names a line of the script names its first faulty line. Memory may run out on any script.
+abbrev pub IsSimFault : Result (List Entry) ℕ → SimFault → Type 0
+IsSimFault script (BadScript line) = script ≡ Err line
+IsSimFault script NoMemory = Unit {0}

@@ -43,11 +43,7 @@ fn nothing_pending(alloc: Global, count: usize) -> Result<Vec<Option<u64>>, NoMe
     ensures none { IfOk result (λ pendings. (index : ℕ) → slice_index_or pendings.items index None ≡ None) }
     ensures len { IfOk result (λ pendings. vec_len pendings ≡ count) }
 {
-    let mut pendings = Vec::new(alloc);
-    for flight in 0..count {
-        pendings.push(None)?;
-    }
-    Ok(pendings)
+    Ok(vec![in alloc; None; count]?)
 }
 
 /// The first landing, where nothing is pending before the first span.
@@ -109,8 +105,7 @@ fn pending_in(span: Span, flight: Flight, pending: Option<u64>) -> Option<u64>
 fn first_in(span: Span, arrival: Option<u64>) -> Option<u64>
     ensures { IsFirstIn (IsReached arrival) span.lo span.hi result }
 {
-    let first = arrival?.max(span.lo);
-    if first <= span.hi { Some(first) } else { None }
+    span.first_from(arrival?)
 }
 
 /// From when on all of them are reached, or some of them.

@@ -3,6 +3,7 @@
 //! - [`simulate`] makes the log of a script: the failure modes that it starts, and what they bring about.
 //! - [`Simulated`] is the set of these failure modes, the trace and the log. [`SimFault`] says why there is none.
 //! - [`generate`] draws a graph and a script for it, which are [`Generated`].
+//! - [`MAX_ENTRIES`] and the other constants are its limits, and what it draws from.
 //! - [`laws`] says that a simulated trace keeps the propagation rules, that each line of its log is accepted and the trace
 //!   explains the log from the set, and that generated graphs are valid and generated scripts right.
 //!
@@ -34,6 +35,8 @@ mod trace;
 
 pub use fault::SimFault;
 pub use generating::{Generated, generate};
-pub use limits::{DELAY_STREAM, FAILURE_COUNT, GRAPH_STREAM, MAX_ENTRIES, OPEN_DELAYS};
+pub use limits::{
+    DELAY_STREAM, FAILURE_COUNT, GENERATED_DELAYS, GRAPH_STREAM, MAX_ENTRIES, OPEN_DELAYS,
+};
 pub use simulated::Simulated;
 pub use simulation::simulate;

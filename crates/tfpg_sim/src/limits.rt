@@ -6,6 +6,9 @@ pub const MAX_ENTRIES: usize = 8_192;
 /// How many delays an edge without a greatest one draws from.
 pub const OPEN_DELAYS: u64 = 1_000;
 
+/// How many values the least delay of a generated edge is drawn from, and also how far its greatest one is above it.
+pub const GENERATED_DELAYS: u32 = 50;
+
 /// How many failure modes a generated graph has: its first nodes.
 pub const FAILURE_COUNT: u32 = 16;
 

@@ -4,7 +4,7 @@ ghost use Rattle.std.specs.Prelude.{◌≡◌, ◌<◌, ◌≤◌, length, IfOk,
 ghost use Rattle.std.specs.List.{list_any};
 ghost use Rattle.tfpg_sim.specs.Script.{has_stopped, starts, is_new, may_follow, next_entry, script_of};
 ghost use Rattle.tfpg_sim.specs.inside.Entries.{IsScript};
-ghost use Rattle.tfpg_sim.specs.ScriptFaults.{IsFaultAt};
+ghost use Rattle.tfpg_sim.specs.ScriptFaults.{IsSimFault};
 
 use crate::SimFault;
 use crate::entry::{Entry, time_so_far};
@@ -21,7 +21,7 @@ use tfpg_log::MAX_MODE_CHANGES;
 pub(crate) fn read_script(alloc: Global, graph: &Graph, text: &[u8]) -> Result<Vec<Entry>, SimFault>
     ensures read { IfOk result (λ entries. script_of graph.now text.now ≡ Ok entries.items) }
     ensures script { IfOk result (λ entries. IsScript graph.now entries.items) }
-    ensures fault { IfErr result (IsFaultAt (script_of graph.now text.now)) }
+    ensures fault { IfErr result (IsSimFault (script_of graph.now text.now)) }
 {
     if text.is_empty() {
         return Err(SimFault::BadScript { line: 1 });

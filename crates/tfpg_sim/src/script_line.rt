@@ -7,8 +7,8 @@ use crate::entry::Entry;
 use tfpg_base::{MAX_TIME, Number, Words, read_number};
 use tfpg_graph::Graph;
 
-/// What the line says, where it has one of the five shapes and its time and name are right. Takes time in its length, and
-/// at most one look-up by name.
+/// What the line says, where it has one of the five shapes and its time and name are right. Takes time linear in its
+/// length, and at most one look-up by name.
 pub(crate) fn read_entry(graph: &Graph, line: &[u8]) -> Option<Entry>
     ensures { result ≡ entry_of graph.now line.now }
 {

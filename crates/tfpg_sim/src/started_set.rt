@@ -43,5 +43,5 @@ fn position_of(graph: &Graph, node: u32) -> Option<u32>
     ensures small { IfSome result (λ position. position < MAX_MEMBERS) }
 {
     let _few = graph.node_count();
-    graph.position_of(node)
+    graph.place_of(node)
 }

@@ -1,44 +1,39 @@
 -- What a search represents from one event to the next, and when it may be asked again.
-use Rattle.std.proofs.Common.{◌≡◌, ◌⊎◌, ◌≤◌, ℕ, List, [], ◌∷◌, length, take, refl, sym, ap, subst, ◌∙◌, inl, inr, ⊎_elim, Bool, false, IsTrue, arith}
+use Rattle.std.proofs.Common.{◌≡◌, ◌⊎◌, ℕ, List, [], ◌∷◌, refl, sym, ap, subst, ◌∙◌, inl, inr, ⊎_elim, Bool, false, IsTrue}
 use Rattle.std.specs.Prelude.{Ok}
 use Rattle.std.proofs.lemmas.Bool.{false≢true}
-use Rattle.std.proofs.lemmas.List.{take-append-le, length-take}
-use Rattle.std.proofs.Math.Seq.{take-length}
 use Rattle.tfpg_graph.specs.Graph.{Tfpg}
 use Rattle.tfpg_log.specs.declared.event.Event.{Event}
 use Rattle.tfpg_log.specs.Log.{Logbook, first_events, with_event}
 use Rattle.tfpg_log.specs.LogOfLines.{new_log}
+use Rattle.tfpg_log.proofs.Events.{whole_log}
+use Rattle.tfpg_log.proofs.PastKept.{first_events_kept}
 use Rattle.tfpg_evidence.specs.declared.step.Step.{Step}
 use Rattle.tfpg_clause.specs.Trees.{Judged}
 use Rattle.tfpg_search.specs.declared.found.Found.{Found}
 use Rattle.tfpg_search.specs.declared.found.Found.TheVariants.{Shown, Closed, Spent}
-use Rattle.tfpg_search.specs.Searching.{Searching, SearchRepresents, RepresentsSome}
+use Rattle.tfpg_search.specs.SearchState.{SearchState, SearchRepresents, RepresentsSome}
 use Rattle.tfpg_clause.specs.Paths.{with_steps}
 use Rattle.tfpg_search.specs.Searched.{IsSearched}
 
--- what was seen of a log are as many events as it has
-within : (seen : ℕ) (events : List Event) → seen ≡ length (take seen events) → seen ≤ length events
-within seen events is = grind (arith, is, length-take seen events)
-
 -- What a search represents at a log, it represents at the longer one.
-pub represents_still : (graph : Tfpg) (old new : Logbook) (search : Searching) → ((event : Event) × (new ≡ with_event old event))
+pub represents_still : (graph : Tfpg) (old new : Logbook) (search : SearchState) → ((event : Event) × (new ≡ with_event old event))
     → RepresentsSome graph old search → RepresentsSome graph new search
 represents_still graph old new search longer some = (
   some.0,
-  subst (λ (events : List Event). SearchRepresents graph (record { events = events }) search some.0)
-      (sym (ap (λ (log : Logbook). take search.seen log.events) longer.1 ∙ take-append-le search.seen old.events (longer.0 ∷ []) (within search.seen old.events some.1.seen))) some.1,
+  subst (λ (log : Logbook). SearchRepresents graph log search some.0)
+      (first_events_kept old new (longer.0 ∷ [], ap (λ (log : Logbook). log.events) longer.1) search.seen some.1.seen) some.1,
 )
 
 -- What it represents at the whole log, it represents at the first events of it.
-at_first : (graph : Tfpg) (log : Logbook) (search : Searching) (steps : List Judged) → SearchRepresents graph log search steps → RepresentsSome graph log search
+at_first : (graph : Tfpg) (log : Logbook) (search : SearchState) (steps : List Judged) → SearchRepresents graph log search steps → RepresentsSome graph log search
 at_first graph log search steps represents = (
   steps,
-  subst (λ (events : List Event). SearchRepresents graph (record { events = events }) search steps)
-      (sym (ap (λ (count : ℕ). take count log.events) represents.seen ∙ take-length log.events)) represents,
+  subst (λ (first : Logbook). SearchRepresents graph first search steps) (sym (ap (first_events log) represents.seen ∙ whole_log log)) represents,
 )
 
 -- Whatever it found but a refutation, it represents all steps at the whole log.
-pub may_go_on : (graph : Tfpg) (log : Logbook) (budget : ℕ) (old new : Searching) (before after : List Step) (found : Found)
+pub may_go_on : (graph : Tfpg) (log : Logbook) (budget : ℕ) (old new : SearchState) (before after : List Step) (found : Found)
     → RepresentsSome graph log old → IsSearched graph log budget old new before after (Ok found)
     → (found ≡ Closed) ⊎ RepresentsSome graph log new
 may_go_on graph log budget old new before after (Shown trace) some searched =
@@ -48,7 +43,7 @@ may_go_on graph log budget old new before after Spent some searched =
     inr (at_first graph log new (with_steps some.0 log searched.added) (searched.found some.0 some.1).2)
 
 -- A new search represents some steps at the first events of any log: it has seen none of them.
-pub new_represents : (graph : Tfpg) (log : Logbook) (search : Searching) → SearchRepresents graph new_log search [] → RepresentsSome graph log search
+pub new_represents : (graph : Tfpg) (log : Logbook) (search : SearchState) → SearchRepresents graph new_log search [] → RepresentsSome graph log search
 new_represents graph log search represents =
     ([], subst (λ (seen : ℕ). SearchRepresents graph (first_events log seen) search []) (sym represents.seen) represents)
 

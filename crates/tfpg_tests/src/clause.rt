@@ -3,7 +3,7 @@
 
 use crate::given::{log_of, reach_of_first};
 use std::test::Fail;
-use tfpg_base::Constraint;
+use tfpg_base::{Constraint, NEVER};
 use tfpg_clause::{NotAClause, NotAFact, constraint, count, fact, violated};
 use tfpg_evidence::{ClauseName, Reason};
 use tfpg_graph::{Graph, read};
@@ -614,9 +614,7 @@ const VIOLATED_WITH_CUTS: [(&str, [u64; 5], Option<ClauseName>); 7] = [
 
 /// The first clause that the times violate, where there is one time for each node and each is in range.
 fn first_violated(graph: &Graph, log: &Log, times: &[u64]) -> Option<Option<ClauseName>> {
-    if times.len() == graph.node_count() as usize
-        && times.iter().all(|time| *time <= 1_000_000_000_001)
-    {
+    if times.len() == graph.node_count() as usize && times.iter().all(|time| *time <= NEVER) {
         return Some(violated(graph, log, times));
     }
     None

@@ -21,6 +21,27 @@ const MAY: ClauseName = ClauseName::OrMay {
     horizon: 30,
 };
 
+/// F is a failure mode, and has no such clause.
+const NONE: ClauseName = ClauseName::OrMay {
+    node: 0,
+    span: 0,
+    horizon: 30,
+};
+
+#[test]
+fn a_split_begins_with_its_first_alternative(rt: HostRuntime) -> Result<(), Fail> {
+    let graph = read(rt.alloc(), GRAPH)?;
+    let log = log_of(rt.alloc(), &graph, &LINES)?;
+    let begun = Frame {
+        name: MAY,
+        alternative: 1,
+        alternatives: 3,
+    };
+    assert_eq!(rt; Frame::of_split(&graph, &log, MAY), Some(begun));
+    assert_eq!(rt; Frame::of_split(&graph, &log, NONE), None);
+    Ok(())
+}
+
 /// Splits, each by its alternative and how many there are: before, and after, where the path goes on.
 const TURNS: [(&str, &[(u32, u32)], Option<&[(u32, u32)]>); 6] = [
     ("no split", &[], None),

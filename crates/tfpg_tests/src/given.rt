@@ -2,7 +2,7 @@
 
 ghost use Rattle.std.specs.Prelude.{◌≡◌, IfOk, OnOk};
 ghost use Rattle.tfpg_log.specs.declared.event.Event.{Event};
-ghost use Rattle.tfpg_log.specs.Log.{IsOf, with_event};
+ghost use Rattle.tfpg_log.specs.Log.{IsLogOf, with_event};
 
 use std::alloc::Global;
 use std::test::Fail;
@@ -21,7 +21,7 @@ pub(crate) const ONE: &[u8] =
 
 /// The log of the lines, all of which are to be accepted.
 pub(crate) fn log_of(alloc: Global, graph: &Graph, lines: &[&[u8]]) -> Result<Log, Fail>
-    ensures { IfOk result (IsOf graph.now) }
+    ensures { IfOk result (IsLogOf graph.now) }
 {
     let mut log = Log::new(alloc);
     for line in lines {
@@ -32,8 +32,8 @@ pub(crate) fn log_of(alloc: Global, graph: &Graph, lines: &[&[u8]]) -> Result<Lo
 
 /// Offers a line to the log, which has to accept it.
 pub(crate) fn accept(log: &mut Log, graph: &Graph, line: &[u8]) -> Result<(), Fail>
-    requires { IsOf graph.now log.old }
-    ensures of { IsOf graph.now log.new }
+    requires { IsLogOf graph.now log.old }
+    ensures of { IsLogOf graph.now log.new }
     ensures longer { OnOk result ((event : Event) × (log.new ≡ with_event log.old event)) }
 {
     match log.offer(graph, line)? {

@@ -5,7 +5,7 @@ ghost use Rattle.tfpg_hyp.specs.Hypotheses.{IsTableOf};
 use std::alloc::Global;
 use std::test::Fail;
 use tfpg_graph::{Graph, read};
-use tfpg_hyp::{Fraction, RankingKey, Table, TableFault, cost, is_ranked_before, robust};
+use tfpg_hyp::{Fraction, RankingKey, Table, TableFault, before, cost, robust};
 use tfpg_log::Log;
 
 /// Three failure modes. The first is shown by two monitors, the second by one that also needs the third.
@@ -179,7 +179,7 @@ fn comes_before(a: &RankingKey, b: &RankingKey) -> Option<bool> {
     if a.robust.monitored == 0 || b.robust.monitored == 0 {
         return None;
     }
-    Some(is_ranked_before(a, b))
+    Some(before(a, b))
 }
 
 fn key_of(row: (u64, u32, u32, u32)) -> RankingKey {

@@ -1,6 +1,6 @@
 //! The public calls of `tfpg_kernel`: a refutation step by step, each cause of a bad step, and steps under logs that grow.
 
-ghost use Rattle.tfpg_log.specs.Log.{IsOf};
+ghost use Rattle.tfpg_log.specs.Log.{IsLogOf};
 
 use crate::given::{ONE, log_of, reach_of_first};
 use std::alloc::Global;
@@ -282,7 +282,7 @@ fn step_of(alloc: Global, split: Option<ClauseName>, reasons: &[Reason]) -> Resu
 
 /// What the checker returns for a step, with room for it.
 fn take_step(checker: &mut Checker, graph: &Graph, log: &Log, step: &Step) -> Result<Taken, Fail>
-    requires { IsOf graph.now log.now }
+    requires { IsLogOf graph.now log.now }
 {
     checker.reserve()?;
     Ok(checker.take(graph, log, step))
@@ -297,7 +297,7 @@ fn go_through(
     log: &Log,
     rows: &[Row],
 ) -> Result<(), Fail>
-    requires { IsOf graph.now log.now }
+    requires { IsLogOf graph.now log.now }
 {
     for row in rows {
         let step = step_of(alloc, row.split, row.reasons)?;

@@ -3,16 +3,16 @@
 
 ghost use Rattle.std.specs.Prelude.{◌≡◌, ◌⊎◌, ◌<◌, ◌≤◌, [], length, All, IsTrue, IfOk, IfSome};
 ghost use Rattle.tfpg_graph.specs.Graph.{failures};
-ghost use Rattle.tfpg_log.specs.Log.{IsOf};
+ghost use Rattle.tfpg_log.specs.Log.{IsLogOf};
 ghost use Rattle.tfpg_log.specs.LogOfLines.{new_log};
-ghost use Rattle.tfpg_search.specs.Searching.{SearchRepresents, RepresentsSome};
+ghost use Rattle.tfpg_search.specs.SearchState.{SearchRepresents, RepresentsSome};
 
 use crate::given::{ONE, TWO, accept};
 use std::alloc::Global;
 use std::marker::Brand;
 use std::sync::ledger::{Blank, Ledger};
 use std::test::Fail;
-use tfpg_base::{Activation, Set, Steps};
+use tfpg_base::{Activation, MAX_MEMBERS, Set, Steps};
 use tfpg_evidence::{Step, StepList};
 use tfpg_graph::{Graph, read};
 use tfpg_log::Log;
@@ -197,7 +197,7 @@ fn set_of(graph: &Graph, member: Option<u32>) -> Option<Set>
 {
     match member {
         None => Some(Set::empty()),
-        Some(position) if position < 64 && position < graph.failure_count() => {
+        Some(position) if position < MAX_MEMBERS && position < graph.failure_count() => {
             Some(Set::empty().with(position))
         }
         Some(_) => None,
@@ -215,9 +215,9 @@ fn ask_after<L: Ledger>(
     work: &mut Steps<L>,
 ) -> Result<Found, Fail>
     requires budget { 1 ≤ budget }
-    requires of { IsOf graph.now log.old }
+    requires of { IsLogOf graph.now log.old }
     requires represents { RepresentsSome graph.now log.old search.old }
-    ensures of { IsOf graph.now log.new }
+    ensures of { IsLogOf graph.now log.new }
     ensures represents { IfOk result (λ found.
         (found ≡ Found.Closed) ⊎ RepresentsSome graph.now log.new search.new) }
 {

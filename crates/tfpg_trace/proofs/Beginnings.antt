@@ -1,7 +1,8 @@
 -- Where, in a run of instants, one or all of several things begin to hold, to stay.
-use Rattle.std.proofs.Common.{◌≡◌, ℕ, ◌+◌, ◌<◌, ◌≤◌, Option, Some, None, inl, inr, subst, arith, max}
+use Rattle.std.proofs.Common.{ℕ, ◌+◌, ◌<◌, ◌≤◌, Option, Some, None, inl, inr, arith, below_more, max}
 use Rattle.std.proofs.lemmas.Bool.{cases_lt}
 use Rattle.tfpg_base.specs.Choice.{earlier}
+use Rattle.tfpg_base.proofs.lists.Sequences.{some_below-not_last}
 use Rattle.tfpg_trace.specs.inside.Due.{Begins}
 
 -- What holds of the same instants of a run begins to hold there at the same one.
@@ -24,16 +25,6 @@ module _ (Due : ℕ → ℕ → Type 0) where
   abbrev pub EachOf : ℕ → ℕ → Type 0
   EachOf count instant = (index : ℕ) → index < count → Due index instant
 
-  -- of no things none holds
-  pub one_of_none : (lo hi : ℕ) → Begins (OneOf 0) lo hi None
-  one_of_none lo hi = λ instant from upto one. omega (arith, one.1)
-
-  one_more : (count instant : ℕ) → OneOf (count + 1) instant → (Due count instant → ⊥) → OneOf count instant
-  one_more count instant one other = elim (cases_lt one.0 count) [
-    | inl below ↦ (one.0, below, one.2)
-    | inr above ↦ (let same : one.0 ≡ count = omega (arith, one.1, above) in absurd (other (subst (λ index. Due index instant) same one.2)))
-  ]
-
   one_less : (count instant : ℕ) → OneOf count instant → OneOf (count + 1) instant
   one_less count instant one = (one.0, omega (arith, one.1), one.2)
 
@@ -43,26 +34,26 @@ module _ (Due : ℕ → ℕ → Type 0) where
   -- One of one thing more begins to hold with the earlier of the two.
   pub begins_one_more : (lo hi count : ℕ) (first next : Option ℕ) → Begins (OneOf count) lo hi first → Begins (Due count) lo hi next
       → Begins (OneOf (count + 1)) lo hi (earlier first next)
-  begins_one_more lo hi count None None none neither = λ instant from upto one. none instant from upto (one_more count instant one (neither instant from upto))
+  begins_one_more lo hi count None None none neither = λ instant from upto one. none instant from upto (some_below-not_last (λ index. Due index instant) count one (neither instant from upto))
   begins_one_more lo hi count None (Some next) none at = record {
     from = at.from;
     upto = at.upto;
     not_before = λ instant from before one.
-        none instant from (omega (arith, at.upto, before)) (one_more count instant one (at.not_before instant from before));
+        none instant from (omega (arith, at.upto, before)) (some_below-not_last (λ index. Due index instant) count one (at.not_before instant from before));
     since = λ instant since upto. newest count instant (at.since instant since upto);
   }
   begins_one_more lo hi count (Some first) None at none = record {
     from = at.from;
     upto = at.upto;
     not_before = λ instant from before one.
-        at.not_before instant from before (one_more count instant one (none instant from (omega (arith, at.upto, before))));
+        at.not_before instant from before (some_below-not_last (λ index. Due index instant) count one (none instant from (omega (arith, at.upto, before))));
     since = λ instant since upto. one_less count instant (at.since instant since upto);
   }
   begins_one_more lo hi count (Some first) (Some next) at other = record {
     from = omega (arith, at.from, other.from);
     upto = omega (arith, at.upto, other.upto);
     not_before = λ instant from before one.
-        at.not_before instant from (omega (arith, before)) (one_more count instant one (other.not_before instant from (omega (arith, before))));
+        at.not_before instant from (omega (arith, before)) (some_below-not_last (λ index. Due index instant) count one (other.not_before instant from (omega (arith, before))));
     since = λ instant since upto. elim (cases_lt instant first) [
       | inl below ↦ newest count instant (other.since instant (omega (arith, since, below)) upto)
       | inr above ↦ one_less count instant (at.since instant above upto)
@@ -78,12 +69,6 @@ module _ (Due : ℕ → ℕ → Type 0) where
     since = λ instant since upto index below. absurd (omega (arith, below));
   }
 
-  each_more : (count instant : ℕ) → EachOf count instant → Due count instant → EachOf (count + 1) instant
-  each_more count instant each holds index below = elim (cases_lt index count) [
-    | inl lesser ↦ each index lesser
-    | inr above ↦ (let same : count ≡ index = omega arith in subst (λ p. Due p instant) same holds)
-  ]
-
   each_less : (count instant : ℕ) → EachOf (count + 1) instant → EachOf count instant
   each_less count instant each index below = each index (omega arith)
 
@@ -98,7 +83,7 @@ module _ (Due : ℕ → ℕ → Type 0) where
       | inr above ↦ other.not_before instant from (omega (arith, before, above)) (each count (omega arith))
     ];
     since = λ instant since upto.
-        each_more count instant (at.since instant (omega (arith, since)) upto) (other.since instant (omega (arith, since)) upto);
+        below_more (λ index. Due index instant) count (at.since instant (omega (arith, since)) upto) (other.since instant (omega (arith, since)) upto);
   }
 
   -- Where one thing never holds, all do not.

@@ -11,11 +11,11 @@ use Rattle.tfpg_log.specs.Log.{Logbook, now_of, is_active_at}
 use Rattle.tfpg_log.specs.Rules.{IsDue}
 use Rattle.tfpg_log.specs.Spans.{span_number, span_at}
 use Rattle.tfpg_log.proofs.Ages.{age_since_start}
-use Rattle.tfpg_log.proofs.SpanRuns.{number_rises}
+use Rattle.tfpg_log.proofs.SpanRuns.{number_rises, lies_inside}
 use Rattle.tfpg_trace.specs.inside.Due.{Begins, IsDueBy}
 use Rattle.tfpg_trace.specs.inside.Gaps.{IsGap, after_gap}
 use Rattle.tfpg_trace.proofs.Beginnings.{carried}
-use Rattle.tfpg_trace.proofs.SpanOrder.{inside, numbered, by_now, in_mode}
+use Rattle.tfpg_trace.proofs.SpanOrder.{numbered, by_now, in_mode}
 
 module _ (graph : Tfpg) (log : Logbook) (trace : List Activation) (item number : ℕ) (span : Span) (edge : Edge) (at : slice_get graph.edges item ≡ Some edge) (here : span_at log number (now_of log) ≡ Some span) where
   -- what is due by its number is the edge itself
@@ -41,7 +41,7 @@ module _ (graph : Tfpg) (log : Logbook) (trace : List Activation) (item number :
         elim (cases_lt (span_number log x) number) [
           | inl below ↦ given x since (omega (arith, before, within)) below
           | inr above ↦ (
-              let lies = inside log number span here x (omega (arith, before, within)) (omega (arith, not_above, is, above)) in
+              let lies = lies_inside log number span here x (omega (arith, before, within)) (omega (arith, not_above, is, above)) in
               subst (λ m. IsTrue (is_active_in edge m)) (sym (in_mode log number span here x lies.0 lies.1)) active)
         ]
 

@@ -1,56 +1,33 @@
 -- The edges into a node by their numbers, and when one or all of them are due.
-use Rattle.std.proofs.Common.{◌≡◌, ℕ, suc, ◌+◌, ◌<◌, Bool, true, false, cond, List, [], ◌∷◌, length, filter, get_or, Option, Some, slice_get, refl, ap, subst, ◌∙◌, arith, eqb}
-use Rattle.std.specs.List.{All, AllByRecursion, Contains}
+use Rattle.std.proofs.Common.{◌≡◌, ℕ, ◌<◌, List, length, get_or, Option, Some, slice_get, ap, subst, ◌∙◌, eqb}
+use Rattle.std.specs.List.{All, Contains}
 use Rattle.std.proofs.lemmas.List.{get_or_default}
-use Rattle.std.proofs.lemmas.List.Elements.{All-from_recursion, recursion_from_All, All-contains, All-contains_itself, All-get_or, All-from_get_or, All-same}
+use Rattle.std.proofs.lemmas.List.Elements.{All-contains, All-contains_itself, All-get_or, All-from_get_or}
 use Rattle.tfpg_base.specs.declared.activation.Activation.{Activation}
 use Rattle.tfpg_graph.specs.declared.edge.Edge.{Edge}
 use Rattle.tfpg_graph.specs.Graph.{Tfpg, incoming, edges_into}
-use Rattle.tfpg_base.specs.Choice.{numbers_from}
-use Rattle.tfpg_base.proofs.lists.Numbered.{All-below-numbers_from}
+use Rattle.tfpg_base.proofs.lists.Elements.{All-from_members}
+use Rattle.tfpg_base.proofs.lists.Numbered.{number_among, item_among}
 use Rattle.tfpg_log.specs.Log.{Logbook}
 use Rattle.tfpg_log.specs.Rules.{IsDue}
 use Rattle.tfpg_trace.specs.inside.Due.{Begins, IsDueBy, SomeDue, AllDue}
 use Rattle.tfpg_trace.proofs.Beginnings.{carried, OneOf, EachOf}
 
-module _ {X : Type 0} (p : X → Bool) (Q : ℕ → Type 0) (P : X → Type 0) where
-  -- what holds of the numbers of the items that pass holds of the items
-  by_numbers : (n : ℕ) (xs : List X) → ((i : ℕ) (x : X) → slice_get xs i ≡ Some x → Q (n + i) → P x) → AllByRecursion Q (numbers_from n p xs)
-      → AllByRecursion P (filter p xs)
-  by_numbers n [] there all = tt
-  by_numbers n (x ∷ xs) there all = by (p x) (λ here. there 0 x refl (let same : n ≡ n + 0 = omega arith in subst Q same here))
-      (by_numbers (n + 1) xs (λ i y at here. there (suc i) y at (let same : n + 1 + i ≡ n + suc i = omega arith in subst Q same here))) all
-    where
-      by : (b : Bool) → (Q n → P x) → (AllByRecursion Q (numbers_from (n + 1) p xs) → AllByRecursion P (filter p xs))
-          → AllByRecursion Q (cond b (n ∷ numbers_from (n + 1) p xs) (numbers_from (n + 1) p xs)) → AllByRecursion P (cond b (x ∷ filter p xs) (filter p xs))
-      by true here rest all = (here all.0, rest all.1)
-      by false here rest all = rest all
-
-  -- and the other way round
-  to_numbers : (n : ℕ) (xs : List X) → ((i : ℕ) (x : X) → slice_get xs i ≡ Some x → P x → Q (n + i)) → AllByRecursion P (filter p xs)
-      → AllByRecursion Q (numbers_from n p xs)
-  to_numbers n [] there all = tt
-  to_numbers n (x ∷ xs) there all = by (p x) (λ here. let same : n + 0 ≡ n = omega arith in subst Q same (there 0 x refl here))
-      (to_numbers (n + 1) xs (λ i y at here. let same : n + suc i ≡ n + 1 + i = omega arith in subst Q same (there (suc i) y at here))) all
-    where
-      by : (b : Bool) → (P x → Q n) → (AllByRecursion P (filter p xs) → AllByRecursion Q (numbers_from (n + 1) p xs))
-          → AllByRecursion P (cond b (x ∷ filter p xs) (filter p xs)) → AllByRecursion Q (cond b (n ∷ numbers_from (n + 1) p xs) (numbers_from (n + 1) p xs))
-      by true here rest all = (here all.0, rest all.1)
-      by false here rest all = rest all
-
--- the same of all edges into a node
+-- what holds of all numbers of the edges into a node holds of the edges, and the other way round
 module _ (graph : Tfpg) (node : ℕ) (Q : ℕ → Type 0) (P : Edge → Type 0) where
   pub all_edges : ((i : ℕ) (edge : Edge) → slice_get graph.edges i ≡ Some edge → Q i → P edge) → All Q (incoming graph node) → All P (edges_into graph node)
   all_edges there all =
-      All-from_recursion P (edges_into graph node)
-      (by_numbers (λ edge. eqb edge.target node) Q P 0 graph.edges (λ i edge at here. there i edge at (let same : 0 + i ≡ i = omega arith in subst Q same here))
-      (recursion_from_All Q (incoming graph node) all))
+      All-from_members P (edges_into graph node)
+      (λ edge member.
+      let found = number_among (λ (e : Edge). eqb e.target node) graph.edges edge member in
+      there found.0 edge found.2 (All-contains Q (incoming graph node) found.0 all found.1))
 
   pub all_numbers : ((i : ℕ) (edge : Edge) → slice_get graph.edges i ≡ Some edge → P edge → Q i) → All P (edges_into graph node) → All Q (incoming graph node)
   all_numbers there all =
-      All-from_recursion Q (incoming graph node)
-      (to_numbers (λ edge. eqb edge.target node) Q P 0 graph.edges (λ i edge at here. let same : i ≡ 0 + i = omega arith in subst Q same (there i edge at here))
-      (recursion_from_All P (edges_into graph node) all))
+      All-from_members Q (incoming graph node)
+      (λ number member.
+      let found = item_among (λ (e : Edge). eqb e.target node) graph.edges number member in
+      there number found.0 found.2 (All-contains P (edges_into graph node) found.0 all found.1))
 
 -- an edge at an index among the edges of these numbers is due
 abbrev pub DueAt : Tfpg → Logbook → List Activation → List ℕ → ℕ → ℕ → Type 0
@@ -59,13 +36,6 @@ DueAt graph log trace numbers index instant = IsDueBy graph log trace (get_or nu
 -- the edge has a number among these
 abbrev pub HasIndex : Tfpg → List ℕ → Edge → Type 0
 HasIndex graph numbers edge = (index : ℕ) × (index < length numbers) × (slice_get graph.edges (get_or numbers index 0) ≡ Some edge)
-
--- each number into a node is that of an edge
-pub in_graph : (graph : Tfpg) (node index : ℕ) (numbers : List ℕ) → numbers ≡ incoming graph node → index < length numbers
-    → get_or numbers index 0 < length graph.edges
-in_graph graph node index numbers are below =
-    All-get_or (λ number. number < length graph.edges) numbers index 0 below
-    (All-same (λ number. number < length graph.edges) numbers (incoming graph node) are (All-below-numbers_from (λ edge. eqb edge.target node) graph.edges))
 
 module _ (graph : Tfpg) (log : Logbook) (trace : List Activation) (node : ℕ) where
   own : (number instant : ℕ) (edge : Edge) → slice_get graph.edges number ≡ Some edge → IsDueBy graph log trace number instant → IsDue log trace edge instant

@@ -1,6 +1,7 @@
 -- Whether a trace shows an event is decided, and where it does not, there is what is said of the event.
-use Rattle.std.proofs.Common.{◌≡◌, ℕ, suc, ◌+◌, ◌<◌, ◌≤◌, cond, List, length, Some, None, ◌⊎◌, inl, inr, refl, ap, arith}
-use Rattle.std.proofs.lemmas.Bool.{eq-eqb}
+use Rattle.std.proofs.Common.{◌≡◌, ℕ, suc, ◌+◌, ◌<◌, ◌≤◌, cond, ◌&&◌, List, length, Some, None, ◌⊎◌, inl, inr, refl, ap, arith}
+use Rattle.std.specs.Prelude.{is_none, is_some}
+use Rattle.std.proofs.lemmas.Bool.{eq-eqb, cond-true, and_from, not_from_false}
 use Rattle.tfpg_base.specs.declared.activation.Activation.{Activation}
 use Rattle.tfpg_base.specs.Trace.{time_of}
 use Rattle.tfpg_graph.specs.Graph.{Tfpg, lag_at, is_monitored}
@@ -13,7 +14,6 @@ use Rattle.tfpg_log.specs.Explains.{ShowsAlarm, ShowsSilence, Shows}
 use Rattle.tfpg_trace.specs.declared.verdict.Verdict.{Verdict}
 use Rattle.tfpg_trace.specs.declared.verdict.Verdict.TheVariants as verdict
 use Rattle.tfpg_trace.specs.inside.Shown.{IsNotShown}
-use Rattle.tfpg_trace.proofs.Sweeps.{both_pass}
 use Rattle.tfpg_base.proofs.lists.Decided.{IsDecided, first_below, both_decided, same_decided, le_decided, some_decided}
 use Rattle.tfpg_trace.proofs.RulesDecided.{active_decided}
 
@@ -90,7 +90,8 @@ module _ (graph : Tfpg) (trace : List Activation) where
   event_decided before (Sweep time) = elim (silences_decided before (Sweep time) (length graph.nodes)) [
     | inl fault ↦ inl fault
     | inr quiet ↦ inr (λ node monitored none. quiet node (monitored_within graph node monitored) time
-        (both_pass time (is_monitored graph node) (alarm_among before node) monitored none))
+        (cond-true (is_monitored graph node && is_none (alarm_among before node)) (Some time) None
+        (and_from (is_monitored graph node) (is_none (alarm_among before node)) monitored (not_from_false (is_some (alarm_among before node)) none))))
   ]
   event_decided before (Tick time) = inr tt
   event_decided before (Mode time mode) = inr tt

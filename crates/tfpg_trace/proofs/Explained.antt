@@ -1,7 +1,7 @@
 -- A trace without a fault explains the log from the set, and a trace with one does not.
-use Rattle.std.proofs.Common.{◌≡◌, ℕ, ◌<◌, ◌≤◌, Bool, true, false, ◌&&◌, nat_eq, List, length, take, All, Option, Some, None, refl, subst, arith}
-use Rattle.std.specs.Prelude.{IsTrue, IsNone, is_none}
-use Rattle.std.proofs.lemmas.Bool.{false≢true, eqb-true}
+use Rattle.std.proofs.Common.{◌≡◌, ℕ, ◌<◌, ◌≤◌, ◌&&◌, nat_eq, List, length, take, All, Some, refl, subst, arith}
+use Rattle.std.specs.Prelude.{IsTrue, is_none, is_some}
+use Rattle.std.proofs.lemmas.Bool.{eqb-true, and_parts, not-true}
 use Rattle.std.proofs.lemmas.List.Elements.{All-contains}
 use Rattle.std.proofs.lemmas.Option.{cond_some}
 use Rattle.tfpg_base.specs.declared.activation.Activation.{Activation}
@@ -20,12 +20,6 @@ use Rattle.tfpg_trace.specs.Broken.{KeepRulesBefore}
 use Rattle.tfpg_trace.specs.FirstFault.{IsOnTimeFromSet, IsVerdict}
 use Rattle.tfpg_trace.proofs.Decided.{member_or_not}
 
--- where both pass, the node is monitored and has no alarm
-both_passed : (monitored : Bool) (alarm : Option ℕ) → (monitored && is_none alarm) ≡ true → IsTrue monitored × IsNone alarm
-both_passed true None pass = (refl, refl)
-both_passed true (Some alarm) pass = absurd (false≢true pass)
-both_passed false alarm pass = absurd (false≢true pass)
-
 -- an event that is shown is shown of each node of which it is a silence
 pub shows_quiet : (graph : Tfpg) (trace : List Activation) (before : List Event) (event : Event) (node time : ℕ) → Shows graph trace before event
     → quiet_time graph before event node ≡ Some time → ShowsSilence trace node time
@@ -35,8 +29,8 @@ shows_quiet graph trace before (Silent own silent) node time shows is =
     subst (λ t. ShowsSilence trace node t) told.1 (subst (λ n. ShowsSilence trace n own) (eqb-true silent node told.0) shows)
 shows_quiet graph trace before (Sweep own) node time shows is =
     let told = cond_some (is_monitored graph node && is_none (alarm_among before node)) own time is in
-    let both = both_passed (is_monitored graph node) (alarm_among before node) told.0 in
-    subst (λ t. ShowsSilence trace node t) told.1 (shows node both.0 both.1)
+    let both = and_parts (is_monitored graph node) (is_none (alarm_among before node)) told.0 in
+    subst (λ t. ShowsSilence trace node t) told.1 (shows node both.0 (not-true (is_some (alarm_among before node)) both.1))
 shows_quiet graph trace before (Tick own) node time shows is = cc
 shows_quiet graph trace before (Mode own mode) node time shows is = cc
 

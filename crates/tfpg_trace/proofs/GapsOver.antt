@@ -9,9 +9,9 @@ use Rattle.tfpg_graph.specs.Graph.{Tfpg, incoming, is_active_in}
 use Rattle.tfpg_log.specs.declared.span.Span.{Span}
 use Rattle.tfpg_log.specs.Log.{Logbook, now_of, is_active_at}
 use Rattle.tfpg_log.specs.Spans.{span_number, span_at}
-use Rattle.tfpg_log.proofs.SpanRuns.{number_rises}
+use Rattle.tfpg_log.proofs.SpanRuns.{number_rises, lies_inside}
 use Rattle.tfpg_trace.specs.inside.Gaps.{IsGap, IsGapOf, AreGaps, gap_after}
-use Rattle.tfpg_trace.proofs.SpanOrder.{none_inside, inside, numbered, in_mode, in_order}
+use Rattle.tfpg_trace.proofs.SpanOrder.{none_inside, numbered, in_mode, in_order}
 
 -- the gap at an index is that of the edge there
 pub gap_at : (graph : Tfpg) (log : Logbook) (node number index : ℕ) (numbers : List ℕ) (gaps : List (Option ℕ)) (default : Option ℕ)
@@ -59,7 +59,7 @@ module _ (log : Logbook) (edge : Edge) (number : ℕ) where
               (subst (λ m. IsTrue (is_active_in edge m)) (in_mode log number span here span.hi order (omega arith)) active);
           active_since = λ instant since within below.
               let upto : span_number log span.hi ≤ span_number log instant = number_rises log span.hi instant (omega (arith, since)) in
-              let lies = inside log number span here instant within (omega (arith, upto, last, below)) in
+              let lies = lies_inside log number span here instant within (omega (arith, upto, last, below)) in
               absurd (omega (arith, since, lies.1));
         }
 
@@ -67,7 +67,7 @@ module _ (log : Logbook) (edge : Edge) (number : ℕ) where
     by_mode gap true active is =
         same_gap gap
         (λ instant within at.
-        let lies = inside log number span here instant within at in
+        let lies = lies_inside log number span here instant within at in
         subst (λ m. IsTrue (is_active_in edge m)) (sym (in_mode log number span here instant lies.0 lies.1)) active)
         is
     by_mode gap false shut is = new_gap shut

@@ -9,10 +9,11 @@ use Rattle.tfpg_log.specs.declared.span.Span.{Span}
 use Rattle.tfpg_log.specs.Log.{Logbook, now_of}
 use Rattle.tfpg_log.specs.Rules.{IsActive, KeepsMust}
 use Rattle.tfpg_log.specs.Spans.{span_at}
+use Rattle.tfpg_log.proofs.SpanRuns.{lies_inside}
 use Rattle.tfpg_trace.specs.inside.Due.{Begins, SomeDue, AllDue, MustBeActive}
 use Rattle.tfpg_trace.specs.inside.FirstFaultIn.{IsFirstFaultIn}
 use Rattle.tfpg_trace.proofs.Beginnings.{carried}
-use Rattle.tfpg_trace.proofs.SpanOrder.{none_inside, inside, numbered, by_now}
+use Rattle.tfpg_trace.proofs.SpanOrder.{none_inside, numbered, by_now}
 
 -- what a look-up says of a span up to now
 pub span_reported : (log : Logbook) (number now : ℕ) (found : Option Span) → now ≡ now_of log → found ≡ span_at log number now
@@ -78,14 +79,14 @@ module _ (graph : Tfpg) (log : Logbook) (trace : List Activation) (node : ℕ) w
       -- Where the node must be active at none of its instants, none breaks the rule.
       pub never_due : Begins (MustBeActive graph log trace node) span.lo span.hi None → IsFirstFaultIn graph log trace node number None
       never_due never = λ instant within at.
-          let lies = inside log number span here instant within at in
+          let lies = lies_inside log number span here instant within at in
           keeps_unless instant (never instant lies.0 lies.1)
 
       module _ (due : ℕ) (begins : Begins (MustBeActive graph log trace node) span.lo span.hi (Some due)) where
         -- Where it is active at the first of those at which it must be, none breaks the rule.
         pub in_time : IsActive trace node due → IsFirstFaultIn graph log trace node number None
         in_time active = λ instant within at.
-            let lies = inside log number span here instant within at in
+            let lies = lies_inside log number span here instant within at in
             elim (cases_lt instant due) [
               | inl before ↦ keeps_unless instant (begins.not_before instant lies.0 before)
               | inr behind ↦ keeps_active instant (still_active due instant active behind)
@@ -100,6 +101,6 @@ module _ (graph : Tfpg) (log : Logbook) (trace : List Activation) (node : ℕ) w
               inside = numbered log number span here due begins.from begins.upto;
               broken = λ keeps. not_active (active_where_must due keeps (begins.since due (omega arith) begins.upto));
               first = λ earlier before at.
-                  let lies = inside log number span here earlier (omega (arith, now, before)) at in
+                  let lies = lies_inside log number span here earlier (omega (arith, now, before)) at in
                   keeps_unless earlier (begins.not_before earlier lies.0 before);
             }

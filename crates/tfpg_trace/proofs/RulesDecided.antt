@@ -1,5 +1,6 @@
 -- Whether a node of a trace keeps the propagation rules is decided, and where it does not, there is what is said of it.
 use Rattle.std.proofs.Common.{◌≡◌, ℕ, suc, ◌+◌, ◌<◌, ◌≤◌, List, Some, ◌⊎◌, inl, inr, refl, arith}
+use Rattle.std.proofs.Math.Logic.{⊎_swap}
 use Rattle.std.specs.Prelude.{IsTrue, All, Contains}
 use Rattle.tfpg_base.specs.declared.activation.Activation.{Activation}
 use Rattle.tfpg_base.specs.Trace.{time_of}
@@ -102,11 +103,6 @@ module _ (graph : Tfpg) (log : Logbook) (trace : List Activation) (node : ℕ) w
         (λ keeps. (keeps.or_node, keeps.and_node))
         (both_decided IsMustOfOr IsMustOfAnd must_of_or_decided must_of_and_decided)
 
-  -- what is decided, with the fault first
-  fault_or : (P : Type 0) → IsDecided P → (P → ⊥) ⊎ P
-  fault_or P (inl holds) = inr holds
-  fault_or P (inr fails) = inl fails
-
   -- a node that breaks the may rule does so at its time
   breaks_may : (instant : ℕ) → instant ≤ now_of log → (KeepsMay graph log trace node instant → ⊥) → BreaksMay graph log trace node instant
   breaks_may instant by_now broken = elim (is_some_decided (time_of trace node) instant) [
@@ -124,9 +120,9 @@ module _ (graph : Tfpg) (log : Logbook) (trace : List Activation) (node : ℕ) w
 
   -- Something is said of a node that does not keep the rules.
   pub rules_decided : ((said : Verdict) × IsBroken graph log trace node said) ⊎ KeepsRulesOf graph log trace node
-  rules_decided = elim (first_upto_now (λ instant. KeepsMay graph log trace node instant → ⊥) (KeepsMay graph log trace node) (λ instant. fault_or (KeepsMay graph log trace node instant) (may_decided instant))) [
+  rules_decided = elim (first_upto_now (λ instant. KeepsMay graph log trace node instant → ⊥) (KeepsMay graph log trace node) (λ instant. ⊎_swap (may_decided instant))) [
     | inl may ↦ inl (verdict.May node may.0, inl (record { time = may.0; is = refl; breaks = breaks_may may.0 may.1 may.2 }))
-    | inr may ↦ elim (first_upto_now (λ instant. KeepsMust graph log trace node instant → ⊥) (KeepsMust graph log trace node) (λ instant. fault_or (KeepsMust graph log trace node instant) (must_decided instant))) [
+    | inr may ↦ elim (first_upto_now (λ instant. KeepsMust graph log trace node instant → ⊥) (KeepsMust graph log trace node) (λ instant. ⊎_swap (must_decided instant))) [
       | inl must ↦ inl (
         verdict.Must node must.0,
         inr (record {

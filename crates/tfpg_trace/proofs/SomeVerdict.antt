@@ -12,7 +12,7 @@ use Rattle.tfpg_log.specs.Rules.{KeepsRulesOf, IsTraceOf}
 use Rattle.tfpg_log.specs.Explains.{IsMember, Shows}
 use Rattle.tfpg_trace.specs.declared.verdict.Verdict.{Verdict}
 use Rattle.tfpg_trace.specs.declared.verdict.Verdict.TheVariants as verdict
-use Rattle.tfpg_trace.specs.FirstFault.{IsLate, IsStranger, IsOnTimeFromSet, KeepsAllRules, ShowsBefore, IsMayFault, IsMustFault, IsAlarmFault, IsSilenceFault, IsVerdict}
+use Rattle.tfpg_trace.specs.FirstFault.{IsLate, IsStranger, IsOnTimeFromSet, IsFaultlessBeforeEvents, ShowsBefore, IsMayFault, IsMustFault, IsAlarmFault, IsSilenceFault, IsVerdict}
 use Rattle.tfpg_trace.specs.inside.RuleFaults.{IsBroken}
 use Rattle.tfpg_trace.specs.inside.Shown.{IsNotShown}
 use Rattle.tfpg_trace.specs.Broken.{KeepRulesBefore}
@@ -98,7 +98,7 @@ module _ (graph : Tfpg) (log : Logbook) (set : List ℕ) (trace : List Activatio
   HasVerdict = (said : Verdict) × IsVerdict graph log set trace said
 
   -- What is said of the first event that is not shown is the verdict.
-  pub by_event : KeepsAllRules graph log set trace → (index : ℕ) (event : Event) → slice_get log.events index ≡ Some event → ShowsBefore graph trace log.events index
+  pub by_event : IsFaultlessBeforeEvents graph log set trace → (index : ℕ) (event : Event) → slice_get log.events index ≡ Some event → ShowsBefore graph trace log.events index
       → (said : Verdict) → IsNotShown graph trace (take index log.events) event said → IsVerdict graph log set trace said
   by_event rules index event at before said (inl alarm) =
       let fault = alarm.3 in
@@ -123,7 +123,7 @@ module _ (graph : Tfpg) (log : Logbook) (set : List ℕ) (trace : List Activatio
       subst (IsVerdict graph log set trace) (sym fault.is) is
 
   module _ (of : IsTraceOf graph trace) where
-    of_events : KeepsAllRules graph log set trace → HasVerdict
+    of_events : IsFaultlessBeforeEvents graph log set trace → HasVerdict
     of_events rules = elim (first_below IsNotShownAt IsShownAt fault_or_shown (length log.events)) [
       | inl found ↦ (
         found.1.holds.2.0,

@@ -15,15 +15,7 @@ module _ (log : Logbook) where
         cc (at, none)
 
     module _ (span : Span) (here : span_at log number (now_of log) ≡ Some span) where
-      -- each instant of the number lies in the span
-      pub inside : (instant : ℕ) → instant ≤ now_of log → span_number log instant ≡ number → (span.lo ≤ instant) × (instant ≤ span.hi)
-      inside instant within numbered =
-          let there = has_span log instant (now_of log) within (omega arith) in
-          let at : span_at log number (now_of log) ≡ Some there.0 = subst (λ n. span_at log n (now_of log) ≡ Some there.0) numbered there.1 in
-          let same : there.0 ≡ span = cc (at, here) in
-          subst (λ (s : Span). (s.lo ≤ instant) × (instant ≤ s.hi)) same (there.2, there.3)
-
-      -- each instant of the span has the number,
+      -- Each instant of the span has the number,
       pub numbered : (instant : ℕ) → span.lo ≤ instant → instant ≤ span.hi → span_number log instant ≡ number
       numbered = (is_span log number (now_of log) span here).numbered
 

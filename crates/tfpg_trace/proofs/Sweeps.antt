@@ -1,7 +1,7 @@
 -- What a sweep says of each node.
-use Rattle.std.proofs.Common.{◌≡◌, ℕ, ◌-◌, Bool, true, false, ◌&&◌, cond, List, length, take, Option, Some, None, refl, ap, sym, subst, ◌∙◌}
-use Rattle.std.specs.Prelude.{IsTrue, IsNone, is_none, option_and_then}
-use Rattle.std.proofs.lemmas.Bool.{false≢true}
+use Rattle.std.proofs.Common.{◌≡◌, ℕ, ◌-◌, ◌&&◌, List, length, take, Some, None, ap, sym, subst, ◌∙◌}
+use Rattle.std.specs.Prelude.{is_none, is_some, option_and_then}
+use Rattle.std.proofs.lemmas.Bool.{cond-true, and_from, not_from_false}
 use Rattle.tfpg_base.specs.declared.activation.Activation.{Activation}
 use Rattle.tfpg_graph.specs.Graph.{Tfpg, is_monitored}
 use Rattle.tfpg_graph.proofs.NodeAt.{monitored_within}
@@ -12,12 +12,6 @@ use Rattle.tfpg_log.specs.Explains.{Shows}
 use Rattle.tfpg_trace.specs.FirstFault.{NoneBefore}
 use Rattle.tfpg_trace.specs.inside.Strays.{IsFirstNode}
 use Rattle.tfpg_trace.specs.inside.Shown.{IsNotQuiet, IsSilenceNotShown}
-
--- a monitored node without an alarm is asked
-pub both_pass : (time : ℕ) (monitored : Bool) (alarm : Option ℕ) → IsTrue monitored → IsNone alarm → cond (monitored && is_none alarm) (Some time) None ≡ Some time
-both_pass time true None passes none = refl
-both_pass time true (Some alarm) passes none = absurd (false≢true (sym none))
-both_pass time false alarm passes none = absurd (false≢true passes)
 
 module _ (graph : Tfpg) (log : Logbook) (trace : List Activation) (number : ℕ) where
   -- the silence of an event, after those before it
@@ -32,7 +26,9 @@ module _ (graph : Tfpg) (log : Logbook) (trace : List Activation) (number : ℕ)
       (λ node monitored without active.
       none node time (monitored_within graph node monitored) (record {
         silent = quiet_by_event (Sweep time) node (at ∙ ap Some is)
-            ∙ both_pass time (is_monitored graph node) (alarm_among (take (number - 1) log.events) node) monitored without;
+            ∙ cond-true (is_monitored graph node && is_none (alarm_among (take (number - 1) log.events) node)) (Some time) None
+            (and_from (is_monitored graph node) (is_none (alarm_among (take (number - 1) log.events) node)) monitored
+            (not_from_false (is_some (alarm_among (take (number - 1) log.events) node)) without));
         active = active;
       }))
 

@@ -7,6 +7,7 @@ use Rattle.tfpg_graph.specs.Graph.{Tfpg, is_kind_at, is_failure}
 use Rattle.tfpg_log.specs.declared.event.Event.{Event}
 use Rattle.tfpg_log.specs.declared.event.Event.TheVariants.{Alarm}
 use Rattle.tfpg_log.specs.Log.{Logbook, now_of, quiet_time}
+use Rattle.tfpg_log.specs.Rules.{KeepsRules}
 use Rattle.tfpg_log.specs.Explains.{IsMember, ShowsAlarm, ShowsSilence, Shows, Explains}
 use Rattle.tfpg_trace.specs.declared.verdict.Verdict.{Verdict}
 use Rattle.tfpg_trace.specs.declared.verdict.Verdict.TheVariants as verdict
@@ -36,10 +37,10 @@ pub record IsOnTimeFromSet (graph : Tfpg) (log : Logbook) (set : List ℕ) (trac
   pub on_time : NoneLate graph log trace
   pub from_set : NoneBefore (IsStranger graph set trace) (length graph.nodes)
 
--- No node of the graph is late or a stranger, and none breaks a rule.
-pub record KeepsAllRules (graph : Tfpg) (log : Logbook) (set : List ℕ) (trace : List Activation) : Type 0 where
+-- No node of the graph is late or a stranger, and none breaks a rule: a fault can only be at an event.
+pub record IsFaultlessBeforeEvents (graph : Tfpg) (log : Logbook) (set : List ℕ) (trace : List Activation) : Type 0 where
   pub own : IsOnTimeFromSet graph log set trace
-  pub rules : KeepRulesBefore graph log trace (length graph.nodes)
+  pub rules : KeepsRules graph log trace
 
 -- the trace shows each event before this index
 abbrev pub ShowsBefore : Tfpg → List Activation → List Event → ℕ → Type 0
@@ -81,7 +82,7 @@ pub record IsMustFault (graph : Tfpg) (log : Logbook) (set : List ℕ) (trace : 
 -- the first event that is not shown, which is an alarm
 pub record IsAlarmFault (graph : Tfpg) (log : Logbook) (set : List ℕ) (trace : List Activation)
     (node time : ℕ) : Type 0 where
-  pub rules : KeepsAllRules graph log set trace
+  pub rules : IsFaultlessBeforeEvents graph log set trace
   pub index : ℕ
   pub event : slice_get log.events index ≡ Some (Alarm time node)
   pub before : ShowsBefore graph trace log.events index
@@ -90,7 +91,7 @@ pub record IsAlarmFault (graph : Tfpg) (log : Logbook) (set : List ℕ) (trace :
 -- The first event that is not shown, which says that the node is silent; of a sweep this is the first such node.
 pub record IsSilenceFault (graph : Tfpg) (log : Logbook) (set : List ℕ) (trace : List Activation)
     (node time : ℕ) : Type 0 where
-  pub rules : KeepsAllRules graph log set trace
+  pub rules : IsFaultlessBeforeEvents graph log set trace
   pub index : ℕ
   pub event : Event
   pub at : slice_get log.events index ≡ Some event

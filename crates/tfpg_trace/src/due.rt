@@ -104,6 +104,5 @@ fn first_after_gap(gap: Option<u64>, start: u64, delay: u64, span: Span) -> Opti
 fn first_in_span(begin: u64, delay: u64, span: Span) -> Option<u64>
     ensures { Begins (λ instant. begin + delay ≤ instant) span.lo span.hi result }
 {
-    let first = begin.checked_add(delay)?.max(span.lo);
-    if first > span.hi { None } else { Some(first) }
+    span.first_from(begin.checked_add(delay)?)
 }

@@ -1,7 +1,7 @@
 //! Whether a trace explains a log from a set of failure modes.
 
 ghost use Rattle.std.specs.Prelude.{◌≡◌, ◌<◌, length, All};
-ghost use Rattle.tfpg_log.specs.Log.{IsOf};
+ghost use Rattle.tfpg_log.specs.Log.{IsLogOf};
 ghost use Rattle.tfpg_log.specs.Explains.{Explains};
 ghost use Rattle.tfpg_trace.specs.FirstFault.{IsVerdict};
 
@@ -20,7 +20,7 @@ use tfpg_log::Log;
 /// nodes, at each through the spans, and in each span through the edges into the node; then through the events, and at
 /// each sweep through the nodes.
 pub fn explains(graph: &Graph, log: &Log, set: Set, trace: &Trace) -> Verdict
-    requires of { IsOf graph.now log.now }
+    requires of { IsLogOf graph.now log.now }
     requires nodes { All (λ activation. activation.node < length graph.now.nodes) trace.now }
     ensures verdict { IsVerdict graph.now log.now set trace.now result }
     ensures yes { Explains graph.now log.now set trace.now → result ≡ Verdict.Yes }
@@ -31,7 +31,7 @@ pub fn explains(graph: &Graph, log: &Log, set: Set, trace: &Trace) -> Verdict
 
 /// The first fault of the trace, or that it has none.
 fn first_fault(graph: &Graph, log: &Log, set: Set, trace: &Trace) -> Verdict
-    requires of { IsOf graph.now log.now }
+    requires of { IsLogOf graph.now log.now }
     requires nodes { All (λ activation. activation.node < length graph.now.nodes) trace.now }
     ensures { IsVerdict graph.now log.now set trace.now result }
 {

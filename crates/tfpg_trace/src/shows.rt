@@ -1,7 +1,7 @@
 //! The first event of a log that a trace does not show.
 
 ghost use Rattle.std.specs.Prelude.{◌≡◌, ◌-◌, ◌≤◌, length, take, Some, MatchOption};
-ghost use Rattle.tfpg_log.specs.Log.{IsOf, IsEventOf, event_at};
+ghost use Rattle.tfpg_log.specs.Log.{IsLogOf, IsEventOf, event_at};
 ghost use Rattle.tfpg_log.specs.Explains.{Shows, ShowsAll};
 ghost use Rattle.tfpg_trace.specs.inside.Shown.{IsNotShown, IsFirstNotShown};
 
@@ -15,7 +15,7 @@ use tfpg_log::{Event, Log};
 /// What is said of the first event that the trace does not show. Goes through the events, and for each sweep through the
 /// nodes.
 pub(crate) fn first_not_shown(graph: &Graph, log: &Log, trace: &Trace) -> Option<Verdict>
-    requires { IsOf graph.now log.now }
+    requires { IsLogOf graph.now log.now }
     ensures { MatchOption result
         (ShowsAll graph.now trace.now log.now.events)
         (IsFirstNotShown graph.now trace.now log.now.events) }

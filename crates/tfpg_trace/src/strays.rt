@@ -66,7 +66,7 @@ fn is_outside(graph: &Graph, set: Set, node: u32) -> bool
     requires { node < length graph.now.nodes }
     ensures { IsTrue result ↔ IsOutside graph.now set node }
 {
-    match graph.position_of(node) {
+    match graph.place_of(node) {
         Some(position) => !set.has(position),
         None => false,
     }

@@ -5,8 +5,8 @@ use Rattle.std.proofs.lemmas.Bool.{lt-ltb}
 use Rattle.std.proofs.lemmas.List.Sums.{sum_by-cons}
 use Rattle.clap.specs.Walk.{Row, Text}
 use Rattle.tfpg_words.specs.Words.{Form, Parts, Use, Word, is_word_among}
-use Rattle.tfpg_words.specs.Meaning.{NumberOption, both, number_by, number_in, use_of, k_option, budget_option, draw_option, size_option, diagnose_form, diagnose_of, diagnose_on, explain_form, explain_of, generate_form, generate_of, generate_on, simulate_form, simulate_of, simulate_on, explain_on}
-use Rattle.tfpg_words.specs.inside.Given.{diagnose_by, diagnose_given, explain_given, first_value, generate_by, generate_given, is_used, number_given, simulate_by, simulate_given}
+use Rattle.tfpg_words.specs.Meaning.{NumberOption, both, number_by, number_in, use_of, k_option, budget_option, draw_option, size_option, diagnose_form, diagnose_of, diagnose_on, generate_form, generate_of, generate_on, simulate_form, simulate_of, simulate_on}
+use Rattle.tfpg_words.specs.inside.Given.{diagnose_by, diagnose_given, first_value, generate_by, generate_given, is_used, number_given, simulate_by, simulate_given}
 use Rattle.tfpg_words.specs.inside.Rows.{Holds, hyphened}
 
 -- the first value of an option is that of its first use
@@ -66,9 +66,6 @@ pub diagnose_is : (parts : Option Parts) (rows : List Row) → Given diagnose_fo
 diagnose_is parts rows (said, is, h) =
     (λ i. diagnose_by (both (number_is diagnose_form rows said h k_option (codes "k") refl refl i) (number_is diagnose_form rows said h budget_option (codes "budget") refl refl i)) (h.words i))
     ∙ (diagnose_same said.uses said.positional ∙ ap diagnose_of (sym is))
-
-pub explain_is : (parts : Option Parts) (rows : List Row) → Given explain_form parts rows → explain_given rows ≡ explain_of parts
-explain_is parts rows (said, is, h) = ap explain_on h.words ∙ ap explain_of (sym is)
 
 pub simulate_is : (parts : Option Parts) (rows : List Row) → Given simulate_form parts rows → simulate_given rows ≡ simulate_of parts
 simulate_is parts rows (said, is, h) =

@@ -1,19 +1,17 @@
 -- That no option and no flag is used twice, by the rows of a parse and by the parts of the words.
-use Rattle.std.proofs.Common.{◌≡◌, ◌∙◌, ◌&&◌, ap, ap₂, refl, sym, ⊎_elim, ℕ, Bool, true, false, List, [], ◌∷◌, length, map, min, Option, Some, None, bytes_eq, nat_le, arith}
-use Rattle.std.specs.Prelude.{count_by, filter, if◌then◌else◌, Err}
+use Rattle.std.proofs.Common.{◌≡◌, ◌∙◌, ◌&&◌, ap, ap₂, refl, sym, ℕ, Bool, true, false, List, [], ◌∷◌, length, map, Option, Some, None, bytes_eq, nat_le, arith}
+use Rattle.std.specs.Prelude.{count_by, filter, if◌then◌else◌}
 use Rattle.std.specs.List.{list_all}
 use Rattle.std.specs.Borrow.{Bor}
-use Rattle.std.proofs.lemmas.Bool.{cases_lt, le-leb, lt-leb}
 use Rattle.std.proofs.lemmas.List.{length-map}
 use Rattle.std.proofs.lemmas.List.Sums.{length-filter}
 use Rattle.std.proofs.lemmas.List.Folds.{list_all-map, list_all-append}
+use Rattle.tfpg_base.proofs.lists.Sequences.{nat_le-min}
 use Rattle.clap.specs.Walk.{Row, Text, count_of}
 use Rattle.tfpg_words.specs.declared.form.Form.{Form as CodeForm}
-use Rattle.tfpg_words.specs.declared.plan_fault.PlanFault.{PlanFault}
-use Rattle.tfpg_words.specs.declared.plan_fault.PlanFault.TheVariants as fault
 use Rattle.tfpg_words.specs.Words.{Form, Parts, Use, Word, are_once, once}
 use Rattle.tfpg_words.specs.inside.Given.{once_given}
-use Rattle.tfpg_words.specs.inside.Parts.{TakesApart, flags_in, options_in}
+use Rattle.tfpg_words.specs.inside.Parts.{flags_in, options_in}
 use Rattle.tfpg_words.specs.inside.Rows.{AllAmong, Holds, form_for, hyphened, vals, values_of}
 
 -- how often a name is used
@@ -26,13 +24,6 @@ names_once uses names = list_all (λ name. nat_le (uses_of name uses) 1) names
 value_count : (name : Word) (uses : List Use) → length (values_of name uses) ≡ uses_of name uses
 value_count name uses =
     length-map (filter (λ used. bytes_eq used.name name) uses) (λ used. used.value) ∙ length-filter (λ (used : Use). bytes_eq used.name name) uses
-
--- a counter that stops at 255 still shows a second use
-counter : (n : ℕ) → nat_le (min n 255) 1 ≡ nat_le n 1
-counter n = ⊎_elim
-    (λ more. lt-leb (min n 255) 1 (omega (arith, more)) ∙ sym (lt-leb n 1 more))
-    (λ few. le-leb (min n 255) 1 (omega (arith, few)) ∙ sym (le-leb n 1 few))
-    (cases_lt 1 n)
 
 module _ (form : Form) (rows : List Row) (said : Parts) (h : Holds form rows said) where
   options_once : (names : List Text) → AllAmong form.options names
@@ -48,7 +39,7 @@ module _ (form : Form) (rows : List Row) (said : Parts) (h : Holds form rows sai
   flags_once [] all = refl
   flags_once (n ∷ names) all =
       ap₂ (λ (a b : Bool). a && b)
-      (ap (λ k. nat_le k 1) (h.counts n all.0) ∙ counter (uses_of (hyphened n) said.uses))
+      (ap (λ k. nat_le k 1) (h.counts n all.0) ∙ nat_le-min (uses_of (hyphened n) said.uses) 255 1 (omega arith))
       (flags_once names all.1)
 
 module _ (options flags : List Text) (among_options : AllAmong (map hyphened options) options) (among_flags : AllAmong (map hyphened flags) flags) where
@@ -73,11 +64,6 @@ module _ (options flags : List Text) (among_options : AllAmong (map hyphened opt
   repeated parts rows b is off h =
       let some : are_once (form_for options flags) h.0.uses ≡ false = sym (once_is rows h.0 h.2) ∙ (sym is ∙ off) in
       ap (once (form_for options flags)) h.1 ∙ (λ i. if some i then Some h.0 else None)
-
--- no parts to begin with
-pub still_none : (form : Form) (parts : Option Parts) (given : PlanFault) → TakesApart form parts (Err given) → TakesApart form (once form parts) (Err given)
-still_none form parts (fault.Usage cause) h = (h.0, ap (once form) h.1)
-still_none form parts fault.NoMemory h = tt
 
 -- ---- over the code's form
 

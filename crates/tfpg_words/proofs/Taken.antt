@@ -1,5 +1,5 @@
 -- What a parse by the command of a form comes to: the parts of the words, or that they have none.
-use Rattle.std.proofs.Common.{◌≡◌, ◌∙◌, ◌+◌, ◌<◌, ap, refl, sym, subst, bytes_eq, ℕ, List, [], ◌∷◌, ◌++◌, length, map, take, get_or, Option, Some, None, option_map}
+use Rattle.std.proofs.Common.{◌≡◌, ◌∙◌, ap, refl, sym, subst, bytes_eq, List, [], ◌∷◌, map, Option, Some, None, option_map}
 use Rattle.std.specs.Prelude.{find, slice_get}
 use Rattle.std.specs.Prelude.{option_and_then, unwrap_or, String, Ok, Err}
 use Rattle.std.proofs.Common.{Global}
@@ -17,22 +17,12 @@ use Rattle.tfpg_words.specs.inside.Rows.{IsFormed, app_for, form_for}
 use Rattle.tfpg_words.specs.inside.Parts.{Parses, TakesApart}
 use Rattle.tfpg_words.proofs.walk.Main.{AreUtf8}
 use Rattle.tfpg_words.proofs.walk.Forms.{parsed}
-use Rattle.std.specs.Borrow.{Bor}
-use Rattle.std.proofs.lemmas.List.{take_more, map-append}
-use Rattle.clap.specs.Walk.{Row, Rule, Text}
+use Rattle.clap.specs.Walk.{Row, Text}
 use Rattle.clap.specs.Kinds.{Kinds}
 use Rattle.tfpg_words.specs.Words.{Form, Parts, no_parts}
 use Rattle.tfpg_words.specs.inside.Given.{first_value}
 use Rattle.tfpg_words.specs.inside.Rows.{Holds}
 use Rattle.tfpg_words.proofs.walk.Walks.{Outcome}
-
--- one more name gives one more rule
-pub one_more_rule : (f : Text → Rule) (xs : List (Bor Text)) (i : ℕ) (d : Bor Text) → i < length xs
-    → map f (map (λ name. name.now) (take (i + 1) xs)) ≡ map f (map (λ name. name.now) (take i xs)) ++ f (get_or xs i d).now ∷ []
-one_more_rule f xs i d inside =
-    ap (λ (l : List (Bor Text)). map f (map (λ name. name.now) l)) (take_more xs i d inside)
-    ∙ (ap (map f) (map-append (λ name. name.now) (take i xs) (get_or xs i d ∷ []))
-    ∙ map-append f (map (λ name. name.now) (take i xs)) (map (λ name. name.now) (get_or xs i d ∷ [])))
 
 -- a parse that passes has the rows of the parts, and one that fails shows that there are none
 pub ok_takes : (form : Form) (o : Option Parts) (fault : Kinds) (rows seen : List Row) → Outcome form no_parts o fault rows → fault ≡ [] → seen ≡ rows

@@ -31,10 +31,12 @@ pub record NumberOption : Type 0 where
   pub limit : ℕ
   pub default : ℕ
 
+-- the number of an option by its use, where there is one, and else its default
 abbrev pub number_in : NumberOption → Option Use → Result ℕ UsageCause
 number_in option None = Ok option.default
 number_in option (Some used) = within option.least option.limit (number_of used.value)
 
+-- the number of an option by the uses
 abbrev pub number_by : NumberOption → List Use → Result ℕ UsageCause
 number_by option uses = number_in option (use_of option.name uses)
 
@@ -51,15 +53,19 @@ both (Ok first) (Err cause) = Err cause
 both (Err cause) (Ok second) = Err cause
 both (Err cause) (Err other) = Err (winning_cause cause other)
 
+-- `--k N`: the greatest number of failure modes of a hypothesis
 abbrev pub k_option : NumberOption
 k_option = record { name = codes "--k"; least = 0; limit = MAX_K; default = DEFAULT_K }
 
+-- `--budget N`: the greatest number of splits of a hypothesis in a round
 abbrev pub budget_option : NumberOption
 budget_option = record { name = codes "--budget"; least = 1; limit = MAX_BUDGET; default = DEFAULT_BUDGET }
 
+-- `--draw N`: the number of a draw
 abbrev pub draw_option : NumberOption
 draw_option = record { name = codes "--draw"; least = 0; limit = MAX_DRAW; default = DEFAULT_DRAW }
 
+-- `--size N`: the size of a generated case
 abbrev pub size_option : NumberOption
 size_option = record { name = codes "--size"; least = 1; limit = MAX_CASE_SIZE; default = DEFAULT_SIZE }
 
@@ -72,16 +78,19 @@ by_parts means (Some parts) = means parts
 abbrev pub diagnose_form : Form
 diagnose_form = record { options = k_option.name ∷ budget_option.name ∷ []; flags = [] }
 
+-- what the positional words after `diagnose` mean with these numbers
 abbrev pub diagnose_with : Word → List Word → Result (ℕ × ℕ) UsageCause → Result Meaning UsageCause
 diagnose_with graph panels (Err cause) = Err cause
 diagnose_with graph [] (Ok (k, budget)) = Ok (Diagnose k budget graph)
 diagnose_with graph (panel ∷ panels) (Ok numbers) = Err BadPanel
 
+-- what the uses and the positional words after `diagnose` mean
 abbrev pub diagnose_on : List Use → List Word → Result Meaning UsageCause
 diagnose_on uses [] = Err BadWords
 diagnose_on uses (graph ∷ panels) =
     diagnose_with graph panels (both (number_by k_option uses) (number_by budget_option uses))
 
+-- what the words after `diagnose` mean, by their parts
 abbrev pub diagnose_of : Option Parts → Result Meaning UsageCause
 diagnose_of = by_parts (λ parts. diagnose_on parts.uses parts.positional)
 
@@ -89,10 +98,12 @@ diagnose_of = by_parts (λ parts. diagnose_on parts.uses parts.positional)
 abbrev pub explain_form : Form
 explain_form = record { options = []; flags = [] }
 
+-- what the positional words after `explain` mean
 abbrev pub explain_on : List Word → Result Meaning UsageCause
 explain_on (graph ∷ log ∷ []) = Ok (Explain graph log)
 explain_on _ = Err BadWords
 
+-- what the words after `explain` mean, by their parts
 abbrev pub explain_of : Option Parts → Result Meaning UsageCause
 explain_of = by_parts (λ parts. explain_on parts.positional)
 
@@ -100,15 +111,18 @@ explain_of = by_parts (λ parts. explain_on parts.positional)
 abbrev pub simulate_form : Form
 simulate_form = record { options = draw_option.name ∷ []; flags = codes "--trace" ∷ [] }
 
+-- what the words after `simulate` mean with this draw
 abbrev pub simulate_with : Bool → Word → Word → Result ℕ UsageCause → Result Meaning UsageCause
 simulate_with trace graph script (Err cause) = Err cause
 simulate_with trace graph script (Ok draw) = Ok (Simulate draw trace graph script)
 
+-- what the uses and the positional words after `simulate` mean
 abbrev pub simulate_on : List Use → List Word → Result Meaning UsageCause
 simulate_on uses (graph ∷ script ∷ []) =
     simulate_with (is_some (use_of (codes "--trace") uses)) graph script (number_by draw_option uses)
 simulate_on uses _ = Err BadWords
 
+-- what the words after `simulate` mean, by their parts
 abbrev pub simulate_of : Option Parts → Result Meaning UsageCause
 simulate_of = by_parts (λ parts. simulate_on parts.uses parts.positional)
 
@@ -116,14 +130,17 @@ simulate_of = by_parts (λ parts. simulate_on parts.uses parts.positional)
 abbrev pub generate_form : Form
 generate_form = record { options = draw_option.name ∷ size_option.name ∷ []; flags = [] }
 
+-- what the words after `generate` mean with these numbers
 abbrev pub generate_with : Result (ℕ × ℕ) UsageCause → Result Meaning UsageCause
 generate_with (Err cause) = Err cause
 generate_with (Ok (draw, size)) = Ok (Generate draw size)
 
+-- what the uses and the positional words after `generate` mean
 abbrev pub generate_on : List Use → List Word → Result Meaning UsageCause
 generate_on uses [] = generate_with (both (number_by draw_option uses) (number_by size_option uses))
 generate_on uses _ = Err BadWords
 
+-- what the words after `generate` mean, by their parts
 abbrev pub generate_of : Option Parts → Result Meaning UsageCause
 generate_of = by_parts (λ parts. generate_on parts.uses parts.positional)
 

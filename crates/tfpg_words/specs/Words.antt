@@ -3,6 +3,7 @@ use Rattle.std.specs.Prelude.{ℕ, ◌+◌, ◌==◌, Bool, false, List, [], ◌
 use Rattle.std.specs.Prelude.{bytes_eq, codes, count_by, drop, if◌then◌else◌, nat_le, option_map, take}
 use Rattle.std.specs.List.{list_all, list_any, position}
 
+-- a word of the command line, by its bytes
 abbrev pub Word : Type 0
 Word = List ℕ
 
@@ -21,6 +22,7 @@ is_option_word (first ∷ second ∷ others) = first == 45
 abbrev pub cut_at_equals : Word → Option (Word × Word)
 cut_at_equals word = option_map (λ index. (take index word, drop (index + 1) word)) (position (λ byte. byte == 61) word)
 
+-- the word is one of these names
 abbrev pub is_word_among : List Word → Word → Bool
 is_word_among names word = list_any (λ name. bytes_eq name word) names
 
@@ -45,6 +47,7 @@ option_turn form word (Some (name, value)) = if is_word_among form.options name 
 option_turn form word None =
     if is_word_among form.options word then Waits word else (if is_word_among form.flags word then Used word [] else Wrong)
 
+-- what the word is, by what the next word may be
 abbrev pub use_of_word : Form → Next → Word → WordUse
 use_of_word form OnlyPositional word = Positional word
 use_of_word form (ValueOf option) word = if is_option_word word then Wrong else Used option word
@@ -58,16 +61,20 @@ pub record Use : Type 0 where
   pub name : Word
   pub value : Word
 
+-- The uses of options and flags, and the positional words, in their order.
 pub record Parts : Type 0 where
   pub uses : List Use
   pub positional : List Word
 
+-- the parts of no word
 abbrev pub no_parts : Parts
 no_parts = record { uses = []; positional = [] }
 
+-- the parts with one more use before the others
 abbrev pub with_use : Word → Word → Parts → Parts
 with_use name value parts = record parts { uses = (record { name = name; value = value }) ∷ parts.uses }
 
+-- the parts with one more positional word before the others
 abbrev pub with_positional : Word → Parts → Parts
 with_positional word parts = record parts { positional = word ∷ parts.positional }
 
@@ -94,9 +101,11 @@ abbrev pub are_once : Form → List Use → Bool
 are_once form uses =
     list_all (λ name. nat_le (count_by (λ used. bytes_eq used.name name) uses) 1) (form.options ++ form.flags)
 
+-- the parts, where no option and no flag is used twice
 abbrev pub if_once : Form → Parts → Option Parts
 if_once form parts = if are_once form parts.uses then Some parts else None
 
+-- the parts that there are, where no option and no flag is used twice
 abbrev pub once : Form → Option Parts → Option Parts
 once form None = None
 once form (Some parts) = if_once form parts

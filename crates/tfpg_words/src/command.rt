@@ -6,7 +6,8 @@ use tfpg_base::Text;
 #[derive(Drop)]
 pub enum Command {
     /// `diagnose [--k N] [--budget N] GRAPH`: reports on a log, for the sets of at most `k` failure modes, with at most
-    /// `budget` splits for each set and round. `k` is at most 64, 2 by default; `budget` is 1 to 10^12, 1000 by default.
+    /// `budget` splits for each set and round. `k` is at most [`MAX_K`](crate::MAX_K), [`DEFAULT_K`](crate::DEFAULT_K) by
+    /// default; `budget` is 1 to [`MAX_BUDGET`](crate::MAX_BUDGET), [`DEFAULT_BUDGET`](crate::DEFAULT_BUDGET) by default.
     Diagnose {
         k: u32,
         budget: u64,
@@ -18,15 +19,16 @@ pub enum Command {
         log: Text,
     },
     /// `simulate [--draw N] [--trace] GRAPH SCRIPT`: the log of a script, or with `--trace` its map. `draw` is at most
-    /// 10^12, 1 by default.
+    /// [`MAX_DRAW`](crate::MAX_DRAW), [`DEFAULT_DRAW`](crate::DEFAULT_DRAW) by default.
     Simulate {
         draw: u64,
         trace: bool,
         graph: Text,
         script: Text,
     },
-    /// `generate [--draw N] [--size N]`: the summary of a generated case. `draw` is at most 10^12, 1 by default; `size` is 1 to 100, 10 by
-    /// default.
+    /// `generate [--draw N] [--size N]`: the summary of a generated case. `draw` is at most [`MAX_DRAW`](crate::MAX_DRAW),
+    /// [`DEFAULT_DRAW`](crate::DEFAULT_DRAW) by default; `size` is 1 to [`MAX_CASE_SIZE`](tfpg_base::MAX_CASE_SIZE),
+    /// [`DEFAULT_SIZE`](crate::DEFAULT_SIZE) by default.
     Generate {
         draw: u64,
         size: u32,

@@ -1,7 +1,8 @@
 //! The words of the command line: which command they ask for, and with which values.
 //!
-//! [`plan`] reads the words after the program's name. It returns a [`Command`], or the first [`UsageCause`] by which the
-//! words are refused. [`laws`] says between which limits the numbers of a command are.
+//! [`plan`] reads the words after the program's name. It returns a [`Command`], in a [`Planned`]. A [`PlanFault`] says why
+//! there is none: the first [`UsageCause`] that holds of the words, or out of memory. [`DEFAULT_K`] and the other constants
+//! are the defaults and the limits of the options. [`laws`] says between which limits the numbers of a command are.
 //!
 //! ```
 //! // The words `diagnose --k 1 engine.tfpg`.

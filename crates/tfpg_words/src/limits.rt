@@ -1,7 +1,9 @@
 //! The limits of the numbers that the words give, and what the numbers are where the words give none.
 
-/// The greatest `k`.
-pub const MAX_K: u64 = 64;
+use tfpg_base::MAX_MEMBERS;
+
+/// The greatest `k`: a set of failure modes has no more members.
+pub const MAX_K: u64 = MAX_MEMBERS as u64;
 
 /// The greatest budget.
 pub const MAX_BUDGET: u64 = 1_000_000_000_000;

@@ -26,7 +26,7 @@ pub(crate) struct Parts<'a> {
 }
 
 impl<'a> Parts<'a> {
-    /// Takes the words apart, where they are of the form. Takes time in the number of the words.
+    /// Takes the words apart, where they are of the form. Takes time linear in the number of the words.
     pub(crate) fn of(
         alloc: Global,
         form: &Form,

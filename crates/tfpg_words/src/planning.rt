@@ -53,7 +53,8 @@ const SIZE: NumberOption = NumberOption {
 ///
 /// An option stands as `--name value` or `--name=value`, at most once, anywhere after the command; a flag stands as
 /// `--name`. The first `--` makes all later words positional. Every other word that begins with a hyphen and has another
-/// byte is an option word, and never a value nor a positional word. Takes time in the length of the words.
+/// byte is an option word, and never a value nor a positional word. Takes time linear in the length of the
+/// words.
 ///
 /// # Errors
 ///

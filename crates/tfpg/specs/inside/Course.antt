@@ -2,11 +2,11 @@
 use Rattle.std.specs.Prelude.{◌+◌, ◌≡◌, ◌⊎◌, ℕ, ◌≤◌, List, length, take, Some, None, Ok}
 use Rattle.std.specs.List.{AllByRecursion}
 use Rattle.tfpg_base.specs.declared.line.Line.TheVariants as line
-use Rattle.tfpg_base.specs.Lines.{Reading, Buffered, LinesRepresent, lines_of}
+use Rattle.tfpg_base.specs.Lines.{Reading, LinesState, LinesRepresent, lines_of}
 use Rattle.tfpg_base.specs.declared.limits.TheConstants.{MAX_BYTES}
 use Rattle.tfpg_base.specs.Outside.{Takes, Puts, IsAtEnd}
 use Rattle.tfpg_graph.specs.Graph.{Tfpg}
-use Rattle.tfpg_engine.specs.Engining.{Engining}
+use Rattle.tfpg_engine.specs.EngineState.{EngineState}
 use Rattle.tfpg_report.specs.Blocks.{Block}
 use Rattle.tfpg_check.specs.Report.{AreBlocks, report_text, progress_of}
 use Rattle.tfpg.specs.declared.course.Turn.{Turn}
@@ -15,12 +15,12 @@ use Rattle.tfpg.specs.ForNow.{LosesNone}
 use Rattle.tfpg.specs.Saying.{RoundsSay}
 use Rattle.tfpg.specs.inside.LineBlocks.{EngineReports}
 use Rattle.tfpg.specs.Run.{Diagnoses}
-use Rattle.tfpg.specs.Streams.{Streams, HasNoFault}
+use Rattle.tfpg.specs.Streams.{Streams, CountsUnchanged}
 
 -- A diagnosis that began with the streams before has come to this: each line that the reader has returned has its
 -- block, which is written, and nothing else was written but the head. Nothing has failed.
-pub record IsDiagnosing (graph : Tfpg) (k budget : ℕ) (before now : Streams) (lines : Buffered)
-    (engine : Engining) : Type 0 where
+pub record IsDiagnosing (graph : Tfpg) (k budget : ℕ) (before now : Streams) (lines : LinesState)
+    (engine : EngineState) : Type 0 where
   pub reading : Reading
   pub takes : Takes before.input now.input reading.taken
   pub few : length reading.taken ≤ MAX_BYTES
@@ -33,10 +33,10 @@ pub record IsDiagnosing (graph : Tfpg) (k budget : ℕ) (before now : Streams) (
   pub no_losses : AllByRecursion LosesNone blocks
   pub say : RoundsSay graph k budget reading.given blocks
   pub reports : EngineReports graph k budget engine (progress_of graph reading.given blocks)
-  pub no_fault : HasNoFault before now
+  pub no_fault : CountsUnchanged before now
 
 -- What a turn after the line of this number leads to: the diagnosis is under way still, one line on; or it is done.
-abbrev pub ComesTo : Tfpg → ℕ → ℕ → Streams → Streams → ℕ → Buffered → Engining → Turn → Type 0
+abbrev pub ComesTo : Tfpg → ℕ → ℕ → Streams → Streams → ℕ → LinesState → EngineState → Turn → Type 0
 ComesTo graph k budget before now number lines engine Written =
     IsDiagnosing graph k budget before now lines engine × (lines.number ≡ number + 1)
 ComesTo graph k budget before now number lines engine Ended = Diagnoses graph k budget before now (Ok tt)

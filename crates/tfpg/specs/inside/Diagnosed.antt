@@ -1,16 +1,13 @@
 -- What a diagnosis of lines in memory has found.
-use Rattle.std.specs.Prelude.{◌≡◌, ℕ, ◌-◌, List, length, Option, slice_get}
+use Rattle.std.specs.Prelude.{◌≡◌, ℕ, List, length}
+use Rattle.tfpg_base.specs.Choice.{last_of}
 use Rattle.tfpg_graph.specs.Graph.{Tfpg}
 use Rattle.tfpg_log.specs.LogOfLines.{log_of_lines}
 use Rattle.tfpg_evidence.specs.declared.round.Round.{Round}
-use Rattle.tfpg_engine.specs.Engining.{EngineRepresents}
+use Rattle.tfpg_engine.specs.EngineState.{EngineRepresents}
 use Rattle.tfpg.specs.declared.diagnosis.Diagnosis.{Diagnosis}
 use Rattle.tfpg.specs.declared.limits.TheConstants.{GENERATED_K, GENERATED_BUDGET}
 use Rattle.tfpg.specs.Diagnosed.{AreRoundsOf}
-
--- the last of these rounds
-abbrev pub last_round : List Round → Option Round
-last_round rounds = slice_get rounds (length rounds - 1)
 
 -- The diagnosis of the graph has taken these lines, and gave a round for each.
 pub record HasDiagnosed (graph : Tfpg) (lines : List (List ℕ)) (diagnosis : Diagnosis) : Type 0 where
@@ -22,4 +19,4 @@ pub record HasDiagnosed (graph : Tfpg) (lines : List (List ℕ)) (diagnosis : Di
   pub rounds : List Round
   pub represents : EngineRepresents diagnosis.engine rounds
   pub rounds_are : AreRoundsOf graph GENERATED_K GENERATED_BUDGET lines rounds
-  pub last_is : diagnosis.last ≡ last_round rounds
+  pub last_is : diagnosis.last ≡ last_of rounds

@@ -43,17 +43,11 @@ abbrev pub stream_fault_of_lines : LineFault → StreamFault
 stream_fault_of_lines lines.ReadFault = streams.ReadFault
 stream_fault_of_lines lines.TooMuchInput = streams.TooMuchInput
 
--- why the input gives no map, where this is the fault of the reader of lines
-abbrev pub no_map_of_lines : LineFault → NoMap
-no_map_of_lines lines.ReadFault = maps.ReadFault
-no_map_of_lines lines.TooMuchInput = maps.TooMuchInput
-
 -- why a map is not judged whose input gives none
 abbrev pub judge_fault_of_no_map : NoMap → JudgeFault
 judge_fault_of_no_map (maps.Refused line) = judge.BadMap line
-judge_fault_of_no_map maps.ReadFault = judge.ReadFault
-judge_fault_of_no_map maps.TooMuchInput = judge.TooMuchInput
-judge_fault_of_no_map maps.NoMemory = judge.NoMemory
+judge_fault_of_no_map (maps.Lines fault) = judge.Stream (stream_fault_of_lines fault)
+judge_fault_of_no_map maps.NoMemory = judge.Stream streams.NoMemory
 
 -- the end of a run that has no table of hypotheses
 abbrev pub end_of_table_fault : TableFault → End
@@ -69,11 +63,6 @@ end_of_plan_fault plan.NoMemory = ends.NoMemory
 abbrev pub simulate_fault_of_sim : SimFault → SimulateFault
 simulate_fault_of_sim (sim.BadScript line) = simulate.BadScript line
 simulate_fault_of_sim sim.NoMemory = simulate.NoMemory
-
--- the end of a run whose work has this result
-abbrev pub end_of_work : Result (Unit {0}) End → End
-end_of_work (Ok done) = ends.Done
-end_of_work (Err end) = end
 
 -- Why the file of this name was not fetched: the shelf failed; the file has more than 2^24 bytes; or memory ran out.
 abbrev pub IsFileFault : ShelfState → ShelfState → List ℕ → ShelfFault → Type 0

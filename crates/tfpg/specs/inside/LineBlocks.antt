@@ -3,7 +3,7 @@ use Rattle.std.specs.Prelude.{◌≡◌, ℕ, List}
 use Rattle.tfpg_graph.specs.Graph.{Tfpg}
 use Rattle.tfpg_graph.specs.Valid.{IsValid}
 use Rattle.tfpg_evidence.specs.declared.round.Round.{Round}
-use Rattle.tfpg_engine.specs.Engining.{Engining, EngineRepresents}
+use Rattle.tfpg_engine.specs.EngineState.{EngineState, EngineRepresents}
 use Rattle.tfpg_report.specs.Blocks.{Block, block_text}
 use Rattle.tfpg_check.specs.Report.{Progress, IsBlock, progress_after}
 use Rattle.tfpg.specs.ForNow.{LosesNone}
@@ -11,7 +11,7 @@ use Rattle.tfpg.specs.Saying.{BlockSays}
 
 -- The engine is of this graph, of sets of at most k failure modes and of this budget. It has the log of this progress,
 -- and has returned its rounds.
-pub record EngineReports (graph : Tfpg) (k budget : ℕ) (engine : Engining) (progress : Progress) : Type 0 where
+pub record EngineReports (graph : Tfpg) (k budget : ℕ) (engine : EngineState) (progress : Progress) : Type 0 where
   pub graph_is : engine.graph ≡ graph
   pub k_is : engine.k ≡ k
   pub budget_is : engine.budget ≡ budget
@@ -19,14 +19,14 @@ pub record EngineReports (graph : Tfpg) (k budget : ℕ) (engine : Engining) (pr
   pub represents : EngineRepresents engine progress.rounds
 
 -- the engine is of a valid graph, and represents some rounds
-pub record IsEngineReady (engine : Engining) : Type 0 where
+pub record IsEngineReady (engine : EngineState) : Type 0 where
   pub valid : IsValid engine.graph
   pub rounds : List Round
   pub represents : EngineRepresents engine rounds
 
 -- The bytes are the block of a line, and the engine represents the progress after it.
 pub record HasBlock (graph : Tfpg) (k budget : ℕ) (before : Progress) (number : ℕ) (line bytes : List ℕ)
-    (engine : Engining) : Type 0 where
+    (engine : EngineState) : Type 0 where
   pub block : Block
   pub is_block : IsBlock graph k budget before number line block
   pub no_losses : LosesNone block

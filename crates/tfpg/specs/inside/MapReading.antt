@@ -1,7 +1,7 @@
 -- Reading the map of the input, under way and ended.
 use Rattle.std.specs.Prelude.{◌≡◌, ◌⊎◌, ℕ, ◌+◌, ◌<◌, ◌≤◌, List, length, take, Some, None, Result, Ok, Err}
 use Rattle.tfpg_base.specs.declared.line.Line.TheVariants as line
-use Rattle.tfpg_base.specs.Lines.{Reading, Buffered, LinesRepresent, lines_of, whole_lines}
+use Rattle.tfpg_base.specs.Lines.{Reading, LinesState, LinesRepresent, lines_of, whole_lines}
 use Rattle.tfpg_base.specs.declared.limits.TheConstants.{MAX_BYTES}
 use Rattle.tfpg_base.specs.Outside.{SourceState, Rose, Takes, IsAtEnd}
 use Rattle.tfpg_graph.specs.Graph.{Tfpg}
@@ -12,13 +12,14 @@ use Rattle.tfpg.specs.Map.{BeginsMap}
 use Rattle.tfpg.specs.declared.map.Map.{Map}
 use Rattle.tfpg.specs.declared.map.MapReader.{MapReader}
 use Rattle.tfpg.specs.declared.map.NoMap.{NoMap}
-use Rattle.tfpg.specs.declared.map.NoMap.TheVariants.{Refused, ReadFault, TooMuchInput, NoMemory}
+use Rattle.tfpg.specs.declared.map.NoMap.TheVariants.{Refused, Lines, NoMemory}
+use Rattle.tfpg_base.specs.declared.line.LineFault.TheVariants.{ReadFault, TooMuchInput}
 use Rattle.tfpg.specs.declared.map_reading.MapTurn.{MapTurn}
 use Rattle.tfpg.specs.declared.map_reading.MapTurn.TheVariants.{Read, Ended}
 use Rattle.tfpg.specs.inside.MapLines.{MapRepresents}
 
 -- Reading that began with this input has come to this: each line that was returned is read, and nothing has failed.
-pub record IsReadingMap (graph : Tfpg) (before now : SourceState) (lines : Buffered) (map : MapReader) : Type 0 where
+pub record IsReadingMap (graph : Tfpg) (before now : SourceState) (lines : LinesState) (map : MapReader) : Type 0 where
   pub reading : Reading
   pub takes : Takes before now reading.taken
   pub few : length reading.taken ≤ MAX_BYTES
@@ -38,7 +39,7 @@ pub record HasReadAll (graph : Tfpg) (before now : SourceState) (map : MapReader
   pub no_fault : now.faults ≡ before.faults
 
 -- What a turn after the line of this number leads to: reading is under way still, one line on; or all is read.
-abbrev pub ReadsOn : Tfpg → SourceState → SourceState → ℕ → Buffered → MapReader → MapTurn → Type 0
+abbrev pub ReadsOn : Tfpg → SourceState → SourceState → ℕ → LinesState → MapReader → MapTurn → Type 0
 ReadsOn graph before now number lines map Read = IsReadingMap graph before now lines map × (lines.number ≡ number + 1)
 ReadsOn graph before now number lines map Ended = HasReadAll graph before now map
 
@@ -57,8 +58,8 @@ ReturnsMap reader (Err fault) = (reader.set ≡ None) × (fault ≡ Refused 1)
 -- what shows why there is no map, where these bytes were taken
 abbrev pub ShowsNoMap : Tfpg → SourceState → SourceState → List ℕ → NoMap → Type 0
 ShowsNoMap graph before now taken (Refused number) = RefusesMap graph before now taken number
-ShowsNoMap graph before now taken ReadFault = Rose before.faults now.faults × BeginsMap graph (whole_lines taken)
-ShowsNoMap graph before now taken TooMuchInput =
+ShowsNoMap graph before now taken (Lines ReadFault) = Rose before.faults now.faults × BeginsMap graph (whole_lines taken)
+ShowsNoMap graph before now taken (Lines TooMuchInput) =
     (length taken ≡ MAX_BYTES + 1) × BeginsMap graph (whole_lines (take MAX_BYTES taken))
 ShowsNoMap graph before now taken NoMemory = Unit {0}
 

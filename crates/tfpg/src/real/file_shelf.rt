@@ -3,13 +3,12 @@
 ghost use Rattle.std.specs.Prelude.{◌≡◌, ◌<◌, ◌≤◌, ◌++◌, [], ℕ, List, length, vec_capacity, IfSome, OnOk, IsErrOf};
 ghost use Rattle.tfpg_base.specs.declared.limits.TheConstants.{LONGEST_FILE};
 
-use super::fault_count::FaultCount;
 use super::tries::read_uncut;
 use std::alloc::Global;
 use std::fs;
 use std::io::Read;
 use std::rt::Files;
-use tfpg_base::{Shelf, ShelfFault, append_to_file};
+use tfpg_base::{FaultCount, Shelf, ShelfFault, append_to_file};
 
 /// How many bytes of a file are read at once.
 const BLOCK: usize = 4096;
@@ -61,7 +60,7 @@ impl<'a, R: Files> Shelf for FileShelf<'a, R> {
     }
 }
 
-/// Reads the file of that name into the empty room.
+/// Reads the file of that name into the empty buffer.
 fn read_file<R: Files>(files: &R, name: &str, into: &mut Vec<u8>) -> Result<(), ShelfFault>
     requires { into.old.items ≡ [] }
     ensures small { OnOk result (length into.new.items ≤ LONGEST_FILE) }

@@ -2,12 +2,11 @@
 
 ghost use Rattle.std.specs.Prelude.{◌≡◌, false};
 
-use super::fault_count::FaultCount;
 use super::steady::SteadyRead;
 use super::tries::read_uncut;
-use tfpg_base::{Failed, Source};
+use tfpg_base::{Failed, FaultCount, Source};
 
-/// A reader as a source. Each call reads once, into the caller's room, so it returns as soon as there are bytes.
+/// A reader as a source. Each call reads once, into the caller's buffer, so it returns as soon as there are bytes.
 #[derive(Drop)]
 pub(crate) struct StandardInput<R> {
     reader: R,

@@ -2,10 +2,9 @@
 
 ghost use Rattle.std.specs.Prelude.{◌≡◌};
 
-use super::fault_count::FaultCount;
 use super::steady::SteadyWrite;
 use super::tries::write_uncut;
-use tfpg_base::{Failed, Sink};
+use tfpg_base::{Failed, FaultCount, Sink};
 
 /// A writer as a sink. The writer is to pass its bytes on in each call, as standard output does, so that a reader sees each
 /// block at once: nothing is flushed.

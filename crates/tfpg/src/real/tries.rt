@@ -7,7 +7,7 @@ ghost use Rattle.std.specs.Io.KnownBytes.{ReadConsumes, WriteAppends};
 use std::io;
 use std::io::{Error, ErrorKind, Read, Write};
 
-/// Reads once, and as often again as a signal cuts the read off. The count is 0 only at the end or for no room.
+/// Reads once, and as often again as a signal cuts the read off. The count is 0 only at the end or for an empty buffer.
 pub(crate) fn read_uncut<R: Read>(reader: &mut R, room: &mut [u8]) -> io::Result<usize>
     ensures within { IfOk result (λ count. count ≤ length room.old) }
     ensures bytes { ReadConsumes (R.remaining reader.old) (R.remaining reader.new) result room.new }

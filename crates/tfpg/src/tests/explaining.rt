@@ -269,7 +269,7 @@ fn first_wrong_verdict(
 }
 
 /// The name of the first text that is not refused at its line.
-fn first_wrong_refusal(
+fn first_map_not_refused(
     alloc: Global,
     rows: &[(&'static str, &[u8], u64)],
 ) -> Result<Option<&'static str>, AllocError> {
@@ -295,7 +295,7 @@ fn judges_maps(rt: HostRuntime) -> Result<(), Fail> {
 
 #[test]
 fn refuses_what_is_no_map(rt: HostRuntime) -> Result<(), Fail> {
-    assert_eq!(rt; first_wrong_refusal(rt.alloc(), &NO_MAPS)?, None);
+    assert_eq!(rt; first_map_not_refused(rt.alloc(), &NO_MAPS)?, None);
     Ok(())
 }
 

@@ -29,30 +29,12 @@ const SIMULATIONS: [(&str, &[u8], &[u8], &[u8]); 4] = [
     ),
 ];
 
-/// A name, a script with one fault, and the line of it.
-const FAULTS: [(&str, &[u8], u64); 18] = [
+/// A name, a script with one fault, and the line of it. The faults of scripts are tested at `simulate`; these show how a run
+/// ends.
+const FAULTS: [(&str, &[u8], u64); 3] = [
     ("no line", b"", 1),
-    ("an empty line", b"\n40 stop\n", 1),
-    ("no shape", b"5 start F1 F2\n40 stop\n", 1),
-    ("two spaces", b"5  tick\n40 stop\n", 1),
-    ("a word of a log", b"5 alarm A\n40 stop\n", 1),
-    ("no number", b"05 tick\n40 stop\n", 1),
-    ("a time that is too large", b"1000000000001 stop\n", 1),
-    ("a time that falls", b"5 tick\n4 stop\n", 2),
-    ("an unknown failure mode", b"5 start X\n40 stop\n", 1),
-    (
-        "a start of a node that is no failure mode",
-        b"5 start A\n40 stop\n",
-        1,
-    ),
-    ("an unknown mode", b"5 mode X\n40 stop\n", 1),
-    ("a node in place of a mode", b"5 mode A\n40 stop\n", 1),
     ("a second start", b"1 start F1\n2 start F1\n40 stop\n", 2),
-    ("a line after the stop", b"5 stop\n5 tick\n", 2),
-    ("a second stop", b"5 stop\n5 stop\n", 2),
-    ("no stop", b"5 tick\n", 2),
     ("no stop, and no last line end", b"1 tick\n5 tick", 3),
-    ("a carriage return", b"40 stop\r\n", 1),
 ];
 
 /// How the simulation of the files `g` and `s` of these texts ends, what it writes, and how many files were asked for, where the
@@ -95,7 +77,7 @@ fn first_wrong_text(
 }
 
 /// The name of the first script that is not refused at its line.
-fn first_wrong_refusal(
+fn first_script_not_refused(
     alloc: Global,
     rows: &[(&'static str, &[u8], u64)],
 ) -> Result<Option<&'static str>, AllocError> {
@@ -134,7 +116,7 @@ fn writes_the_log_and_the_map(rt: HostRuntime) -> Result<(), Fail> {
 
 #[test]
 fn refuses_a_script_at_its_first_fault(rt: HostRuntime) -> Result<(), Fail> {
-    assert_eq!(rt; first_wrong_refusal(rt.alloc(), &FAULTS)?, None);
+    assert_eq!(rt; first_script_not_refused(rt.alloc(), &FAULTS)?, None);
     Ok(())
 }
 

@@ -1,13 +1,15 @@
--- Laws of choices among optional values.
-use Rattle.std.proofs.Common.{◌≡◌, ℕ, zero, suc, List, [], ◌∷◌, ◌++◌, length, slice_get, Option, Some, None, Ok, Err, map, cond, Bool, true, false, inl, inr, refl, sym, ap, subst, ◌∙◌}
-use Rattle.std.specs.Option.{option_map, option_and_then}
+-- Laws of choices among optional values and results, and of tests.
+use Rattle.std.proofs.Common.{◌≡◌, ℕ, zero, suc, List, [], ◌∷◌, ◌++◌, length, slice_get, Option, Some, None, Ok, Err, map, cond, Bool, true, false, inl, inr, refl, sym, ap, subst, ◌∙◌, ◌⊎◌, ◌<◌, ◌≤◌, Result, arith, get_or}
+use Rattle.std.specs.Option.{option_map, option_and_then, is_some, IsSomeAnd, option_map_or, ok_or, IfSome, option_or, is_none}
 use Rattle.std.specs.List.{All, Contains}
-use Rattle.tfpg_base.proofs.lists.Elements.{Contains-head, Contains-tail, Contains-nil, Contains-cons_cases}
-use Rattle.tfpg_base.specs.Choice.{first_of, each_of, unless_refused}
+use Rattle.tfpg_base.proofs.lists.Elements.{Contains-head, Contains-tail, Contains-nil, Contains-cons_cases, slice_get-none}
+use Rattle.tfpg_base.specs.Choice.{first_of, each_of, item_at, unless_refused}
 use Rattle.std.proofs.lemmas.List.Elements.{All-nil, All-cons, All-head, All-tail}
-use Rattle.std.proofs.lemmas.Option.{same_Some, none-some}
-use Rattle.std.specs.Option.{is_some, IsSomeAnd}
+use Rattle.std.proofs.lemmas.Option.{same_Some, none-some, slice_get_within, slice_get-get_or, slice_get-map}
+use Rattle.std.proofs.lemmas.List.{length-map, map-append}
 use Rattle.std.specs.Bool.{then_some}
+use Rattle.std.proofs.lemmas.Bool.{false≢true}
+use Rattle.std.specs.Prelude.{unwrap_or, IsErrAnd, IfErr, OnErr}
 
 module _ {X : Type 0} where
   -- a value among the first is the first of all
@@ -21,18 +23,6 @@ module _ {X : Type 0} where
   first_of-append_none [] others is = refl
   first_of-append_none (Some found ∷ first) others is = absurd cc
   first_of-append_none (None ∷ first) others is = first_of-append_none first others is
-
-  -- where there is none among all, there is none among the first
-  pub first_of-none_first : (first others : List (Option X)) → first_of (first ++ others) ≡ None → first_of first ≡ None
-  first_of-none_first [] others is = refl
-  first_of-none_first (Some found ∷ first) others is = is
-  first_of-none_first (None ∷ first) others is = first_of-none_first first others is
-
-  -- and none among the others
-  pub first_of-none_others : (first others : List (Option X)) → first_of (first ++ others) ≡ None → first_of others ≡ None
-  first_of-none_others [] others is = is
-  first_of-none_others (Some found ∷ first) others is = absurd cc
-  first_of-none_others (None ∷ first) others is = first_of-none_others first others is
 
   -- values that there are, are there each
   pub each_of-some : (values : List X) → each_of (map Some values) ≡ Some values
@@ -128,14 +118,6 @@ module _ {X Y : Type 0} (f : X → Option Y) where
       (first.0 ∷ rest.0, ap (λ (o : Option Y). each_of (o ∷ map f xs)) first.1 ∙ ap (option_map (λ (ys : List Y). first.0 ∷ ys)) rest.1)
 
 module _ {X E : Type 0} where
-  -- a refusal refuses
-  pub unless_refused-some : (refusal : Option E) (cause : E) (value : X) → refusal ≡ Some cause → unless_refused refusal value ≡ Err cause
-  unless_refused-some refusal cause value is = ap (λ r. unless_refused r value) is
-
-  -- without one the value stands
-  pub unless_refused-none : (refusal : Option E) (value : X) → refusal ≡ None → unless_refused refusal value ≡ Ok value
-  unless_refused-none refusal value is = ap (λ r. unless_refused r value) is
-
   -- what is refused has that refusal
   pub refusal-from_err : (refusal : Option E) (value : X) (cause : E) → unless_refused refusal value ≡ Err cause → refusal ≡ Some cause
   refusal-from_err None value cause is = absurd cc
@@ -234,3 +216,168 @@ module _ {X Y : Type 0} where
 pub option_map-twice : {A B C : Type 0} (f : A → B) (g : B → C) (o : Option A) → option_map g (option_map f o) ≡ option_map (λ x. g (f x)) o
 option_map-twice f g None = refl
 option_map-twice f g (Some x) = refl
+
+-- a choice between a value and the same
+pub cond-same : {X : Type 0} (b : Bool) (x : X) → cond b x x ≡ x
+cond-same true x = refl
+cond-same false x = refl
+
+-- where there are two values, there is what is made of both
+pub is_some-both : {X Y Z : Type 0} (f : X → Y → Z) (first : Option X) (second : Option Y) → is_some first ≡ true → is_some second ≡ true
+    → is_some (option_and_then (λ x. option_map (λ y. f x y) second) first) ≡ true
+is_some-both f None second here there = absurd (false≢true here)
+is_some-both f (Some x) None here there = absurd (false≢true there)
+is_some-both f (Some x) (Some y) here there = refl
+
+module _ {X : Type 0} where
+  -- an option has no value, or it has one
+  pub option_cases : (o : Option X) → (o ≡ None) ⊎ ((x : X) × (o ≡ Some x))
+  option_cases None = inl refl
+  option_cases (Some x) = inr (x, refl)
+
+  -- an option has not both a value and none
+  pub some-not_none : (o : Option X) (x : X) → o ≡ Some x → o ≡ None → ⊥
+  some-not_none o x some none = cc
+
+  -- where there is none of all, a test whose value stands first fails, and there is none of the others
+  pub first_of-none_tested : (holds : Bool) (x : X) (others : List (Option X))
+      → first_of (then_some holds x ∷ others) ≡ None → (holds ≡ false) × (first_of others ≡ None)
+  first_of-none_tested true x others none = absurd cc
+  first_of-none_tested false x others none = (refl, none)
+
+  -- where there is no value, a test that gives one where it fails holds
+  pub cond-none_second : (b : Bool) (x : X) → cond b None (Some x) ≡ None → b ≡ true
+  cond-none_second true x none = refl
+  cond-none_second false x none = absurd cc
+
+-- where a chain of options has a value, so has its first
+pub is_some-option_and_then : {X Y : Type 0} (f : X → Option Y) (found : Option X) → is_some (option_and_then f found) ≡ true → is_some found ≡ true
+is_some-option_and_then f None is = cc
+is_some-option_and_then f (Some x) is = refl
+
+module _ {X : Type 0} where
+  -- the number of an item, counted from 1, is within its list
+  pub number_in : (list : Option (List X)) (number : ℕ) (x : X) → option_and_then (λ (xs : List X). item_at xs number) list ≡ Some x → (1 ≤ number) × (number ≤ option_map_or length list 0)
+  number_in None number x is = cc
+  number_in (Some xs) zero x is = cc
+  number_in (Some xs) (suc before) x is = let within = slice_get_within xs before x is in (omega arith, omega arith)
+
+  -- and a number from 1 on that no item has is past the list
+  pub number_out : (list : Option (List X)) (number : ℕ) → option_and_then (λ (xs : List X). item_at xs number) list ≡ None → 1 ≤ number → option_map_or length list 0 < number
+  number_out None number is low = omega arith
+  number_out (Some xs) zero is low = absurd (omega arith)
+  number_out (Some xs) (suc before) is low = let past = slice_get-none xs before is in omega arith
+
+module _ {X E : Type 0} where
+  -- a value is no fault
+  pub ok-err : (x : X) (e : E) → ◌≡◌ {A = Result X E} (Ok x) (Err e) → ⊥
+  ok-err x e is = cc
+
+  -- equal results have equal faults
+  pub same_Err : (fault other : E) → ◌≡◌ {A = Result X E} (Err fault) (Err other) → fault ≡ other
+  same_Err fault other is = cc
+
+module _ {X Y : Type 0} (f : X → Option Y) where
+  image_at : (xs : List X) (index : ℕ) (d : X) → index < length xs → slice_get (map f xs) index ≡ Some (f (get_or xs index d))
+  image_at xs index d within = slice_get-map f xs index ∙ ap (option_map f) (slice_get-get_or xs index d within)
+
+  -- where each item has a value, that of the item at an index stands there
+  pub each_of-map_at : (xs : List X) (ys : List Y) (index : ℕ) (d : X) → index < length xs → each_of (map f xs) ≡ Some ys → f (get_or xs index d) ≡ slice_get ys index
+  each_of-map_at xs ys index d within each = by (slice_get ys index) (sym (image_at xs index d within) ∙ each_of-at (map f xs) ys index each)
+    where
+      by : (o : Option Y) → Some (f (get_or xs index d)) ≡ option_map Some o → f (get_or xs index d) ≡ o
+      by None at = absurd cc
+      by (Some y) at = cc
+
+  -- where an item has no value, not each has one
+  pub each_of-map_none : (xs : List X) (index : ℕ) (d : X) → index < length xs → f (get_or xs index d) ≡ None → each_of (map f xs) ≡ None
+  each_of-map_none xs index d within none = each_of-none (map f xs) index (image_at xs index d within ∙ ap Some none)
+
+  -- there are as many values as items
+  pub length-each_of_map : (xs : List X) (ys : List Y) → each_of (map f xs) ≡ Some ys → length ys ≡ length xs
+  length-each_of_map xs ys each = length-each_of (map f xs) ys each ∙ length-map xs f
+
+  -- one more item that has a value
+  pub each_of-map_push : (xs : List X) (x : X) (ys : List Y) (y : Y) → each_of (map f xs) ≡ Some ys → f x ≡ Some y → each_of (map f (xs ++ x ∷ [])) ≡ Some (ys ++ y ∷ [])
+  each_of-map_push xs x ys y each is =
+      ap each_of (map-append f xs (x ∷ [])) ∙ ap (λ (o : Option Y). each_of (map f xs ++ o ∷ [])) is ∙ each_of-push (map f xs) ys y each
+
+module _ {X Y : Type 0} where
+  -- a chain that gives a value for each value is a map
+  pub option_and_then-always : (f : X → Y) (o : Option X) → option_and_then (λ x. Some (f x)) o ≡ option_map f o
+  option_and_then-always f None = refl
+  option_and_then-always f (Some x) = refl
+
+  -- what holds of what a function gives of each value holds of what a chain gives
+  pub IfSome-option_and_then : (P : Y → Type 0) (f : X → Option Y) (o : Option X) → ((x : X) → o ≡ Some x → IfSome (f x) P) → IfSome (option_and_then f o) P
+  IfSome-option_and_then P f None each = tt
+  IfSome-option_and_then P f (Some x) each = each x refl
+
+  -- what holds of the image of each value holds of the image
+  pub IfSome-option_map : (P : Y → Type 0) (f : X → Y) (o : Option X) (y : Y) → IfSome o (λ x. P (f x)) → option_map f o ≡ Some y → P y
+  IfSome-option_map P f None y holds at = absurd cc
+  IfSome-option_map P f (Some x) y holds at = subst P (same_Some (f x) y at) holds
+
+module _ {X : Type 0} where
+  -- what holds of each value that an option can have holds of the one that it has
+  pub IfSome-from : (P : X → Type 0) (o : Option X) → ((x : X) → o ≡ Some x → P x) → IfSome o P
+  IfSome-from P None each = tt
+  IfSome-from P (Some x) each = each x refl
+
+  -- what holds of a value holds of it where a test gives it
+  pub IfSome-then_some : (P : X → Type 0) (test : Bool) (x : X) → P x → IfSome (then_some test x) P
+  IfSome-then_some P true x holds = holds
+  IfSome-then_some P false x holds = tt
+
+  -- a test that gives no value fails
+  pub cond-none_first : (test : Bool) (x : X) → cond test (Some x) None ≡ None → test ≡ false
+  cond-none_first true x none = absurd cc
+  cond-none_first false x none = refl
+
+module _ {X E : Type 0} where
+  -- an error in the place of a value is that error, and there is no value
+  pub ok_or-err : (o : Option X) (error other : E) → ok_or o error ≡ Err other → (o ≡ None) × (error ≡ other)
+  ok_or-err None error other is = let same : error ≡ other = cc in (refl, same)
+  ok_or-err (Some x) error other is = absurd cc
+
+  -- where there is no error, there is the value
+  pub ok_or-ok : (o : Option X) (error : E) (x : X) → ok_or o error ≡ Ok x → o ≡ Some x
+  ok_or-ok None error x is = absurd cc
+  ok_or-ok (Some y) error x is = let same : y ≡ x = cc in ap Some same
+
+-- where there is no image, the image of what stands in for the value is the one that stands in
+pub unwrap_or-option_map : {X Y : Type 0} (f : X → Y) (o : Option X) (x : X) → unwrap_or (option_map f o) (f x) ≡ f (unwrap_or o x)
+unwrap_or-option_map f None x = refl
+unwrap_or-option_map f (Some y) x = refl
+
+-- an option, or else none, is the option
+pub option_or-none : {X : Type 0} (o : Option X) → option_or o None ≡ o
+option_or-none None = refl
+option_or-none (Some x) = refl
+
+module _ {T E : Type 0} where
+  -- a result whose error is this one is this error
+  pub Err-from : (result : Result T E) (fault : E) → IsErrAnd result (λ e. e ≡ fault) → result ≡ Err fault
+  Err-from (Ok done) fault is = absurd is
+  Err-from (Err e) fault is = ap Err is
+
+  -- what holds of the error that a result has holds of its error
+  pub IfErr-from : (P : E → Type 0) (result : Result T E) (fault : E) → IsErrAnd result (λ e. e ≡ fault) → P fault → IfErr result P
+  IfErr-from P (Ok done) fault is holds = absurd is
+  IfErr-from P (Err e) fault is holds = subst P (sym is) holds
+
+  -- what follows of the one error that a result may have, from two facts that an error brings, holds of its error
+  pub IfErr-from_both : (P : E → Type 0) (result : Result T E) (fault : E) (A B : Type 0) → IfErr result (λ e. e ≡ fault) → OnErr result A → OnErr result B
+      → (A → B → P fault) → IfErr result P
+  IfErr-from_both P (Ok done) fault A B only one other holds = tt
+  IfErr-from_both P (Err e) fault A B only one other holds = subst P (sym only) (holds one other)
+
+-- a value stays one when it is mapped
+pub is_some-option_map : {X Y : Type 0} (f : X → Y) (o : Option X) → is_some (option_map f o) ≡ is_some o
+is_some-option_map f None = refl
+is_some-option_map f (Some x) = refl
+
+-- a map leaves whether there is nothing
+pub is_none-option_map : {X Y : Type 0} (f : X → Y) (o : Option X) → is_none (option_map f o) ≡ is_none o
+is_none-option_map f None = refl
+is_none-option_map f (Some x) = refl

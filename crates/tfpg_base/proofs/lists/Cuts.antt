@@ -1,9 +1,8 @@
 -- Lists that are cut in two ways.
-use Rattle.std.proofs.Common.{◌≡◌, ◌⊎◌, List, [], ◌∷◌, ◌++◌, refl, sym, inl, inr}
-use Rattle.std.proofs.Common.{ap, ◌∙◌, ℕ, zero, suc, ◌+◌, ◌<◌, ◌≤◌, length, take, drop, Some, arith, add-one}
+use Rattle.std.proofs.Common.{◌≡◌, ◌⊎◌, List, [], ◌∷◌, ◌++◌, refl, sym, inl, inr, ◌-◌, get_or, ap, ◌∙◌, ℕ, zero, suc, ◌+◌, ◌<◌, ◌≤◌, length, take, drop, Some, arith, add-one}
 use Rattle.std.specs.Prelude.{slice_get}
-use Rattle.std.proofs.lemmas.List.{append-nil, length-append, length-take, take-take, take_at}
-use Rattle.std.proofs.lemmas.Option.{none-some, same_Some}
+use Rattle.std.proofs.lemmas.List.{append-nil, length-append, length-take, take-take, take_at, get_or-take}
+use Rattle.std.proofs.lemmas.Option.{none-some, same_Some, slice_get_read, slice_get-get_or}
 
 -- the first cut is not after the other
 pub record Past {X : Type 0} (xs ys front back : List X) : Type 0 where
@@ -113,3 +112,41 @@ module _ {X : Type 0} where
   front_with xs given x same =
       let more : length (given ++ x ∷ []) ≡ length given + 1 = omega (arith, length-append given (x ∷ [])) in
       ap (λ (n : ℕ). take n xs) more ∙ same
+
+module _ {X : Type 0} where
+  -- all but the last of a list with one more at its head
+  pub take_but_last-cons : (x : X) (xs : List X) → 0 < length xs → take (length (x ∷ xs) - 1) (x ∷ xs) ≡ x ∷ take (length xs - 1) xs
+  take_but_last-cons x xs h =
+      let e : length (x ∷ xs) - 1 ≡ suc (length xs - 1) = omega arith in
+      rw e refl
+
+  -- the last of a list with one more at its head
+  pub get_or-last_cons : (x : X) (xs : List X) (d : X) → 0 < length xs → get_or (x ∷ xs) (length (x ∷ xs) - 1) d ≡ get_or xs (length xs - 1) d
+  get_or-last_cons x xs d h =
+      let e : length (x ∷ xs) - 1 ≡ suc (length xs - 1) = omega arith in
+      rw e refl
+
+  -- a list with one at its head is not empty
+  pub cons-not_nil : (x : X) (xs : List X) → x ∷ xs ≡ [] → ⊥
+  cons-not_nil x xs e = cc
+
+  -- the same, as code reads the item at an index
+  pub cut_read : (xs before : List X) (index : ℕ) (x : X) → before ≡ take index xs → index < length xs → x ≡ get_or xs index x
+      → xs ≡ before ++ x ∷ drop (index + 1) xs
+  cut_read xs before index x are within at =
+      cut_at xs index x (slice_get_read xs (length xs) index x refl within at)
+      ∙ (λ i. sym are i ++ x ∷ drop (sym (add-one index) i) xs)
+
+  -- the first so many of a list with more items go on from those of the list
+  pub take-append : (n : ℕ) (xs ys : List X) → (more : List X) × (take n (xs ++ ys) ≡ take n xs ++ more)
+  take-append zero xs ys = ([], refl)
+  take-append (suc n) [] ys = (take (suc n) ys, refl)
+  take-append (suc n) (x ∷ xs) ys = let rest = take-append n xs ys in (rest.0, ap (λ zs. x ∷ zs) rest.1)
+
+  -- the last of the first so many, as code reads it, stands at its index in the list
+  pub slice_get-last_taken : (xs ys : List X) (n : ℕ) (x : X) → suc n ≤ length xs → ys ≡ take (suc n) xs → x ≡ get_or ys (suc n - 1) x → slice_get xs n ≡ Some x
+  slice_get-last_taken xs ys n x within are is =
+      let number : suc n - 1 ≡ n = omega arith in
+      let there : x ≡ get_or xs n x =
+      is ∙ ap (λ (m : ℕ). get_or ys m x) number ∙ ap (λ (zs : List X). get_or zs n x) are ∙ get_or-take (suc n) xs n x (omega arith) in
+      slice_get-get_or xs n x (omega arith) ∙ ap Some (sym there)

@@ -1,7 +1,7 @@
 -- What can be decided: of numbers below a limit, of the members of a list, and of what is made of two facts.
-use Rattle.std.proofs.Common.{◌≡◌, ℕ, zero, suc, ◌<◌, ◌≤◌, Bool, true, false, List, [], ◌∷◌, Option, Some, None, ◌⊎◌, inl, inr, refl, sym, subst, arith}
+use Rattle.std.proofs.Common.{◌≡◌, ℕ, zero, suc, ◌<◌, ◌≤◌, Bool, true, false, nat_eq, List, [], ◌∷◌, Option, Some, None, ◌⊎◌, inl, inr, refl, sym, subst, arith, below_more}
 use Rattle.std.specs.Prelude.{IsTrue, All, Contains}
-use Rattle.std.proofs.lemmas.Bool.{false≢true, cases_lt}
+use Rattle.std.proofs.lemmas.Bool.{false≢true, cases_lt, eqb-true, eqb-false}
 use Rattle.std.proofs.lemmas.Bool.Decides.{eqb_tells}
 use Rattle.std.proofs.lemmas.List.Elements.{All-contains}
 use Rattle.tfpg_base.proofs.lists.Elements.{Contains-nil, Contains-tail, Contains-cons_cases, All-from_members}
@@ -18,13 +18,6 @@ pub record IsFirstBelow (P Q : ℕ → Type 0) (limit number : ℕ) : Type 0 whe
   pub holds : P number
   pub before : (earlier : ℕ) → earlier < number → Q earlier
 
--- what holds of each number below a limit and of the limit holds of each below the next one
-below_more : (Q : ℕ → Type 0) (limit : ℕ) → ((number : ℕ) → number < limit → Q number) → Q limit → (number : ℕ) → number < suc limit → Q number
-below_more Q limit before here number within = elim (cases_lt number limit) [
-  | inl lt ↦ before number lt
-  | inr ge ↦ (let same : limit ≡ number = omega (arith, ge, within) in subst Q same here)
-]
-
 -- Of two things one holds of each number. Then the one holds first of some number below the limit, or the other of all.
 pub first_below : (P Q : ℕ → Type 0) → ((number : ℕ) → P number ⊎ Q number) → (limit : ℕ) → ((number : ℕ) × IsFirstBelow P Q limit number) ⊎ ((number : ℕ) → number < limit → Q number)
 first_below P Q choice zero = inr (λ number below. absurd (omega (arith, below)))
@@ -32,7 +25,7 @@ first_below P Q choice (suc limit) = elim (first_below P Q choice limit) [
   | inl found ↦ inl (found.0, record { below = omega (arith, found.1.below); holds = found.1.holds; before = found.1.before })
   | inr before ↦ elim (choice limit) [
     | inl holds ↦ inl (limit, record { below = omega arith; holds = holds; before = before })
-    | inr here ↦ inr (below_more Q limit before here)
+    | inr here ↦ inr (λ number within. below_more Q limit before here number (omega (arith, within)))
   ]
 ]
 
@@ -139,3 +132,18 @@ module _ {X : Type 0} (P : X → Type 0) (decided : (x : X) → IsDecided (P x))
     | inl some ↦ inr (λ each. fails (each some.0 some.1 some.2))
     | inr none ↦ inl (λ x member holds. absurd (none (x, member, holds)))
   ]
+
+-- a number that cannot be missing is there
+pub Contains-from_never : (numbers : List ℕ) (number : ℕ) → ((Contains numbers number → ⊥) → ⊥) → Contains numbers number
+Contains-from_never [] number never = absurd (never (λ member. omega (arith, member.1)))
+Contains-from_never (first ∷ others) number never = by (nat_eq first number) refl (Contains-from_never others number)
+  where
+    by : (b : Bool) → nat_eq first number ≡ b → (((Contains others number → ⊥) → ⊥) → Contains others number) → Contains (first ∷ others) number
+    by true same rest = (0, omega arith, eqb-true first number same)
+    by false other rest =
+        Contains-tail first others number
+        (rest (λ missing. never (λ member.
+        elim (Contains-cons_cases first others number member) [
+          | inl here ↦ eqb-false first number other here
+          | inr later ↦ missing later
+        ])))

@@ -3,7 +3,7 @@ use Rattle.std.proofs.Common.{◌≡◌, ◌≢◌, ◌⊎◌, ℕ, ◌<◌, ◌
 use Rattle.std.specs.Prelude.{AllPairs, All, Contains, eqb}
 use Rattle.std.specs.List.{list_any}
 use Rattle.std.proofs.lemmas.List.Folds.{Any-from_list_any}
-use Rattle.std.proofs.lemmas.Bool.{eqb-true}
+use Rattle.std.proofs.lemmas.Bool.{eqb-true, cases_lt}
 use Rattle.std.proofs.lemmas.Bool.Decides.{Decides-eqb}
 use Rattle.std.proofs.lemmas.List.Elements.{All-nil, All-cons}
 use Rattle.std.proofs.lemmas.Map.Made.{IsDistinct-from_AllPairs}
@@ -70,3 +70,10 @@ module _ {X : Type 0} (same : X → X → Bool) (exact : (x y : X) → same x y 
       by : AllPairs ◌≢◌ (once xs) → (b : Bool) → list_any (same y) xs ≡ b → AllPairs ◌≢◌ (cond b (once xs) (y ∷ once xs))
       by others true at = others
       by others false at = AllPairs-cons ◌≢◌ y (once xs) (none_later y (once xs) xs at (λ x has. from_once xs x has)) others
+
+-- of items no two of which are the same, those at two indexes differ
+pub get_or-differ : {X : Type 0} (xs : List X) (d : X) (i j : ℕ) → AllPairs (λ a b. a ≢ b) xs → i < length xs → j < length xs → i ≢ j → get_or xs i d ≢ get_or xs j d
+get_or-differ xs d i j apart in_i in_j other same = elim (cases_lt i j) [
+  | inl less ↦ apart i j d less in_j same
+  | inr least ↦ apart j i d (omega (arith, least, other)) in_i (sym same)
+]

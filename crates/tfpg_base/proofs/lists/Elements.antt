@@ -1,12 +1,13 @@
 -- Laws of the elements of a list: which stand in it, and what holds of each two.
-use Rattle.std.proofs.Common.{◌≡◌, ℕ, suc, zero, List, [], ◌∷◌, ◌++◌, ◌<◌, ◌≤◌, length, ◌∙◌, ◌||◌, ◌&&◌, Bool, true, false, ap, get_or, take, drop, Some, None, slice_get, ◌⊎◌, inl, inr, refl, subst, length-append, arith}
-use Rattle.std.specs.List.{All, AllPairs, Contains, list_any, list_all}
-use Rattle.std.proofs.lemmas.List.{get_or_append_left, take-append-drop}
-use Rattle.std.proofs.lemmas.List.Elements.{All-tail, All-contains, Contains-get_or, Contains-append_left, Contains-append_right}
+use Rattle.std.proofs.Common.{◌≡◌, ℕ, suc, zero, List, [], ◌∷◌, ◌++◌, ◌<◌, ◌≤◌, length, ◌∙◌, ◌||◌, ◌&&◌, Bool, true, false, ap, get_or, take, drop, Some, None, slice_get, ◌⊎◌, inl, inr, refl, subst, length-append, arith, ◌+◌, cond, eqb, fold, sym, count_by, nat_lt}
+use Rattle.std.specs.List.{All, AllPairs, Contains, list_any, list_all, AllByRecursion}
+use Rattle.std.proofs.lemmas.List.{get_or_append_left, take-append-drop, get_or-take, get_or_default, length-take}
+use Rattle.std.proofs.lemmas.List.Elements.{All-tail, All-contains, Contains-get_or, Contains-append_left, Contains-append_right, Contains-append_cases, All-nil, All-cons}
 use Rattle.std.proofs.lemmas.Option.{get_or_from_slice_get, slice_get_within, slice_get-get_or}
 use Rattle.std.proofs.lemmas.List.Folds.{list_any_at}
-use Rattle.std.proofs.lemmas.List.Sums.{AllPass-from_list_all}
+use Rattle.std.proofs.lemmas.List.Sums.{AllPass-from_list_all, sum_by-cons}
 pub use Rattle.std.proofs.lemmas.List.Kept.{AllPairs-cons}
+use Rattle.std.proofs.lemmas.Bool.{or_parts, lt-ltb}
 
 module _ {X : Type 0} where
   -- what heads a list stands in it
@@ -157,3 +158,97 @@ module _ {X : Type 0} (xs : List X) (y : X) (ys : List X) where
   -- what relates each two relates each before it to it
   pub AllPairs-middle : (R : X → X → Type 0) → AllPairs R (xs ++ y ∷ ys) → All (λ x. R x y) xs
   AllPairs-middle R pairs = All-from_members (λ x. R x y) xs (λ x member. AllPairs-across R xs (y ∷ ys) x y pairs member (Contains-head y ys))
+
+module _ {X : Type 0} where
+  -- what stands in a list of one that a test chooses is that one, and the test passes
+  pub Contains-cond : (chosen : Bool) (only x : X) → Contains (cond chosen (only ∷ []) []) x → (chosen ≡ true) × (only ≡ x)
+  Contains-cond true only x member = (refl, Contains-one only x member)
+  Contains-cond false only x member = absurd (Contains-nil x member)
+
+  -- an item that a bit chooses stands once where the bit is 1, and else not at all
+  pub length-cond_bit : (bit : ℕ) (x : X) → bit < 2 → length (cond (eqb bit 1) (x ∷ []) []) ≡ bit
+  length-cond_bit zero x small = refl
+  length-cond_bit (suc zero) x small = refl
+  length-cond_bit (suc (suc bit)) x small = absurd (omega arith)
+
+-- where there is an item at an index of a list, there is one in each list of the same length
+pub slice_get-same_length : {X Y : Type 0} (xs : List X) (ys : List Y) (index : ℕ) (y : Y) → length ys ≡ length xs → slice_get ys index ≡ Some y → (x : X) × (slice_get xs index ≡ Some x)
+slice_get-same_length xs ys index y same at = slice_get-there xs index (omega (arith, slice_get_within ys index y at, same))
+
+module _ {X : Type 0} (front back : List X) (x other : X) where
+  -- what stands in a list with one more in its middle is that one, or stands in the list
+  pub Contains-middle_cases : Contains (front ++ x ∷ back) other → (x ≡ other) ⊎ Contains (front ++ back) other
+  Contains-middle_cases member = elim (Contains-append_cases front (x ∷ back) other member) [
+    | inl before ↦ inr (Contains-append_left front back other before)
+    | inr after ↦ elim (Contains-cons_cases x back other after) [
+      | inl same ↦ inl same
+      | inr later ↦ inr (Contains-append_right front back other later)
+    ]
+  ]
+
+  -- and what stands in the list stands there too
+  pub Contains-middle_keeps : Contains (front ++ back) other → Contains (front ++ x ∷ back) other
+  Contains-middle_keeps member = elim (Contains-append_cases front back other member) [
+    | inl before ↦ Contains-append_left front (x ∷ back) other before
+    | inr after ↦ Contains-append_right front (x ∷ back) other (Contains-tail x back other after)
+  ]
+
+module _ {X Y : Type 0} (f : X → Y) where
+  last_of : (held : Y) (x : X) (xs : List X) → (y : X) × Contains (x ∷ xs) y × (f y ≡ fold (λ last z. f z) held (x ∷ xs))
+  last_of held x [] = (x, Contains-head x [], refl)
+  last_of held x (next ∷ xs) =
+      let later = last_of (f x) next xs in
+      (later.0, Contains-tail x (next ∷ xs) later.0 later.1, later.2)
+
+  -- of a list that is not empty, what is kept last along it is the value of one of its elements
+  pub fold-last : (held : Y) (xs : List X) → 1 ≤ length xs → (x : X) × Contains xs x × (f x ≡ fold (λ last y. f y) held xs)
+  fold-last held [] some = absurd (omega (arith, some))
+  fold-last held (x ∷ xs) some = last_of held x xs
+
+-- what holds of each of some items and of one more holds of each of all, by recursion
+pub AllByRecursion-push : {X : Type 0} (P : X → Type 0) (xs : List X) (x : X) → AllByRecursion P xs → P x → AllByRecursion P (xs ++ x ∷ [])
+AllByRecursion-push P [] x are is = (is, tt)
+AllByRecursion-push P (first ∷ others) x are is = (are.0, AllByRecursion-push P others x are.1 is)
+
+-- what relates each two relates each item before an index to the one there
+pub AllPairs-before : {X : Type 0} (R : X → X → Type 0) (xs : List X) (i : ℕ) (d : X) → AllPairs R xs → i < length xs → All (λ x. R x (get_or xs i d)) (take i xs)
+AllPairs-before R xs i d pairs within = λ k e below.
+    let less : k < i = omega (arith, length-take i xs) in
+    subst (λ x. R x (get_or xs i d)) (sym (get_or-take i xs k e less))
+    (subst (λ x. R (get_or xs k e) x) (get_or_default xs i e d within) (pairs k i e less within))
+
+-- a list of one element
+pub one_element : {X : Type 0} (xs : List X) → length xs ≡ 1 → (x : X) × (xs ≡ x ∷ [])
+one_element [] h = absurd (omega arith)
+one_element (x ∷ []) h = (x, refl)
+one_element (x ∷ y ∷ xs) h = absurd (omega arith)
+
+module _ {X : Type 0} (test : X → Bool) where
+  -- one passes where some do
+  pub list_any-count : (xs : List X) → list_any test xs ≡ nat_lt 0 (count_by test xs)
+  list_any-count [] = refl
+  list_any-count (x ∷ xs) = by (test x) (count_by test xs) (list_any-count xs) ∙ ap (nat_lt 0) (sym (sum_by-cons (λ y. cond (test y) 1 0) x xs))
+    where
+      by : (b : Bool) (n : ℕ) → list_any test xs ≡ nat_lt 0 n → (b || list_any test xs) ≡ nat_lt 0 (cond b 1 0 + n)
+      by true n e = sym (lt-ltb 0 (1 + n) (omega arith))
+      by false n e = e ∙ ap (nat_lt 0) (omega arith)
+
+  -- where none passes, each fails
+  pub All-list_any_none : (xs : List X) → list_any test xs ≡ false → All (λ x. test x ≡ false) xs
+  All-list_any_none [] none = All-nil (λ x. test x ≡ false)
+  All-list_any_none (x ∷ xs) none =
+      let parts = or_parts (test x) (list_any test xs) none in
+      All-cons (λ y. test y ≡ false) x xs parts.0 (All-list_any_none xs parts.1)
+
+  -- one passes one of two tests where one passes the first or one the second
+  pub list_any-or : (other : X → Bool) (xs : List X)
+      → list_any (λ x. test x || other x) xs ≡ (list_any test xs || list_any other xs)
+  list_any-or other [] = refl
+  list_any-or other (x ∷ xs) = by (test x) (other x) (list_any test xs) (list_any other xs) (list_any (λ y. test y || other y) xs) (list_any-or other xs)
+    where
+      by : (b c d e f : Bool) → f ≡ (d || e) → ((b || c) || f) ≡ ((b || d) || (c || e))
+      by true c d e f same = refl
+      by false true true e f same = refl
+      by false true false e f same = refl
+      by false false true e f same = same
+      by false false false e f same = same

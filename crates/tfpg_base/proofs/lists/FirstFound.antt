@@ -1,5 +1,5 @@
 -- The first of a list that passes a test, and its index.
-use Rattle.std.proofs.Common.{◌≡◌, ℕ, zero, suc, ◌≤◌, Bool, true, false, cond, leb, List, [], ◌∷◌, ◌++◌, ◌+◌, ◌<◌, length, get_or, take, drop, Option, Some, None, position, All, Contains, refl, sym, ap, subst, ◌∙◌, inl, inr, arith}
+use Rattle.std.proofs.Common.{◌≡◌, ℕ, zero, suc, ◌≤◌, Bool, true, false, cond, leb, List, [], ◌∷◌, ◌++◌, ◌+◌, ◌<◌, length, get_or, take, drop, Option, Some, None, position, All, Contains, refl, sym, ap, subst, ◌∙◌, inl, inr, arith, map}
 use Rattle.std.specs.Prelude.{find, option_map, option_and_then, is_none, is_some, slice_get}
 use Rattle.std.proofs.lemmas.Bool.{false≢true, le-leb}
 use Rattle.std.proofs.lemmas.Bool.Decides.{leb_tells}
@@ -8,6 +8,7 @@ use Rattle.std.proofs.lemmas.List.Elements.{All-contains}
 use Rattle.std.proofs.lemmas.Option.{same_Some}
 use Rattle.tfpg_base.proofs.lists.Elements.{Contains-head, Contains-tail}
 use Rattle.tfpg_base.proofs.lists.Positions.{position-cons, All-none, position-All_fail}
+use Rattle.tfpg_base.proofs.lists.Sequences.{leb-suc}
 
 -- no index before this one
 abbrev pub is_from : ℕ → Option ℕ → Bool
@@ -17,15 +18,6 @@ is_from start (Some index) = leb start index
 from_start : (index : Option ℕ) → true ≡ is_from 0 index
 from_start None = refl
 from_start (Some index) = sym (le-leb 0 index (omega arith))
-
-pub leb-suc : (a b : ℕ) → leb a b ≡ leb (suc a) (suc b)
-leb-suc a b = elim (leb_tells a b) [
-  | inl le ↦ le.0 ∙ sym (le-leb (suc a) (suc b) (omega (arith, le.1)))
-  | inr lt ↦ elim (leb_tells (suc a) (suc b)) [
-    | inl le ↦ absurd (omega (arith, lt.1, le.1))
-    | inr more ↦ lt.0 ∙ sym more.0
-  ]
-]
 
 zero_first : (start : ℕ) → false ≡ leb (suc start) 0
 zero_first start = elim (leb_tells (suc start) 0) [
@@ -152,3 +144,9 @@ find_first test (y ∷ ys) zero x at passes before =
 find_first test (y ∷ ys) (suc k) x at passes before =
     ap (λ (b : Bool). cond b (Some y) (find test ys)) (before 0 y (omega arith) refl)
     ∙ find_first test ys k x at passes (λ j z lt there. before (suc j) z (omega (arith, lt)) there)
+
+module _ {X Y : Type 0} (f : X → Y) (test : Y → Bool) (rest : List Y) (fail : (x : X) → test (f x) ≡ false) where
+  -- images that all fail are passed over
+  pub find-map_fail : (xs : List X) → find test (map f xs ++ rest) ≡ find test rest
+  find-map_fail [] = refl
+  find-map_fail (x ∷ xs) = (λ i. cond (fail x i) (Some (f x)) (find test (map f xs ++ rest))) ∙ find-map_fail xs

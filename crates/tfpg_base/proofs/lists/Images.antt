@@ -1,10 +1,8 @@
 -- What holds of the images of a list's elements under a function.
-use Rattle.std.proofs.Common.{◌≡◌, ℕ, ◌<◌, Bool, ◌||◌, List, [], ◌∷◌, ◌++◌, length, map, get_or, Some, slice_get, inl, inr, ⊎_elim, refl, ap, sym, subst, arith}
-use Rattle.std.specs.List.{AllPairs, Contains, list_any, flat_map}
-use Rattle.std.proofs.lemmas.List.{get_or-map, length-map}
+use Rattle.std.proofs.Common.{◌≡◌, ℕ, ◌<◌, Bool, ◌||◌, List, [], ◌∷◌, ◌++◌, length, map, get_or, Some, slice_get, inl, inr, ⊎_elim, refl, ap, sym, subst, arith, ◌+◌, take, ◌∙◌}
+use Rattle.std.specs.List.{AllPairs, Contains, list_any, flat_map, All}
+use Rattle.std.proofs.lemmas.List.{get_or-map, length-map, map_more, map_push}
 use Rattle.tfpg_base.proofs.lists.Elements.{Contains-head, Contains-tail, Contains-cons_cases, Contains-nil}
-use Rattle.std.proofs.Common.{◌∙◌}
-use Rattle.std.specs.List.{All}
 use Rattle.std.proofs.lemmas.List.Elements.{All-head, All-tail, All-nil, All-cons, Contains-append_left, Contains-append_right}
 use Rattle.std.proofs.lemmas.Option.{slice_get-map}
 use Rattle.tfpg_base.proofs.lists.Choices.{option_map-some}
@@ -83,3 +81,8 @@ Contains-flat_map f (z ∷ xs) x y member there = elim (Contains-cons_cases z xs
 pub flat_map-same : {X Y : Type 0} (f g : X → List Y) (xs : List X) → All (λ x. f x ≡ g x) xs → flat_map f xs ≡ flat_map g xs
 flat_map-same f g [] same = refl
 flat_map-same f g (x ∷ xs) same = λ i. All-head (λ y. f y ≡ g y) x xs same i ++ flat_map-same f g xs (All-tail (λ y. f y ≡ g y) x xs same) i
+
+-- the images of images, with one item more
+pub map-map_more : {X Y Z : Type 0} (g : Y → Z) (f : X → Y) (xs : List X) (i : ℕ) (d : X) → i < length xs
+    → map g (map f (take (i + 1) xs)) ≡ map g (map f (take i xs)) ++ g (f (get_or xs i d)) ∷ []
+map-map_more g f xs i d within = ap (map g) (map_more f xs i d within) ∙ map_push g (map f (take i xs)) (f (get_or xs i d))

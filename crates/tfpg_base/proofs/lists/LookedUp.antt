@@ -1,10 +1,15 @@
 -- The values that there are of a list's items: whence they come, and how many pass a test.
-use Rattle.std.proofs.Common.{◌≡◌, ◌≢◌, ◌+◌, ◌<◌, Bool, false, cond, List, [], ◌∷◌, ◌++◌, length, map, All, Option, Some, None, is_none, option_map, filter_map, count_by, refl, ap, sym, ◌∙◌, arith}
+use Rattle.std.proofs.Common.{◌≡◌, ◌≢◌, ◌+◌, ◌<◌, Bool, false, cond, List, [], ◌∷◌, ◌++◌, length, map, All, Option, Some, None, is_none, option_map, filter_map, count_by, refl, ap, sym, ◌∙◌, arith, ℕ, get_or, slice_get}
 use Rattle.std.specs.List.{AllZip, list_any, cons_option, flat_map}
 use Rattle.std.specs.Option.{option_map_or, unwrap_or}
 use Rattle.std.proofs.lemmas.Bool.{or_parts}
 use Rattle.std.proofs.lemmas.List.Sums.{sum_by-cons}
-use Rattle.std.proofs.lemmas.List.Elements.{All-head, All-tail}
+use Rattle.std.proofs.lemmas.List.Elements.{All-head, All-tail, All-nil, All-cons}
+use Rattle.std.specs.Str.{bytes_eq}
+use Rattle.std.proofs.lemmas.Option.{slice_get-get_or, same_Some}
+use Rattle.tfpg_base.proofs.lists.SameBytes.{bytes_eq-false}
+use Rattle.tfpg_base.proofs.lists.Valued.{filter_map-none}
+use Rattle.tfpg_base.proofs.lists.Elements.{All-list_any_none}
 
 module _ {X Y : Type 0} (look : X → Option Y) where
   -- an item that is not missed is found
@@ -40,10 +45,7 @@ module _ {X Y : Type 0} (look : X → Option Y) where
   -- items that all fail a test without which there is no value have none
   pub filter_map-unlike : (p : X → Bool) → ((x : X) → p x ≡ false → look x ≡ None) → (xs : List X) → list_any p xs ≡ false
       → filter_map look xs ≡ []
-  filter_map-unlike p fails [] all = refl
-  filter_map-unlike p fails (x ∷ xs) all =
-      let parts = or_parts (p x) (list_any p xs) all in
-      λ i. cons_option (fails x parts.0 i) (filter_map-unlike p fails xs parts.1 i)
+  filter_map-unlike p fails xs all = filter_map-none look xs (λ index d within. fails (get_or xs index d) (All-list_any_none p xs all index d within))
 
   -- where each gives what it was made of
   pub filter_map-made : (make : Y → X) (ys : List Y) → All (λ y. look (make y) ≡ Some y) ys → filter_map look (map make ys) ≡ ys
@@ -83,3 +85,29 @@ flat_map-filter_map {Y = Y} {Z = Z} g h (x ∷ xs) = by (h x) (flat_map-filter_m
         → flat_map g (cons_option o (filter_map h xs)) ≡ unwrap_or (option_map g o) [] ++ flat_map (λ x. unwrap_or (option_map g (h x)) []) xs
     by None e = e
     by (Some y) e = ap (λ (t : List Z). g y ++ t) e
+
+-- what is read at numbers that are all within a list
+pub filter_map-slice_get : {X : Type 0} (xs : List X) (d : X) (numbers : List ℕ) → All (λ number. number < length xs) numbers
+    → filter_map (slice_get xs) numbers ≡ map (λ number. get_or xs number d) numbers
+filter_map-slice_get xs d [] within = refl
+filter_map-slice_get xs d (number ∷ numbers) within =
+    λ i. cons_option (slice_get-get_or xs number d (All-head (λ n. n < length xs) number numbers within) i)
+    (filter_map-slice_get xs d numbers (All-tail (λ n. n < length xs) number numbers within) i)
+
+-- where values lead back to their words, the value of a word that is none of others is not among theirs
+pub filter_map-unlike_others : {Y : Type 0} (look : List ℕ → Option Y) (read : Y → Option (List ℕ))
+    → ((word : List ℕ) (y : Y) → look word ≡ Some y → read y ≡ Some word) → (word : List ℕ) (y : Y) (others : List (List ℕ)) → look word ≡ Some y
+    → list_any (bytes_eq word) others ≡ false → All (λ other. y ≢ other) (filter_map look others)
+filter_map-unlike_others look read leads word y [] is differs = All-nil (λ other. y ≢ other)
+filter_map-unlike_others {Y = Y} look read leads word y (first ∷ others) is differs =
+    let parts = or_parts (bytes_eq word first) _ differs in
+    by parts.0 (look first) refl (filter_map-unlike_others look read leads word y others is parts.1)
+  where
+    by : bytes_eq word first ≡ false → (o : Option Y) → look first ≡ o
+        → All (λ other. y ≢ other) (filter_map look others)
+        → All (λ other. y ≢ other) (cons_option o (filter_map look others))
+    by unlike None none rest = rest
+    by unlike (Some other) some rest =
+        All-cons (λ other. y ≢ other) other (filter_map look others)
+        (λ same. bytes_eq-false word first unlike (same_Some word first (sym (leads word y is) ∙ ap read same ∙ leads first other some)))
+        rest

@@ -1,7 +1,7 @@
 -- The numbers of the items that pass a test.
 use Rattle.std.proofs.Common.{◌≡◌, ℕ, zero, suc, ◌+◌, ◌<◌, ◌≤◌, Bool, true, false, cond, List, [], ◌∷◌, ◌++◌, length, filter, get_or, take, count_by, All, Contains, IsSomeAnd, Option, Some, None, position, slice_get, refl, ap, sym, subst, ◌∙◌, arith, ◌&&◌}
 use Rattle.std.specs.Prelude.{map, filter_map, option_and_then, option_map}
-use Rattle.std.specs.List.{find, cons_option, AllByRecursion}
+use Rattle.std.specs.List.{find, list_all, cons_option, AllByRecursion}
 use Rattle.std.proofs.lemmas.List.{take_all}
 use Rattle.std.proofs.lemmas.List.Sums.{sum_by-cons}
 use Rattle.std.proofs.lemmas.List.Elements.{All-from_recursion, All-contains, All-get_or, All-same, Contains-get_or}
@@ -255,3 +255,15 @@ numbers_from-middle p n (x ∷ xs) y ys passes = by (p x) (numbers_from-middle p
         < length (cond b (n ∷ numbers_from (n + 1) p (xs ++ y ∷ ys)) (numbers_from (n + 1) p (xs ++ y ∷ ys)))
     by true fewer = omega arith
     by false fewer = fewer
+
+-- what a test says of all items that pass another, by their numbers
+pub list_all-numbers_from : {X : Type 0} (p test : X → Bool) (q : ℕ → Bool) (n : ℕ) (xs : List X) → ((i : ℕ) (x : X) → slice_get xs i ≡ Some x → q (n + i) ≡ test x)
+    → list_all q (numbers_from n p xs) ≡ list_all test (filter p xs)
+list_all-numbers_from p test q n [] same = refl
+list_all-numbers_from p test q n (x ∷ xs) same =
+    by (p x) (ap q (omega arith) ∙ same 0 x refl) (list_all-numbers_from p test q (n + 1) xs (λ i y at. ap q (omega arith) ∙ same (suc i) y at))
+  where
+    by : (b : Bool) → q n ≡ test x → list_all q (numbers_from (n + 1) p xs) ≡ list_all test (filter p xs)
+        → list_all q (cond b (n ∷ numbers_from (n + 1) p xs) (numbers_from (n + 1) p xs)) ≡ list_all test (cond b (x ∷ filter p xs) (filter p xs))
+    by true here rest = λ i. here i && rest i
+    by false here rest = rest

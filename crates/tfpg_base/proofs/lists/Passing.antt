@@ -3,7 +3,7 @@ use Rattle.std.proofs.Common.{◌≡◌, ℕ, zero, suc, ◌<◌, ◌≤◌, Boo
 use Rattle.std.specs.List.{All, Contains, cons_option}
 use Rattle.std.proofs.lemmas.List.Elements.{All-nil, All-cons}
 use Rattle.std.proofs.lemmas.Option.{slice_get_within}
-use Rattle.tfpg_base.proofs.lists.Elements.{Contains-head, Contains-tail, Contains-nil, Contains-cons_cases}
+use Rattle.tfpg_base.proofs.lists.Elements.{Contains-head, Contains-tail, Contains-nil, Contains-cons_cases, All-at, Contains-at, slice_get-contains}
 
 -- an element at an index that passes is among those that pass
 pub Contains-filter : {X : Type 0} (p : X → Bool) (xs : List X) (index : ℕ) (x : X) → slice_get xs index ≡ Some x → p x ≡ true → Contains (filter p xs) x
@@ -68,25 +68,11 @@ module _ {X Y : Type 0} (f : X → Option Y) where
 
   -- the value of an element stands at an index among the values
   pub slice_get-filter_map : (xs : List X) (x : X) (y : Y) → Contains xs x → f x ≡ Some y → (index : ℕ) × (slice_get (filter_map f xs) index ≡ Some y)
-  slice_get-filter_map [] x y member is = absurd (Contains-nil x member)
-  slice_get-filter_map (first ∷ xs) x y member is =
-      ⊎_elim (λ here. (0, ap (λ o. slice_get (cons_option o (filter_map f xs)) 0) (ap f here ∙ is)))
-      (λ there. further (f first) (slice_get-filter_map xs x y there is)) (Contains-cons_cases first xs x member)
-    where
-      further : (o : Option Y) → (index : ℕ) × (slice_get (filter_map f xs) index ≡ Some y) → (index : ℕ) × (slice_get (cons_option o (filter_map f xs)) index ≡ Some y)
-      further None found = found
-      further (Some z) found = (suc found.0, found.1)
+  slice_get-filter_map xs x y member is = let found = Contains-filter_map xs x y member is in (found.0, slice_get-contains (filter_map f xs) y found)
 
   -- and at each index stands the value of an element
   pub slice_get-filter_map_only : (xs : List X) (index : ℕ) (y : Y) → slice_get (filter_map f xs) index ≡ Some y → (x : X) × Contains xs x × (f x ≡ Some y)
-  slice_get-filter_map_only [] index y is = absurd (cc)
-  slice_get-filter_map_only (first ∷ xs) index y is = by (f first) refl index is (λ n at. slice_get-filter_map_only xs n y at)
-    where
-      by : (o : Option Y) → f first ≡ o → (n : ℕ) → slice_get (cons_option o (filter_map f xs)) n ≡ Some y
-          → ((m : ℕ) → slice_get (filter_map f xs) m ≡ Some y → (x : X) × Contains xs x × (f x ≡ Some y)) → (x : X) × Contains (first ∷ xs) x × (f x ≡ Some y)
-      by None own n at again = let found = again n at in (found.0, Contains-tail first xs found.0 found.1, found.2)
-      by (Some z) own zero at again = (first, Contains-head first xs, own ∙ at)
-      by (Some z) own (suc n) at again = let found = again n at in (found.0, Contains-tail first xs found.0 found.1, found.2)
+  slice_get-filter_map_only xs index y is = Contains-filter_map_only xs y (Contains-at (filter_map f xs) index y is)
 
   -- there are no more values than elements
   pub length-filter_map : (xs : List X) → length (filter_map f xs) ≤ length xs
@@ -123,3 +109,7 @@ module _ {X Y : Type 0} (f : X → Option Y) where
       by : (o : Option Y) → f x ≡ o → All P (filter_map f xs) → All P (cons_option o (filter_map f xs))
       by None at rest = rest
       by (Some y) at rest = All-cons P y (filter_map f xs) (each x y at) rest
+
+-- what holds of each item holds of those of some numbers
+pub All-filter_map-slice_get : {X : Type 0} (P : X → Type 0) (xs : List X) → All P xs → (numbers : List ℕ) → All P (filter_map (slice_get xs) numbers)
+All-filter_map-slice_get P xs all numbers = All-filter_map (slice_get xs) P (λ number x at. All-at P xs number x all at) numbers

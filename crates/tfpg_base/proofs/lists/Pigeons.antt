@@ -1,8 +1,8 @@
 -- A list without repetition is at most as long as a list that has all its items.
-use Rattle.std.proofs.Common.{◌≡◌, ◌≢◌, ℕ, zero, suc, ◌<◌, ◌≤◌, List, [], ◌∷◌, ◌++◌, length, ap, subst, inl, inr, arith, length-append}
+use Rattle.std.proofs.Common.{◌≡◌, ◌≢◌, ℕ, zero, suc, ◌<◌, ◌≤◌, List, [], ◌∷◌, ◌++◌, length, ap, subst, ⊎_elim, arith, length-append}
 use Rattle.std.specs.Prelude.{All, AllPairs, Contains, slice_index_or}
-use Rattle.std.proofs.lemmas.List.Elements.{All-nil, All-cons, All-head, All-tail, Contains-append_left, Contains-append_right, Contains-append_cases}
-use Rattle.tfpg_base.proofs.lists.Elements.{AllPairs-head, AllPairs-tail, Contains-cons_cases}
+use Rattle.std.proofs.lemmas.List.Elements.{All-nil, All-cons, All-head, All-tail}
+use Rattle.tfpg_base.proofs.lists.Elements.{AllPairs-head, AllPairs-tail, Contains-middle_cases}
 
 module _ {X : Type 0} where
   -- where an item stands
@@ -18,22 +18,13 @@ module _ {X : Type 0} where
       let others = around_at xs x k (omega arith) is in
       record { front = y ∷ others.front; back = others.back; is = ap (λ zs. y ∷ zs) others.is }
 
-  -- what is elsewhere in the list is before the item or after it
-  elsewhere : (front back : List X) (x other : X) → Contains (front ++ x ∷ back) other → x ≢ other → Contains (front ++ back) other
-  elsewhere front back x other has differs =
-      elim (Contains-append_cases front (x ∷ back) other has) [
-        | inl before ↦ Contains-append_left front back other before
-        | inr after ↦ elim (Contains-cons_cases x back other after) [
-          | inl same ↦ absurd (differs same)
-          | inr later ↦ Contains-append_right front back other later
-        ]
-      ]
-
-  within_others : (xs : List X) (x : X) (front back : List X) → All (Contains (front ++ x ∷ back)) xs → All (λ (y : X). x ≢ y) xs → All (Contains (front ++ back)) xs
+  -- what stands in a list and is not the item in its middle stands before or after it
+  pub within_others : (xs : List X) (x : X) (front back : List X) → All (Contains (front ++ x ∷ back)) xs → All (λ (y : X). x ≢ y) xs → All (Contains (front ++ back)) xs
   within_others [] x front back has differ = All-nil (Contains (front ++ back))
   within_others (y ∷ xs) x front back has differ =
       All-cons (Contains (front ++ back)) y xs
-      (elsewhere front back x y (All-head (Contains (front ++ x ∷ back)) y xs has) (All-head (λ (z : X). x ≢ z) y xs differ))
+      (⊎_elim (λ same. absurd (All-head (λ (z : X). x ≢ z) y xs differ same)) (λ rest. rest)
+      (Contains-middle_cases front back x y (All-head (Contains (front ++ x ∷ back)) y xs has)))
       (within_others xs x front back (All-tail (Contains (front ++ x ∷ back)) y xs has) (All-tail (λ (z : X). x ≢ z) y xs differ))
 
   pub length-le_contained : (xs ys : List X) → AllPairs ◌≢◌ xs → All (Contains ys) xs → length xs ≤ length ys

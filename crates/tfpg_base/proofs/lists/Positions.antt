@@ -1,10 +1,12 @@
 -- The first index at which a test passes.
-use Rattle.std.proofs.Common.{◌≡◌, ℕ, zero, suc, ◌+◌, ◌<◌, Bool, true, false, cond, not, nat_lt, List, [], ◌∷◌, ◌++◌, length, map, get_or, Option, Some, None, position, All, refl, ap, sym, ◌∙◌, arith}
-use Rattle.std.specs.List.{position_or_len, AllByRecursion}
+use Rattle.std.proofs.Common.{◌≡◌, ℕ, zero, suc, ◌+◌, ◌<◌, Bool, true, false, cond, not, nat_lt, List, [], ◌∷◌, ◌++◌, length, map, get_or, Option, Some, None, position, All, refl, ap, sym, ◌∙◌, arith, ◌||◌, take_all}
+use Rattle.std.specs.List.{position_or_len, AllByRecursion, list_any, prefix_len, before_first}
 use Rattle.std.specs.Option.{option_map}
-use Rattle.std.proofs.lemmas.List.{length-map}
+use Rattle.std.proofs.lemmas.List.{length-map, append-nil}
 use Rattle.std.proofs.lemmas.List.Elements.{All-from_recursion, All-head, All-tail}
 use Rattle.std.proofs.lemmas.Bool.Decides.{nat_tests}
+use Rattle.std.proofs.lemmas.Bool.{lt-ltb, ltb-false}
+use Rattle.tfpg_base.proofs.lists.Sequences.{nat_lt-suc}
 
 cond_first : (m n : ℕ) → 0 < m → cond (nat_lt 0 m) (Some n) None ≡ Some n
 cond_first m n some = grind (arith, nat_tests)
@@ -82,3 +84,35 @@ position-at p (x ∷ xs) (suc number) d within passes fail =
     position-cons p x xs
     ∙ (λ i. cond (fail 0 (omega arith) i) (Some 0)
     (option_map suc (position-at p xs number d (omega arith) passes (λ earlier before. fail (suc earlier) (omega arith)) i)))
+
+module _ {X : Type 0} (p : X → Bool) where
+  -- the first that passes stands within the list exactly where one passes
+  pub position_or_len-within : (xs : List X) → nat_lt (position_or_len p xs) (length xs) ≡ list_any p xs
+  position_or_len-within [] = refl
+  position_or_len-within (x ∷ xs) =
+      elim (p x) as (λ b. nat_lt (cond (not b) (1 + prefix_len (λ y. not (p y)) xs) 0) (suc (length xs)) ≡ (b || list_any p xs)) [
+        | true ↦ lt-ltb 0 (suc (length xs)) (omega arith)
+        | false ↦ nat_lt-suc (prefix_len (λ y. not (p y)) xs) (length xs) ∙ position_or_len-within xs
+      ]
+
+  -- where none passes, all stand before the first that does
+  pub before_first-none : (xs : List X) → list_any p xs ≡ false → before_first p xs ≡ xs
+  before_first-none xs none =
+      take_all (position_or_len p xs) xs (ltb-false (position_or_len p xs) (length xs) (position_or_len-within xs ∙ none))
+
+module _ {X : Type 0} (p : X → Bool) (added : Bool) (xs : List X) (y : X) where
+  -- one item that may be added and does not pass changes nothing
+  pub position-with_no : p y ≡ false → position p (xs ++ cond added (y ∷ []) []) ≡ position p xs
+  position-with_no fails = by added
+    where
+      by : (b : Bool) → position p (xs ++ cond b (y ∷ []) []) ≡ position p xs
+      by true = position-push_no p xs y fails
+      by false = ap (position p) (append-nil xs)
+
+  -- one item that may be added and is the first to pass stands at the end where it is added
+  pub position-with_yes : position p xs ≡ None → p y ≡ true → position p (xs ++ cond added (y ∷ []) []) ≡ cond added (Some (length xs)) None
+  position-with_yes none passes = by added
+    where
+      by : (b : Bool) → position p (xs ++ cond b (y ∷ []) []) ≡ cond b (Some (length xs)) None
+      by true = position-push_yes p xs y none passes
+      by false = ap (position p) (append-nil xs) ∙ none

@@ -1,9 +1,11 @@
 -- Parts of a list by their ends.
-use Rattle.std.proofs.Common.{◌≡◌, ℕ, ◌+◌, ◌-◌, ◌<◌, ◌≤◌, List, [], ◌∷◌, ◌++◌, length, take, drop, slice_range, refl, ap, ◌∙◌, sym, arith}
+use Rattle.std.proofs.Common.{◌≡◌, ℕ, ◌+◌, ◌-◌, ◌<◌, ◌≤◌, List, ◌++◌, length, take, drop, slice_range, ap, ◌∙◌, sym, arith, Contains}
 use Rattle.std.proofs.lemmas.List.{take-take, drop-take, drop-drop, length-take, length-drop, drop-append-le}
 use Rattle.std.proofs.lemmas.List.Edits.{length-between}
 use Rattle.std.proofs.lemmas.Slice.{between_is}
 use Rattle.std.proofs.Math.Seq.{take-add}
+use Rattle.std.specs.List.{range_with_len}
+use Rattle.std.proofs.lemmas.List.FromFn.{length-range_with_len, get_or-range_with_len}
 
 -- how long a part is at most
 length-slice_range : {X : Type 0} (xs : List X) (start end : ℕ) → length (slice_range xs start end) ≤ end - start
@@ -47,8 +49,7 @@ slice_range-longer ys xs start end count order within same =
 pub length-slice_range-written : {X : Type 0} (xs : List X) (end count : ℕ) → end + count ≤ length xs → length (slice_range xs end (end + count)) ≡ count
 length-slice_range-written xs end count within = length-between xs end (end + count) within ∙ omega arith
 
--- a list of one element
-pub one_element : {X : Type 0} (xs : List X) → length xs ≡ 1 → (x : X) × (xs ≡ x ∷ [])
-one_element [] h = absurd (omega arith)
-one_element (x ∷ []) h = (x, refl)
-one_element (x ∷ y ∷ xs) h = absurd (omega arith)
+-- each number below a limit is one of the numbers below it
+pub Contains-range_with_len : (limit number : ℕ) → number < limit → Contains (range_with_len 0 limit) number
+Contains-range_with_len limit number less =
+    (number, omega (arith, less, length-range_with_len 0 limit), (let same : 0 + number ≡ number = omega arith in get_or-range_with_len 0 limit number number less ∙ same))

@@ -1,45 +1,11 @@
 -- Laws of lists of which some items have a value: how many they are, and what one item more does.
-use Rattle.std.proofs.Common.{◌≡◌, ℕ, ◌+◌, Bool, true, false, cond, not, ◌||◌, nat_lt, ◌==◌, List, [], ◌∷◌, ◌++◌, length, All, Option, Some, None, is_none, is_some, option_map, filter_map, count_by, refl, ap, sym, ◌∙◌, arith}
-use Rattle.std.specs.List.{list_any, cons_option}
-use Rattle.std.proofs.lemmas.Bool.{or_parts, lt-ltb, false≢true}
-use Rattle.std.proofs.lemmas.Bool.Decides.{nat_tests}
-use Rattle.std.proofs.lemmas.List.{append-nil}
+use Rattle.std.proofs.Common.{◌≡◌, ◌⊎◌, inl, inr, ℕ, ◌+◌, ◌<◌, ◌≤◌, get_or, take, length-append, subst, Bool, true, false, cond, List, [], ◌∷◌, ◌++◌, length, All, Option, Some, None, is_some, filter_map, count_by, refl, ap, sym, ◌∙◌, arith}
+use Rattle.std.specs.List.{cons_option, Contains}
+use Rattle.std.proofs.lemmas.Bool.{false≢true}
+use Rattle.std.proofs.lemmas.List.{append-nil, take_more}
 use Rattle.std.proofs.lemmas.List.Sums.{sum_by-cons}
-use Rattle.std.proofs.lemmas.List.Elements.{filter_map-append, All-nil, All-cons, All-head, All-tail}
-
--- none is what is not some
-pub zero-not_some : (n : ℕ) → (n == 0) ≡ not (nat_lt 0 n)
-zero-not_some n = grind (arith, nat_tests)
-
-module _ {X : Type 0} (test : X → Bool) where
-  -- one passes where some do
-  pub list_any-count : (xs : List X) → list_any test xs ≡ nat_lt 0 (count_by test xs)
-  list_any-count [] = refl
-  list_any-count (x ∷ xs) = by (test x) (count_by test xs) (list_any-count xs) ∙ ap (nat_lt 0) (sym (sum_by-cons (λ y. cond (test y) 1 0) x xs))
-    where
-      by : (b : Bool) (n : ℕ) → list_any test xs ≡ nat_lt 0 n → (b || list_any test xs) ≡ nat_lt 0 (cond b 1 0 + n)
-      by true n e = sym (lt-ltb 0 (1 + n) (omega arith))
-      by false n e = e ∙ ap (nat_lt 0) (omega arith)
-
-  -- where none passes, each fails
-  pub All-list_any_none : (xs : List X) → list_any test xs ≡ false → All (λ x. test x ≡ false) xs
-  All-list_any_none [] none = All-nil (λ x. test x ≡ false)
-  All-list_any_none (x ∷ xs) none =
-      let parts = or_parts (test x) (list_any test xs) none in
-      All-cons (λ y. test y ≡ false) x xs parts.0 (All-list_any_none xs parts.1)
-
-  -- one passes one of two tests where one passes the first or one the second
-  pub list_any-or : (other : X → Bool) (xs : List X)
-      → list_any (λ x. test x || other x) xs ≡ (list_any test xs || list_any other xs)
-  list_any-or other [] = refl
-  list_any-or other (x ∷ xs) = by (test x) (other x) (list_any test xs) (list_any other xs) (list_any (λ y. test y || other y) xs) (list_any-or other xs)
-    where
-      by : (b c d e f : Bool) → f ≡ (d || e) → ((b || c) || f) ≡ ((b || d) || (c || e))
-      by true c d e f same = refl
-      by false true true e f same = refl
-      by false true false e f same = refl
-      by false false true e f same = same
-      by false false false e f same = same
+use Rattle.std.proofs.lemmas.List.Elements.{filter_map-append, All-head, All-tail}
+use Rattle.tfpg_base.proofs.lists.Elements.{Contains-nil, Contains-cons_cases}
 
 module _ {X Y : Type 0} (value : X → Option Y) where
   -- what one item more that has a value adds
@@ -75,12 +41,80 @@ module _ {X Y : Type 0} (value : X → Option Y) where
       by false (Some y) e rest = absurd (false≢true (sym e))
       by false None e rest = omega (arith, rest)
 
--- a value stays one when it is mapped
-pub is_some-option_map : {X Y : Type 0} (f : X → Y) (o : Option X) → is_some (option_map f o) ≡ is_some o
-is_some-option_map f None = refl
-is_some-option_map f (Some x) = refl
+one_value : {Y : Type 0} (o : Option Y) → is_some o ≡ true → length (cons_option o []) ≡ 1
+one_value None there = absurd cc
+one_value (Some y) there = refl
 
--- a map leaves whether there is nothing
-pub is_none-option_map : {X Y : Type 0} (f : X → Y) (o : Option X) → is_none (option_map f o) ≡ is_none o
-is_none-option_map f None = refl
-is_none-option_map f (Some x) = refl
+no_value : {Y : Type 0} (o : Option Y) → is_some o ≡ false → length (cons_option o []) ≡ 0
+no_value None there = refl
+no_value (Some y) there = absurd cc
+
+module _ {X Y : Type 0} (value : X → Option Y) (xs : List X) (i : ℕ) (d : X) (within : i < length xs) where
+  count_more : length (filter_map value (take (i + 1) xs)) ≡ length (filter_map value (take i xs)) + length (cons_option (value (get_or xs i d)) [])
+  count_more =
+      ap (λ (ys : List X). length (filter_map value ys)) (take_more xs i d within)
+      ∙ ap length (filter_map-append value (take i xs) (get_or xs i d ∷ []))
+      ∙ length-append (filter_map value (take i xs)) (cons_option (value (get_or xs i d)) [])
+
+  -- one value more is counted where the next item has one
+  pub filter_map-counts_some : (count : ℕ) → is_some (value (get_or xs i d)) ≡ true → (count ≡ length (filter_map value (take i xs))) × (count ≤ i)
+      → (count + 1 ≡ length (filter_map value (take (i + 1) xs))) × (count + 1 ≤ i + 1)
+  filter_map-counts_some count there upto = (omega (arith, upto.0, count_more, one_value (value (get_or xs i d)) there), omega (arith, upto.1))
+
+  -- and as many as before where it has none
+  pub filter_map-counts_none : (count : ℕ) → is_some (value (get_or xs i d)) ≡ false → (count ≡ length (filter_map value (take i xs))) × (count ≤ i)
+      → (count ≡ length (filter_map value (take (i + 1) xs))) × (count ≤ i + 1)
+  filter_map-counts_none count there upto = (omega (arith, upto.0, count_more, no_value (value (get_or xs i d)) there), omega (arith, upto.1))
+
+-- ---- the best of the values
+
+module _ {X Y : Type 0} (Below : Y → Y → Type 0) (total : (one other : Y) → Below one other ⊎ Below other one)
+    (through : (one middle other : Y) → Below one middle → Below middle other → Below one other) (value : X → Option Y) where
+  -- This is the value of an item, and those of all these items are below it.
+  pub record IsBest (xs : List X) (best : Y) : Type 0 where
+    pub item : X
+    pub is : value item ≡ Some best
+    pub others : (x : X) (y : Y) → Contains xs x → value x ≡ Some y → Below y best
+
+  itself : (y : Y) → Below y y
+  itself y = elim (total y y) [ inl so ↦ so | inr so ↦ so ]
+
+  -- the best of the values of some items and one value more
+  pub best_from : (xs : List X) (y : Y) (x : X) → value x ≡ Some y → (best : Y) × IsBest xs best × Below y best
+  best_from [] y x is = (
+    y,
+    record {
+      item = x;
+      is = is;
+      others = λ other z member at. absurd (Contains-nil other member);
+    },
+    itself y,
+  )
+  best_from (first ∷ xs) y x is = by (best_from xs) (value first) refl
+    where
+      longer : (own : Option Y) → value first ≡ own → (best : Y) → IsBest xs best → ((z : Y) → own ≡ Some z → Below z best) → IsBest (first ∷ xs) best
+      longer own at best rest here = record {
+        item = rest.item;
+        is = rest.is;
+        others = λ other z member of.
+            elim (Contains-cons_cases first xs other member) [
+              | inl same ↦ here z (sym at ∙ ap value same ∙ of)
+              | inr more ↦ rest.others other z more of
+            ];
+      }
+
+      by : ((z : Y) (w : X) → value w ≡ Some z → (best : Y) × IsBest xs best × Below z best) → (own : Option Y) → value first ≡ own
+          → (best : Y) × IsBest (first ∷ xs) best × Below y best
+      by further None at =
+          let rest = further y x is in
+          (rest.0, longer None at rest.0 rest.1 (λ z of. absurd cc), rest.2)
+      by further (Some z) at = elim (total y z) [
+        | inl more ↦ (
+            let rest = further z first at in
+            (rest.0, longer (Some z) at rest.0 rest.1 (λ own of. subst (λ w. Below w rest.0) (let same : z ≡ own = cc in same) rest.2), through y z rest.0 more rest.2)
+            )
+        | inr less ↦ (
+            let rest = further y x is in
+            (rest.0, longer (Some z) at rest.0 rest.1 (λ own of. subst (λ w. Below w rest.0) (let same : z ≡ own = cc in same) (through z y rest.0 less rest.2)), rest.2)
+            )
+      ]

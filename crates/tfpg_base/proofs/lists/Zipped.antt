@@ -32,3 +32,11 @@ module _ {X Y : Type 0} (R : X → Y → Type 0) where
   AllZip-maps f g [] all = tt
   AllZip-maps f g (z ∷ zs) all =
       (All-head (λ y. R (f y) (g y)) z zs all, AllZip-maps f g zs (All-tail (λ y. R (f y) (g y)) z zs all))
+
+-- where related items have the same image, so have the lists
+pub map-related : {X Y Z : Type 0} (R : X → Y → Type 0) (f : X → Z) (g : Y → Z) → ((x : X) (y : Y) → R x y → g y ≡ f x)
+    → (xs : List X) (ys : List Y) → AllZip R xs ys → map g ys ≡ map f xs
+map-related R f g same [] [] all = refl
+map-related R f g same [] (y ∷ ys) all = absurd all
+map-related R f g same (x ∷ xs) [] all = absurd all
+map-related R f g same (x ∷ xs) (y ∷ ys) all = λ i. same x y all.0 i ∷ map-related R f g same xs ys all.1 i

@@ -1,12 +1,12 @@
 -- What a reader of lines keeps.
 use Rattle.std.specs.Prelude.{◌≡◌, ◌+◌, ◌≤◌, slice_range, vec_len, None}
 use Rattle.tfpg_base.specs.declared.lines.Lines.TheInside.{Inside}
-use Rattle.tfpg_base.specs.Lines.{Buffered}
+use Rattle.tfpg_base.specs.Lines.{LinesState}
 use Rattle.tfpg_base.specs.declared.limits.TheConstants.{MAX_BYTES, BUFFER_SIZE}
 
 -- what contracts see of it
-abbrev pub buffered_of : Inside → Buffered
-buffered_of a = record {
+abbrev pub lines_state_of : Inside → LinesState
+lines_state_of a = record {
   waiting = slice_range a.buffer.items a.waiting.start a.waiting.end;
   taken = a.taken;
   text = slice_range a.buffer.items a.text.start a.text.end;

@@ -6,7 +6,7 @@ ghost use Rattle.tfpg_base.specs.Lines.{CountsReadFault};
 ghost use Rattle.tfpg_base.specs.declared.limits.TheConstants.{LONGEST_LINE, MAX_BYTES};
 ghost use Rattle.tfpg_base.specs.inside.LineSearch.{Refilled};
 
-use super::{Lines, Part};
+use super::{BufferRange, Lines};
 use crate::{BUFFER_SIZE, Failed, LineFault, MAX_BYTES, Source};
 
 impl Lines {
@@ -17,7 +17,7 @@ impl Lines {
         ensures refilled { Refilled self.old (S.state source.old) (S.state source.new) result self.new }
         ensures counted { CountsReadFault result (S.state source.old) (S.state source.new) }
     {
-        self.text = Part::NONE;
+        self.text = BufferRange::NONE;
         self.waiting = with_room(&mut self.buffer, self.waiting);
         let from = self.waiting.end;
         let to = from + wanted(self.taken, BUFFER_SIZE - from);
@@ -41,7 +41,7 @@ impl Lines {
 
 /// The part with the bytes that wait, once there is a free byte after them. They are moved to the front of the buffer
 /// where there was none, and where no byte waits.
-fn with_room(buffer: &mut Vec<u8>, waiting: Part) -> Part
+fn with_room(buffer: &mut Vec<u8>, waiting: BufferRange) -> BufferRange
     requires room { vec_len buffer.old ≡ BUFFER_SIZE }
     requires order { waiting.start ≤ waiting.end }
     requires within { waiting.end ≤ BUFFER_SIZE }
@@ -56,7 +56,7 @@ fn with_room(buffer: &mut Vec<u8>, waiting: Part) -> Part
         return waiting;
     }
     buffer.copy_within(waiting.start..waiting.end, 0);
-    Part {
+    BufferRange {
         start: 0,
         end: waiting.end - waiting.start,
     }

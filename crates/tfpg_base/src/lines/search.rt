@@ -5,7 +5,7 @@ ghost use Rattle.tfpg_base.specs.Lines.{HasNoLineEnd, CountsReadFault};
 ghost use Rattle.tfpg_base.specs.declared.limits.TheConstants.{LONGEST_LINE, MAX_BYTES};
 ghost use Rattle.tfpg_base.specs.inside.LineSearch.{GivesLast, Searched};
 
-use super::{Lines, Part, line_end};
+use super::{BufferRange, Lines, line_end};
 use crate::{LONGEST_LINE, Line, LineFault, Source};
 
 impl Lines {
@@ -81,7 +81,7 @@ impl Lines {
         ensures ended { self.new.ended ≡ self.old.ended }
         ensures lines { self.old.number + length self.old.waiting ≤ self.old.taken }
     {
-        self.waiting = Part::NONE;
+        self.waiting = BufferRange::NONE;
     }
 
     /// Passes so many of the bytes that wait and the line end after them, as the rest of a line that is too long.
@@ -93,7 +93,7 @@ impl Lines {
         ensures taken { self.new.taken ≡ self.old.taken }
         ensures ended { self.new.ended ≡ self.old.ended }
     {
-        self.text = Part::NONE;
+        self.text = BufferRange::NONE;
         self.waiting.start += count + 1;
         self.number += 1;
     }
@@ -107,8 +107,8 @@ impl Lines {
         ensures ended { self.new.ended ≡ Some (Ok Line.End) }
     {
         self.ended = Some(Ok(Line::End));
-        self.text = Part::NONE;
-        self.waiting = Part::NONE;
+        self.text = BufferRange::NONE;
+        self.waiting = BufferRange::NONE;
         self.number += 1;
     }
 }

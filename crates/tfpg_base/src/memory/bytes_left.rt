@@ -22,8 +22,8 @@ impl<'a> BytesLeft<'a> {
         }
     }
 
-    /// Fills the first places of the room with the next bytes, at most `limit` of them, and returns how many. A result of
-    /// 0 for a room that has a place is the end.
+    /// Writes the next bytes to the front of the buffer, at most `limit` of them, and returns how many. A result of 0 for
+    /// a buffer of at least one byte is the end.
     pub(crate) fn give(&mut self, room: &mut [u8], limit: usize) -> usize
         ensures count { result ≡ min (min (length self.old.left.now) (length room.old)) limit }
         ensures left { self.new.left.now ≡ drop result self.old.left.now }

@@ -4,12 +4,14 @@ ghost use Rattle.std.specs.Prelude.{◌≡◌, ◌≤◌, ◌↔◌, IsTrue, Con
 ghost use Rattle.tfpg_base.specs.Memory.{count_after};
 ghost use Rattle.tfpg_base.specs.Outside.{Rose};
 
+use crate::FaultCount;
+
 /// Counts calls and faults. The calls with these numbers, from 1, are to fail.
 #[derive(Debug, Drop)]
 pub(crate) struct FailingCalls<'a> {
     pub(crate) failing: &'a [u64],
     pub(crate) calls: u64,
-    pub(crate) faults: u64,
+    pub(crate) faults: FaultCount,
 }
 
 impl<'a> FailingCalls<'a> {
@@ -17,12 +19,12 @@ impl<'a> FailingCalls<'a> {
     pub(crate) fn new(failing: &'a [u64]) -> FailingCalls<'a>
         ensures failing { result.failing.now ≡ failing.now }
         ensures calls { result.calls ≡ 0 }
-        ensures faults { result.faults ≡ 0 }
+        ensures faults { result.faults.count ≡ 0 }
     {
         FailingCalls {
             failing,
             calls: 0,
-            faults: 0,
+            faults: FaultCount::new(),
         }
     }
 
@@ -39,11 +41,11 @@ impl<'a> FailingCalls<'a> {
 
     /// Counts a fault.
     pub(crate) fn raise(&mut self)
-        ensures counted { self.new.faults ≡ count_after self.old.faults }
-        ensures rose { Rose self.old.faults self.new.faults }
+        ensures counted { self.new.faults.count ≡ count_after self.old.faults.count }
+        ensures rose { Rose self.old.faults.count self.new.faults.count }
         ensures same_calls { self.new.calls ≡ self.old.calls }
         ensures same_failing { self.new.failing.now ≡ self.old.failing.now }
     {
-        self.faults = self.faults.saturating_add(1);
+        self.faults.raise();
     }
 }

@@ -22,16 +22,16 @@ pub struct MemoryShelf<'a> {
 impl<'a> Model for MemoryShelf<'a> {
     ghost use Rattle.std.specs.Prelude.{map};
     ghost use Rattle.std.specs.String.{string_bytes};
-    ghost use Rattle.tfpg_base.specs.Memory.{HasFiles};
+    ghost use Rattle.tfpg_base.specs.Memory.{MemoryShelfState};
 
-    ghost Value = { HasFiles };
+    ghost Value = { MemoryShelfState };
 
     ghost view = { λ shelf. record {
       files = map (λ file. (file.0.now, file.1.now)) shelf.files.now;
       asked = map string_bytes shelf.asked.items;
       failing = shelf.calls.failing.now;
       calls = shelf.calls.calls;
-      faults = shelf.calls.faults;
+      faults = shelf.calls.faults.count;
     } };
 }
 
@@ -69,7 +69,7 @@ impl<'a> MemoryShelf<'a> {
     pub fn faults(&self) -> u64
         ensures { result ≡ self.now.faults }
     {
-        self.calls.faults
+        self.calls.faults.count
     }
 
     /// Clears `into` and fills it with the file, as [`Shelf::fetch`] does. It fails at the chosen calls, and where there is no
@@ -123,7 +123,7 @@ fn note_name(asked: &mut Vec<String>, alloc: Global, name: &str) -> Result<(), N
     Ok(())
 }
 
-/// Copies the file of that name into the empty room, as far as a file may go.
+/// Copies the file of that name into the empty buffer, as far as a file may go.
 fn copy_named(files: &[(&str, &[u8])], name: &str, into: &mut Vec<u8>) -> Result<(), ShelfFault>
     requires { into.old.items ≡ [] }
     ensures { Copies (file_of (map (λ file. (file.0.now, file.1.now)) files.now) name.now)

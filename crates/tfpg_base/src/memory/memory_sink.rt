@@ -20,16 +20,16 @@ pub struct MemorySink<'a> {
 
 impl<'a> Model for MemorySink<'a> {
     ghost use Rattle.std.specs.Prelude.{◌<◌};
-    ghost use Rattle.tfpg_base.specs.Memory.{HoldsBytes};
+    ghost use Rattle.tfpg_base.specs.Memory.{MemorySinkState};
 
-    ghost Value = { HoldsBytes };
+    ghost Value = { MemorySinkState };
 
     ghost view = { λ sink. record {
       holds = sink.bytes.items;
       limit = sink.limit;
       failing = sink.calls.failing.now;
       calls = sink.calls.calls;
-      faults = sink.calls.faults;
+      faults = sink.calls.faults.count;
     } };
 
     ghost invariant = { λ sink. 0 < sink.limit };
@@ -66,7 +66,7 @@ impl<'a> MemorySink<'a> {
     pub fn faults(&self) -> u64
         ensures { result ≡ self.now.faults }
     {
-        self.calls.faults
+        self.calls.faults.count
     }
 
     /// Appends the first bytes of the piece, and returns how many, as [`Sink::put`] does. It fails at the chosen calls, and

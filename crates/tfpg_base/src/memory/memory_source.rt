@@ -19,16 +19,16 @@ pub struct MemorySource<'a> {
 
 impl<'a> Model for MemorySource<'a> {
     ghost use Rattle.std.specs.Prelude.{◌<◌};
-    ghost use Rattle.tfpg_base.specs.Memory.{GivesBytes};
+    ghost use Rattle.tfpg_base.specs.Memory.{MemorySourceState};
 
-    ghost Value = { GivesBytes };
+    ghost Value = { MemorySourceState };
 
     ghost view = { λ source. record {
       left = source.bytes.left.now;
       limit = source.limit;
       failing = source.calls.failing.now;
       calls = source.calls.calls;
-      faults = source.calls.faults;
+      faults = source.calls.faults.count;
       ended = source.bytes.ended;
     } };
 
@@ -67,10 +67,10 @@ impl<'a> MemorySource<'a> {
     pub fn faults(&self) -> u64
         ensures { result ≡ self.now.faults }
     {
-        self.calls.faults
+        self.calls.faults.count
     }
 
-    /// Fills the first places of the room with the next bytes, and returns how many, as [`Source::take`] does. It fails
+    /// Writes the next bytes to the front of the buffer, and returns how many, as [`Source::take`] does. It fails
     /// exactly at the chosen calls.
     pub fn take(&mut self, room: &mut [u8]) -> Result<usize, Failed>
         ensures fails { IsErr result ↔ FailsNext self.old.failing self.old.calls }

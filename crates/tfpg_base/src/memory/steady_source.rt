@@ -8,16 +8,16 @@ use crate::{Failed, Source};
 use std::marker::Model;
 
 /// Bytes at hand as a source that never fails: its count of faults is the constant 0. It gives a call as many
-/// bytes as the room has places. Contracts see it as the bytes that are left.
+/// bytes as the buffer holds. Contracts see it as the bytes that are left.
 #[derive(Debug, Drop)]
 pub struct SteadySource<'a> {
     bytes: BytesLeft<'a>,
 }
 
 impl<'a> Model for SteadySource<'a> {
-    ghost use Rattle.tfpg_base.specs.Memory.{SteadyBytes};
+    ghost use Rattle.tfpg_base.specs.Memory.{SteadySourceState};
 
-    ghost Value = { SteadyBytes };
+    ghost Value = { SteadySourceState };
 
     ghost view = { λ source. record { left = source.bytes.left.now; ended = source.bytes.ended } };
 }
@@ -39,8 +39,8 @@ impl<'a> SteadySource<'a> {
         self.bytes.left
     }
 
-    /// Fills the first places of the room with the next bytes, and returns how many, as [`Source::take`] does: as many
-    /// as are left and have a place.
+    /// Writes the next bytes to the front of the buffer, and returns how many, as [`Source::take`] does: as many as are
+    /// left and as the buffer holds.
     pub fn take(&mut self, room: &mut [u8]) -> Result<usize, Failed>
         ensures given { result ≡ Ok (min (length self.old.left) (length room.old)) }
         ensures left { self.new.left ≡ drop (length room.old) self.old.left }

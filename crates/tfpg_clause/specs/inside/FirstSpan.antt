@@ -22,13 +22,6 @@ named kind.AndMay subject span horizon = AndMay subject span horizon
 named kind.OrMust subject span horizon = OrMust subject span horizon
 named kind.AndMust subject span horizon = AndMust subject span horizon
 
--- the index of a kind in their order
-abbrev pub index_of_kind : ClauseKind → ℕ
-index_of_kind kind.OrMay = 0
-index_of_kind kind.AndMay = 1
-index_of_kind kind.OrMust = 2
-index_of_kind kind.AndMust = 3
-
 -- how many nodes or edges may have a clause of the kind
 abbrev pub subject_count : Tfpg → ClauseKind → ℕ
 subject_count graph kind.OrMay = length graph.nodes

@@ -13,13 +13,13 @@ use Rattle.tfpg_hyp.specs.declared.ranking_key.Fraction.{Fraction}
 use Rattle.tfpg_hyp.specs.declared.ranking_key.RankingKey.{RankingKey}
 use Rattle.tfpg_hyp.specs.Rounds.{HasEvidence, IsOrder, counts_of, key_of_status}
 use Rattle.tfpg_search.specs.Enough.{IsEnough}
-use Rattle.tfpg_search.specs.Searching.{Searching}
+use Rattle.tfpg_search.specs.SearchState.{SearchState}
 use Rattle.tfpg_clause.specs.Paths.{with_steps}
 use Rattle.tfpg_search.specs.declared.found.Found.{Found}
 use Rattle.tfpg_search.specs.declared.found.Found.TheVariants as found
 use Rattle.tfpg_engine.specs.declared.slot.Slot.{Slot}
 use Rattle.tfpg_engine.specs.declared.slot.Slot.TheVariants.{Untouched, Searched, Rejected}
-use Rattle.tfpg_engine.specs.Engining.{SlotRepresents}
+use Rattle.tfpg_engine.specs.EngineState.{SlotRepresents}
 use Rattle.tfpg_engine.specs.Earned.{IsEarned}
 use Rattle.tfpg_engine.specs.inside.RankedKeys.{HasFraction}
 
@@ -30,7 +30,7 @@ is_rejected_slot (Searched search) = false
 is_rejected_slot Rejected = true
 
 -- what is kept of a search that found this
-abbrev pub kept : Searching → Found → Slot
+abbrev pub kept : SearchState → Found → Slot
 kept search (found.Shown trace) = Searched search
 kept search found.Closed = Rejected
 kept search found.Spent = Searched search
@@ -59,7 +59,7 @@ pub record IsTurn (graph : Tfpg) (log : Logbook) (budget : ℕ) (set reach : Lis
   pub number_is : finding.number ≡ number
   pub set_is : finding.set ≡ set
   pub whole : RanksByFraction number finding.status
-  pub settled : IsEnough graph log budget → is_open finding.status ≡ false
+  pub none_open : IsEnough graph log budget → is_open finding.status ≡ false
   pub goes_on : (earlier : List Judged) → SlotRepresents graph log set reach old earlier
       → GoesOnFrom graph log budget set reach findings earlier new finding
 

@@ -11,7 +11,7 @@ use std::marker::Model;
 /// Contracts see it as the rising list of these numbers.
 #[derive(Clone, Copy, Debug)]
 pub struct NodeSet {
-    words: [u64; 8],
+    words: [u64; MAX_NODES as usize / 64],
 }
 
 impl Model for NodeSet {
@@ -36,7 +36,9 @@ impl NodeSet {
     pub(crate) fn empty() -> NodeSet
         ensures { result ≡ [] }
     {
-        NodeSet { words: [0; 8] }
+        NodeSet {
+            words: [0; MAX_NODES as usize / 64],
+        }
     }
 
     /// The set with this node.

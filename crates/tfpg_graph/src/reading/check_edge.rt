@@ -10,7 +10,7 @@ ghost use Rattle.tfpg_graph.specs.Causes.{causes, has_twice};
 ghost use Rattle.tfpg_graph.specs.inside.reading.LineCauses.{edge_name_causes, edge_unknown_causes, end_causes, edge_room_causes};
 ghost use Rattle.tfpg_graph.specs.inside.reading.StatementSeen.{edge_said};
 ghost use Rattle.tfpg_graph.specs.inside.reading.Turns.{is_misplaced, ReadAs};
-ghost use Rattle.tfpg_graph.specs.inside.Declaring.{CanDeclareEdge, CanJoin, HasEdgeRoom};
+ghost use Rattle.tfpg_graph.specs.inside.declaring.Declaring.{CanDeclareEdge, CanJoin, HasEdgeRoom};
 
 use crate::cause::GraphCause;
 use crate::declared::Declared;
@@ -36,7 +36,7 @@ pub(crate) fn read_edge(
         result }
     ensures clear { IfOk result (CanDeclareEdge declared.now) }
 {
-    if let Some(cause) = name_cause(declared, words, modes) {
+    if let Some(cause) = edge_name_cause(declared, words, modes) {
         return Err(cause);
     }
     let (source, target) = find_ends(declared, words, modes)?;
@@ -44,7 +44,7 @@ pub(crate) fn read_edge(
     if let Some(cause) = end_cause(declared, words, source, target) {
         return Err(cause);
     }
-    if let Some(cause) = room_cause(declared, words.modes, target) {
+    if let Some(cause) = edge_room_cause(declared, words.modes, target) {
         return Err(cause);
     }
     Ok(Edge {
@@ -57,7 +57,7 @@ pub(crate) fn read_edge(
 }
 
 /// The cause that the line is out of order, or that one of its names is wrong, where there is one.
-fn name_cause(declared: &Declared, words: EdgeWords<'_>, modes: &[&[u8]]) -> Option<GraphCause>
+fn edge_name_cause(declared: &Declared, words: EdgeWords<'_>, modes: &[&[u8]]) -> Option<GraphCause>
     requires listed { map (λ name. name.now) modes.now ≡ modes_listed words.modes.now }
     ensures first { result ≡ first_of
         (edge_name_causes declared.now words.entry.source.now words.entry.target.now words.entry.modes.now) }
@@ -153,7 +153,7 @@ fn end_cause(
 }
 
 /// The cause of its modes, or that there is no room for it, where there is one.
-fn room_cause(declared: &Declared, modes: &[u8], target: u32) -> Option<GraphCause>
+fn edge_room_cause(declared: &Declared, modes: &[u8], target: u32) -> Option<GraphCause>
     requires target { target < length declared.now.nodes }
     ensures first { (name : List ℕ) → node_named declared.now name ≡ Some target →
         result ≡ first_of (edge_room_causes declared.now name modes.now) }

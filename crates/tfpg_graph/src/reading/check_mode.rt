@@ -5,7 +5,7 @@ ghost use Rattle.tfpg_graph.specs.Statements.{DeclaresMode};
 ghost use Rattle.tfpg_base.specs.Choice.{first_of};
 ghost use Rattle.tfpg_graph.specs.Causes.{causes};
 ghost use Rattle.tfpg_graph.specs.inside.reading.Turns.{is_misplaced};
-ghost use Rattle.tfpg_graph.specs.inside.Declaring.{CanDeclareMode};
+ghost use Rattle.tfpg_graph.specs.inside.declaring.Declaring.{CanDeclareMode};
 
 use crate::cause::GraphCause;
 use crate::declared::Declared;

@@ -10,7 +10,7 @@ ghost use Rattle.tfpg_graph.specs.Causes.{causes};
 ghost use Rattle.tfpg_graph.specs.inside.reading.StatementSeen.{node_words_of};
 ghost use Rattle.tfpg_graph.specs.inside.reading.LineCauses.{node_name_causes, node_room_causes};
 ghost use Rattle.tfpg_graph.specs.inside.reading.Turns.{is_misplaced, ReadAs};
-ghost use Rattle.tfpg_graph.specs.inside.Declaring.{CanDeclareNode};
+ghost use Rattle.tfpg_graph.specs.inside.declaring.Declaring.{CanDeclareNode};
 
 use crate::cause::GraphCause;
 use crate::declared::Declared;
@@ -34,18 +34,18 @@ pub(crate) fn read_node(
         result }
     ensures clear { IfOk result (CanDeclareNode declared.now name.now) }
 {
-    if let Some(cause) = name_cause(declared, name) {
+    if let Some(cause) = node_name_cause(declared, name) {
         return Err(cause);
     }
     let kind = read_kind(words)?;
-    if let Some(cause) = room_cause(declared, kind) {
+    if let Some(cause) = node_room_cause(declared, kind) {
         return Err(cause);
     }
     Ok(kind)
 }
 
 /// The cause that the line is out of order, or that its name is wrong, where there is one.
-fn name_cause(declared: &Declared, name: &[u8]) -> Option<GraphCause>
+fn node_name_cause(declared: &Declared, name: &[u8]) -> Option<GraphCause>
     ensures first { result ≡ first_of (node_name_causes declared.now name.now) }
     ensures before_edges { IfNone result (declared.now.edges ≡ []) }
     ensures named { IfNone result (IsTrue (is_name name.now)) }
@@ -63,7 +63,7 @@ fn name_cause(declared: &Declared, name: &[u8]) -> Option<GraphCause>
 }
 
 /// The cause that there is no room for a node of this kind, where that is so.
-fn room_cause(declared: &Declared, kind: Kind) -> Option<GraphCause>
+fn node_room_cause(declared: &Declared, kind: Kind) -> Option<GraphCause>
     ensures first { result ≡ first_of (node_room_causes declared.now (is_failure kind)) }
     ensures room { IfNone result (length declared.now.nodes < MAX_NODES) }
     ensures failure_room { IfNone result

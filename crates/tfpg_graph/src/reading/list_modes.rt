@@ -24,7 +24,7 @@ pub(crate) fn listed_modes<'a>(alloc: Global, word: &'a [u8]) -> Result<Vec<&'a 
     parts_at_commas(alloc, word)
 }
 
-/// Whether a name stands twice. Takes time in the square of their number, which is at most [`MAX_MODES`] in a text
+/// Whether a name stands twice. Takes time quadratic in their number, which is at most [`MAX_MODES`] in a text
 /// without a fault.
 pub(crate) fn has_twice(names: &[&[u8]]) -> bool
     ensures { result ≡ has_twice (map (λ name. name.now) names.now) }

@@ -10,7 +10,7 @@ ghost use Rattle.tfpg_graph.specs.Causes.{node_number, lag_number};
 ghost use Rattle.tfpg_graph.specs.inside.reading.LineCauses.{number_causes, delay_causes};
 ghost use Rattle.tfpg_graph.specs.inside.reading.StatementSeen.{node_words_of, word_seen};
 ghost use Rattle.tfpg_graph.specs.inside.reading.Turns.{ReadAs};
-ghost use Rattle.tfpg_graph.specs.inside.Declaring.{AreDelays};
+ghost use Rattle.tfpg_graph.specs.inside.declaring.Declaring.{AreDelays};
 ghost use Rattle.tfpg_graph.specs.declared.cause.GraphCause.TheVariants.{MinOverMax};
 
 use crate::cause::GraphCause;

@@ -3,7 +3,6 @@
 ghost use Rattle.std.specs.Prelude.{◌≡◌, ◌≤◌, ◌^◌, length, Some, IfOk, IfErr};
 ghost use Rattle.tfpg_base.specs.Lines.{parts_of};
 ghost use Rattle.tfpg_graph.specs.Valid.{IsValid};
-ghost use Rattle.tfpg_graph.specs.declared.reading.reader.LineRefusal.TheVariants as line_refusal;
 ghost use Rattle.tfpg_graph.specs.Statements.{DeclaresMode, DeclaresNode, Ends};
 ghost use Rattle.tfpg_graph.specs.inside.reading.StatementSeen.{statement_seen, node_words_of, edge_said};
 ghost use Rattle.tfpg_graph.specs.inside.reading.Turns.{ReaderRepresents, turn, turn_said};
@@ -74,12 +73,6 @@ impl LineRefusal {
     }
 }
 
-fn fault(line: u64, cause: GraphCause) -> GraphRefusal
-    ensures { result ≡ refusal_at (line_refusal.Cause cause) line }
-{
-    GraphRefusal::Fault(GraphFault { line, cause })
-}
-
 /// What the lines so far have declared, and which lines may come next.
 #[derive(Drop)]
 pub(crate) struct Reader {
@@ -100,8 +93,8 @@ impl Reader {
         }
     }
 
-    /// Reads one more line. Takes time in the length of the line, but for look-ups by name, and for an edge in the square of
-    /// the number of modes that it lists, which is at most [`MAX_MODES`](crate::MAX_MODES), except in a line with a fault.
+    /// Reads one more line. Takes time linear in the length of the line, but for look-ups by name, and for an edge quadratic
+    /// in the number of modes that it lists, which is at most [`MAX_MODES`](crate::MAX_MODES), except in a line with a fault.
     pub(crate) fn take(self, alloc: Global, line: &[u8]) -> Result<Reader, LineRefusal>
         ensures { IsTurnResult (turn self line.now) result }
     {
@@ -112,8 +105,8 @@ impl Reader {
         }
     }
 
-    /// The graph of a text whose lines are all read, of which there are so many. Takes time in the number of nodes and
-    /// edges, and where there is a fault, a walk through the text.
+    /// The graph of a text whose lines are all read, of which there are so many. Takes time linear in the number of nodes
+    /// and edges, and where there is a fault, a walk through the text.
     pub(crate) fn end(
         self,
         alloc: Global,
@@ -129,20 +122,16 @@ impl Reader {
     {
         let Reader { part, declared } = self;
         if let Some(node) = declared.without_incoming() {
-            return Err(fault(
-                line_declaring(text, Declaring::Node, node),
-                GraphCause::NoIncoming,
-            ));
+            let line = line_declaring(text, Declaring::Node, node);
+            return Err(LineRefusal::Cause(GraphCause::NoIncoming).at(line));
         }
         if let Some(edge) = first_on_zero_cycle(alloc, &declared)? {
-            return Err(fault(
-                line_declaring(text, Declaring::Edge, edge),
-                GraphCause::ZeroCycle,
-            ));
+            let line = line_declaring(text, Declaring::Edge, edge);
+            return Err(LineRefusal::Cause(GraphCause::ZeroCycle).at(line));
         }
         match part {
             Part::Ended => Ok(Graph::new(declared)),
-            _ => Err(fault(line_count + 1, GraphCause::MissingEnd)),
+            _ => Err(LineRefusal::Cause(GraphCause::MissingEnd).at(line_count + 1)),
         }
     }
 

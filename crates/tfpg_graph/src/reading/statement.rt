@@ -1,8 +1,9 @@
 //! What a line of a graph's text says by its words alone: no name is looked up, and no number is read.
 
-ghost use Rattle.std.specs.Prelude.{◌≡◌, ◌∷◌, [], length, map, option_map};
-ghost use Rattle.tfpg_graph.specs.Text.{is_empty_or_comment};
-ghost use Rattle.tfpg_graph.specs.Statements.{statement_of, statement_in, mode_in, failure_in, or_in, and_in, edge_in, end_in, lag_in, is_skipped};
+ghost use Rattle.std.specs.Prelude.{◌≡◌, ℕ, List, ◌∷◌, [], length, map, Option, option_map};
+ghost use Rattle.tfpg_graph.specs.Statements.{is_empty_or_comment};
+ghost use Rattle.tfpg_graph.specs.Statements.{statement_of, statement_in, OrWords, AndWords, DeclaresNode, mode_in, failure_in, discrepancy_in, edge_in, end_in, lag_in, is_skipped};
+ghost use Rattle.tfpg_graph.specs.Statements as definition;
 ghost use Rattle.tfpg_graph.specs.inside.reading.StatementSeen.{statement_seen, word_seen};
 
 use tfpg_base::{LONGEST_LINE, Words};
@@ -55,7 +56,7 @@ fn is_empty_or_comment(line: &[u8]) -> bool
     }
 }
 
-/// What the line says, where it has one of the shapes. Takes time in its length.
+/// What the line says, where it has one of the shapes. Takes time linear in its length.
 pub(crate) fn statement_of(line: &[u8]) -> Option<Statement<'_>>
     ensures { option_map statement_seen result ≡ statement_of line.now }
 {
@@ -110,25 +111,34 @@ fn failure_in<'a>(words: &[&'a [u8]]) -> Option<Statement<'a>>
 }
 
 fn or_in<'a>(words: &[&'a [u8]]) -> Option<Statement<'a>>
-    ensures { option_map statement_seen result ≡ or_in (map (λ word. word.now) words.now) }
+    ensures { option_map statement_seen result ≡ discrepancy_in OrWords (map (λ word. word.now) words.now) }
 {
-    let (name, others) = words.split_first()?;
-    let lag = lag_in(others)?;
+    let (name, lag) = discrepancy_in(words)?;
     Some(Statement::Node {
-        name: *name,
+        name,
         words: NodeWords::Or { lag },
     })
 }
 
 fn and_in<'a>(words: &[&'a [u8]]) -> Option<Statement<'a>>
-    ensures { option_map statement_seen result ≡ and_in (map (λ word. word.now) words.now) }
+    ensures { option_map statement_seen result ≡ discrepancy_in AndWords (map (λ word. word.now) words.now) }
+{
+    let (name, lag) = discrepancy_in(words)?;
+    Some(Statement::Node {
+        name,
+        words: NodeWords::And { lag },
+    })
+}
+
+/// The name of a discrepancy, and the word for its lag where it is monitored.
+fn discrepancy_in<'a>(words: &[&'a [u8]]) -> Option<(&'a [u8], Option<&'a [u8]>)>
+    ensures { (with_lag : Option (List ℕ) → definition.NodeWords) →
+        option_map (λ found. DeclaresNode found.0.now (with_lag (word_seen found.1))) result
+        ≡ discrepancy_in with_lag (map (λ word. word.now) words.now) }
 {
     let (name, others) = words.split_first()?;
     let lag = lag_in(others)?;
-    Some(Statement::Node {
-        name: *name,
-        words: NodeWords::And { lag },
-    })
+    Some((*name, lag))
 }
 
 /// The word for the lag, where the last words of a discrepancy's line say that it is watched.

@@ -3,16 +3,19 @@
 ghost use Rattle.std.specs.Prelude.{◌≡◌, ◌∷◌};
 ghost use Rattle.tfpg_base.specs.Append.{Appends};
 ghost use Rattle.tfpg_base.specs.TextLine.{text_line};
-ghost use Rattle.tfpg_graph.specs.Text.{node_words, watch_words};
+ghost use Rattle.tfpg_graph.specs.Text.{node_text};
+ghost use Rattle.tfpg_graph.specs.inside.writing.Written.{watch_words};
 
 use crate::kind::Kind;
 use itoa::Buffer;
 use tfpg_base::{NoMemory, append_line};
 
 /// Appends the line that declares a node of this name and kind, with its line end. A lag is written in milliseconds.
-/// Where memory runs out, a part of the line may follow the old bytes. Takes time and memory in the length of the line.
+/// Where memory runs out, a part of the line may follow the old bytes. Takes time and memory linear in the length
+/// of the line.
 pub fn append_node(name: &[u8], kind: Kind, into: &mut Vec<u8>) -> Result<(), NoMemory>
-    ensures { Appends result into.old.items into.new.items (text_line (node_words name.now kind)) }
+    ensures { Appends result into.old.items into.new.items
+        (node_text (record { name = name.now; kind = kind })) }
 {
     match kind {
         Kind::Failure { rarity } => {

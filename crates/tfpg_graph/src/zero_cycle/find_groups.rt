@@ -74,8 +74,8 @@ fn finishing_order(alloc: Global, count: u32, steps: &ZeroSteps) -> Result<Vec<u
 /// A mark for each node, so that nodes with one mark reach each other and no step goes to a lesser mark.
 ///
 /// The first search goes along the reversed steps. The second takes the nodes from last to first in the order of the
-/// first, and gives each group the index of its first node in that order (the algorithm of Kosaraju). Takes time in the numbers
-/// of nodes and steps, and memory for a mark and an index for each node.
+/// first, and gives each group the index of its first node in that order (the algorithm of Kosaraju). Takes time linear in the
+/// number of nodes and steps, and memory for a mark and an index for each node.
 pub(crate) fn groups(
     alloc: Global,
     count: u32,

@@ -2,7 +2,7 @@
 
 ghost use Rattle.std.specs.Prelude.{ℕ, List};
 ghost use Rattle.tfpg_graph.specs.Graph.{Tfpg, sizes_of};
-ghost use Rattle.tfpg_log.specs.Log.{Logbook, IsOf};
+ghost use Rattle.tfpg_log.specs.Log.{Logbook, IsLogOf};
 ghost use Rattle.tfpg_evidence.specs.declared.round.Round.{Round};
 ghost use Rattle.tfpg_evidence.specs.RoundOf.{IsRoundOf};
 ghost use Rattle.tfpg_hyp.specs.Rounds.{IsRound};
@@ -11,6 +11,6 @@ ghost use Rattle.tfpg_hyp.specs.Rounds.{IsRound};
 /// order is that of a ranked finding.
 pub fn a_round_is_of_its_graph()
     ensures { (graph : Tfpg) (k budget line : ℕ) (rounds : List Round) (log : Logbook) (round : Round) →
-        IsOf graph log → IsRound graph k budget rounds log line round →
+        IsLogOf graph log → IsRound graph k budget rounds log line round →
         IsRoundOf (sizes_of graph) round }
 {}

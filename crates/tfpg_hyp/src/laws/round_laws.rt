@@ -3,10 +3,10 @@
 ghost use Rattle.std.specs.Prelude.{ℕ, List};
 ghost use Rattle.tfpg_graph.specs.Graph.{Tfpg};
 ghost use Rattle.tfpg_graph.specs.Valid.{IsValid};
-ghost use Rattle.tfpg_log.specs.Log.{Logbook, IsOf, IsOrdered};
+ghost use Rattle.tfpg_log.specs.Log.{Logbook, IsLogOf, IsOrdered};
 ghost use Rattle.tfpg_evidence.specs.declared.round.Round.{Round};
 ghost use Rattle.tfpg_hyp.specs.Rounds.{IsRound, HasNoneOpen};
-ghost use Rattle.tfpg_hyp.specs.Fitting.{SayWhichSetsFit, AreThoseOfMinimalSets};
+ghost use Rattle.tfpg_hyp.specs.Fitting.{SayWhichSetsFit, AreStatusesOfMinimalSets};
 
 use tfpg_clause::laws::a_refutation_leaves_no_trace;
 
@@ -15,7 +15,7 @@ use tfpg_clause::laws::a_refutation_leaves_no_trace;
 /// fits.
 pub fn rounds_say_which_sets_fit()
     ensures { (graph : Tfpg) (k budget line : ℕ) (rounds : List Round) (log : Logbook) (round : Round) →
-        IsValid graph → IsOf graph log → IsOrdered log → IsRound graph k budget rounds log line round →
+        IsValid graph → IsLogOf graph log → IsOrdered log → IsRound graph k budget rounds log line round →
         SayWhichSetsFit graph log k round.findings }
 {
     a_refutation_leaves_no_trace();
@@ -25,8 +25,8 @@ pub fn rounds_say_which_sets_fit()
 /// fit while no proper subset does, covered exactly the others that fit, and rejected exactly those that do not.
 pub fn statuses_are_those_of_minimal_sets()
     ensures { (graph : Tfpg) (k budget line : ℕ) (rounds : List Round) (log : Logbook) (round : Round) →
-        IsValid graph → IsOf graph log → IsOrdered log → IsRound graph k budget rounds log line round →
-        HasNoneOpen round → AreThoseOfMinimalSets graph log k round.findings }
+        IsValid graph → IsLogOf graph log → IsOrdered log → IsRound graph k budget rounds log line round →
+        HasNoneOpen round → AreStatusesOfMinimalSets graph log k round.findings }
 {
     a_refutation_leaves_no_trace();
 }

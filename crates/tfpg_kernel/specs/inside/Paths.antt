@@ -12,7 +12,7 @@ use Rattle.tfpg_kernel.specs.declared.taken.Taken.{Taken}
 use Rattle.tfpg_kernel.specs.declared.taken.Taken.TheVariants.{Partial, Closed, Bad}
 use Rattle.tfpg_kernel.specs.declared.taken.BadStep.{BadStep}
 use Rattle.tfpg_kernel.specs.declared.taken.BadStep.TheVariants.{NotAClause}
-use Rattle.tfpg_kernel.specs.Checking.{Checking}
+use Rattle.tfpg_kernel.specs.CheckerState.{CheckerState}
 use Rattle.tfpg_kernel.specs.Breaks.{CycleBreaks}
 
 -- the step is right, and the path after it is this one, where there is one
@@ -27,7 +27,7 @@ BreaksBy graph log reach frames (Split name) bad = (bad ≡ NotAClause) × (coun
 BreaksBy graph log reach frames (Cycle reasons) bad = CycleBreaks (stated_by graph log reach frames) reasons bad
 
 -- what a checker that is not closed does at a step
-abbrev pub Moves : Tfpg → Logbook → Checking → Step → Taken → Checking → Type 0
+abbrev pub Moves : Tfpg → Logbook → CheckerState → Step → Taken → CheckerState → Type 0
 Moves graph log old step Partial new = GoesTo graph log old.reach old.path step (Some new.path) × (new.closed ≡ false)
 Moves graph log old step Closed new = GoesTo graph log old.reach old.path step None × (new.closed ≡ true)
 Moves graph log old step (Bad bad) new = BreaksBy graph log old.reach old.path step bad × (new ≡ old)

@@ -2,7 +2,7 @@
 
 use std::alloc::Global;
 use std::test::Fail;
-use tfpg_graph::{Graph, read, write};
+use tfpg_graph::{Edge, Graph, Kind, append_edge_start, read, write};
 
 /// Three modes, an AND discrepancy before its sources, comments, and edges that name their modes in every way.
 const THREE_MODES: &[u8] =
@@ -13,10 +13,10 @@ const THREE_MODES_WRITTEN: &[u8] =
     b"tfpg 1\nmode N\nmode D\nmode R\nand C hidden\nor A watch 7\nfailure F1 3\nfailure F2 5\nedge A C 0 inf N,D\nedge F2 C 2 2 R\nedge F1 A 0 0 *\nedge F2 A 1 9 *\nend\n";
 
 /// What its look-ups return, node by node, edge by edge, and mode by mode.
-const THREE_MODES_SEEN: &str = "node 0 And { lag: None } Some(0) None [0, 1]\n\
-    node 1 Or { lag: Some(7) } Some(1) None [2, 3]\n\
-    node 2 Failure { rarity: 3 } Some(2) Some(0) []\n\
-    node 3 Failure { rarity: 5 } Some(3) Some(1) []\n\
+const THREE_MODES_SEEN: &str = "node 0 And { lag: None } false 0 Some(0) None [0, 1]\n\
+    node 1 Or { lag: Some(7) } true 7 Some(1) None [2, 3]\n\
+    node 2 Failure { rarity: 3 } false 0 Some(2) Some(0) []\n\
+    node 3 Failure { rarity: 5 } false 0 Some(3) Some(1) []\n\
     edge 0 Edge { source: 1, target: 0, tmin: 0, tmax: None, modes: 3 }\n\
     edge 1 Edge { source: 3, target: 0, tmin: 2, tmax: Some(2), modes: 4 }\n\
     edge 2 Edge { source: 2, target: 1, tmin: 0, tmax: Some(0), modes: 7 }\n\
@@ -30,10 +30,14 @@ fn look_ups(alloc: Global, graph: &Graph) -> Result<String, Fail> {
     let mut seen = String::new(alloc);
     for node in 0..graph.node_count() {
         let kind = graph.kind(node);
+        let is_monitored = graph.is_monitored(node);
+        let lag = graph.lag_or_zero(node);
         let found = graph.find(graph.name(node));
-        let position = graph.position_of(node);
+        let position = graph.place_of(node);
         let incoming = graph.incoming(node);
-        let line = format!(in alloc; "node {node} {kind:?} {found:?} {position:?} {incoming:?}\n")?;
+        let line = format!(in alloc;
+            "node {node} {kind:?} {is_monitored} {lag} {found:?} {position:?} {incoming:?}\n"
+        )?;
         seen.push_str(line.as_str())?;
     }
     for number in 0..graph.edge_count() {
@@ -64,6 +68,62 @@ fn a_graph_and_its_copy_have_the_parts_of_the_text(rt: HostRuntime) -> Result<()
     let copy = graph.copy()?;
     assert_eq!(rt; look_ups(rt.alloc(), &graph)?.as_str(), THREE_MODES_SEEN);
     assert_eq!(rt; look_ups(rt.alloc(), &copy)?.as_str(), THREE_MODES_SEEN);
+    Ok(())
+}
+
+#[test]
+fn an_edge_is_active_in_its_modes(rt: HostRuntime) {
+    let edge = Edge {
+        source: 1,
+        target: 0,
+        tmin: 2,
+        tmax: Some(5),
+        modes: 0b011,
+    };
+    let other = Edge {
+        source: 3,
+        target: 0,
+        tmin: 0,
+        tmax: None,
+        modes: 0b110,
+    };
+    assert!(rt; edge.is_active_in(1));
+    assert!(rt; !edge.is_active_in(2));
+    let both = Edge {
+        source: 1,
+        target: 0,
+        tmin: 2,
+        tmax: Some(5),
+        modes: 0b010,
+    };
+    assert_eq!(rt; edge.active_with(&other), both);
+}
+
+#[test]
+fn a_discrepancy_is_or_or_and(rt: HostRuntime) {
+    assert!(rt; Kind::Or { lag: None }.is_or());
+    assert!(rt; !Kind::Or { lag: None }.is_and());
+    assert!(rt; Kind::And { lag: None }.is_and());
+    assert!(rt; !Kind::And { lag: None }.is_or());
+}
+
+#[test]
+fn nodes_are_or_nodes_or_and_nodes(rt: HostRuntime) -> Result<(), Fail> {
+    let graph = read(rt.alloc(), THREE_MODES)?;
+    assert!(rt; graph.is_and(0));
+    assert!(rt; !graph.is_or(0));
+    assert!(rt; graph.is_or(1));
+    assert!(rt; !graph.is_and(1));
+    assert!(rt; !graph.is_or(4));
+    assert!(rt; !graph.is_and(4));
+    Ok(())
+}
+
+#[test]
+fn an_edge_is_written_up_to_its_delays(rt: HostRuntime) -> Result<(), Fail> {
+    let mut text = Vec::from_slice(rt.alloc(), b"# before\n")?;
+    append_edge_start(b"F1", b"A", 0, Some(7), &mut text)?;
+    assert_eq!(rt; text.as_slice(), b"# before\nedge F1 A 0 7".as_slice());
     Ok(())
 }
 

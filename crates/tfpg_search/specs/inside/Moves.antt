@@ -21,7 +21,7 @@ use Rattle.tfpg_search.specs.inside.Closing.{IsSimpleCycle}
 use Rattle.tfpg_search.specs.Solutions.{SolvesBy, IsLatestBy}
 use Rattle.tfpg_search.specs.Live.{HasNoNameTwice}
 use Rattle.tfpg_search.specs.Picks.{AreInRange}
-use Rattle.tfpg_search.specs.Searching.{Searching, IsAtItsLeaf, HasEnteredAll}
+use Rattle.tfpg_search.specs.SearchState.{SearchState, IsAtItsLeaf, HasEnteredAll}
 use Rattle.tfpg_search.specs.declared.found.Found.{Found}
 use Rattle.tfpg_search.specs.declared.found.Found.TheVariants.{Shown as FoundShown, Closed as FoundClosed, Spent}
 use Rattle.tfpg_search.specs.declared.search.Look.{Look}
@@ -73,13 +73,13 @@ pub record Grows (graph : Tfpg) (log : Logbook) (reach : List ℕ) (start : List
   pub leads : Leads graph log reach (Some start) added end
 
 -- The set, what it reaches, and how many events were seen are unchanged.
-pub record KeepsSet (old new : Searching) : Type 0 where
+pub record KeepsSet (old new : SearchState) : Type 0 where
   pub set : new.set ≡ old.set
   pub reach : new.reach ≡ old.reach
   pub seen : new.seen ≡ old.seen
 
 -- The system has all constraints of the leaf: each alternative on the path was entered, and its solutions meet each fact.
-pub record IsSettled (graph : Tfpg) (log : Logbook) (search : Searching) : Type 0 where
+pub record IsLoaded (graph : Tfpg) (log : Logbook) (search : SearchState) : Type 0 where
   pub all_entered : HasEnteredAll search
   pub facts : (times : List ℕ) → IsSolution search.leaf.demands times →
       (reason : Reason) (constraint : Constraint) → fact graph log search.reach reason ≡ Some constraint → Meets times constraint
@@ -90,7 +90,7 @@ untaken [] = 0
 untaken (frame ∷ deeper) = (frame.alternatives - frame.alternative) + untaken deeper
 
 -- What closing the present leaf comes to: a next leaf with fewer alternatives not taken, or none.
-abbrev pub Closing : Tfpg → Logbook → Searching → Searching → List Step → List Step → Result Bool NoMemory → Type 0
+abbrev pub Closing : Tfpg → Logbook → SearchState → SearchState → List Step → List Step → Result Bool NoMemory → Type 0
 Closing graph log old new before after (Ok true) =
     IsAtItsLeaf graph log new × Grows graph log old.reach old.path before after 0 (Some new.path)
     × (untaken new.path < untaken old.path)
@@ -98,21 +98,21 @@ Closing graph log old new before after (Ok false) = Grows graph log old.reach ol
 Closing graph log old new before after (Err no_memory) =
     (end : Option (List Frame)) × Grows graph log old.reach old.path before after 0 end
 
--- What settling the present leaf comes to: a settled leaf, or none.
-abbrev pub Settling : Tfpg → Logbook → Searching → Searching → List Step → List Step → Result Bool NoMemory → Type 0
-Settling graph log old new before after (Ok true) =
-    IsAtItsLeaf graph log new × IsSettled graph log new × Grows graph log old.reach old.path before after 0 (Some new.path)
-Settling graph log old new before after (Ok false) = Grows graph log old.reach old.path before after 0 None
-Settling graph log old new before after (Err no_memory) =
+-- What loading the present leaf comes to: a loaded leaf, or none.
+abbrev pub Loading : Tfpg → Logbook → SearchState → SearchState → List Step → List Step → Result Bool NoMemory → Type 0
+Loading graph log old new before after (Ok true) =
+    IsAtItsLeaf graph log new × IsLoaded graph log new × Grows graph log old.reach old.path before after 0 (Some new.path)
+Loading graph log old new before after (Ok false) = Grows graph log old.reach old.path before after 0 None
+Loading graph log old new before after (Err no_memory) =
     (end : Option (List Frame)) × Grows graph log old.reach old.path before after 0 end
 
--- What is seen at a settled leaf: a trace that explains the log, or the clause on which a split would be live.
-abbrev pub Sees : Tfpg → Logbook → Searching → Look → Type 0
+-- What is seen at a loaded leaf: a trace that explains the log, or the clause on which a split would be live.
+abbrev pub Sees : Tfpg → Logbook → SearchState → Look → Type 0
 Sees graph log search (Violated name) = IsLiveFramed graph log search.reach search.path name
 Sees graph log search (Shown trace) = Explains graph log search.set trace
 
--- What a look comes to: what is seen at a settled leaf; or no leaf.
-abbrev pub Looking : Tfpg → Logbook → Searching → Searching → List Step → List Step → Result (Option Look) NoMemory → Type 0
+-- What a look comes to: what is seen at a loaded leaf; or no leaf.
+abbrev pub Looking : Tfpg → Logbook → SearchState → SearchState → List Step → List Step → Result (Option Look) NoMemory → Type 0
 Looking graph log old new before after (Ok (Some look)) =
     IsAtItsLeaf graph log new × HasEnteredAll new × Sees graph log new look
     × Grows graph log old.reach old.path before after 0 (Some new.path)
@@ -121,14 +121,14 @@ Looking graph log old new before after (Err no_memory) =
     (end : Option (List Frame)) × Grows graph log old.reach old.path before after 0 end
 
 -- What a split comes to: one split more.
-abbrev pub Splitting : Tfpg → Logbook → Searching → Searching → List Step → List Step → Result (Unit {0}) NoMemory → Type 0
+abbrev pub Splitting : Tfpg → Logbook → SearchState → SearchState → List Step → List Step → Result (Unit {0}) NoMemory → Type 0
 Splitting graph log old new before after (Ok done) =
     IsAtItsLeaf graph log new × Grows graph log old.reach old.path before after 1 (Some new.path)
 Splitting graph log old new before after (Err no_memory) =
     (end : Option (List Frame)) × Grows graph log old.reach old.path before after 0 end
 
 -- What was found, after so many splits, where the steps lead to that leaf.
-abbrev pub FoundAtLeaf : Tfpg → Logbook → ℕ → Searching → ℕ → Option (List Frame) → Result Found NoMemory → Type 0
+abbrev pub FoundAtLeaf : Tfpg → Logbook → ℕ → SearchState → ℕ → Option (List Frame) → Result Found NoMemory → Type 0
 FoundAtLeaf graph log budget new splits end (Ok (FoundShown trace)) =
     Explains graph log new.set trace × IsAtItsLeaf graph log new × HasEnteredAll new × (end ≡ Some new.path)
 FoundAtLeaf graph log budget new splits end (Ok FoundClosed) = end ≡ None
@@ -138,7 +138,7 @@ FoundAtLeaf graph log budget new splits end (Ok Spent) =
 FoundAtLeaf graph log budget new splits end (Err no_memory) = Unit {0}
 
 -- What searching on comes to.
-pub record SearchesOn (graph : Tfpg) (log : Logbook) (budget : ℕ) (old new : Searching)
+pub record SearchesOn (graph : Tfpg) (log : Logbook) (budget : ℕ) (old new : SearchState)
     (before after : List Step) (result : Result Found NoMemory) : Type 0 where
   pub splits : ℕ
   pub end : Option (List Frame)

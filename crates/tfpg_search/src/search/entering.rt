@@ -7,7 +7,7 @@ ghost use Rattle.tfpg_clause.specs.Facts.{fact};
 ghost use Rattle.tfpg_clause.specs.Paths.{framed, stated_by};
 ghost use Rattle.tfpg_search.specs.Leaf.{pick_reasons, IsStated};
 ghost use Rattle.tfpg_search.specs.Picks.{picks_from};
-ghost use Rattle.tfpg_search.specs.Searching.{IsAtItsLeaf, HasEnteredAll};
+ghost use Rattle.tfpg_search.specs.SearchState.{IsAtItsLeaf, HasEnteredAll};
 ghost use Rattle.tfpg_search.specs.inside.Closing.{Closes};
 ghost use Rattle.tfpg_search.specs.inside.Leaving.{constraint_count_at, Leaves, Pushing, PushesOne};
 ghost use Rattle.tfpg_search.specs.inside.Moves.{KeepsSet};

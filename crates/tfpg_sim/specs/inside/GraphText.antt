@@ -1,11 +1,10 @@
 -- The text of a generated graph, by the numbers of its nodes. No public contract cites this.
-use Rattle.std.specs.Prelude.{◌≡◌, ◌⊎◌, ℕ, List, [], ◌∷◌, ◌++◌, ◌==◌, if◌then◌else◌, codes, decimal}
+use Rattle.std.specs.Prelude.{◌≡◌, ◌⊎◌, ℕ, List, [], ◌∷◌, ◌++◌, ◌==◌, if◌then◌else◌, codes}
 use Rattle.std.specs.List.{flat_map}
 use Rattle.tfpg_base.specs.TextLine.{text_line}
 use Rattle.tfpg_graph.specs.declared.edge.Edge.{Edge}
 use Rattle.tfpg_graph.specs.declared.kind.Kind.{Kind}
-use Rattle.tfpg_graph.specs.Text.{tmax_word}
-use Rattle.tfpg_graph.specs.inside.writing.Written.{node_text}
+use Rattle.tfpg_graph.specs.Text.{edge_start_words, node_text}
 use Rattle.tfpg_sim.specs.Generated.{drawn_name, failure_kinds, named_nodes}
 use Rattle.tfpg_sim.specs.declared.limits.TheConstants.{FAILURE_COUNT}
 
@@ -22,8 +21,8 @@ drawn_modes_word modes = if modes == 1 then codes "M0" else codes "*"
 -- the line of an edge, with its line end
 abbrev pub edge_text_by_number : Edge → List ℕ
 edge_text_by_number edge =
-    text_line (codes "edge" ∷ drawn_name edge.source ∷ drawn_name edge.target ∷ decimal edge.tmin
-    ∷ tmax_word edge.tmax ∷ drawn_modes_word edge.modes ∷ [])
+    text_line (edge_start_words (drawn_name edge.source) (drawn_name edge.target) edge.tmin edge.tmax
+    ++ drawn_modes_word edge.modes ∷ [])
 
 -- the text of these discrepancies and edges
 abbrev pub draft_text : List Kind → List Edge → List ℕ

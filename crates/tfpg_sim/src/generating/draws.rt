@@ -3,6 +3,7 @@
 ghost use Rattle.std.specs.Prelude.{◌≡◌, ◌<◌, ◌%◌, if◌then◌else◌};
 ghost use Rattle.tfpg_sim.specs.Generated.{draw, after_word, after_words, edge_drawn};
 
+use crate::limits::GENERATED_DELAYS;
 use rand_core::utils::NextWord;
 use rand_pcg::Lcg64Xsh32;
 use tfpg_graph::Edge;
@@ -22,8 +23,8 @@ pub(crate) fn draw_edge(source: u32, target: u32, state: &mut Lcg64Xsh32) -> Edg
     ensures edge { result ≡ edge_drawn source target state.old }
     ensures after { state.new ≡ after_words 4 state.old }
 {
-    let least = u64::from(draw(state, 50));
-    let more = u64::from(draw(state, 50));
+    let least = u64::from(draw(state, GENERATED_DELAYS));
+    let more = u64::from(draw(state, GENERATED_DELAYS));
     let is_open = draw(state, 16) == 0;
     let is_in_first_alone = draw(state, 8) == 0;
     Edge {

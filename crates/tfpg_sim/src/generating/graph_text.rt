@@ -9,17 +9,15 @@ ghost use Rattle.tfpg_sim.specs.Generated.{discrepancy_count, drawn_graph, failu
 ghost use Rattle.tfpg_sim.specs.declared.limits.TheConstants.{FAILURE_COUNT};
 ghost use Rattle.tfpg_sim.specs.inside.GraphText.{drawn_modes_word, edge_text_by_number, draft_text, HasDrawnModes};
 ghost use Rattle.tfpg_base.specs.TextLine.{text_line};
-ghost use Rattle.tfpg_graph.specs.Text.{node_words};
-ghost use Rattle.tfpg_graph.specs.inside.writing.Written.{node_text};
+ghost use Rattle.tfpg_graph.specs.Text.{node_text, node_words};
 ghost use Rattle.tfpg_sim.specs.Generated.{drawn_name};
 
 use crate::generating::draft::Draft;
 use crate::generating::drawn_name::drawn_name;
 use crate::limits::FAILURE_COUNT;
-use itoa::Buffer;
 use std::alloc::Global;
-use tfpg_base::{NoMemory, append_line};
-use tfpg_graph::{Edge, Graph, GraphRefusal, Kind, append_node, read};
+use tfpg_base::NoMemory;
+use tfpg_graph::{Edge, Graph, GraphRefusal, Kind, append_edge_start, append_node, read};
 
 /// The graph of the draft, which is valid.
 pub(crate) fn drawn_graph(alloc: Global, draft: &Draft) -> Result<Graph, NoMemory>
@@ -45,7 +43,7 @@ fn draft_text(alloc: Global, kinds: &[Kind], edges: &[Edge]) -> Result<Vec<u8>, 
     text.extend_from_slice(b"tfpg 1\nmode M0\nmode M1\n")?;
     append_failures(alloc, &mut text)?;
     append_discrepancies(alloc, kinds, &mut text)?;
-    append_edges(alloc, edges, &mut text)?;
+    append_edges_by_number(alloc, edges, &mut text)?;
     text.extend_from_slice(b"end\n")?;
     Ok(text)
 }
@@ -88,32 +86,26 @@ fn append_node_by_number(
 }
 
 /// Appends the lines of the edges.
-fn append_edges(alloc: Global, edges: &[Edge], into: &mut Vec<u8>) -> Result<(), NoMemory>
+fn append_edges_by_number(alloc: Global, edges: &[Edge], into: &mut Vec<u8>) -> Result<(), NoMemory>
     ensures { Appends result into.old.items into.new.items (flat_map edge_text_by_number edges.now) }
 {
     for edge in edges {
-        append_edge(alloc, *edge, into)?;
+        append_edge_by_number(alloc, *edge, into)?;
     }
     Ok(())
 }
 
 /// Appends the line of an edge.
-fn append_edge(alloc: Global, edge: Edge, into: &mut Vec<u8>) -> Result<(), NoMemory>
+fn append_edge_by_number(alloc: Global, edge: Edge, into: &mut Vec<u8>) -> Result<(), NoMemory>
     ensures { Appends result into.old.items into.new.items (edge_text_by_number edge) }
 {
     let source = drawn_name(alloc, edge.source)?;
     let target = drawn_name(alloc, edge.target)?;
-    let mut tmin_digits = Buffer::new();
-    let tmin = tmin_digits.format(edge.tmin).as_bytes();
-    let modes = drawn_modes_word(edge.modes);
-    match edge.tmax {
-        Some(tmax) => {
-            let mut tmax_digits = Buffer::new();
-            let tmax = tmax_digits.format(tmax).as_bytes();
-            append_line(into, &[b"edge", &source, &target, tmin, tmax, modes])
-        }
-        None => append_line(into, &[b"edge", &source, &target, tmin, b"inf", modes]),
-    }
+    append_edge_start(&source, &target, edge.tmin, edge.tmax, into)?;
+    into.push(b' ')?;
+    into.extend_from_slice(drawn_modes_word(edge.modes))?;
+    into.push(b'\n')?;
+    Ok(())
 }
 
 /// The word for the first mode alone, or for both.

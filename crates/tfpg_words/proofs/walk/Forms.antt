@@ -3,7 +3,7 @@ use Rattle.std.proofs.Common.{◌≡◌, ◌∙◌, ◌==◌, ◌&&◌, ◌||◌
 use Rattle.std.specs.Prelude.{if◌then◌else◌, count_by, find}
 use Rattle.std.specs.Option.{option_map_or}
 use Rattle.std.specs.List.{list_any}
-use Rattle.std.proofs.lemmas.Bool.{false_from_ne_true}
+use Rattle.std.proofs.lemmas.Bool.{false_from_ne_true, cond-true, or_right}
 use Rattle.std.proofs.Math.Bool.{or-false}
 use Rattle.clap.specs.Walk.{Row, Rule, Text, arg_by_id, arg_by_long, count_of, finished, has_long, has_row, has_short, idle, nothing_held, settled, walk, with_default, with_values}
 use Rattle.clap.specs.Simple.{App, argument_words, built, names_of, matches_of}
@@ -15,12 +15,14 @@ use Rattle.clap.specs.declared.error.kind.ErrorKind.TheVariants.{MissingRequired
 use Rattle.clap.proofs.FaultLemmas.{leaf_fault}
 use Rattle.clap.specs.declared.parser.matches.ValueSource.TheVariants.{DefaultValue}
 use Rattle.clap.specs.declared.builder.value_parser.Reading.TheVariants as reading
-use Rattle.tfpg_base.proofs.lists.SameBytes.{bytes_eq-same, bytes_eq-true}
+use Rattle.tfpg_base.proofs.lists.Choices.{cond-same}
+use Rattle.tfpg_base.proofs.lists.FirstFound.{find-map_fail}
+use Rattle.tfpg_base.proofs.lists.SameBytes.{bytes_eq-same, bytes_eq-true, bytes_eq-apart}
 use Rattle.tfpg_words.specs.Words.{Any, Form, Parts, Word, is_word_among, no_parts, parts_from}
 use Rattle.tfpg_words.specs.inside.Rows.{AllAmong, Apart, Holds, form_for, hyphened, joined_to, rules_for, built_for}
 use Rattle.tfpg_words.specs.inside.Rules.{LongIs, between, flag_rule, option_rule, shape_with, words_id, words_rule}
-use Rattle.tfpg_words.proofs.walk.Walks.{Outcome}
-use Rattle.tfpg_words.proofs.walk.Rows.{differ, other_values, row_at, vals_in, count_in, skipped, found}
+use Rattle.tfpg_words.proofs.walk.Walks.{Outcome, all_nil, both_nil}
+use Rattle.tfpg_words.proofs.walk.Rows.{other_values, row_at, vals_in, count_in, skipped, found}
 use Rattle.tfpg_words.proofs.walk.Main.{AreUtf8, IsFor, whole_walk}
 
 abbrev by_name : Text → Rule → Bool
@@ -46,12 +48,6 @@ module _ (rule : Text → Rule) (test : Text → Rule → Bool) (tests : (n name
           subst (λ (t : Bool). FoundByName rule name (t || is_word_among (map hyphened names) (hyphened name)) (find (test name) (map rule (n ∷ names) ++ rest)) (find (test name) rest)) (sym e)
           (subst (λ (o : Option Rule). FoundByName rule name (is_word_among (map hyphened names) (hyphened name)) o (find (test name) rest))
           (λ i. cond (sym (tests n name ∙ e) i) (Some (rule n)) (find (test name) (map rule names ++ rest))) more)
-
--- a search that no rule of a name passes
-passed : (rule : Text → Rule) (test : Rule → Bool) (rest : List Rule) → ((n : Text) → test (rule n) ≡ false) → (names : List Text)
-    → find test (map rule names ++ rest) ≡ find test rest
-passed rule test rest none [] = refl
-passed rule test rest none (n ∷ names) = (λ i. cond (none n i) (Some (rule n)) (find test (map rule names ++ rest))) ∙ passed rule test rest none names
 
 hyphens : (names : List Text) (word : Word) → is_word_among (map hyphened names) word ≡ true → (name : Text) × (word ≡ hyphened name)
 hyphens [] word e = absurd (true≢false (sym e))
@@ -94,36 +90,25 @@ module _ (options flags : List Text) (apart : Apart (form_for options flags)) wh
     long_name = by_long_name;
     by_id = among_option;
     words_by_id = words_are;
-    by_index = passed option_rule (λ a. option_map_or (λ k. k == 1) a.index false) (map flag_rule flags ++ words_rule ∷ []) (λ n. refl) options
-        ∙ passed flag_rule (λ a. option_map_or (λ k. k == 1) a.index false) (words_rule ∷ []) (λ n. refl) flags;
-    by_short = λ x. passed option_rule (λ a. not (is_some a.index) && has_short a x) (map flag_rule flags ++ words_rule ∷ []) (λ n. refl) options
-        ∙ passed flag_rule (λ a. not (is_some a.index) && has_short a x) (words_rule ∷ []) (λ n. refl) flags;
+    by_index = find-map_fail option_rule (λ a. option_map_or (λ k. k == 1) a.index false) (map flag_rule flags ++ words_rule ∷ []) (λ n. refl) options
+        ∙ find-map_fail flag_rule (λ a. option_map_or (λ k. k == 1) a.index false) (words_rule ∷ []) (λ n. refl) flags;
+    by_short = λ x. find-map_fail option_rule (λ a. not (is_some a.index) && has_short a x) (map flag_rule flags ++ words_rule ∷ []) (λ n. refl) options
+        ∙ find-map_fail flag_rule (λ a. not (is_some a.index) && has_short a x) (words_rule ∷ []) (λ n. refl) flags;
     option_names = hyphens options;
     flag_names = hyphens flags;
   }
 
 -- ---- after the walk
 
-no_default : (b : Bool) (k : Kinds) → (if b || true then [] else k) ≡ []
-no_default true k = refl
-no_default false k = refl
-
-abbrev fine : Kinds
-fine = []
-
-flag_fine : (b : Bool) → (if b || false then fine else fine) ≡ fine
-flag_fine true = refl
-flag_fine false = refl
-
 defaults_fine : (options flags : List Text) (rows : List Row) → defaults_fault rows (rules_for options flags) ≡ []
 unfolding defaults_fault
 defaults_fine (n ∷ options) flags rows =
-    (λ i. or_else (no_default (has_row n rows) (given_default_fault (option_rule n) []) i) (defaults_fault (with_default rows (option_rule n)) (rules_for options flags)))
+    (λ i. or_else (cond-true (has_row n rows || true) [] (given_default_fault (option_rule n) []) (or_right (has_row n rows) true refl) i) (defaults_fault (with_default rows (option_rule n)) (rules_for options flags)))
     ∙ defaults_fine options flags (with_default rows (option_rule n))
 defaults_fine [] (n ∷ flags) rows =
-    (λ i. or_else (flag_fine (has_row n rows) i) (defaults_fault (with_default rows (flag_rule n)) (rules_for [] flags)))
+    (λ i. or_else (cond-same (has_row n rows || false) [] i) (defaults_fault (with_default rows (flag_rule n)) (rules_for [] flags)))
     ∙ defaults_fine [] flags (with_default rows (flag_rule n))
-defaults_fine [] [] rows = (λ i. or_else (no_default (has_row words_id rows) (given_default_fault words_rule []) i) [])
+defaults_fine [] [] rows = (λ i. or_else (cond-true (has_row words_id rows || true) [] (given_default_fault words_rule []) (or_right (has_row words_id rows) true refl) i) [])
 
 none_required : (options flags : List Text) (rows : List Row) → list_any (λ a. a.required && not (is_given a.id rows)) (rules_for options flags) ≡ false
 none_required (n ∷ options) flags rows = none_required options flags rows
@@ -133,20 +118,7 @@ none_required [] [] rows = refl
 checks_fine : (options flags : List Text) (rows : List Row) → check_fault (shape_with (rules_for options flags)) rows false ≡ []
 checks_fine options flags rows = λ i. if none_required options flags rows i then MissingRequiredArgument ∷ [] else []
 
-both_nil : (a b c : Kinds) → or_else a (or_else b c) ≡ [] → or_else a b ≡ []
-both_nil [] [] c e = refl
-both_nil [] (k ∷ ks) c e = e
-both_nil (k ∷ ks) b c e = e
-
-all_nil : (a b c : Kinds) → c ≡ [] → or_else a b ≡ [] → or_else a (or_else b c) ≡ []
-all_nil [] [] c none e = none
-all_nil [] (k ∷ ks) c none e = e
-all_nil (k ∷ ks) b c none e = e
-
--- the rows with the defaults
-keeps_rows : (b : Bool) (rows : List Row) → (if b then rows else rows) ≡ rows
-keeps_rows true rows = refl
-keeps_rows false rows = refl
+-- ---- the rows with the defaults
 
 absent : (n : Text) (rows : List Row) → has_row n rows ≡ false → row_at n rows ≡ None
 absent n [] e = refl
@@ -182,11 +154,11 @@ module _ (form : Form) (apart : Apart form) (parts : Parts) where
       others : has_row n rows ≡ false → Holds form (with_values n reading.WithoutMinus DefaultValue (codes "0" ∷ []) rows) parts
       others none = record {
         values = λ m e.
-            let off : bytes_eq n m ≡ false = differ (λ t. is_word_among form.flags (hyphened t) ≡ true) (λ t. is_word_among form.options (hyphened t) ≡ true) n m is e (λ t f o. apart.kinds t o f) in
+            let off : bytes_eq n m ≡ false = bytes_eq-apart (λ t. is_word_among form.flags (hyphened t) ≡ true) (λ t. is_word_among form.options (hyphened t) ≡ true) n m is e (λ t f o. apart.kinds t o f) in
             ap vals_in (other_values m n reading.WithoutMinus DefaultValue rows off (codes "0" ∷ [])) ∙ h.values m e;
         counts = λ m e. same_flag m e (bytes_eq n m) refl none;
         words =
-            let off : bytes_eq n words_id ≡ false = differ (λ t. is_word_among form.flags (hyphened t) ≡ true) (λ t. t ≡ words_id) n words_id is refl
+            let off : bytes_eq n words_id ≡ false = bytes_eq-apart (λ t. is_word_among form.flags (hyphened t) ≡ true) (λ t. t ≡ words_id) n words_id is refl
             (λ t f e. apart.no_flag (subst (λ (x : Text). is_word_among form.flags (hyphened x) ≡ true) e f)) in
             ap vals_in (other_values words_id n reading.WithoutMinus DefaultValue rows off (codes "0" ∷ [])) ∙ h.words;
       }
@@ -198,9 +170,9 @@ module _ (form : Form) (apart : Apart form) (parts : Parts) where
   finished_holds : (options flags : List Text) → AllAmong form.flags flags → (rows : List Row) → Holds form rows parts
       → Holds form (fold with_default rows (rules_for options flags)) parts
   finished_holds (n ∷ options) flags all rows h =
-      finished_holds options flags all (with_default rows (option_rule n)) (subst (λ (l : List Row). Holds form l parts) (sym (keeps_rows (has_row n rows) rows)) h)
+      finished_holds options flags all (with_default rows (option_rule n)) (subst (λ (l : List Row). Holds form l parts) (sym (cond-same (has_row n rows) rows)) h)
   finished_holds [] (n ∷ flags) all rows h = finished_holds [] flags all.1 (with_default rows (flag_rule n)) (flag_default n rows all.0 h)
-  finished_holds [] [] all rows h = subst (λ (l : List Row). Holds form l parts) (sym (keeps_rows (has_row words_id rows) rows)) h
+  finished_holds [] [] all rows h = subst (λ (l : List Row). Holds form l parts) (sym (cond-same (has_row words_id rows) rows)) h
 
 -- ---- the parse
 

@@ -1,10 +1,13 @@
 -- clap's walk over the words comes to their parts, word by word.
-use Rattle.std.proofs.Common.{◌≡◌, ◌∙◌, ◌+◌, ◌==◌, ◌&&◌, ap, refl, sym, subst, zero, suc, ℕ, Bool, true, false, List, [], ◌∷◌, ◌++◌, length, min, Option, Some, None, option_map, bytes_eq, codes, take, drop, slice_index, true≢false, arith}
+use Rattle.std.proofs.Common.{◌≡◌, ◌∙◌, ◌+◌, ◌==◌, ◌&&◌, ap, refl, sym, subst, zero, suc, ℕ, Bool, true, false, List, [], ◌∷◌, ◌++◌, length, min, Option, Some, None, option_map, bytes_eq, codes, take, drop, slice_index, arith}
 use Rattle.std.specs.Prelude.{if◌then◌else◌}
 use Rattle.std.specs.Option.{option_map_or}
 use Rattle.std.specs.List.{after_first, position}
 use Rattle.std.specs.Str.{IsUtf8}
+use Rattle.std.proofs.lemmas.Bool.{eqb-false}
 use Rattle.std.proofs.lemmas.List.{append-nil, take_all}
+use Rattle.tfpg_base.proofs.lists.Cuts.{cons-not_nil}
+use Rattle.tfpg_base.proofs.lists.Positions.{before_first-none}
 use Rattle.clap.specs.Lexer.{has_byte, name_and_value}
 use Rattle.clap.specs.Walk.{Row, Rule, Text, Waiting, Walk, arg_by_id, arg_by_index, arg_by_long, arg_by_short, idle, next, option, positional, settled_rows, trailing, used, used_by_id, value, word_met}
 use Rattle.clap.specs.Kinds.{Kinds, or_else, value_kinds}
@@ -19,7 +22,7 @@ use Rattle.clap.specs.Faults.{settle_fault, turn_fault, use_fault, walk_fault, w
 use Rattle.tfpg_words.specs.Words.{Form, Next, Any, ValueOf, OnlyPositional, Parts, WordUse, Divider, Positional, Used, Waits, Wrong, Use, Word, after_turn, is_word_among, no_parts, option_turn, cut_at_equals, parts_from, use_of_word, with_positional, with_use}
 use Rattle.tfpg_words.specs.inside.Rows.{Apart, Holds, hyphened, joined_to}
 use Rattle.tfpg_words.specs.inside.Rules.{LongIs, between, flag_rule, option_rule, shape_with, words_id, words_rule}
-use Rattle.tfpg_words.proofs.walk.View.{View, plain, divider, long, short, view, cut_long, whole, named, parted}
+use Rattle.tfpg_words.proofs.walk.View.{View, plain, divider, long, short, view, cut_long, named, parted}
 use Rattle.tfpg_words.proofs.walk.Turns.{held, quiet, no_subcommand, turn_by, walked_by, words_fault, words_step, plain_met, plain_fault, divider_met, divider_fault, short_fault_is, value_met, lacks, settles, attached, attached_fault, waits, waits_fault, flag, flag_fault, unneeded_fault, unknown_fault}
 use Rattle.tfpg_words.proofs.walk.Walks.{Outcome, Settled, WalkStands, add_use, add_word, forward, left_nil, rest_fault, rest_rows, stuck, use_first, word_first}
 use Rattle.tfpg_words.proofs.walk.Rows.{hold_option, hold_flag, hold_word}
@@ -38,9 +41,6 @@ pub record IsFor (R : List Rule) (form : Form) : Type 0 where
 abbrev pub AreUtf8 : List Word → Type 0
 AreUtf8 [] = Unit {0}
 AreUtf8 (word ∷ words) = IsUtf8 word × AreUtf8 words
-
-nonempty : {X : Type 0} (x : X) (xs : List X) → x ∷ xs ≡ [] → ⊥
-nonempty x xs e = cc
 
 -- a count of at most 255 is a number of the flag's
 counts_fine : (c : ℕ) → value_kinds false (vp.Signed (pos 0) (pos 255)) (count_text (min (c + 1) 255)) ≡ []
@@ -95,10 +95,10 @@ module _ (R : List Rule) (form : Form) (k : IsFor R form) where
   doomed : (rows : List Row) (name : Text) (w : Waiting) → arg_by_id R name ≡ Some (option_rule name) → (words : List Word)
       → rest_fault R (between rows (Some (name, [])) w true) words ≡ [] → ⊥
   unfolding walk_fault
-  doomed rows name w by_id [] e = nonempty _ _ (sym (lacks R k.by_index name by_id rows) ∙ e)
+  doomed rows name w by_id [] e = cons-not_nil _ _ (sym (lacks R k.by_index name by_id rows) ∙ e)
   doomed rows name w by_id (word ∷ words) e =
       stuck R (between rows (Some (name, [])) w true) word words
-      (λ none. nonempty _ _ (sym (lacks R k.by_index name by_id rows) ∙ (sym (words_fault R k.by_index rows (Some (name, [])))
+      (λ none. cons-not_nil _ _ (sym (lacks R k.by_index name by_id rows) ∙ (sym (words_fault R k.by_index rows (Some (name, [])))
       ∙ (sym (turn_by R k.by_index rows (Some (name, [])) w true word (held rows (Some (name, []))) value [] refl refl) ∙ none))))
       e
 
@@ -169,14 +169,9 @@ module _ (R : List Rule) (form : Form) (k : IsFor R form) where
   after_flag_settled parts rows h = record { fine = refl; holds = h }
 
   hyphen_second : (index first : ℕ) (rest : List ℕ) (n : Text) → take index (45 ∷ first ∷ rest) ≡ hyphened n → first ≡ 45
-  hyphen_second zero first rest n e = absurd (nonempty 45 (45 ∷ n) (sym e))
-  hyphen_second (suc zero) first rest n e = absurd (nonempty 45 n (sym (ap (drop 1) e)))
+  hyphen_second zero first rest n e = absurd (cons-not_nil 45 (45 ∷ n) (sym e))
+  hyphen_second (suc zero) first rest n e = absurd (cons-not_nil 45 n (sym (ap (drop 1) e)))
   hyphen_second (suc (suc index)) first rest n e = ap (λ (l : List ℕ). slice_index l 1) e
-
-  apart_from_hyphens : (first : ℕ) → (first == 45) ≡ false → first ≡ 45 → ⊥
-  apart_from_hyphens first other is =
-      let same : (first == 45) ≡ true = ap (λ (n : ℕ). n == 45) is in
-      absurd (true≢false (sym same ∙ other))
 
   no_option : (first : ℕ) (rest : List ℕ) (index : ℕ) → (first == 45) ≡ false → is_word_among form.options (take index (45 ∷ first ∷ rest)) ≡ false
   no_option first rest index other = by (is_word_among form.options (take index (45 ∷ first ∷ rest))) refl
@@ -184,15 +179,12 @@ module _ (R : List Rule) (form : Form) (k : IsFor R form) where
       by : (b : Bool) → is_word_among form.options (take index (45 ∷ first ∷ rest)) ≡ b → is_word_among form.options (take index (45 ∷ first ∷ rest)) ≡ false
       by true e =
           let n = k.option_names (take index (45 ∷ first ∷ rest)) e in
-          absurd (apart_from_hyphens first other (hyphen_second index first rest n.0 n.1))
+          absurd (eqb-false first 45 other (hyphen_second index first rest n.0 n.1))
       by false e = e
-
-  whole_word : (first : ℕ) (rest : List ℕ) → take (suc (suc (length rest))) (45 ∷ first ∷ rest) ≡ 45 ∷ first ∷ rest
-  whole_word first rest = ap (λ (l : List ℕ). 45 ∷ first ∷ l) (take_all (length rest) rest (omega arith))
 
   no_option_whole : (first : ℕ) (rest : List ℕ) → (first == 45) ≡ false → is_word_among form.options (45 ∷ first ∷ rest) ≡ false
   no_option_whole first rest other =
-      subst (λ (l : List ℕ). is_word_among form.options l ≡ false) (whole_word first rest) (no_option first rest (suc (suc (length rest))) other)
+      subst (λ (l : List ℕ). is_word_among form.options l ≡ false) (take_all (suc (suc (length rest))) (45 ∷ first ∷ rest) (omega arith)) (no_option first rest (suc (suc (length rest))) other)
 
   no_flag_whole : (first : ℕ) (rest : List ℕ) → (first == 45) ≡ false → is_word_among form.flags (45 ∷ first ∷ rest) ≡ false
   no_flag_whole first rest other = by (is_word_among form.flags (45 ∷ first ∷ rest)) refl
@@ -200,7 +192,7 @@ module _ (R : List Rule) (form : Form) (k : IsFor R form) where
       by : (b : Bool) → is_word_among form.flags (45 ∷ first ∷ rest) ≡ b → is_word_among form.flags (45 ∷ first ∷ rest) ≡ false
       by true e =
           let n = k.flag_names (45 ∷ first ∷ rest) e in
-          absurd (apart_from_hyphens first other (ap (λ (l : List ℕ). slice_index l 1) n.1))
+          absurd (eqb-false first 45 other (ap (λ (l : List ℕ). slice_index l 1) n.1))
       by false e = e
 
   cut_wrong : (first : ℕ) (rest : List ℕ) → (first == 45) ≡ false → (o : Option ℕ)
@@ -230,7 +222,7 @@ module _ (R : List Rule) (form : Form) (k : IsFor R form) where
   cut_none x xs has =
       ap (option_turn form (45 ∷ 45 ∷ x ∷ xs)) (cut_long (x ∷ xs))
       ∙ ((λ i. option_turn form (45 ∷ 45 ∷ x ∷ xs) (named (parted (x ∷ xs) (has i))))
-      ∙ ap (λ (t : List ℕ). option_turn form (hyphened t) None) (sym (whole (x ∷ xs) has)))
+      ∙ ap (λ (t : List ℕ). option_turn form (hyphened t) None) (sym (before_first-none (λ byte. byte == 61) (x ∷ xs) has)))
 
   abbrev Goes : List Word → Type 0
   Goes words = (next_word : Next) (parts : Parts) (rows : List Row) (p : Option (Text × List Text)) (w : Waiting) (t : Bool)
@@ -247,7 +239,7 @@ module _ (R : List Rule) (form : Form) (k : IsFor R form) where
   ends Any parts rows p w t stands = (stands.0.fine, no_more_parts parts (settled_rows R p rows) stands.0.holds)
   ends OnlyPositional parts rows p w t stands = (stands.0.fine, no_more_parts parts (settled_rows R p rows) stands.0.holds)
   ends (ValueOf o) parts rows p w t stands = λ e.
-      nonempty _ _ (sym (lacks R k.by_index stands.0 (k.by_id stands.0 stands.2) rows)
+      cons-not_nil _ _ (sym (lacks R k.by_index stands.0 (k.by_id stands.0 stands.2) rows)
       ∙ (ap (λ (q : Option (Text × List Text)). settle_fault R false (held rows q)) (sym stands.3) ∙ e))
 
   module _ (words : List Word) (again : Goes words) where
@@ -290,13 +282,13 @@ module _ (R : List Rule) (form : Form) (k : IsFor R form) where
         let v = after_first (λ byte. byte == 61) (x ∷ xs) in
         as_turn parts rows p b x xs Wrong (cut_given x xs has ∙ (λ i. if opt i then Used (hyphened n) v else Wrong))
         (stuck R (between rows p (quiet b) false) (45 ∷ 45 ∷ x ∷ xs) words (word_bad rows p (quiet b) false (45 ∷ 45 ∷ x ∷ xs)
-        (λ e. nonempty _ _ (sym (unneeded_fault R k.by_index (quiet b) x xs (held rows p) (no_subcommand b (45 ∷ 45 ∷ x ∷ xs)) (arg_by_long R n) _ refl refl n v finds (λ i. if has i then Some v else None)) ∙ e))))
+        (λ e. cons-not_nil _ _ (sym (unneeded_fault R k.by_index (quiet b) x xs (held rows p) (no_subcommand b (45 ∷ 45 ∷ x ∷ xs)) (arg_by_long R n) _ refl refl n v finds (λ i. if has i then Some v else None)) ∙ e))))
     any_long parts rows p b x xs s true false false has opt flag_is finds =
         let n = (name_and_value (x ∷ xs)).0 in
         let v = after_first (λ byte. byte == 61) (x ∷ xs) in
         as_turn parts rows p b x xs Wrong (cut_given x xs has ∙ (λ i. if opt i then Used (hyphened n) v else Wrong))
         (stuck R (between rows p (quiet b) false) (45 ∷ 45 ∷ x ∷ xs) words (word_bad rows p (quiet b) false (45 ∷ 45 ∷ x ∷ xs)
-        (λ e. nonempty _ _ (sym (unknown_fault R k.by_index (quiet b) x xs (held rows p) (no_subcommand b (45 ∷ 45 ∷ x ∷ xs)) (arg_by_long R n) _ refl refl finds) ∙ e))))
+        (λ e. cons-not_nil _ _ (sym (unknown_fault R k.by_index (quiet b) x xs (held rows p) (no_subcommand b (45 ∷ 45 ∷ x ∷ xs)) (arg_by_long R n) _ refl refl finds) ∙ e))))
     any_long parts rows p b x xs s false true flg has opt flag_is finds =
         let n = (name_and_value (x ∷ xs)).0 in
         let v = after_first (λ byte. byte == 61) (x ∷ xs) in
@@ -314,7 +306,7 @@ module _ (R : List Rule) (form : Form) (k : IsFor R form) where
         let n = (name_and_value (x ∷ xs)).0 in
         as_turn parts rows p b x xs Wrong (cut_none x xs has ∙ (λ i. if opt i then Waits (hyphened n) else (if flag_is i then Used (hyphened n) [] else Wrong)))
         (stuck R (between rows p (quiet b) false) (45 ∷ 45 ∷ x ∷ xs) words (word_bad rows p (quiet b) false (45 ∷ 45 ∷ x ∷ xs)
-        (λ e. nonempty _ _ (sym (unknown_fault R k.by_index (quiet b) x xs (held rows p) (no_subcommand b (45 ∷ 45 ∷ x ∷ xs)) (arg_by_long R n) _ refl refl finds) ∙ e))))
+        (λ e. cons-not_nil _ _ (sym (unknown_fault R k.by_index (quiet b) x xs (held rows p) (no_subcommand b (45 ∷ 45 ∷ x ∷ xs)) (arg_by_long R n) _ refl refl finds) ∙ e))))
 
     any_by : (word : Word) → View word → IsUtf8 word → (parts : Parts) (rows : List Row) (p : Option (Text × List Text)) (b : Bool) → Settled R form rows p parts
         → Outcome form parts (parts_from form (word ∷ words) Any)
@@ -338,7 +330,7 @@ module _ (R : List Rule) (form : Form) (k : IsFor R form) where
         (λ i. after_turn Any (sym (short_wrong first rest other) i) (parts_from form words))
         (stuck R (between rows p (quiet b) false) (45 ∷ first ∷ rest) words
         (word_bad rows p (quiet b) false (45 ∷ first ∷ rest)
-        (λ e. nonempty _ _ (sym (short_fault_is R k.by_index k.by_short (quiet b) first rest rows p (no_subcommand b (45 ∷ first ∷ rest)) other utf8) ∙ e))))
+        (λ e. cons-not_nil _ _ (sym (short_fault_is R k.by_index k.by_short (quiet b) first rest rows p (no_subcommand b (45 ∷ first ∷ rest)) other utf8) ∙ e))))
 
     -- ---- the value of an option
 
@@ -346,7 +338,7 @@ module _ (R : List Rule) (form : Form) (k : IsFor R form) where
     pending name = Some (name, [])
 
     settle_bad : (rows : List Row) (n : Text) → arg_by_id R n ≡ Some (option_rule n) → settle_fault R false (held rows (pending n)) ≡ [] → ⊥
-    settle_bad rows n by_id e = nonempty _ _ (sym (lacks R k.by_index n by_id rows) ∙ e)
+    settle_bad rows n by_id e = cons-not_nil _ _ (sym (lacks R k.by_index n by_id rows) ∙ e)
 
     -- an option word is no value
     long_no_value : (rows : List Row) (n : Text) → arg_by_id R n ≡ Some (option_rule n) → (x : ℕ) (xs : List ℕ)
@@ -357,11 +349,11 @@ module _ (R : List Rule) (form : Form) (k : IsFor R form) where
     long_no_value rows n by_id x xs None gives true flg finds e =
         settle_bad rows n by_id (sym (waits_fault R k.by_index (option n) x xs (held rows (pending n)) refl _ _ refl refl _ finds gives) ∙ e)
     long_no_value rows n by_id x xs (Some v) gives false true finds e =
-        nonempty _ _ (sym (unneeded_fault R k.by_index (option n) x xs (held rows (pending n)) refl _ _ refl refl _ v finds gives) ∙ e)
+        cons-not_nil _ _ (sym (unneeded_fault R k.by_index (option n) x xs (held rows (pending n)) refl _ _ refl refl _ v finds gives) ∙ e)
     long_no_value rows n by_id x xs None gives false true finds e =
         settle_bad rows n by_id (left_nil _ _ (sym (flag_fault R k.by_index (option n) x xs (held rows (pending n)) refl _ _ refl refl _ finds gives) ∙ e))
     long_no_value rows n by_id x xs o gives false false finds e =
-        nonempty _ _ (sym (unknown_fault R k.by_index (option n) x xs (held rows (pending n)) refl _ _ refl refl finds) ∙ e)
+        cons-not_nil _ _ (sym (unknown_fault R k.by_index (option n) x xs (held rows (pending n)) refl _ _ refl refl finds) ∙ e)
 
     value_by : (word : Word) → View word → IsUtf8 word → (parts : Parts) (rows : List Row) (n : Text) → is_word_among form.options (hyphened n) ≡ true → Holds form rows parts
         → Outcome form parts (parts_from form (word ∷ words) (ValueOf (hyphened n)))
@@ -388,7 +380,7 @@ module _ (R : List Rule) (form : Form) (k : IsFor R form) where
     value_by _ (short first rest other) utf8 parts rows n is h =
         stuck R (between rows (pending n) (option n) false) (45 ∷ first ∷ rest) words
         (word_bad rows (pending n) (option n) false (45 ∷ first ∷ rest)
-        (λ e. nonempty _ _ (sym (short_fault_is R k.by_index k.by_short (option n) first rest rows (pending n) refl other utf8) ∙ e)))
+        (λ e. cons-not_nil _ _ (sym (short_fault_is R k.by_index k.by_short (option n) first rest rows (pending n) refl other utf8) ∙ e)))
 
     Comes : (word : Word) → Next → Parts → List Row → Option (Text × List Text) → Waiting → Bool → Type 0
     Comes word next_word parts rows p w t = Outcome form parts (parts_from form (word ∷ words) next_word)

@@ -11,7 +11,7 @@ use Rattle.clap.specs.declared.builder.value_parser.Reading.{Reading}
 use Rattle.clap.specs.declared.builder.value_parser.Reading.TheVariants as reading
 use Rattle.clap.specs.declared.parser.matches.ValueSource.{ValueSource}
 use Rattle.clap.specs.declared.parser.matches.ValueSource.TheVariants.{CommandLine}
-use Rattle.tfpg_base.proofs.lists.SameBytes.{bytes_eq-same, bytes_eq-true}
+use Rattle.tfpg_base.proofs.lists.SameBytes.{bytes_eq-same, bytes_eq-true, bytes_eq-apart}
 use Rattle.tfpg_words.specs.Words.{Form, Parts, Use, Word, is_word_among}
 use Rattle.tfpg_words.specs.inside.Rules.{flag_rule, option_rule, words_id, words_rule}
 use Rattle.tfpg_words.specs.inside.Rows.{Apart, Holds, hyphened, vals, values_of}
@@ -116,17 +116,6 @@ counted_more : (word name v : Word) (uses : List Use)
     → count_by (λ u. bytes_eq u.name word) (uses ++ (record { name = name; value = v }) ∷ []) ≡ count_by (λ u. bytes_eq u.name word) uses + (0 + cond (bytes_eq name word) 1 0)
 counted_more word name v uses = sum_by-append (λ u. cond (bytes_eq u.name word) 1 0) uses ((record { name = name; value = v }) ∷ [])
 
--- a name of one kind is not that of another
-pub differ : (P Q : Text → Type 0) (a b : Text) → P a → Q b → ((t : Text) → P t → Q t → ⊥) → bytes_eq a b ≡ false
-differ P Q a b p q apart = by (bytes_eq a b) refl
-  where
-    by : (t : Bool) → bytes_eq a b ≡ t → bytes_eq a b ≡ false
-    by true e = absurd (apart b (subst P (bytes_eq-true a b e) p) q)
-    by false e = e
-
-capped : (c : ℕ) → min (min c 255 + 1) 255 ≡ min (c + 1) 255
-capped c = omega arith
-
 module _ (form : Form) (apart : Apart form) where
   module _ (rows : List Row) (parts : Parts) (h : Holds form rows parts) where
     pub hold_option : (name v : Text) → is_word_among form.options (hyphened name) ≡ true
@@ -135,11 +124,11 @@ module _ (form : Form) (apart : Apart form) where
       values = λ n e. vals_more n name _ _ (v ∷ []) rows ∙ ap (λ (l : List Text). l ++ (if bytes_eq name n then v ∷ [] else [])) (h.values n e)
           ∙ sym (values_more (hyphened n) (hyphened name) v parts.uses);
       counts = λ n e.
-          let off : bytes_eq name n ≡ false = differ (λ t. is_word_among form.options (hyphened t) ≡ true) (λ t. is_word_among form.flags (hyphened t) ≡ true) name n is e apart.kinds in
+          let off : bytes_eq name n ≡ false = bytes_eq-apart (λ t. is_word_among form.options (hyphened t) ≡ true) (λ t. is_word_among form.flags (hyphened t) ≡ true) name n is e apart.kinds in
           ap count_in (other_values n name _ _ rows off (v ∷ [])) ∙ h.counts n e
           ∙ ap (λ c. min c 255) (sym (counted_more (hyphened n) (hyphened name) v parts.uses ∙ rw off (omega arith)));
       words =
-          let off : bytes_eq name words_id ≡ false = differ (λ t. is_word_among form.options (hyphened t) ≡ true) (λ t. t ≡ words_id) name words_id is refl
+          let off : bytes_eq name words_id ≡ false = bytes_eq-apart (λ t. is_word_among form.options (hyphened t) ≡ true) (λ t. t ≡ words_id) name words_id is refl
           (λ t o e. apart.no_option (subst (λ (x : Text). is_word_among form.options (hyphened x) ≡ true) e o)) in
           ap vals_in (other_values words_id name _ _ rows off (v ∷ [])) ∙ h.words;
     }
@@ -147,11 +136,11 @@ module _ (form : Form) (apart : Apart form) where
     pub hold_word : (word : Word) → Holds form (used words_rule (word ∷ []) rows) (add_word parts word)
     hold_word word = record {
       values = λ n e.
-          let off : bytes_eq words_id n ≡ false = differ (λ t. t ≡ words_id) (λ t. is_word_among form.options (hyphened t) ≡ true) words_id n refl e
+          let off : bytes_eq words_id n ≡ false = bytes_eq-apart (λ t. t ≡ words_id) (λ t. is_word_among form.options (hyphened t) ≡ true) words_id n refl e
           (λ t same o. apart.no_option (subst (λ (x : Text). is_word_among form.options (hyphened x) ≡ true) same o)) in
           ap vals_in (other_values n words_id _ _ rows off (word ∷ [])) ∙ h.values n e;
       counts = λ n e.
-          let off : bytes_eq words_id n ≡ false = differ (λ t. t ≡ words_id) (λ t. is_word_among form.flags (hyphened t) ≡ true) words_id n refl e
+          let off : bytes_eq words_id n ≡ false = bytes_eq-apart (λ t. t ≡ words_id) (λ t. is_word_among form.flags (hyphened t) ≡ true) words_id n refl e
           (λ t same o. apart.no_flag (subst (λ (x : Text). is_word_among form.flags (hyphened x) ≡ true) same o)) in
           ap count_in (other_values n words_id _ _ rows off (word ∷ [])) ∙ h.counts n e;
       words = same_values words_id _ _ (word ∷ []) rows ∙ ap (λ (l : List Text). l ++ word ∷ []) h.words;
@@ -161,12 +150,12 @@ module _ (form : Form) (apart : Apart form) where
         → Holds form (used (flag_rule name) [] rows) (add_use parts (hyphened name) [])
     hold_flag name is = record {
       values = λ n e.
-          let off : bytes_eq name n ≡ false = differ (λ t. is_word_among form.flags (hyphened t) ≡ true) (λ t. is_word_among form.options (hyphened t) ≡ true) name n is e (λ t f o. apart.kinds t o f) in
+          let off : bytes_eq name n ≡ false = bytes_eq-apart (λ t. is_word_among form.flags (hyphened t) ≡ true) (λ t. is_word_among form.options (hyphened t) ≡ true) name n is e (λ t f o. apart.kinds t o f) in
           ap vals_in (other_count n name reading.WithoutMinus CommandLine (without name rows) off (min (count_of name rows + 1) 255) ∙ other_without n name reading.WithoutMinus CommandLine rows off) ∙ h.values n e
           ∙ sym (values_more (hyphened n) (hyphened name) [] parts.uses ∙ rw off (append-nil (values_of (hyphened n) parts.uses)));
       counts = λ n e. flags n e (bytes_eq name n) refl;
       words =
-          let off : bytes_eq name words_id ≡ false = differ (λ t. is_word_among form.flags (hyphened t) ≡ true) (λ t. t ≡ words_id) name words_id is refl
+          let off : bytes_eq name words_id ≡ false = bytes_eq-apart (λ t. is_word_among form.flags (hyphened t) ≡ true) (λ t. t ≡ words_id) name words_id is refl
           (λ t f e. apart.no_flag (subst (λ (x : Text). is_word_among form.flags (hyphened x) ≡ true) e f)) in
           ap vals_in (other_count words_id name reading.WithoutMinus CommandLine (without name rows) off (min (count_of name rows + 1) 255) ∙ other_without words_id name reading.WithoutMinus CommandLine rows off) ∙ h.words;
     }
@@ -179,7 +168,8 @@ module _ (form : Form) (apart : Apart form) where
             subst (λ (t : Text). count_of n (used (flag_rule t) [] rows) ≡ min (count_of n rows + 1) 255) (sym (bytes_eq-true name n on)) (same_count n reading.WithoutMinus CommandLine (min (count_of n rows + 1) 255) (without n rows)) in
             let more : count_by (λ u. bytes_eq u.name (hyphened n)) (parts.uses ++ (record { name = hyphened name; value = [] }) ∷ []) ≡ c + 1 =
             counted_more (hyphened n) (hyphened name) [] parts.uses ∙ rw on (omega arith) in
-            now ∙ (ap (λ m. min (m + 1) 255) (h.counts n e) ∙ (capped c ∙ ap (λ m. min m 255) (sym more)))
+            let capped : min (min c 255 + 1) 255 ≡ min (c + 1) 255 = omega arith in
+            now ∙ (ap (λ m. min (m + 1) 255) (h.counts n e) ∙ (capped ∙ ap (λ m. min m 255) (sym more)))
         flags n e false off =
             let how = reading.WithoutMinus in
             let m = min (count_of name rows + 1) 255 in

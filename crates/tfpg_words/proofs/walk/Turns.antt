@@ -1,5 +1,5 @@
 -- What one word does to clap's walk.
-use Rattle.std.proofs.Common.{◌≡◌, ◌∙◌, ◌+◌, ◌==◌, ◌&&◌, ◌||◌, ap, refl, sym, ℕ, nat_lt, suc, drop, Bool, true, false, List, [], ◌∷◌, length, min, Option, Some, None, bytes_eq, pos, arith}
+use Rattle.std.proofs.Common.{◌≡◌, ◌∙◌, ◌+◌, ◌<◌, ◌==◌, ◌&&◌, ◌||◌, ap, refl, ℕ, suc, drop, Bool, true, false, List, [], ◌∷◌, length, min, Option, Some, None, bytes_eq, pos, arith}
 use Rattle.std.specs.Option.{option_map_or}
 use Rattle.std.specs.Prelude.{if◌then◌else◌}
 use Rattle.clap.specs.Walk.{Held, Row, Rule, Step, Text, Waiting, Walk, after_flag, after_step, arg_by_id, arg_by_index, arg_by_long, arg_by_short, idle, is_pending, long_met, next, option, positional, pushed, reacted, settled, settled_rows, subcommand_met, to_positional, trailing, value, walked, word_met}
@@ -8,7 +8,9 @@ use Rattle.clap.specs.Faults.{long_fault, positional_fault, settle_fault, step_f
 use Rattle.clap.specs.Lexer.{long_of, long_of_rest, name_and_value, short_of}
 use Rattle.std.specs.Str.{IsUtf8, chars, encode_utf8_all}
 use Rattle.std.specs.Prelude.{option_and_then, encode_utf8, slice_get}
+use Rattle.std.proofs.lemmas.Bool.{cond-false, and_right}
 use Rattle.std.proofs.lemmas.Slice.Eq.{bytes_eq-Decides}
+use Rattle.tfpg_base.proofs.lists.Elements.{slice_get-there}
 use Rattle.std.proofs.lemmas.Str.{encodes-chars}
 use Rattle.clap.specs.Matches.{count_text}
 use Rattle.clap.specs.Walk.{count_of}
@@ -59,15 +61,11 @@ module _ (R : List Rule) (by_index : arg_by_index R 1 ≡ Some words_rule) where
   walked_by rows p w t word h st met = λ i. after_step R word (between rows p w t) (met i).0 (met i).1
 
   -- a word that goes to the positional
-  no_more : (b : Bool) (k : Kinds) → (if b && false then [] else k) ≡ k
-  no_more true k = refl
-  no_more false k = refl
-
   pub words_fault : (rows : List Row) (p : Option (Text × List Text))
       → step_fault (shape_with R) 1 (held rows p) value ≡ settle_fault R false (held rows p)
   words_fault rows p =
       ap (λ o. option_map_or (λ a. positional_fault R false a (held rows p)) o (stray_fault (shape_with R))) by_index
-      ∙ no_more (is_pending words_rule p) (settle_fault R false (held rows p))
+      ∙ cond-false (is_pending words_rule p && false) [] (settle_fault R false (held rows p)) (and_right (is_pending words_rule p) false refl)
 
   pub words_step : (rows : List Row) (p : Option (Text × List Text)) (w : Waiting) (t : Bool) (word : Text)
       → after_step R word (between rows p w t) (held rows p) value ≡ between (settled_rows R p rows) (Some (words_id, word ∷ [])) positional t
@@ -146,13 +144,6 @@ module _ (R : List Rule) (by_index : arg_by_index R 1 ≡ Some words_rule) where
 
   -- one hyphen and no second one
   module _ (by_short : (x : ℕ) → arg_by_short R x ≡ None) where
-    first_char : (flags : Text) → encode_utf8_all (chars flags) ≡ flags → (length flags ≡ 0 → ⊥) → (x : ℕ) × (slice_get (chars flags) 0 ≡ Some x)
-    first_char flags spelled some = by (chars flags) spelled
-      where
-        by : (cs : List ℕ) → encode_utf8_all cs ≡ flags → (x : ℕ) × (slice_get cs 0 ≡ Some x)
-        by [] e = absurd (some (ap length (sym e)))
-        by (x ∷ cs) e = (x, refl)
-
     unknown_flag : (k : ℕ) (flags : Text) (h : Held) (x : ℕ) → slice_get (chars flags) 0 ≡ Some x
         → flags_fault R false (suc k) flags 0 h ≡ UnknownArgument ∷ []
     unfolding flags_fault
@@ -164,20 +155,20 @@ module _ (R : List Rule) (by_index : arg_by_index R 1 ≡ Some words_rule) where
         → subcommand_met [] w (45 ∷ first ∷ rest) ≡ None → (first == 45) ≡ false → IsUtf8 (45 ∷ first ∷ rest)
         → word_fault (shape_with R) [] false w (45 ∷ first ∷ rest) (held rows p) ≡ UnknownArgument ∷ []
     short_fault_is w first rest rows p none other utf8 =
-        let x = first_char (first ∷ rest) (after_hyphen first rest utf8) (λ e. absurd (omega (arith, e))) in
+        let x = slice_get-there (chars (first ∷ rest)) 0 (nonempty (chars (first ∷ rest)) (after_hyphen first rest utf8)) in
         let h = held rows p in
         ap (λ o. other_fault (shape_with R) o (45 ∷ first ∷ rest) h) none
         ∙ (λ i. if other i && bytes_eq rest [] then []
         else flag_word_fault R false (option_and_then long_of_rest (if other i then Some rest else None)) (45 ∷ first ∷ rest) h)
         ∙ (λ i. option_map_or (λ flags. bundle_fault R false flags h) (if other i then None else Some (first ∷ rest)) [])
         ∙ unknown_flag (length rest) (first ∷ rest) (held rows p) x.0 x.1
+      where
+        nonempty : (cs : List ℕ) → encode_utf8_all cs ≡ first ∷ rest → 0 < length cs
+        nonempty [] e = absurd cc
+        nonempty (c ∷ cs) e = omega arith
 
   -- the word after an option that waits for its value
   module _ (name : Text) (by_id : arg_by_id R name ≡ Some (option_rule name)) where
-    valued : (b : Bool) → (if nat_lt (if b then 1 else 0) 1 then option name else idle) ≡ (if b then idle else option name)
-    valued true = refl
-    valued false = refl
-
     pub value_met : (rows : List Row) (word : Text) → bytes_eq word (45 ∷ 45 ∷ []) ≡ false → long_of word ≡ None → short_of word ≡ None
         → word_met R [] false (option name) 1 word (held rows (Some (name, []))) ≡ (held rows (Some (name, word ∷ [])), next idle)
     value_met rows word divider long short =

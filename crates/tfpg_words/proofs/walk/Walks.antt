@@ -37,9 +37,22 @@ word_first form so_far word (Some more) fault rows h = (
       (append_assoc so_far.positional _ more.positional) h.1,
 )
 
+-- no kinds of two together: none of the first
 pub left_nil : (a b : Kinds) → or_else a b ≡ [] → a ≡ []
 left_nil [] b e = refl
 left_nil (k ∷ ks) b e = e
+
+-- none of three: none of the first two
+pub both_nil : (a b c : Kinds) → or_else a (or_else b c) ≡ [] → or_else a b ≡ []
+both_nil [] [] c e = refl
+both_nil [] (k ∷ ks) c e = e
+both_nil (k ∷ ks) b c e = e
+
+-- and none of three where there is none of the last and none of the first two
+pub all_nil : (a b c : Kinds) → c ≡ [] → or_else a b ≡ [] → or_else a (or_else b c) ≡ []
+all_nil [] [] c none e = none
+all_nil [] (k ∷ ks) c none e = e
+all_nil (k ∷ ks) b c none e = e
 
 module _ (R : List Rule) where
   -- the kinds of the words from here on, and the rows that are left after them

@@ -2,28 +2,31 @@ use Rattle.std.proofs.Common.{refl, sym, subst, ◌∙◌}
 use Rattle.tfpg.specs.declared.fault.StreamFault.TheVariants as faults
 use Rattle.tfpg_graph.specs.Valid.{IsValid}
 use Rattle.tfpg.specs.Streams.{streams}
+use Rattle.tfpg.specs.Run.{Diagnoses}
 use Rattle.tfpg.specs.inside.Course.{ComesTo}
+use Rattle.tfpg_base.proofs.lists.Choices.{Err-from}
 use Rattle.tfpg.proofs.Putting.{Puts-same}
 use Rattle.tfpg.proofs.InputLines.{falls_short}
-use Rattle.tfpg.proofs.Turns.{result_is, few_given, head_as, begins_under_way, begins_without_memory, begins_badly}
+use Rattle.tfpg.proofs.Turns.{few_given, head_as, begins_under_way, begins_without_memory, begins_badly}
 use Rattle.tfpg.proofs.course.diagnose.Goals as goal
 
 pub returns-in_err-lines : goal.returns-in_err-lines
 returns-in_err-lines g c =
     let before = streams (g.S.Source.state c.args.input.now) (g.K.Sink.state c.args.out.now) in
-    result_is c.args.engine.now.graph c.args.engine.now.k c.args.engine.now.budget before before c.from_residual.result faults.NoMemory c.from_residual.ensures.1 (begins_without_memory c.args.engine.now.graph c.args.engine.now.k c.args.engine.now.budget before)
+    subst (Diagnoses c.args.engine.now.graph c.args.engine.now.k c.args.engine.now.budget before before) (sym (Err-from c.from_residual.result faults.NoMemory c.from_residual.ensures.1)) (begins_without_memory c.args.engine.now.graph c.args.engine.now.k c.args.engine.now.budget before)
 
 pub returns-in_err-head : goal.returns-in_err-head
 returns-in_err-head g c =
     let before = streams (g.S.Source.state c.args.input.now) (g.K.Sink.state c.args.out.now) in
-    result_is c.args.engine.now.graph c.args.engine.now.k c.args.engine.now.budget before before c.from_residual-in_err-head.result faults.NoMemory c.from_residual-in_err-head.ensures.1 (begins_without_memory c.args.engine.now.graph c.args.engine.now.k c.args.engine.now.budget before)
+    subst (Diagnoses c.args.engine.now.graph c.args.engine.now.k c.args.engine.now.budget before before) (sym (Err-from c.from_residual-in_err-head.result faults.NoMemory c.from_residual-in_err-head.ensures.1)) (begins_without_memory c.args.engine.now.graph c.args.engine.now.k c.args.engine.now.budget before)
 
 pub returns-in_err-write_all : goal.returns-in_err-write_all
 returns-in_err-write_all g c =
     let before = streams (g.S.Source.state c.args.input.now) (g.K.Sink.state c.args.out.now) in
     let output = g.K.Sink.state c.write_all.new.out in
     let front = c.in_err-write_all.ensures.front in
-    result_is c.args.engine.now.graph c.args.engine.now.k c.args.engine.now.budget before (streams (g.S.Source.state c.args.input.now) output) c.from_residual-in_err-write_all.result faults.WriteFault c.from_residual-in_err-write_all.ensures.1
+    subst (Diagnoses c.args.engine.now.graph c.args.engine.now.k c.args.engine.now.budget before (streams (g.S.Source.state c.args.input.now) output))
+    (sym (Err-from c.from_residual-in_err-write_all.result faults.WriteFault c.from_residual-in_err-write_all.ensures.1))
     (begins_badly c.args.engine.now.graph c.args.engine.now.k c.args.engine.now.budget before output c.deref.result.now front.0 front.1 (c.deref.ensures.value ∙ head_as _ _ _ _ _ c.k.ensures c.budget.ensures c.in_ok-head.ensures) front.2 front.3 c.in_err-write_all.ensures.failed)
 
 pub loop-head-init : goal.loop-head-init
@@ -60,5 +63,5 @@ loop-head-preserved g c =
 
 pub returns-in_err-take_turn : goal.returns-in_err-take_turn
 returns-in_err-take_turn g c =
-    result_is c.args.engine.now.graph c.args.engine.now.k c.args.engine.now.budget _ _ c.from_residual-in_err-take_turn.result c.in_err-take_turn.field-0.0 c.from_residual-in_err-take_turn.ensures.1
+    subst (Diagnoses c.args.engine.now.graph c.args.engine.now.k c.args.engine.now.budget _ _) (sym (Err-from c.from_residual-in_err-take_turn.result c.in_err-take_turn.field-0.0 c.from_residual-in_err-take_turn.ensures.1))
     (c.in_err-take_turn.ensures.stopped c.args.engine.now.graph c.args.engine.now.k c.args.engine.now.budget _ c.loop-head.invariant)

@@ -1,4 +1,5 @@
-use Rattle.std.proofs.Common.{◌-◌, ◌+◌, ◌^◌}
+use Rattle.std.proofs.Common.{◌-◌, ◌+◌}
+use Rattle.tfpg_base.specs.declared.limits.TheConstants.{MAX_BYTES}
 use Rattle.tfpg.specs.Streams.{streams}
 use Rattle.tfpg.specs.inside.Course.{IsDiagnosing}
 use Rattle.tfpg.proofs.course.diagnose.Given as goal
@@ -10,4 +11,4 @@ invariant-loop-head g l =
 
 -- there are no more lines than bytes that are taken, but for a last one
 abbrev pub decreases-loop-head : goal.decreases-loop-head
-decreases-loop-head g l = 2 ^ 32 + 2 - l.lines.number
+decreases-loop-head g l = MAX_BYTES + 2 - l.lines.number

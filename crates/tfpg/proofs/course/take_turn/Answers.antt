@@ -4,13 +4,13 @@ use Rattle.tfpg.specs.declared.fault.StreamFault.TheVariants as faults
 use Rattle.tfpg.specs.inside.Faults.{stream_fault_of_lines}
 use Rattle.tfpg.specs.inside.Course.{ComesTo}
 use Rattle.tfpg.proofs.Putting.{Puts-same}
-use Rattle.tfpg.proofs.Exits.{err_is}
-use Rattle.tfpg.proofs.Turns.{stopped_by, ends_by_fault, met_end, met_text, met_long, block_of_text, block_of_long, gave_without_memory, gave_block, gave_one_more, gave_front}
+use Rattle.tfpg_base.proofs.lists.Choices.{IfErr-from, IfErr-from_both}
+use Rattle.tfpg.proofs.Turns.{ends_by_fault, met_end, met_text, met_long, block_of_text, block_of_long, gave_without_memory, gave_block, gave_one_more, gave_front}
 use Rattle.tfpg.proofs.course.take_turn.Goals as goal
 
 pub returns-in_err-next-clause-stopped : goal.returns-in_err-next-clause-stopped
 returns-in_err-next-clause-stopped g c graph k b before under =
-    err_is _ c.from_residual.result (stream_fault_of_lines c.in_err-next.field-0.0) c.from_residual.ensures.1
+    IfErr-from _ c.from_residual.result (stream_fault_of_lines c.in_err-next.field-0.0) c.from_residual.ensures.1
     (ends_by_fault graph k b before _ c.args.lines.now c.next.new.self c.args.engine.now _ c.in_err-next.field-0.0 under (c.in_err-next.ensures under.reading under.represents))
 
 pub returns-in-End-clause-turn : goal.returns-in-End-clause-turn
@@ -20,7 +20,7 @@ returns-in-End-clause-turn g c graph k b before under =
 pub returns-in_err-block-in-TooLong-clause-stopped : goal.returns-in_err-block-in-TooLong-clause-stopped
 returns-in_err-block-in-TooLong-clause-stopped g c graph k b before under =
     let met = met_long graph k b before _ c.args.lines.now c.args.engine.now _ c.next.new.self under c.in_ok-next.field-0 (c.in_ok-next.ensures under.reading under.represents) c.in-TooLong.is in
-    err_is _ c.from_residual-in_err-block-in-TooLong.result faults.NoMemory c.from_residual-in_err-block-in-TooLong.ensures.1
+    IfErr-from _ c.from_residual-in_err-block-in-TooLong.result faults.NoMemory c.from_residual-in_err-block-in-TooLong.ensures.1
     (gave_without_memory graph k b before _ c.args.lines.now c.args.engine.now _ c.next.new.self under met.0)
 
 pub returns-in_ok-block-in-TooLong-clause-turn : goal.returns-in_ok-block-in-TooLong-clause-turn
@@ -38,14 +38,14 @@ pub returns-in_ok-block-in-TooLong-clause-stopped : goal.returns-in_ok-block-in-
 returns-in_ok-block-in-TooLong-clause-stopped g c graph k b before under =
     let read = block_of_long graph k b before _ c.args.lines.now c.args.engine.now _ c.next.new.self under c.in_ok-next.field-0 (c.in_ok-next.ensures under.reading under.represents)
     c.number.result c.in_ok-block-in-TooLong.block.items c.in-TooLong.is c.in_ok-block-in-TooLong.ensures in
-    stopped_by c.write_block.result _ _ _ c.write_block.ensures.cause c.write_block.ensures.front c.write_block.ensures.failed (λ front rose.
+    IfErr-from_both _ c.write_block.result faults.WriteFault _ _ c.write_block.ensures.cause c.write_block.ensures.front c.write_block.ensures.failed (λ front rose.
     gave_front graph k b before _ c.args.lines.now c.args.engine.now _ c.next.new.self under read.gave
     c.number.result c.in_ok-block-in-TooLong.block.items c.args.engine.now _ c.number.ensures read.block front.0 front.1 (sym c.deref.ensures.value ∙ front.2) front.3 rose)
 
 pub returns-in_err-block-in-Text-clause-stopped : goal.returns-in_err-block-in-Text-clause-stopped
 returns-in_err-block-in-Text-clause-stopped g c graph k b before under =
     let met = met_text graph k b before _ c.args.lines.now c.args.engine.now _ c.next.new.self under c.in_ok-next.field-0 (c.in_ok-next.ensures under.reading under.represents) c.in-Text.is in
-    err_is _ c.from_residual-in_err-block-in-Text.result faults.NoMemory c.from_residual-in_err-block-in-Text.ensures.1
+    IfErr-from _ c.from_residual-in_err-block-in-Text.result faults.NoMemory c.from_residual-in_err-block-in-Text.ensures.1
     (gave_without_memory graph k b before _ c.args.lines.now c.args.engine.now _ c.next.new.self under met.0)
 
 pub returns-in_ok-block-in-Text-clause-turn : goal.returns-in_ok-block-in-Text-clause-turn
@@ -63,6 +63,6 @@ pub returns-in_ok-block-in-Text-clause-stopped : goal.returns-in_ok-block-in-Tex
 returns-in_ok-block-in-Text-clause-stopped g c graph k b before under =
     let read = block_of_text graph k b before _ c.args.lines.now c.args.engine.now _ c.next.new.self under c.in_ok-next.field-0 (c.in_ok-next.ensures under.reading under.represents)
     c.number-in-Text.result c.text.result.now c.in_ok-block-in-Text.block.items c.line_block.new.engine c.in-Text.is c.text.ensures (c.in_ok-block-in-Text.ensures graph k b) in
-    stopped_by c.write_block-in-Text.result _ _ _ c.write_block-in-Text.ensures.cause c.write_block-in-Text.ensures.front c.write_block-in-Text.ensures.failed (λ front rose.
+    IfErr-from_both _ c.write_block-in-Text.result faults.WriteFault _ _ c.write_block-in-Text.ensures.cause c.write_block-in-Text.ensures.front c.write_block-in-Text.ensures.failed (λ front rose.
     gave_front graph k b before _ c.args.lines.now c.args.engine.now _ c.next.new.self under read.gave
     c.number-in-Text.result c.in_ok-block-in-Text.block.items c.line_block.new.engine _ c.number-in-Text.ensures read.block front.0 front.1 (sym c.deref-in-Text.ensures.value ∙ front.2) front.3 rose)

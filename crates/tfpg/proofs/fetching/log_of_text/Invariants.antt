@@ -1,5 +1,5 @@
 use Rattle.std.proofs.Common.{◌≡◌, map}
-use Rattle.tfpg_log.specs.Log.{IsOf}
+use Rattle.tfpg_log.specs.Log.{IsLogOf}
 use Rattle.tfpg_log.specs.LogOfLines.{log_of_lines}
 use Rattle.tfpg.proofs.fetching.log_of_text.Given as goal
 
@@ -7,5 +7,5 @@ use Rattle.tfpg.proofs.fetching.log_of_text.Given as goal
 abbrev pub invariant-loop-line : goal.invariant-loop-line
 invariant-loop-line l = record {
   log : l.log ≡ log_of_lines l.graph (map (λ line. line.now) l.yielded);
-  of_graph : IsOf l.graph l.log;
+  of_graph : IsLogOf l.graph l.log;
 }

@@ -1,9 +1,10 @@
 use Rattle.std.proofs.Common.{Err, sym, ◌∙◌}
 use Rattle.tfpg.specs.declared.fault.JudgeFault.{JudgeFault}
-use Rattle.tfpg.specs.declared.fault.JudgeFault.TheVariants.{WriteFault}
+use Rattle.tfpg.specs.declared.fault.JudgeFault.TheVariants.{Stream}
+use Rattle.tfpg.specs.declared.fault.StreamFault.TheVariants.{WriteFault}
 use Rattle.tfpg.specs.Judging.{JudgesMap}
 use Rattle.tfpg.specs.Streams.{streams}
-use Rattle.tfpg.proofs.Exits.{err_is}
+use Rattle.tfpg_base.proofs.lists.Choices.{IfErr-from}
 use Rattle.tfpg.proofs.Judged.{judges_badly}
 use Rattle.tfpg.proofs.judging.judge.Goals as goal
 
@@ -13,6 +14,6 @@ returns-in_err-write_all-clause-stopped g c =
     let input = g.S.Source.state c.read_map.new.input in
     let output = g.K.Sink.state c.write_all.new.out in
     let front = c.in_err-write_all.ensures.front in
-    err_is (λ (fault : JudgeFault). JudgesMap c.args.graph.now c.args.log.now before (streams input output) (Err fault)) c.from_residual-in_err-write_all.result WriteFault c.from_residual-in_err-write_all.ensures.1
+    IfErr-from (λ (fault : JudgeFault). JudgesMap c.args.graph.now c.args.log.now before (streams input output) (Err fault)) c.from_residual-in_err-write_all.result (Stream WriteFault) c.from_residual-in_err-write_all.ensures.1
     (judges_badly c.args.graph.now c.args.log.now before input c.in_ok-map.map c.in_ok-map.ensures.map c.explains-verdict.result c.explains-verdict.ensures.verdict
     c.in_ok-line.line.items output front.0 front.1 c.in_ok-line.ensures (sym c.deref.ensures.value ∙ front.2) front.3 c.in_err-write_all.ensures.failed)

@@ -1,4 +1,5 @@
-use Rattle.std.proofs.Common.{◌-◌, ◌+◌, ◌^◌}
+use Rattle.std.proofs.Common.{◌-◌, ◌+◌}
+use Rattle.tfpg_base.specs.declared.limits.TheConstants.{MAX_BYTES}
 use Rattle.tfpg.specs.inside.MapReading.{IsReadingMap}
 use Rattle.tfpg.proofs.map_reading.read_map.Given as goal
 
@@ -8,4 +9,4 @@ invariant-loop-lines g l = IsReadingMap l.graph (g.S.Source.state l.fn.input) (g
 
 -- there are no more lines than bytes that are taken, but for a last one
 abbrev pub decreases-loop-lines : goal.decreases-loop-lines
-decreases-loop-lines g l = 2 ^ 32 + 2 - l.lines.number
+decreases-loop-lines g l = MAX_BYTES + 2 - l.lines.number

@@ -1,13 +1,13 @@
 use Rattle.std.proofs.Common.{Err, ap}
-use Rattle.tfpg.specs.inside.Faults.{no_map_of_lines}
+use Rattle.tfpg.specs.declared.map.NoMap.TheVariants.{Lines}
 use Rattle.tfpg.specs.inside.MapReading.{LacksMap}
-use Rattle.tfpg.proofs.Exits.{err_is}
+use Rattle.tfpg_base.proofs.lists.Choices.{IfErr-from}
 use Rattle.tfpg.proofs.MapCourse.{lacks_by_fault, met_end, met_long, met_read, met_faulty, met_no_memory}
 use Rattle.tfpg.proofs.map_reading.take_line.Goals as goal
 
 pub returns-in_err-next-clause-none : goal.returns-in_err-next-clause-none
 returns-in_err-next-clause-none g c before under =
-    err_is (LacksMap c.args.graph.now before (g.S.Source.state c.next.new.source)) c.from_residual.result (no_map_of_lines c.in_err-next.field-0.0) c.from_residual.ensures.1
+    IfErr-from (LacksMap c.args.graph.now before (g.S.Source.state c.next.new.source)) c.from_residual.result (Lines c.in_err-next.field-0.0) c.from_residual.ensures.1
     (lacks_by_fault c.args.graph.now before (g.S.Source.state c.args.input.now) c.args.lines.now c.next.new.self c.args.reader.now (g.S.Source.state c.next.new.source) under
     c.in_err-next.field-0.0 (c.in_err-next.ensures under.reading under.represents))
 

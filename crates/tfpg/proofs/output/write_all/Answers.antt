@@ -1,5 +1,6 @@
-use Rattle.std.proofs.Common.{◌++◌, take, List, ℕ, ◌∙◌, ap, sym}
-use Rattle.tfpg.proofs.Putting.{Puts-append, more_is_put}
+use Rattle.std.proofs.Common.{◌++◌, take, drop, List, ℕ, ◌∙◌, ap, sym, append_assoc}
+use Rattle.std.proofs.lemmas.List.{take-append-drop}
+use Rattle.tfpg.proofs.Putting.{Puts-append}
 use Rattle.tfpg.proofs.output.write_all.Goals as goal
 
 pub loop-rest-preserved : goal.loop-rest-preserved
@@ -9,7 +10,8 @@ loop-rest-preserved g c =
     let count = c.in_ok-count.count in
     record {
       front = front ++ take count rest;
-      parts = more_is_put c.args.piece.now front rest count c.loop-rest.invariant.parts ∙ ap (λ (r : List ℕ). (front ++ take count rest) ++ r) (sym c.split_at.ensures.back);
+      parts = c.loop-rest.invariant.parts ∙ ap (λ (r : List ℕ). front ++ r) (sym (take-append-drop count rest))
+          ∙ sym (append_assoc front (take count rest) (drop count rest)) ∙ ap (λ (r : List ℕ). (front ++ take count rest) ++ r) (sym c.split_at.ensures.back);
       puts = Puts-append (g.K.Sink.state c.args.out.now) (g.K.Sink.state c.loop-rest.out) (g.K.Sink.state c.put.new.self) front (take count rest) c.loop-rest.invariant.puts c.in_ok-count.ensures.put;
       no_fault = c.in_ok-count.ensures.no_fault ∙ c.loop-rest.invariant.no_fault;
     }

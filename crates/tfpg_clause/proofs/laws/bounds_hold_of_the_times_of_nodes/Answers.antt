@@ -5,6 +5,6 @@ pub returns : goal.returns
 returns c = record {
   lower = λ times node bound. (says_at_least times node bound, met_at_least times node bound);
   upper = λ times node bound. (says_at_most times node bound, met_at_most times node bound);
-  least_after = λ times node source bound. (says_at_least_after times node source bound, met_at_least_after times node source bound);
-  most_after = λ times node source bound. (says_at_most_after times node source bound, met_at_most_after times node source bound);
+  at_least_after = λ times node source bound. (says_at_least_after times node source bound, met_at_least_after times node source bound);
+  at_most_after = λ times node source bound. (says_at_most_after times node source bound, met_at_most_after times node source bound);
 }

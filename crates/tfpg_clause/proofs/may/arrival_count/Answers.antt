@@ -1,8 +1,8 @@
 use Rattle.std.proofs.Common.{◌≡◌, ap, sym, ◌∙◌, get_or}
 use Rattle.std.specs.Prelude.{is_some}
-use Rattle.tfpg_base.proofs.lists.Valued.{is_some-option_map}
+use Rattle.tfpg_base.proofs.lists.Valued.{filter_map-counts_some, filter_map-counts_none}
+use Rattle.tfpg_base.proofs.lists.Choices.{is_some-option_map}
 use Rattle.tfpg_clause.specs.inside.Alternatives.{arrival_over, constraints_in}
-use Rattle.tfpg_clause.proofs.Arrivals.{some_more, none_more}
 use Rattle.tfpg_clause.proofs.may.arrival_count.Goals as goal
 use Rattle.tfpg_clause.proofs.may.arrival_count.Goals.{then-is_some, else-is_some}
 
@@ -16,10 +16,10 @@ loop-edge-preserved c =
     elim c.if-is_some.branch [
       | then-is_some w ↦
           rw w.count-is
-          (some_more h edges i c.loop-edge-test.true c.loop-edge.count
+          (filter_map-counts_some h edges i 0 c.loop-edge-test.true c.loop-edge.count
           (there ∙ w.if-is_some.true) c.loop-edge.invariant)
       | else-is_some w ↦
           rw w.count-is
-          (none_more h edges i c.loop-edge-test.true c.loop-edge.count
+          (filter_map-counts_none h edges i 0 c.loop-edge-test.true c.loop-edge.count
           (there ∙ w.if-is_some.false) c.loop-edge.invariant)
     ]

@@ -1,7 +1,6 @@
 use Rattle.std.proofs.Common.{◌≡◌, ℕ, zero, suc, ◌-◌, ◌<◌, ◌≤◌, length, take, get_or, List, Option, Some, ap, sym, subst, ◌∙◌, refl, arith}
-use Rattle.std.specs.Prelude.{slice_get, slice_set, IsSomeAnd}
-use Rattle.std.proofs.lemmas.List.{get_or-take}
-use Rattle.std.proofs.lemmas.Option.{slice_get-get_or}
+use Rattle.std.specs.Prelude.{slice_set, IsSomeAnd}
+use Rattle.tfpg_base.proofs.lists.Cuts.{slice_get-last_taken}
 use Rattle.tfpg_clause.specs.declared.path.Frame.{Frame}
 use Rattle.tfpg_clause.specs.Paths.{path_after, next_alternative}
 use Rattle.tfpg_clause.specs.inside.Frames.{IsUnfinished, HasNext}
@@ -9,23 +8,16 @@ use Rattle.tfpg_clause.proofs.FramePaths.{moved_on}
 use Rattle.tfpg_clause.proofs.path.advance.Goals as goal
 
 module _ (path items : List Frame) (frame : Frame) where
-  last_frame : (before : ℕ) → suc before ≤ length path → items ≡ take (suc before) path → frame ≡ get_or items (suc before - 1) frame → slice_get path before ≡ Some frame
-  last_frame before within are is =
-      let number : suc before - 1 ≡ before = omega arith in
-      let there : frame ≡ get_or path before frame =
-      is ∙ ap (λ (n : ℕ). get_or items n frame) number ∙ ap (λ (fs : List Frame). get_or fs before frame) are ∙ get_or-take (suc before) path before frame (omega arith) in
-      slice_get-get_or path before frame (omega arith) ∙ ap (λ (f : Frame). Some f) (sym there)
-
   pub left : (kept : ℕ) → (kept ≡ 0 → ⊥) → kept ≤ length path → items ≡ take kept path → HasNext path kept → frame ≡ get_or items (kept - 1) frame → frame.alternative < frame.alternatives
   left zero some within are next is = absurd (some refl)
-  left (suc before) some within are next is = subst (λ (o : Option Frame). IsSomeAnd o IsUnfinished) (last_frame before within are is) next
+  left (suc before) some within are next is = subst (λ (o : Option Frame). IsSomeAnd o IsUnfinished) (slice_get-last_taken path items before frame within are is) next
 
   pub moved : (kept : ℕ) → (kept ≡ 0 → ⊥) → kept ≤ length path → items ≡ take kept path → HasNext path kept → frame ≡ get_or items (kept - 1) frame
       → path_after path ≡ path_after (take kept path) → path_after path ≡ Some (slice_set items (kept - 1) (next_alternative frame))
   moved zero some within are next is same = absurd (some refl)
   moved (suc before) some within are next is same =
       let number : before ≡ suc before - 1 = omega arith in
-      same ∙ moved_on path before frame (last_frame before within are is) (left (suc before) some within are next is)
+      same ∙ moved_on path before frame (slice_get-last_taken path items before frame within are is) (left (suc before) some within are next is)
       ∙ ap (λ (fs : List Frame). Some (slice_set fs before (next_alternative frame))) (sym are)
       ∙ ap (λ (n : ℕ). Some (slice_set items n (next_alternative frame))) number
 

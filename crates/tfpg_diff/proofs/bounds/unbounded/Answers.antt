@@ -1,7 +1,7 @@
 -- One more variable.
 use Rattle.std.proofs.Common.{◌≡◌, ℕ, suc, ◌+◌, List, ◌∷◌, ◌++◌, [], sym, ◌∙◌, ap, arith, zero-add}
 use Rattle.tfpg_diff.specs.declared.bounds.Bounds.{Bounds}
-use Rattle.tfpg_diff.specs.State.{widest, unbounded_from}
+use Rattle.tfpg_diff.specs.SystemState.{widest, unbounded_from}
 use Rattle.tfpg_diff.proofs.Fresh.{unbounded_from-more}
 use Rattle.tfpg_diff.proofs.bounds.unbounded.Goals as goal
 

@@ -1,6 +1,6 @@
 -- The bounds of the variables so far.
 use Rattle.std.proofs.Common.{◌≡◌}
-use Rattle.tfpg_diff.specs.State.{unbounded_from}
+use Rattle.tfpg_diff.specs.SystemState.{unbounded_from}
 use Rattle.tfpg_diff.proofs.bounds.unbounded.Given as goal
 
 abbrev pub invariant-loop-variable : goal.invariant-loop-variable

@@ -1,6 +1,6 @@
 -- The constraints of the cycle.
-use Rattle.tfpg_diff.proofs.Naming.{IsCycleOf-named}
+use Rattle.tfpg_diff.proofs.Naming.{AreNamesOfNegativeCycle-named}
 use Rattle.tfpg_diff.proofs.laws.tags_name_the_cycle.Goals as goal
 
 pub returns : goal.returns
-returns c = IsCycleOf-named
+returns c = AreNamesOfNegativeCycle-named

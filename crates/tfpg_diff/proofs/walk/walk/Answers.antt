@@ -1,7 +1,8 @@
 -- A walk that is not at zero has room for one more link.
 use Rattle.std.proofs.lemmas.List.{length_push}
+use Rattle.std.proofs.lemmas.Option.{slice_get-get_or}
 use Rattle.std.proofs.Common.{arith, ap, ◌<◌, ◌≢◌, length, get_or}
-use Rattle.tfpg_diff.proofs.Walks.{Walked-more, length-walked, link_right, link_read, no_link}
+use Rattle.tfpg_diff.proofs.Walks.{Walked-more, length-walked, link_right, no_link}
 use Rattle.tfpg_diff.proofs.walk.walk.Goals as goal
 
 pub push_tag-requires : goal.push_tag-requires
@@ -22,7 +23,7 @@ pub loop-stands-preserved : goal.loop-stands-preserved
 loop-stands-preserved c =
     let up : 0 < c.loop-stands.stands = omega arith in
     let other : c.loop-stands.stands ≢ c.args.sought = omega arith in
-    let at = link_read c.args.links.now c.loop-stands.stands c.loop-stands.invariant.inside in
+    let at = slice_get-get_or c.args.links.now c.loop-stands.stands no_link c.loop-stands.invariant.inside in
     record {
       walked = rw c.push_tag.ensures.items (Walked-more c.args.links.now c.requires.labelled c.args.from c.args.sought c.loop-stands.stands
           c.args.cycle.now.items c.loop-stands.cycle.items (get_or c.args.links.now c.loop-stands.stands no_link)

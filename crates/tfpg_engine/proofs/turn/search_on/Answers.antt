@@ -1,6 +1,6 @@
 use Rattle.std.proofs.Common.{ap, ◌≡◌, false, sym, subst}
 use Rattle.std.specs.Prelude.{Ok}
-use Rattle.tfpg_engine.specs.Engining.{SlotRepresents}
+use Rattle.tfpg_engine.specs.EngineState.{SlotRepresents}
 use Rattle.tfpg_engine.specs.inside.Turns.{is_rejected_slot, kept, IsTurn}
 use Rattle.tfpg_search.specs.Searched.{IsSearched}
 use Rattle.tfpg_engine.proofs.Turning.{turn_searched}

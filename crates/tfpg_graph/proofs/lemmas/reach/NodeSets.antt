@@ -1,16 +1,16 @@
 -- Which nodes words keep.
-use Rattle.std.proofs.Common.{◌≡◌, ◌≢◌, ℕ, suc, zero, ◌+◌, ◌*◌, ◌/◌, ◌%◌, ◌<◌, ◌≤◌, ◌^◌, lit<, List, [], ◌∷◌, length, map, get_or, set, bit_and, bit_or, nat_eq, eqb, ltb, ◌↔◌, ⊎_elim, IsTrue, refl, arith, sym, ◌∙◌, ap, subst}
+use Rattle.std.proofs.Common.{◌≡◌, ◌≢◌, ℕ, suc, zero, ◌+◌, ◌*◌, ◌/◌, ◌%◌, ◌<◌, ◌≤◌, ◌^◌, lit<, List, [], ◌∷◌, length, map, get_or, set, bit_and, bit_or, nat_eq, ◌↔◌, ⊎_elim, IsTrue, refl, arith, sym, ◌∙◌, ap, subst}
 use Rattle.std.specs.List.{Contains}
-use Rattle.std.proofs.lemmas.Bool.{cases_eq, cond_both, eqb-true}
+use Rattle.std.proofs.lemmas.Bool.{cases_eq}
 use Rattle.std.proofs.lemmas.List.{length-set, get_or-set_same, get_or-set_other}
 use Rattle.std.proofs.lemmas.List.Elements.{All-nil, All-set, All-get_or, All-contains, Contains-append_left, Contains-append_right, Contains-append_cases}
 use Rattle.std.proofs.lemmas.Nat.{or_lt, mod_below}
 use Rattle.tfpg_base.specs.Set.{with_member}
 use Rattle.tfpg_base.specs.SetBits.{members_of}
 use Rattle.tfpg_base.proofs.lists.Distinct.{length-le_distinct}
-use Rattle.tfpg_base.proofs.lists.Elements.{All-from_members, Contains-head, Contains-tail, Contains-nil}
+use Rattle.tfpg_base.proofs.lists.Elements.{All-from_members, Contains-nil}
 use Rattle.tfpg_base.proofs.lists.Ordered.{AllPairs-append, Rises-differ, Rises-shifted}
-use Rattle.tfpg_base.proofs.Sets.{Rises, same_from_members, Contains-with_member, with_member-keeps, with_member-only, Rises-with_member, IsSet-members_of, members_of-is, members_of-zero, members_of-set, bit_says_member}
+use Rattle.tfpg_base.proofs.Sets.{Rises, same_from_members, Contains-with_member, with_member-keeps, with_member-only, Rises-with_member, IsSet-members_of, members_of-is, members_of-zero, members_of-set, bit_says_member, All-with_member}
 use Rattle.tfpg_graph.specs.declared.limits.TheConstants.{MAX_NODES}
 use Rattle.tfpg_graph.specs.NodeSet.{IsNodeSet}
 use Rattle.tfpg_graph.specs.inside.reach.NodeWords.{nodes_from, nodes_of, AreWords}
@@ -28,21 +28,8 @@ IsNodeSet-nil = record { rising = λ i j d before within. absurd (omega arith); 
 pub IsNodeSet-with : (node : ℕ) (nodes : List ℕ) → node < MAX_NODES → IsNodeSet nodes → IsNodeSet (with_member node nodes)
 IsNodeSet-with node nodes small set = record {
   rising = Rises-with_member node nodes set.rising;
-  small = All-from_members (λ n. n < MAX_NODES) (with_member node nodes)
-      (λ other member. ⊎_elim (λ is. omega (arith, small, is))
-      (λ old. All-contains (λ n. n < MAX_NODES) nodes other set.small old) (with_member-only node nodes other member));
+  small = All-with_member (λ n. n < MAX_NODES) node nodes small set.small;
 }
-
--- a node that is new makes a set longer by one
-pub length-with_new_member : (node : ℕ) (nodes : List ℕ) → (Contains nodes node → ⊥)
-    → length (with_member node nodes) ≡ suc (length nodes)
-length-with_new_member node [] new = refl
-length-with_new_member node (first ∷ others) new =
-    cond_both (ltb node first) _ _ (λ more. length more ≡ suc (suc (length others))) (λ less. refl)
-    (λ not_less. cond_both (eqb node first) _ _ (λ more. length more ≡ suc (suc (length others)))
-    (λ equal. absurd (new (subst (λ (n : ℕ). Contains (first ∷ others) n) (sym (eqb-true node first equal))
-    (Contains-head first others))))
-    (λ unequal. ap suc (length-with_new_member node others (λ member. new (Contains-tail first others node member)))))
 
 -- ---- the nodes that words keep
 

@@ -10,7 +10,7 @@ use Rattle.std.proofs.lemmas.Map.Views.{list_any-from_Contains, Contains-from_an
 use Rattle.std.proofs.lemmas.Option.{slice_get-map, slice_get_within, get_or_from_slice_get, same_Some}
 use Rattle.tfpg_base.specs.Set.{with_member}
 use Rattle.tfpg_base.proofs.lists.Elements.{All-from_members}
-use Rattle.tfpg_base.proofs.Sets.{same_from_members, Contains-with_member, with_member-keeps, with_member-only}
+use Rattle.tfpg_base.proofs.Sets.{same_from_members, Contains-with_member, with_member-keeps, length-with_new_member, All-with_member}
 use Rattle.tfpg_graph.specs.declared.kind.Kind.{Kind}
 use Rattle.tfpg_graph.specs.declared.kind.Kind.TheVariants.{Failure, Or, And}
 use Rattle.tfpg_graph.specs.declared.limits.TheConstants.{MAX_NODES}
@@ -21,7 +21,7 @@ use Rattle.tfpg_graph.specs.Valid.{IsValid}
 use Rattle.tfpg_graph.specs.inside.reach.Reaching.{IsFedAs, IsFed, IsFullBefore, AreReached, Widens}
 use Rattle.tfpg_base.proofs.lists.Numbered.{All-below-numbers_from}
 use Rattle.tfpg_graph.proofs.NodeAt.{kind_test}
-use Rattle.tfpg_graph.proofs.lemmas.reach.NodeSets.{IsNodeSet-nil, IsNodeSet-with, length-with_new_member}
+use Rattle.tfpg_graph.proofs.lemmas.reach.NodeSets.{IsNodeSet-nil, IsNodeSet-with}
 
 -- ---- the kind of a node
 
@@ -93,21 +93,9 @@ module _ (graph : Tfpg) (set nodes : List ℕ) (reached : All (Reaches graph set
 
   -- with one node more that is reached, all are reached
   reached-with : Reaches graph set node → All (Reaches graph set) (with_member node nodes)
-  reached-with reaches =
-      All-from_members (Reaches graph set) (with_member node nodes)
-      (λ other member. ⊎_elim (λ is. subst (Reaches graph set) is reaches)
-      (λ old. All-contains (Reaches graph set) nodes other reached old) (with_member-only node nodes other member))
+  reached-with reaches = All-with_member (Reaches graph set) node nodes reaches reached
 
 -- ---- sets that grow
-
--- what stays the same
-pub Widens-same : (graph : Tfpg) (nodes : List ℕ) → Widens graph nodes nodes
-Widens-same graph nodes = record {
-  is_set = λ set. set;
-  keeps = λ node member. member;
-  reached = λ set reached. reached;
-  longer = omega arith;
-}
 
 -- one after the other
 pub Widens-along : (graph : Tfpg) (a b c : List ℕ) → Widens graph a b → Widens graph b c → Widens graph a c

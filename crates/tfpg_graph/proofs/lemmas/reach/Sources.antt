@@ -22,6 +22,12 @@ pub number_of_edge : (graph : Tfpg) (node : ℕ) (edge : Edge) → Contains (edg
     → (number : ℕ) × Contains (incoming graph node) number × (slice_get graph.edges number ≡ Some edge)
 number_of_edge graph node edge member = number_among (λ (e : Edge). e.target == node) graph.edges edge member
 
+-- each number of an edge into a node is that of an edge
+pub incoming_within : (graph : Tfpg) (node index : ℕ) (numbers : List ℕ) → numbers ≡ incoming graph node → index < length numbers
+    → get_or numbers index 0 < length graph.edges
+incoming_within graph node index numbers are within =
+    number_within (λ (edge : Edge). edge.target == node) graph.edges (λ (edge : Edge). edge.target ≡ node) numbers are index within
+
 module _ (graph : Tfpg) (nodes : List ℕ) (node : ℕ) (numbers : List ℕ) (are : numbers ≡ incoming graph node) (i : ℕ) where
   -- the edge goes into the node
   abbrev goes_in : Edge → Bool
@@ -30,10 +36,6 @@ module _ (graph : Tfpg) (nodes : List ℕ) (node : ℕ) (numbers : List ℕ) (ar
   -- its source is one of these
   abbrev ComesFrom : Edge → Type 0
   ComesFrom edge = Contains nodes edge.source
-
-  -- a number of an edge into the node is within bounds
-  pub incoming_within : i < length numbers → get_or numbers i 0 < length graph.edges
-  incoming_within within = number_within goes_in graph.edges ComesFrom numbers are i within
 
   module _ (edge : Edge) (within : i < length numbers) (at : slice_get graph.edges (get_or numbers i 0) ≡ Some edge) where
     has_source : Contains nodes edge.source → HasItsSourceIn graph nodes (get_or numbers i 0)

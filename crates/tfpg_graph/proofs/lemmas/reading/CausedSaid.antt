@@ -1,9 +1,8 @@
 -- A statement that has no cause has its value.
-use Rattle.std.proofs.Common.{◌≡◌, ℕ, ◌<◌, Bool, true, false, cond, List, [], ◌∷◌, ◌++◌, length, Option, Some, None, is_some, is_none, option_map, option_and_then, codes, refl, ap, sym, ◌∙◌}
+use Rattle.std.proofs.Common.{◌≡◌, ℕ, ◌<◌, Bool, true, false, cond, List, [], ◌∷◌, ◌++◌, length, Option, Some, None, is_some, is_none, option_map, codes, refl, ap, sym, ◌∙◌}
 use Rattle.std.specs.List.{list_all, list_any}
 use Rattle.std.specs.Str.{bytes_eq}
-use Rattle.std.specs.Str.Parse.{digits_value}
-use Rattle.std.proofs.lemmas.Bool.{or_parts, and_parts, not-false, false≢true}
+use Rattle.std.proofs.lemmas.Bool.{or_parts, and_parts, not-false}
 use Rattle.tfpg_base.specs.declared.limits.TheConstants.{MAX_TIME}
 use Rattle.tfpg_base.specs.Words.{is_number, number_of}
 use Rattle.tfpg_graph.specs.declared.cause.GraphCause.{GraphCause}
@@ -13,25 +12,22 @@ use Rattle.tfpg_graph.specs.Declares.{lag_of_word, kind_of_words, tmax_of_word, 
 use Rattle.tfpg_base.specs.Choice.{first_of}
 use Rattle.tfpg_graph.specs.Causes.{causes, numbers_in, cause_at}
 use Rattle.tfpg_graph.specs.inside.reading.Turns.{HasValue, is_misplaced}
-use Rattle.tfpg_base.proofs.lists.Valued.{is_some-option_map}
+use Rattle.tfpg_base.proofs.lists.Choices.{is_some-option_map, is_some-both}
+use Rattle.tfpg_base.proofs.Numbers.{is_some-number_of}
 use Rattle.tfpg_graph.proofs.lemmas.reading.WithoutCause.{HasNoCause-from_none}
 use Rattle.tfpg_graph.proofs.lemmas.reading.DeclaredBy.{AllHaveValues, is_misplaced-said}
 use Rattle.tfpg_graph.proofs.lemmas.reading.CauseAt.{cause-unended}
-
--- a word that has the form of a number is one
-number_of-some : (word : List ℕ) → is_number word ≡ true → is_some (number_of word) ≡ true
-number_of-some word number = ap (λ b. is_some (cond b (Some (digits_value 10 word)) None)) number
 
 lag-some : (lag : Option (List ℕ))
     → list_all (λ number. is_number number.0) (numbers_in (DeclaresNode [] (OrWords lag))) ≡ true
     → is_some (lag_of_word lag) ≡ true
 lag-some None numbers = refl
-lag-some (Some word) numbers = is_some-option_map Some (number_of word) ∙ number_of-some word (and_parts (is_number word) true numbers).0
+lag-some (Some word) numbers = is_some-option_map Some (number_of word) ∙ is_some-number_of word (and_parts (is_number word) true numbers).0
 
 kind-some : (name : List ℕ) (words : NodeWords)
     → list_all (λ number. is_number number.0) (numbers_in (DeclaresNode name words)) ≡ true
     → is_some (kind_of_words words) ≡ true
-kind-some name (FailureWords rarity) numbers = is_some-option_map _ (number_of rarity) ∙ number_of-some rarity (and_parts (is_number rarity) true numbers).0
+kind-some name (FailureWords rarity) numbers = is_some-option_map _ (number_of rarity) ∙ is_some-number_of rarity (and_parts (is_number rarity) true numbers).0
 kind-some name (OrWords lag) numbers = is_some-option_map _ (lag_of_word lag) ∙ lag-some lag numbers
 kind-some name (AndWords lag) numbers = is_some-option_map _ (lag_of_word lag) ∙ lag-some lag numbers
 
@@ -44,15 +40,7 @@ tmax-some word = by (bytes_eq word (codes "inf"))
         → list_all (λ (number : List ℕ × ℕ). is_number number.0) (cond is_inf [] ((word, MAX_TIME) ∷ [])) ≡ true
         → is_some (cond is_inf (Some None) (option_map Some (number_of word))) ≡ true
     by true numbers = refl
-    by false numbers = is_some-option_map Some (number_of word) ∙ number_of-some word (and_parts (is_number word) true numbers).0
-
--- two values make one
-both_some : {X Y Z : Type 0} (f : X → Y → Z) (first : Option X) (second : Option Y) → is_some first ≡ true
-    → is_some second ≡ true
-    → is_some (option_and_then (λ x. option_map (λ y. f x y) second) first) ≡ true
-both_some f None second here there = absurd (false≢true here)
-both_some f (Some x) None here there = absurd (false≢true there)
-both_some f (Some x) (Some y) here there = refl
+    by false numbers = is_some-option_map Some (number_of word) ∙ is_some-number_of word (and_parts (is_number word) true numbers).0
 
 -- A statement that has no cause has its value.
 pub HasValue-no_cause : (out_of_order : Bool) (graph : Tfpg) (said : Statement)
@@ -63,9 +51,9 @@ HasValue-no_cause out_of_order graph (DeclaresEdge source target tmin tmax modes
     let said = DeclaresEdge source target tmin tmax modes in
     let numbers = and_parts (is_number tmin) _ (not-false _ ((HasNoCause-from_none out_of_order graph said none).numbers)) in
     let names = or_parts (is_none (node_named graph source)) _ ((HasNoCause-from_none out_of_order graph said none).known) in
-    both_some _ (ends_named graph source target) (delays_of_words tmin tmax)
-    (both_some _ (node_named graph source) (node_named graph target) (not-false _ names.0) (not-false _ (or_parts (is_none (node_named graph target)) _ names.1).0))
-    (both_some _ (number_of tmin) (tmax_of_word tmax) (number_of-some tmin numbers.0) (tmax-some tmax numbers.1))
+    is_some-both _ (ends_named graph source target) (delays_of_words tmin tmax)
+    (is_some-both _ (node_named graph source) (node_named graph target) (not-false _ names.0) (not-false _ (or_parts (is_none (node_named graph target)) _ names.1).0))
+    (is_some-both _ (number_of tmin) (tmax_of_word tmax) (is_some-number_of tmin numbers.0) (tmax-some tmax numbers.1))
 HasValue-no_cause out_of_order graph Ends none = tt
 
 -- The first cause of a statement, by what is declared.

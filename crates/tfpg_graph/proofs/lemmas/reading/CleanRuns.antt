@@ -1,7 +1,6 @@
 -- The statements of a valid graph, in order, have no cause.
-use Rattle.std.proofs.Common.{◌≡◌, ◌≢◌, ℕ, ◌<◌, ◌≤◌, ◌==◌, ◌||◌, ◌&&◌, false, not, List, [], ◌∷◌, ◌++◌, length, map, All, AllPairs, IsTrue, Some, None, position, refl, ap, sym, ◌∙◌, subst, arith, append_assoc}
+use Rattle.std.proofs.Common.{◌≡◌, ◌≢◌, ℕ, ◌<◌, ◌≤◌, ◌==◌, ◌||◌, ◌&&◌, false, not, List, [], ◌∷◌, ◌++◌, length, map, All, AllPairs, IsTrue, Some, None, refl, ap, sym, ◌∙◌, subst, arith, append_assoc}
 use Rattle.std.specs.List.{AllZip, list_any}
-use Rattle.std.specs.Str.{bytes_eq}
 use Rattle.std.proofs.lemmas.Bool.{and_parts, eqb-true, eq-eqb, false_from_ne_true, not-true}
 use Rattle.std.proofs.lemmas.List.{append-nil}
 use Rattle.std.proofs.lemmas.List.Elements.{All-nil, All-cons, All-weaker}
@@ -20,7 +19,7 @@ use Rattle.tfpg_base.proofs.lists.Elements.{All-front, All-middle, AllPairs-midd
 use Rattle.tfpg_base.proofs.lists.LookedUp.{filter_map-related}
 use Rattle.tfpg_base.proofs.lists.Numbered.{numbers_from-middle}
 use Rattle.tfpg_base.proofs.lists.Positions.{position-All_fail}
-use Rattle.tfpg_base.proofs.lists.SameBytes.{bytes_eq-differ}
+use Rattle.tfpg_base.proofs.lists.SameBytes.{position-bytes_none}
 use Rattle.tfpg_base.proofs.lists.Zipped.{AllZip-push}
 use Rattle.tfpg_graph.proofs.lemmas.reading.SpelledEdges.{edge_statement, is_name-name_word, node_named-name_word, IsModesWord-spelled, edge_declared-said}
 use Rattle.tfpg_graph.proofs.lemmas.reading.NoCause.{HasNoCause, no_first_cause, HasNoCause-mode, HasNoCause-node, HasNoCause-edge, HasNoCause-end, IsEdgeRight}
@@ -49,14 +48,6 @@ cause-none before graph said declared has =
     ap (λ g. first_of (causes (is_out_of_order before said) g said)) declared
     ∙ no_first_cause (is_out_of_order before said) graph said has
 
--- a name that differs from all is not found
-not_found : {X : Type 0} (name_in : X → List ℕ) (name : List ℕ) (xs : List X) → All (λ x. name_in x ≢ name) xs
-    → position (λ x. bytes_eq (name_in x) name) xs ≡ None
-not_found name_in name xs differ =
-    position-All_fail (λ x. bytes_eq (name_in x) name) xs
-    (All-weaker (λ x. name_in x ≢ name) (λ x. bytes_eq (name_in x) name ≡ false)
-    (λ x other. bytes_eq-differ (name_in x) name other) xs differ)
-
 -- ---- modes
 
 record AreModes (modes : List (List ℕ)) : Type 0 where
@@ -77,7 +68,7 @@ Runs-modes modes (mode ∷ later) are = (
       (HasNoCause-mode (is_out_of_order (said_so_far modes [] []) (DeclaresMode mode))
       (record { nodes = []; edges = []; modes = modes }) mode (modes_only-so_far modes)
       (All-middle (λ m. IsTrue (is_name m)) modes mode later are.named)
-      (not_found (λ m. m) mode modes (AllPairs-middle modes mode later (λ a b. a ≢ b) are.differ))
+      (position-bytes_none (λ m. m) mode modes (AllPairs-middle modes mode later (λ a b. a ≢ b) are.differ))
       (omega (arith, length-middle modes mode later, are.few))),
   subst (λ before. Runs before (map DeclaresMode later)) (sym (said_so_far-mode modes mode))
       (Runs-modes (modes ++ mode ∷ []) later (subst AreModes (sym (append_assoc modes (mode ∷ []) later)) are)),
@@ -104,7 +95,7 @@ Runs-nodes modes nodes (node ∷ later) some are = (
       (record { nodes = nodes; edges = []; modes = modes }) node.name node.kind
       (λ i. not (has_mode-so_far modes nodes [] some i) || no_edges-so_far modes nodes i)
       (All-middle (λ n. IsTrue (is_name n.name)) nodes node later are.named)
-      (not_found (λ n. n.name) node.name nodes (AllPairs-middle nodes node later (λ a b. a.name ≢ b.name) are.differ))
+      (position-bytes_none (λ n. n.name) node.name nodes (AllPairs-middle nodes node later (λ a b. a.name ≢ b.name) are.differ))
       (All-middle (λ n. HasValidNumber n.kind) nodes node later are.numbers)
       (omega (arith, length-middle nodes node later, are.few))
       (λ failure. omega

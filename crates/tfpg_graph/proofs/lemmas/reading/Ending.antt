@@ -1,24 +1,24 @@
 -- The end of lines that are read: a valid graph, or what is wrong with the whole.
-use Rattle.std.proofs.Common.{◌≡◌, ◌≢◌, ℕ, ◌+◌, ◌<◌, List, [], ◌∷◌, length, Option, Some, None, IfNone, refl, sym, ap, ◌∙◌, subst, arith}
+use Rattle.std.proofs.Common.{◌≡◌, ◌≢◌, ℕ, ◌+◌, ◌<◌, List, [], ◌∷◌, length, refl, sym, ap, ◌∙◌, subst, arith}
 use Rattle.std.proofs.lemmas.Option.{slice_get_within}
 use Rattle.tfpg_base.specs.Lines.{parts_of}
 use Rattle.tfpg_base.proofs.LinesOf.{parts_of_some}
-use Rattle.tfpg_graph.specs.declared.cause.GraphCause.TheVariants.{NoIncoming, ZeroCycle, MissingEnd}
+use Rattle.tfpg_graph.specs.declared.cause.GraphCause.TheVariants.{ZeroCycle, MissingEnd}
 use Rattle.tfpg_graph.specs.declared.cause.GraphRefusal.{GraphRefusal}
 use Rattle.tfpg_graph.specs.declared.reading.reader.LineRefusal.TheVariants.{Cause}
 use Rattle.tfpg_graph.specs.Graph.{Tfpg}
 use Rattle.tfpg_graph.specs.Valid.{IsValid, IsValidSoFar, HasIncomingBefore}
 use Rattle.tfpg_graph.specs.ZeroCycle.{LiesOnZeroCycle, HasZeroOrder}
-use Rattle.tfpg_graph.specs.Statements.{declares_node, declares_edge}
-use Rattle.tfpg_graph.specs.Faults.{IsLineSaying, LacksIncoming}
+use Rattle.tfpg_graph.specs.Statements.{declares_edge}
+use Rattle.tfpg_graph.specs.Faults.{IsLineSaying}
 use Rattle.tfpg_graph.specs.declared.reading.reader.Part.{Part}
 use Rattle.tfpg_graph.specs.declared.reading.reader.Part.TheVariants.{Header, Declarations, Ended}
 use Rattle.tfpg_graph.specs.declared.reading.reader.Reader.{Reader}
 use Rattle.tfpg_graph.specs.inside.reading.Turns.{part_after, ReaderRepresents}
 use Rattle.tfpg_graph.specs.inside.reading.TurnResults.{refusal_at, IsEndRefusal}
 use Rattle.tfpg_graph.proofs.lemmas.reading.PartAfter.{no_header}
-use Rattle.tfpg_graph.proofs.lemmas.zero_cycle.ZeroCycles.{HasZeroOrder-no_cycle, HasZeroOrder-none_lies}
-use Rattle.tfpg_graph.proofs.lemmas.reading.FirstFaults.{whole_fault-incoming, whole_fault-cycle, whole_fault-end}
+use Rattle.tfpg_graph.proofs.lemmas.zero_cycle.ZeroCycles.{HasZeroOrder-no_cycle}
+use Rattle.tfpg_graph.proofs.lemmas.reading.FirstFaults.{whole_fault-cycle, whole_fault-end}
 
 -- What broke no rule so far is valid where each discrepancy has an edge into it, nodes have ranks, and there is a mode.
 pub IsValid-whole : (graph : Tfpg) → IsValidSoFar graph → HasIncomingBefore graph (length graph.nodes)
@@ -29,11 +29,6 @@ IsValid-whole graph is incoming order mode = record {
   no_zero_cycle = HasZeroOrder-no_cycle graph order;
   has_mode = mode;
 }
-
--- Where no edge was found, what none gives holds.
-pub IfNone-none : {P : Type 0} (found : Option ℕ) → ((edge : ℕ) → found ≢ Some edge) → IfNone found P → P
-IfNone-none None none holds = holds
-IfNone-none (Some edge) none holds = absurd (none edge refl)
 
 -- An edge on a cycle is among the edges.
 pub edge_within : (graph : Tfpg) (number : ℕ) → LiesOnZeroCycle graph number → number < length graph.edges
@@ -47,14 +42,6 @@ module _ (progress : Reader) (bytes : List ℕ) (stands : ReaderRepresents progr
       by : (lines : List (List ℕ)) → 0 < length lines → Header ≡ part_after lines → ⊥
       by [] some header = absurd (omega arith)
       by (first ∷ others) some header = no_header first others header
-
-  -- The first discrepancy with no edge into it.
-  pub IsEndRefusal-incoming : (node line : ℕ) (refusal : GraphRefusal) → LacksIncoming progress.declared node
-      → HasIncomingBefore progress.declared node → IsLineSaying declares_node (parts_of bytes) node line
-      → refusal ≡ refusal_at (Cause NoIncoming) line → IsEndRefusal (parts_of bytes) refusal
-  IsEndRefusal-incoming node line refusal lacks first says is =
-      subst (IsEndRefusal (parts_of bytes)) (sym is)
-      (whole_fault-incoming progress (parts_of bytes) stands read node line lacks first says)
 
   -- The first edge on a cycle that may take no time.
   pub IsEndRefusal-cycle : (edge line : ℕ) (refusal : GraphRefusal)
@@ -83,4 +70,4 @@ module _ (progress : Reader) (bytes : List ℕ) (stands : ReaderRepresents progr
   IsEndRefusal-unended count refusal incoming order goes_on counted is =
       subst (IsEndRefusal (parts_of bytes)) (sym (is ∙ ap (λ n. refusal_at (Cause MissingEnd) (n + 1)) counted))
       (whole_fault-end progress (parts_of bytes) stands (unended goes_on) incoming
-      (λ number lies. HasZeroOrder-none_lies progress.declared number order lies))
+      (HasZeroOrder-no_cycle progress.declared order))

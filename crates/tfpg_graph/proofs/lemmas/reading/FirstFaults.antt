@@ -2,11 +2,11 @@
 use Rattle.std.proofs.Common.{◌≡◌, ◌≢◌, ℕ, ◌+◌, ◌<◌, ⊎_elim, inl, inr, List, [], ◌∷◌, ◌++◌, length, Err, refl, sym, ◌∙◌, subst, arith}
 use Rattle.std.proofs.lemmas.List.{length-append}
 use Rattle.tfpg_graph.specs.declared.cause.GraphCause.{GraphCause}
-use Rattle.tfpg_graph.specs.declared.cause.GraphCause.TheVariants.{BadHeader, NoIncoming, ZeroCycle, MissingEnd}
+use Rattle.tfpg_graph.specs.declared.cause.GraphCause.TheVariants.{ZeroCycle, MissingEnd}
 use Rattle.tfpg_graph.specs.ZeroCycle.{LiesOnZeroCycle}
-use Rattle.tfpg_graph.specs.Statements.{declares_node, declares_edge}
-use Rattle.tfpg_graph.specs.Valid.{HasIncomingBefore}
-use Rattle.tfpg_graph.specs.Faults.{IsClean, IsLineFault, IsLineSaying, LacksIncoming, HasNoZeroCycle, IsWholeFault}
+use Rattle.tfpg_graph.specs.Statements.{declares_edge}
+use Rattle.tfpg_graph.specs.Valid.{HasIncomingBefore, HasNoZeroCycle}
+use Rattle.tfpg_graph.specs.Faults.{IsClean, IsLineFault, IsLineSaying, IsWholeFault}
 use Rattle.tfpg_graph.specs.declared.reading.reader.Part.TheVariants.{Header, Declarations}
 use Rattle.tfpg_graph.specs.declared.reading.reader.Reader.{Reader}
 use Rattle.tfpg_graph.specs.inside.reading.Turns.{turn, part_after, ReaderRepresents}
@@ -26,10 +26,6 @@ IsLineFault-err progress before after line cause stands failed = record {
   first = λ earlier within. cause_at-append before (line ∷ after) earlier within ∙ stands.clean earlier within;
 }
 
--- A text without a line has no header.
-pub IsLineFault-empty : IsLineFault [] (record { line = 1; cause = BadHeader })
-IsLineFault-empty = record { index = 0; number = refl; tested = inl refl; cause = refl; first = λ earlier within. absurd (omega arith) }
-
 module _ (progress : Reader) (lines : List (List ℕ)) (stands : ReaderRepresents progress lines) where
   -- Where a line was read, none has a cause.
   pub IsClean-some : 0 < length lines → IsClean lines
@@ -48,21 +44,6 @@ module _ (progress : Reader) (lines : List (List ℕ)) (stands : ReaderRepresent
   IsClean-read read = IsClean-some (some_line read)
 
   module _ (read : progress.part ≢ Header) where
-    -- The first discrepancy with no edge into it is the fault.
-    pub whole_fault-incoming : (node line : ℕ) → LacksIncoming progress.declared node → HasIncomingBefore progress.declared node
-        → IsLineSaying declares_node lines node line
-        → IsClean lines × IsWholeFault lines (record { line = line; cause = NoIncoming })
-    whole_fault-incoming node line lacks first says = (
-      IsClean-read read,
-      inl (record {
-        cause = refl;
-        node = node;
-        lacks = subst (λ graph. LacksIncoming graph node) stands.graph lacks;
-        first = subst (λ graph. HasIncomingBefore graph node) stands.graph first;
-        line = says;
-      }),
-    )
-
     -- Where none is, the first edge on a cycle that may take no time is.
     pub whole_fault-cycle : (edge line : ℕ) → HasIncomingBefore progress.declared (length progress.declared.nodes)
         → LiesOnZeroCycle progress.declared edge
@@ -91,7 +72,7 @@ module _ (progress : Reader) (lines : List (List ℕ)) (stands : ReaderRepresent
         inr (inr (record {
           cause = refl;
           incoming = subst (λ graph. HasIncomingBefore graph (length graph.nodes)) stands.graph incoming;
-          no_cycle = λ number on_cycle. no_cycle number (subst (λ graph. LiesOnZeroCycle graph number) (sym stands.graph) on_cycle);
+          no_cycle = subst HasNoZeroCycle stands.graph no_cycle;
           no_end = before.1;
           line = refl;
         })),

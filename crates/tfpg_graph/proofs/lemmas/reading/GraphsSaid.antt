@@ -8,7 +8,7 @@ use Rattle.tfpg_base.proofs.lists.Valued.{filter_map-push_some, filter_map-push_
 use Rattle.tfpg_graph.specs.declared.kind.Kind.{Kind}
 use Rattle.tfpg_graph.specs.declared.edge.Edge.{Edge}
 use Rattle.tfpg_graph.specs.Graph.{Tfpg, Node}
-use Rattle.tfpg_graph.specs.inside.Indexes.{with_mode, with_node, with_edge}
+use Rattle.tfpg_graph.specs.inside.declaring.Indexes.{with_mode, with_node, with_edge}
 use Rattle.tfpg_graph.specs.Statements.{NodeWords, Statement, DeclaresMode, DeclaresNode, DeclaresEdge, Ends, declares_mode, declares_edge}
 use Rattle.tfpg_graph.specs.Declares.{kind_of_words, mode_declared, node_declared, edge_declared, named_by, graph_said}
 use Rattle.tfpg_graph.specs.Causes.{is_out_of_order}

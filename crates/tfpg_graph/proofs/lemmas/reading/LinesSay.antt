@@ -1,17 +1,20 @@
 -- What the lines that spell a graph say.
-use Rattle.std.proofs.Common.{◌≡◌, ℕ, ◌<◌, ◌≤◌, ◌^◌, ◌==◌, true, false, not, cond, List, [], ◌∷◌, ◌++◌, length, IsTrue, Option, Some, None, IfSome, codes, refl, ap, ◌∙◌, arith}
+use Rattle.std.proofs.Common.{◌≡◌, ℕ, ◌<◌, ◌≤◌, ◌^◌, ◌==◌, true, false, not, cond, List, [], ◌∷◌, ◌++◌, length, IsTrue, Option, Some, None, IfSome, codes, refl, ap, ◌∙◌, arith, eqb, sym}
 use Rattle.std.specs.Prelude.{decimal}
 use Rattle.std.specs.Option.{option_map}
 use Rattle.std.specs.List.{AllByRecursion, list_any, list_all, join_with_byte}
 use Rattle.std.proofs.lemmas.Bool.{ne_eqb, le-ltb, false≢true, or_from}
-use Rattle.std.proofs.lemmas.List.Elements.{All-cons, All-append}
-use Rattle.tfpg_base.specs.Words.{line_of, is_name, is_number}
+use Rattle.std.proofs.lemmas.List.{append-nil}
+use Rattle.std.proofs.lemmas.List.Elements.{All-weaker, All-from_recursion}
+use Rattle.tfpg_base.specs.Words.{line_of, is_name}
 use Rattle.tfpg_base.specs.declared.limits.TheConstants.{LONGEST_LINE, MAX_TIME}
-use Rattle.tfpg_base.proofs.Numbers.{is_number-decimal}
-use Rattle.tfpg_base.proofs.Separators.{Lacks, lacks_checked, name_lacks, decimal_lacks, slice_split-join}
+use Rattle.tfpg_base.proofs.Numbers.{is_number-decimal, number_nonempty}
+use Rattle.tfpg_base.proofs.Separators.{name_lacks}
+use Rattle.tfpg_base.proofs.lists.Lacking.{Lacks, lacks_checked, decimal_lacks, slice_split-join}
+use Rattle.tfpg_base.proofs.lists.Joined.{All-join}
 use Rattle.tfpg_graph.specs.declared.kind.Kind.{Kind}
 use Rattle.tfpg_graph.specs.declared.kind.Kind.TheVariants.{Failure, Or, And}
-use Rattle.tfpg_graph.specs.Text.{mode_line, node_words, tmax_word}
+use Rattle.tfpg_graph.specs.Text.{mode_line, node_words, words_of_kind, tmax_word}
 use Rattle.tfpg_graph.specs.Valid.{HasValidNumber}
 use Rattle.tfpg_graph.specs.Statements.{NodeWords, FailureWords, OrWords, AndWords, Statement, DeclaresMode, DeclaresNode, DeclaresEdge, Ends, statement_in, statement_of}
 use Rattle.tfpg_graph.proofs.lemmas.writing.LineLengths.{short_mode, short_node}
@@ -47,27 +50,22 @@ short_line_says words some are short =
 pub keyword : (word : List ℕ) → (length word == 0) ≡ false → list_all (λ other. not (other == 32)) word ≡ true → IsWord word
 keyword word some all = record { some = some; lacks = lacks_checked 32 word all }
 
+-- a name and more bytes are not empty
+some_append : (name others : List ℕ) → is_name name ≡ true → (length (name ++ others) == 0) ≡ false
+some_append [] others named = absurd (false≢true named)
+some_append (first ∷ name) others named = ne_eqb (length (first ∷ (name ++ others))) 0 (λ e. omega (arith, e))
+
+-- nor is a name
 pub some_name : (name : List ℕ) → is_name name ≡ true → (length name == 0) ≡ false
-some_name [] named = absurd (false≢true named)
-some_name (first ∷ others) named = ne_eqb (length (first ∷ others)) 0 (λ e. omega (arith, e))
+some_name name named = ap (λ word. length word == 0) (sym (append-nil name)) ∙ some_append name [] named
 
 pub IsWord-name : (name : List ℕ) → is_name name ≡ true → IsWord name
 IsWord-name name named = record { some = some_name name named; lacks = name_lacks 32 name refl named }
 
-some_number : (word : List ℕ) → is_number word ≡ true → (length word == 0) ≡ false
-some_number [] number = absurd (false≢true number)
-some_number (first ∷ others) number = ne_eqb (length (first ∷ others)) 0 (λ e. omega (arith, e))
-
 -- the text of a number is a word
 pub IsWord-decimal : (number : ℕ) → number < 2 ^ 64 → IsWord (decimal number)
 IsWord-decimal number small =
-    record { some = some_number (decimal number) (is_number-decimal number small); lacks = decimal_lacks 32 number refl small }
-
--- the words that say what a node is
-abbrev pub words_of_kind : Kind → NodeWords
-words_of_kind (Failure rarity) = FailureWords (decimal rarity)
-words_of_kind (Or lag) = OrWords (option_map decimal lag)
-words_of_kind (And lag) = AndWords (option_map decimal lag)
+    record { some = ne_eqb (length (decimal number)) 0 (λ e. omega (arith, e, number_nonempty (decimal number) (is_number-decimal number small))); lacks = decimal_lacks 32 number refl small }
 
 -- The line of a mode says that it declares the mode.
 pub statement_of-mode : (name : List ℕ) → IsTrue (is_name name) → statement_of (mode_line name) ≡ Some (DeclaresMode name)
@@ -134,25 +132,22 @@ statement_of-edge source target tmin tmax modes from to least greatest word shor
 pub statement_of-end : statement_of (codes "end") ≡ Some Ends
 statement_of-end = refl
 
-some_append : (name others : List ℕ) → is_name name ≡ true → (length (name ++ others) == 0) ≡ false
-some_append [] others named = absurd (false≢true named)
-some_append (first ∷ name) others named = ne_eqb (length (first ∷ (name ++ others))) 0 (λ e. omega (arith, e))
-
 -- a star is a word
 pub IsWord-star : IsWord (codes "*")
 IsWord-star = keyword (codes "*") refl refl
 
+some_join : (names : List (List ℕ)) → 0 < length names → AllByRecursion (λ name. IsTrue (is_name name)) names
+    → (length (join_with_byte 44 names) == 0) ≡ false
+some_join [] some named = absurd (omega arith)
+some_join (name ∷ []) some named = some_name name named.0
+some_join (name ∷ second ∷ others) some named = some_append name (44 ∷ join_with_byte 44 (second ∷ others)) named.0
+
 -- Names with commas between are a word.
 pub IsWord-names : (names : List (List ℕ)) → 0 < length names → AllByRecursion (λ name. IsTrue (is_name name)) names
     → IsWord (join_with_byte 44 names)
-IsWord-names [] some named = absurd (omega arith)
-IsWord-names (name ∷ []) some named = IsWord-name name named.0
-IsWord-names (name ∷ second ∷ others) some named =
-    let rest = IsWord-names (second ∷ others) (omega arith) named.1 in
-    record {
-      some = some_append name (44 ∷ join_with_byte 44 (second ∷ others)) named.0;
-      lacks =
-          All-append (λ other. (other == 32) ≡ false) name (44 ∷ join_with_byte 44 (second ∷ others))
-          (name_lacks 32 name refl named.0)
-          (All-cons (λ other. (other == 32) ≡ false) 44 (join_with_byte 44 (second ∷ others)) refl rest.lacks);
-    }
+IsWord-names names some named = record {
+  some = some_join names some named;
+  lacks = All-join (λ other. eqb other 32 ≡ false) 44 names refl
+      (All-weaker (λ name. IsTrue (is_name name)) (Lacks 32) (λ name is. name_lacks 32 name refl is) names
+      (All-from_recursion (λ name. IsTrue (is_name name)) names named));
+}

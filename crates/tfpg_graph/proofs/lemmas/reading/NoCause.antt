@@ -1,5 +1,5 @@
 -- A statement of what is valid has no cause.
-use Rattle.std.proofs.Common.{◌≡◌, ◌≢◌, ℕ, ◌<◌, ◌≤◌, ◌^◌, ◌||◌, ◌&&◌, Bool, true, false, cond, not, List, [], ◌∷◌, length, IsTrue, Option, Some, None, is_none, is_some, nat_lt, nat_le, codes, refl, ap, sym, ◌∙◌, arith}
+use Rattle.std.proofs.Common.{◌≡◌, ◌≢◌, ℕ, ◌<◌, ◌||◌, ◌&&◌, Bool, true, false, cond, not, List, [], ◌∷◌, length, IsTrue, Option, Some, None, is_none, is_some, nat_lt, nat_le, codes, refl, ap, sym, ◌∙◌, arith}
 use Rattle.std.specs.Prelude.{decimal}
 use Rattle.std.specs.Option.{option_map, option_map_or, option_and_then}
 use Rattle.std.specs.List.{list_any, list_all}
@@ -9,12 +9,12 @@ use Rattle.std.proofs.lemmas.Bool.{and_right, le-ltb, lt-leb}
 use Rattle.std.proofs.lemmas.Fmt.{decimal_is_IsNumeral}
 use Rattle.std.proofs.lemmas.Option.{same_Some}
 use Rattle.tfpg_base.specs.Words.{is_name, is_number}
-use Rattle.tfpg_base.proofs.Numbers.{is_number-decimal}
+use Rattle.tfpg_base.proofs.Numbers.{is_number-decimal, decimal-differs}
 use Rattle.tfpg_graph.specs.declared.cause.GraphCause.TheVariants.{BadLine, BadName, DuplicateName, UnknownName, BadNumber, NumberTooLarge, MinOverMax, EdgeIntoFailure, SelfEdge, DuplicateEdge, NoModes, TooManyNodes, TooManyFailures, TooManyEdges, TooManyModes, TooManyIncoming}
 use Rattle.tfpg_graph.specs.declared.kind.Kind.{Kind}
 use Rattle.tfpg_graph.specs.declared.kind.Kind.TheVariants.{Failure, Or, And}
 use Rattle.tfpg_graph.specs.Graph.{Tfpg, is_kind_at, is_failure, failures, incoming, node_named, mode_named, edge_from_to}
-use Rattle.tfpg_graph.specs.Text.{tmax_word}
+use Rattle.tfpg_graph.specs.Text.{tmax_word, words_of_kind}
 use Rattle.tfpg_base.specs.declared.limits.TheConstants.{MAX_TIME}
 use Rattle.tfpg_graph.specs.Valid.{HasValidNumber}
 use Rattle.tfpg_graph.specs.declared.limits.TheConstants.{MAX_NODES, MAX_FAILURES, MAX_EDGES, MAX_INCOMING, MAX_MODES, MAX_RARITY}
@@ -23,10 +23,9 @@ use Rattle.tfpg_graph.specs.Declares.{modes_listed}
 use Rattle.std.specs.Bool.{then_some}
 use Rattle.tfpg_base.specs.Choice.{first_of}
 use Rattle.tfpg_graph.specs.Causes.{has_bad_name, has_duplicate_name, has_unknown_name, has_bad_number, has_large_number, has_min_over_max, enters_failure, is_self_edge, is_second_edge, names_no_mode, lacks_node_room, lacks_failure_room, lacks_edge_room, lacks_mode_room, lacks_incoming_room, are_failure_words, has_twice, causes}
-use Rattle.tfpg_graph.proofs.lemmas.reading.LinesSay.{words_of_kind}
 use Rattle.tfpg_base.proofs.lists.SameBytes.{bytes_eq-differ}
-use Rattle.tfpg_graph.specs.inside.Declaring.{AreDelays}
-use Rattle.tfpg_graph.proofs.lemmas.reading.SpelledValues.{decimal-not_inf}
+use Rattle.tfpg_base.proofs.lists.Digits.{digits_value-decimal_within}
+use Rattle.tfpg_graph.specs.inside.declaring.Declaring.{AreDelays}
 
 -- none of the conditions holds
 pub record HasNoCause (out_of_order : Bool) (graph : Tfpg) (said : Statement) : Type 0 where
@@ -115,9 +114,6 @@ HasNoCause-end out_of_order graph in_order = record {
 
 -- ---- a node
 
-within_limit : (limit number : ℕ) → number ≤ limit → number < 2 ^ 64 → nat_lt limit (digits_value 10 (decimal number)) ≡ false
-within_limit limit number small fits = le-ltb limit (digits_value 10 (decimal number)) (omega (arith, (decimal_is_IsNumeral number fits).1))
-
 module _ (name : List ℕ) where
   node_numbers : (kind : Kind) → HasValidNumber kind → has_bad_number (DeclaresNode name (words_of_kind kind)) ≡ false
   node_numbers (Failure rarity) small = ap (λ b. not (b && true)) (is_number-decimal rarity (omega arith))
@@ -127,11 +123,11 @@ module _ (name : List ℕ) where
   node_numbers (And (Some lag)) small = ap (λ b. not (b && true)) (is_number-decimal lag (omega arith))
 
   node_small : (kind : Kind) → HasValidNumber kind → has_large_number (DeclaresNode name (words_of_kind kind)) ≡ false
-  node_small (Failure rarity) small = ap (λ b. b || false) (within_limit MAX_RARITY rarity small (omega arith))
+  node_small (Failure rarity) small = ap (λ b. b || false) (digits_value-decimal_within MAX_RARITY rarity small (omega arith))
   node_small (Or None) small = refl
-  node_small (Or (Some lag)) small = ap (λ b. b || false) (within_limit MAX_TIME lag small (omega arith))
+  node_small (Or (Some lag)) small = ap (λ b. b || false) (digits_value-decimal_within MAX_TIME lag small (omega arith))
   node_small (And None) small = refl
-  node_small (And (Some lag)) small = ap (λ b. b || false) (within_limit MAX_TIME lag small (omega arith))
+  node_small (And (Some lag)) small = ap (λ b. b || false) (digits_value-decimal_within MAX_TIME lag small (omega arith))
 
 failure_room_for : (kind : Kind) (count : ℕ) → (IsTrue (is_failure kind) → count < MAX_FAILURES)
     → (are_failure_words (words_of_kind kind) && nat_le MAX_FAILURES count) ≡ false
@@ -171,17 +167,17 @@ module _ (source target : List ℕ) (tmin : ℕ) (word : List ℕ) where
   edge_numbers (Some time) delays =
       (λ i. not (is_number-decimal tmin (omega (arith, delays.least)) i
       && list_all (λ (number : List ℕ × ℕ). is_number number.0)
-      (cond (decimal-not_inf time (omega (arith, delays.greatest)) i) [] ((decimal time, MAX_TIME) ∷ []))))
+      (cond (decimal-differs time (codes "inf") (omega (arith, delays.greatest)) refl i) [] ((decimal time, MAX_TIME) ∷ []))))
       ∙ ap (λ b. not (b && true)) (is_number-decimal time (omega (arith, delays.greatest)))
 
   edge_small : (tmax : Option ℕ) → AreDelays tmin tmax
       → has_large_number (DeclaresEdge source target (decimal tmin) (tmax_word tmax) word) ≡ false
-  edge_small None delays = ap (λ b. b || false) (within_limit MAX_TIME tmin delays.least (omega (arith, delays.least)))
+  edge_small None delays = ap (λ b. b || false) (digits_value-decimal_within MAX_TIME tmin delays.least (omega (arith, delays.least)))
   edge_small (Some time) delays =
-      (λ i. within_limit MAX_TIME tmin delays.least (omega (arith, delays.least)) i
+      (λ i. digits_value-decimal_within MAX_TIME tmin delays.least (omega (arith, delays.least)) i
       || list_any (λ (number : List ℕ × ℕ). nat_lt number.1 (digits_value 10 number.0))
-      (cond (decimal-not_inf time (omega (arith, delays.greatest)) i) [] ((decimal time, MAX_TIME) ∷ [])))
-      ∙ ap (λ b. b || false) (within_limit MAX_TIME time delays.greatest.1 (omega (arith, delays.greatest)))
+      (cond (decimal-differs time (codes "inf") (omega (arith, delays.greatest)) refl i) [] ((decimal time, MAX_TIME) ∷ [])))
+      ∙ ap (λ b. b || false) (digits_value-decimal_within MAX_TIME time delays.greatest.1 (omega (arith, delays.greatest)))
 
   edge_in_order : (tmax : Option ℕ) → AreDelays tmin tmax
       → has_min_over_max (DeclaresEdge source target (decimal tmin) (tmax_word tmax) word) ≡ false

@@ -6,7 +6,7 @@ use Rattle.std.proofs.lemmas.List.{append-nil}
 use Rattle.std.proofs.lemmas.List.Elements.{All-head, All-tail, All-same, All-filter}
 use Rattle.std.proofs.lemmas.List.Folds.{list_any-append}
 use Rattle.std.proofs.lemmas.Option.{none-some}
-use Rattle.tfpg_base.proofs.lists.Elements.{All-front, All-back, Contains-at}
+use Rattle.tfpg_base.proofs.lists.Elements.{All-front, All-back}
 use Rattle.tfpg_base.proofs.lists.Zipped.{AllZip-append, AllZip-maps}
 use Rattle.tfpg_base.specs.Lines.{lines_of}
 use Rattle.tfpg_base.specs.declared.limits.TheConstants.{LONGEST_LINE}
@@ -14,10 +14,11 @@ use Rattle.tfpg_graph.specs.declared.cause.GraphCause.TheVariants.{AfterEnd}
 use Rattle.tfpg_graph.specs.declared.cause.GraphFault.{GraphFault}
 use Rattle.tfpg_graph.specs.declared.edge.Edge.{Edge}
 use Rattle.tfpg_graph.specs.Graph.{Tfpg}
-use Rattle.tfpg_graph.specs.Text.{header, mode_line, node_line, SpellsEdge, is_empty_or_comment, content_lines, Spells}
+use Rattle.tfpg_graph.specs.Text.{header, mode_line, node_line, SpellsEdge, content_lines, Spells}
+use Rattle.tfpg_graph.specs.Statements.{is_empty_or_comment, Statement, DeclaresMode, Ends, statement_of, statements_of, ends_text}
 use Rattle.tfpg_graph.specs.Valid.{IsValid, IsValidEdge}
 use Rattle.tfpg_graph.specs.ZeroCycle.{LiesOnZeroCycle}
-use Rattle.tfpg_graph.specs.Statements.{Statement, DeclaresMode, Ends, statement_of, statements_of, ends_text}
+use Rattle.tfpg_graph.proofs.lemmas.zero_cycle.ZeroCycles.{HasNoZeroCycle-none_lies}
 use Rattle.tfpg_graph.specs.Declares.{graph_said, declared_by}
 use Rattle.tfpg_graph.specs.Causes.{cause_of_said, cause_after}
 use Rattle.tfpg_graph.specs.Faults.{LacksIncoming, IsClean, IsLineFault, IsIncomingFault, IsCycleFault, IsEndFault, IsWholeFault, IsFirstFault}
@@ -195,12 +196,6 @@ module _ (text : List ℕ) (graph : Tfpg) (spells : Spells text graph) (valid : 
 
 -- ---- no fault
 
--- no edge of a valid graph lies on a cycle that takes no time
-pub IsValid-no_zero_cycle : (graph : Tfpg) → IsValid graph → (number : ℕ) → LiesOnZeroCycle graph number → ⊥
-IsValid-no_zero_cycle graph valid number lies =
-    valid.no_zero_cycle lies.edge.source lies.steps
-    (lies.edge, Contains-at graph.edges number lies.edge lies.numbered, refl, lies.no_time, lies.back)
-
 -- where no line has a cause, no line has a fault
 pub no_line_fault : (lines : List (List ℕ)) (fault : GraphFault) → IsClean lines → IsLineFault lines fault → ⊥
 no_line_fault lines fault clean is = none-some fault.cause (sym (clean is.index is.tested) ∙ is.cause)
@@ -213,7 +208,7 @@ module _ (lines : List (List ℕ)) (graph : Tfpg) (valid : IsValid graph) (fault
 
   no_cycle_fault : declared_by lines ≡ graph → IsCycleFault lines fault → ⊥
   no_cycle_fault declared is =
-      IsValid-no_zero_cycle graph valid is.edge (subst (λ g. LiesOnZeroCycle g is.edge) declared is.lies)
+      HasNoZeroCycle-none_lies graph is.edge valid.no_zero_cycle (subst (λ g. LiesOnZeroCycle g is.edge) declared is.lies)
 
   no_end_fault : list_any ends_text (statements_of lines) ≡ true → IsEndFault lines fault → ⊥
   no_end_fault ended is = false≢true (sym is.no_end ∙ ended)

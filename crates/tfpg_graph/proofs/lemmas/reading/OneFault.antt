@@ -1,7 +1,5 @@
 -- A text has at most one first fault.
-use Rattle.std.proofs.Common.{◌≡◌, ℕ, ◌+◌, ◌<◌, ◌≤◌, Bool, true, cond, inl, inr, List, [], length, get_or, take, Some, Result, Ok, Err, IfOk, IfErr, count_by, ap, refl, sym, ◌∙◌, subst, arith}
-use Rattle.std.proofs.lemmas.List.{take-take}
-use Rattle.std.proofs.lemmas.List.Sums.{count_by_more_yes, sum_by-take-le}
+use Rattle.std.proofs.Common.{◌≡◌, ℕ, ◌+◌, Bool, inl, inr, List, [], length, Some, Result, Ok, Err, IfOk, IfErr, ap, refl, sym, ◌∙◌, subst, arith}
 use Rattle.std.proofs.lemmas.Option.{none-some}
 use Rattle.tfpg_graph.specs.declared.cause.GraphFault.{GraphFault}
 use Rattle.tfpg_graph.specs.declared.cause.GraphRefusal.{GraphRefusal}
@@ -9,37 +7,28 @@ use Rattle.tfpg_graph.specs.declared.cause.GraphRefusal.TheVariants.{Fault, NoMe
 use Rattle.tfpg_graph.specs.Graph.{Tfpg}
 use Rattle.tfpg_graph.specs.Text.{Spells}
 use Rattle.tfpg_graph.specs.Valid.{IsValid, HasIncomingBefore}
+use Rattle.tfpg_graph.proofs.lemmas.zero_cycle.ZeroCycles.{HasNoZeroCycle-none_lies}
 use Rattle.tfpg_graph.specs.Statements.{Statement}
 use Rattle.tfpg_graph.specs.Declares.{declared_by}
 use Rattle.tfpg_graph.specs.Causes.{cause_at}
 use Rattle.tfpg_graph.specs.Faults.{IsLineFault, IsLineSaying, IsIncomingFault, IsCycleFault, IsEndFault, IsWholeFault, IsFirstFault, IsRefusalOf, IsFaultResult, LacksIncoming, says}
 use Rattle.tfpg_base.specs.Lines.{lines_of}
 use Rattle.tfpg_base.proofs.lists.Sequences.{same_from_neither}
+use Rattle.tfpg_base.proofs.lists.Filtered.{count_by-take_lt}
 use Rattle.tfpg_graph.proofs.lemmas.reading.NoFault.{no_line_fault, Spells-no_fault}
 
 -- two faults with the same line and the same cause are the same
 same_fault : (a b : GraphFault) → a.line ≡ b.line → a.cause ≡ b.cause → a ≡ b
 same_fault a b line cause = λ i. record { line = line i; cause = cause i }
 
--- An item that passes is not counted before its index, and is after it.
-counted_after : {X : Type 0} (test : X → Bool) (xs : List X) (default : X) (index later : ℕ) → index < later → later ≤ length xs
-    → test (get_or xs index default) ≡ true → count_by test (take index xs) < count_by test (take later xs)
-counted_after test xs default index later before within passes =
-    let more = count_by_more_yes test xs index default (omega arith) passes in
-    let fewer = sum_by-take-le (λ y. cond (test y) 1 0) (take later xs) (index + 1) in
-    let front = take-take (index + 1) later xs (omega arith) in
-    let counted : count_by test (take (index + 1) xs) ≤ count_by test (take later xs) =
-    subst (λ ys. count_by test ys ≤ count_by test (take later xs)) front fewer in
-    omega (arith, more, counted)
-
 module _ (test : Statement → Bool) (lines : List (List ℕ)) (count : ℕ) where
   -- One line says such a thing after so many that do.
   one_line : (line other : ℕ) → IsLineSaying test lines count line → IsLineSaying test lines count other → line ≡ other
   one_line line other is so =
       is.number ∙ ap (λ n. n + 1) (same_from_neither is.index so.index
-      (λ less. let more = counted_after (says test) lines [] is.index so.index less (omega (arith, so.within)) is.here in
+      (λ less. let more = count_by-take_lt (says test) lines [] is.index so.index less (omega (arith, so.within)) is.here in
       omega (arith, more, is.before, so.before))
-      (λ less. let more = counted_after (says test) lines [] so.index is.index less (omega (arith, is.within)) so.here in
+      (λ less. let more = count_by-take_lt (says test) lines [] so.index is.index less (omega (arith, is.within)) so.here in
       omega (arith, more, is.before, so.before)))
       ∙ sym so.number
 
@@ -83,9 +72,9 @@ module _ (lines : List (List ℕ)) where
   whole_faults one other (inl is) (inr (inr so)) = absurd (none_lacks is.node is.lacks so.incoming)
   whole_faults one other (inr (inl is)) (inl so) = absurd (none_lacks so.node so.lacks is.incoming)
   whole_faults one other (inr (inl is)) (inr (inl so)) = cycle_faults lines one other is so
-  whole_faults one other (inr (inl is)) (inr (inr so)) = absurd (so.no_cycle is.edge is.lies)
+  whole_faults one other (inr (inl is)) (inr (inr so)) = absurd (HasNoZeroCycle-none_lies (declared_by lines) is.edge so.no_cycle is.lies)
   whole_faults one other (inr (inr is)) (inl so) = absurd (none_lacks so.node so.lacks is.incoming)
-  whole_faults one other (inr (inr is)) (inr (inl so)) = absurd (is.no_cycle so.edge so.lies)
+  whole_faults one other (inr (inr is)) (inr (inl so)) = absurd (HasNoZeroCycle-none_lies (declared_by lines) so.edge is.no_cycle so.lies)
   whole_faults one other (inr (inr is)) (inr (inr so)) = end_faults lines one other is so
 
 -- A text has at most one first fault.

@@ -3,8 +3,8 @@ use Rattle.std.proofs.Common.{◌≡◌, ℕ, true, List, [], ◌∷◌, ◌++�
 use Rattle.std.specs.Str.{bytes_eq}
 use Rattle.std.proofs.lemmas.Bool.{and_parts}
 use Rattle.std.proofs.lemmas.Slice.Eq.{bytes_eq-Decides}
-use Rattle.tfpg_graph.specs.Text.{header, is_empty_or_comment}
-use Rattle.tfpg_graph.specs.Statements.{Statement, statement_of, statements_of, is_skipped}
+use Rattle.tfpg_graph.specs.Text.{header}
+use Rattle.tfpg_graph.specs.Statements.{is_empty_or_comment, Statement, statement_of, statements_of, is_skipped}
 use Rattle.tfpg_graph.proofs.lemmas.reading.SaidWords.{skipped_says_nothing}
 use Rattle.tfpg_base.proofs.lists.Valued.{filter_map-push_some, filter_map-push_none}
 

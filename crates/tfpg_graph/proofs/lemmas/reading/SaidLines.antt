@@ -1,5 +1,5 @@
 -- A line says exactly the statement whose words it has.
-use Rattle.std.proofs.Common.{◌≡◌, ◌≢◌, ℕ, ◌<◌, ◌≤◌, ◌==◌, ◌↔◌, Bool, true, false, cond, List, [], ◌∷◌, length, All, Contains, Some, None, refl, ap, sym, ◌∙◌, subst, arith}
+use Rattle.std.proofs.Common.{◌≡◌, ℕ, ◌<◌, ◌≤◌, ◌==◌, ◌↔◌, Bool, true, false, cond, List, [], ◌∷◌, length, All, Contains, Some, None, refl, ap, sym, ◌∙◌, subst, arith}
 use Rattle.std.specs.List.{AllByRecursion, list_any, onto_first}
 use Rattle.std.proofs.lemmas.Bool.{or_parts, ne_eqb, eq-eqb, false≢true}
 use Rattle.std.proofs.lemmas.List.{nil_from_length}
@@ -8,7 +8,7 @@ use Rattle.tfpg_base.specs.Words.{words_of}
 use Rattle.tfpg_base.specs.declared.limits.TheConstants.{LONGEST_LINE}
 use Rattle.tfpg_base.proofs.lists.Choices.{cond-some_second}
 use Rattle.tfpg_base.proofs.lists.Elements.{All-from_members}
-use Rattle.tfpg_base.proofs.Separators.{Lacks}
+use Rattle.tfpg_base.proofs.lists.Lacking.{Lacks}
 use Rattle.tfpg_graph.specs.Statements.{NodeWords, FailureWords, OrWords, AndWords, Statement, DeclaresMode, DeclaresNode, DeclaresEdge, Ends, words_of_node, words_of_statement, IsLineWord, SaysStatement, statement_in, statement_of}
 use Rattle.tfpg_graph.proofs.lemmas.reading.SaidWords.{statement_in_words, said_by_words}
 use Rattle.tfpg_graph.proofs.lemmas.reading.LinesSay.{IsWord, short_line_says}
@@ -24,21 +24,17 @@ parts_lack (byte ∷ line) = by (byte == 32) refl (words_of line) (parts_lack li
     by false is [] rest = (All-cons (λ other. (other == 32) ≡ false) byte [] is (All-nil (λ other. (other == 32) ≡ false)), tt)
     by false is (part ∷ parts) rest = (All-cons (λ other. (other == 32) ≡ false) byte part is rest.0, rest.1)
 
--- where no word is empty, each has a byte
-has_byte : (word : List ℕ) → (length word == 0) ≡ false → word ≢ []
-has_byte word some is = false≢true (sym some ∙ eq-eqb (length word) 0 (ap length is))
-
-lacks_space : (word : List ℕ) → Lacks 32 word → Contains word 32 → ⊥
-lacks_space word lacks has =
-    false≢true (sym (All-contains (λ other. (other == 32) ≡ false) word 32 lacks has) ∙ eq-eqb 32 32 refl)
-
 -- words of which none is empty, and none has a space
 pub line_words : (words : List (List ℕ)) → list_any (λ word. length word == 0) words ≡ false → AllByRecursion (Lacks 32) words
     → All IsLineWord words
 line_words [] none lack = All-nil IsLineWord
 line_words (word ∷ words) none lack =
     let parts = or_parts (length word == 0) (list_any (λ other. length other == 0) words) none in
-    All-cons IsLineWord word words (has_byte word parts.0, lacks_space word lack.0) (line_words words parts.1 lack.1)
+    All-cons IsLineWord word words (
+      λ is. false≢true (sym parts.0 ∙ eq-eqb (length word) 0 (ap length is)),
+      λ has. false≢true (sym (All-contains (λ other. (other == 32) ≡ false) word 32 lack.0 has) ∙ eq-eqb 32 32 refl),
+    )
+    (line_words words parts.1 lack.1)
 
 -- and back
 is_word : (word : List ℕ) → IsLineWord word → IsWord word

@@ -1,43 +1,24 @@
 -- A word for modes that has no cause spells the modes that it says.
-use Rattle.std.proofs.Common.{◌≡◌, ◌≢◌, ℕ, ◌<◌, ◌==◌, Bool, true, false, List, [], ◌∷◌, length, get_or, Option, Some, None, slice_get, codes, All, AllPairs, inl, inr, refl, ap, sym, ◌∙◌, arith}
+use Rattle.std.proofs.Common.{◌≡◌, ◌≢◌, ℕ, ◌<◌, ◌==◌, Bool, true, false, List, [], ◌∷◌, length, get_or, Option, Some, None, slice_get, codes, AllPairs, inl, inr, refl, ap, sym, ◌∙◌, arith}
 use Rattle.std.specs.Str.{bytes_eq}
 use Rattle.std.specs.List.{list_any, filter_map, cons_option, slice_split, join_with_byte}
 use Rattle.std.specs.Option.{is_none}
 use Rattle.std.proofs.lemmas.Bool.{or_parts, or_from, cond-true, cond-false}
-use Rattle.std.proofs.lemmas.List.Elements.{All-nil, All-cons}
 use Rattle.std.proofs.lemmas.List.Splits.{length-slice_split, join_with_byte-slice_split}
 use Rattle.std.proofs.lemmas.List.Quantifiers.{position-Some}
-use Rattle.std.proofs.lemmas.Option.{slice_get-get_or, same_Some}
+use Rattle.std.proofs.lemmas.Option.{slice_get-get_or}
 use Rattle.std.proofs.lemmas.Slice.Eq.{bytes_eq-Decides}
 use Rattle.tfpg_base.proofs.lists.Elements.{AllPairs-cons}
-use Rattle.tfpg_base.proofs.lists.LookedUp.{filter_map-some, filter_map-back}
+use Rattle.tfpg_base.proofs.lists.LookedUp.{filter_map-some, filter_map-back, filter_map-unlike_others}
 use Rattle.tfpg_graph.specs.Graph.{Tfpg, mode_named}
 use Rattle.tfpg_graph.specs.Text.{SpellsModes}
 use Rattle.tfpg_graph.specs.Declares.{modes_listed, modes_of_word}
 use Rattle.tfpg_graph.specs.Causes.{has_twice}
-use Rattle.tfpg_base.proofs.lists.SameBytes.{bytes_eq-false}
 use Rattle.tfpg_base.proofs.lists.Passing.{All-filter_map}
 
 -- values that lead back to the words
 module _ {Y : Type 0} (look : List ℕ → Option Y) (read : Y → Option (List ℕ))
     (leads : (word : List ℕ) (y : Y) → look word ≡ Some y → read y ≡ Some word) where
-  -- the value of a word that does not stand among others is not among theirs
-  pub unlike_others : (word : List ℕ) (y : Y) (others : List (List ℕ)) → look word ≡ Some y
-      → list_any (bytes_eq word) others ≡ false → All (λ other. y ≢ other) (filter_map look others)
-  unlike_others word y [] is differs = All-nil (λ other. y ≢ other)
-  unlike_others word y (first ∷ others) is differs =
-      let parts = or_parts (bytes_eq word first) _ differs in
-      by parts.0 (look first) refl (unlike_others word y others is parts.1)
-    where
-      by : bytes_eq word first ≡ false → (o : Option Y) → look first ≡ o
-          → All (λ other. y ≢ other) (filter_map look others)
-          → All (λ other. y ≢ other) (cons_option o (filter_map look others))
-      by unlike None none rest = rest
-      by unlike (Some other) some rest =
-          All-cons (λ other. y ≢ other) other (filter_map look others)
-          (λ same. bytes_eq-false word first unlike (same_Some word first (sym (leads word y is) ∙ ap read same ∙ leads first other some)))
-          rest
-
   -- words of which none stands twice have values that differ
   values_differ : (words : List (List ℕ)) → has_twice words ≡ false → AllPairs (λ a b. a ≢ b) (filter_map look words)
   values_differ [] once = λ i j d before within. absurd (omega (arith, within))
@@ -49,7 +30,7 @@ module _ {Y : Type 0} (look : List ℕ → Option Y) (read : Y → Option (List 
           → AllPairs (λ a b. a ≢ b) (filter_map look others)
           → AllPairs (λ a b. a ≢ b) (cons_option o (filter_map look others))
       by unlike None none rest = rest
-      by unlike (Some y) some rest = AllPairs-cons (λ a b. a ≢ b) y (filter_map look others) (unlike_others word y others some unlike) rest
+      by unlike (Some y) some rest = AllPairs-cons (λ a b. a ≢ b) y (filter_map look others) (filter_map-unlike_others look read leads word y others some unlike) rest
 
 -- ---- modes
 

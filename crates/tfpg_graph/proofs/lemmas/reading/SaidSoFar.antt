@@ -12,7 +12,7 @@ use Rattle.tfpg_graph.specs.Graph.{Tfpg, Node}
 use Rattle.tfpg_graph.specs.Valid.{HasValidNumber}
 use Rattle.tfpg_graph.specs.Statements.{Statement, DeclaresMode, DeclaresNode, declares_mode, declares_edge, ends_text}
 use Rattle.tfpg_graph.specs.Declares.{mode_declared, node_declared, edge_declared, graph_said}
-use Rattle.tfpg_graph.proofs.lemmas.reading.LinesSay.{words_of_kind}
+use Rattle.tfpg_graph.specs.Text.{words_of_kind}
 use Rattle.tfpg_graph.proofs.lemmas.reading.SpelledValues.{kind_of_words-kind}
 
 -- ---- statements of modes, then of nodes, then of edges

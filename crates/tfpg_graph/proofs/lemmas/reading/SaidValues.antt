@@ -1,26 +1,27 @@
 -- A statement without a cause has a value, and its words are those of the value.
-use Rattle.std.proofs.Common.{◌≡◌, ℕ, ◌<◌, ◌^◌, Bool, true, false, nat_lt, cond, List, [], ◌∷◌, Option, Some, None, unwrap_or, codes, refl, ap, sym, ◌∙◌, arith}
+use Rattle.std.proofs.Common.{◌≡◌, ℕ, Bool, true, false, nat_lt, cond, List, [], ◌∷◌, Option, Some, None, unwrap_or, codes, refl, ap, sym, ◌∙◌, arith}
 use Rattle.std.specs.Prelude.{decimal}
 use Rattle.std.specs.Str.{bytes_eq}
 use Rattle.std.specs.Str.Parse.{digits_value}
 use Rattle.std.specs.List.{list_all, list_any}
 use Rattle.std.specs.Option.{option_map, option_and_then}
-use Rattle.std.proofs.lemmas.Bool.{ltb-false, and_parts, or_parts, not-false, cond-true}
+use Rattle.std.proofs.lemmas.Bool.{and_parts, or_parts, not-false}
 use Rattle.std.proofs.lemmas.Slice.Eq.{bytes_eq-Decides}
 use Rattle.tfpg_base.specs.Words.{line_of, is_number, number_of}
-use Rattle.tfpg_base.proofs.Numbers.{decimal-number_of}
+use Rattle.tfpg_base.proofs.Numbers.{number_of-within}
 use Rattle.tfpg_base.proofs.lists.LookedUp.{found}
 use Rattle.tfpg_graph.specs.declared.kind.Kind.{Kind}
 use Rattle.tfpg_graph.specs.declared.kind.Kind.TheVariants.{Failure, Or, And}
 use Rattle.tfpg_graph.specs.declared.edge.Edge.{Edge}
 use Rattle.tfpg_graph.specs.Graph.{Tfpg, name_word, node_named}
-use Rattle.tfpg_graph.specs.Text.{node_words, watch_words, tmax_word, SpellsEdge}
+use Rattle.tfpg_graph.specs.Text.{node_words, tmax_word, SpellsEdge}
+use Rattle.tfpg_graph.specs.inside.writing.Written.{watch_words}
 use Rattle.tfpg_base.specs.declared.limits.TheConstants.{MAX_TIME}
 use Rattle.tfpg_graph.specs.declared.limits.TheConstants.{MAX_RARITY}
 use Rattle.tfpg_graph.specs.Statements.{NodeWords, FailureWords, OrWords, AndWords, DeclaresNode, DeclaresEdge, words_of_watch, words_of_node, words_of_statement}
 use Rattle.tfpg_graph.specs.Declares.{lag_of_word, kind_of_words, tmax_of_word, delays_of_words, ends_named, edge_declared, modes_of_word}
 use Rattle.tfpg_graph.specs.Causes.{has_bad_number, has_large_number, lag_number, node_number}
-use Rattle.tfpg_graph.proofs.lemmas.declared.Named.{named_found}
+use Rattle.tfpg_graph.proofs.lemmas.declaring.Named.{named_found}
 use Rattle.tfpg_graph.proofs.lemmas.reading.NoCause.{HasNoCause}
 use Rattle.tfpg_graph.proofs.lemmas.reading.SaidModes.{SpellsModes-said}
 
@@ -34,27 +35,19 @@ are_numbers numbers = list_all (λ number. is_number number.0) numbers
 abbrev has_large : List (List ℕ × ℕ) → Bool
 has_large numbers = list_any (λ number. nat_lt number.1 (digits_value 10 number.0)) numbers
 
--- a word that is a number and not too large is the decimal text of its value
-number_said : (word : List ℕ) (limit : ℕ) → limit < 2 ^ 64 → is_number word ≡ true → nat_lt limit (digits_value 10 word) ≡ false
-    → (number_of word ≡ Some (digits_value 10 word)) × (word ≡ decimal (digits_value 10 word))
-number_said word limit small number within =
-    let value = digits_value 10 word in
-    let read : number_of word ≡ Some value = cond-true (is_number word) (Some value) None number in
-    (read, decimal-number_of word value read (omega (arith, ltb-false limit value within)))
-
 -- ---- nodes
 
 lag_said : (lag : Option (List ℕ)) → are_numbers (lag_number lag) ≡ true → has_large (lag_number lag) ≡ false
     → (value : Option ℕ) × (lag_of_word lag ≡ Some value) × (words_of_watch lag ≡ watch_words value)
 lag_said None numbers small = (None, refl, refl)
 lag_said (Some word) numbers small =
-    let is = number_said word MAX_TIME (omega arith) (and_parts (is_number word) true numbers).0 (or_parts _ false small).0 in
+    let is = number_of-within word MAX_TIME (omega arith) (and_parts (is_number word) true numbers).0 (or_parts _ false small).0 in
     (Some (digits_value 10 word), ap (option_map Some) is.0, ap (λ lag. codes "watch" ∷ lag ∷ []) is.1)
 
 kind_said : (name : List ℕ) (words : NodeWords) → are_numbers (node_number words) ≡ true → has_large (node_number words) ≡ false
     → (kind : Kind) × (kind_of_words words ≡ Some kind) × (words_of_node name words ≡ node_words name kind)
 kind_said name (FailureWords rarity) numbers small =
-    let is = number_said rarity MAX_RARITY (omega arith) (and_parts (is_number rarity) true numbers).0 (or_parts _ false small).0 in
+    let is = number_of-within rarity MAX_RARITY (omega arith) (and_parts (is_number rarity) true numbers).0 (or_parts _ false small).0 in
     (Failure (digits_value 10 rarity), ap (option_map Failure) is.0, ap (λ word. codes "failure" ∷ name ∷ word ∷ []) is.1)
 kind_said name (OrWords lag) numbers small =
     let is = lag_said lag numbers small in
@@ -78,7 +71,7 @@ tmax_said : (tmax : List ℕ) (endless : Bool) → bytes_eq tmax (codes "inf") �
     → (greatest : Option ℕ) × (cond endless (Some None) (option_map Some (number_of tmax)) ≡ Some greatest) × (tmax ≡ tmax_word greatest)
 tmax_said tmax true is numbers small = (None, refl, (bytes_eq-Decides tmax (codes "inf")).0 is)
 tmax_said tmax false is numbers small =
-    let value = number_said tmax MAX_TIME (omega arith) (and_parts (is_number tmax) true numbers).0 (or_parts _ false small).0 in
+    let value = number_of-within tmax MAX_TIME (omega arith) (and_parts (is_number tmax) true numbers).0 (or_parts _ false small).0 in
     (Some (digits_value 10 tmax), ap (option_map Some) value.0, value.1)
 
 -- the words for an edge's delays
@@ -89,7 +82,7 @@ delays_said : (source target tmin tmax modes : List ℕ)
 delays_said source target tmin tmax modes numbers small =
     let right = and_parts (is_number tmin) _ (not-false _ numbers) in
     let within = or_parts _ _ small in
-    let first = number_said tmin MAX_TIME (omega arith) right.0 within.0 in
+    let first = number_of-within tmin MAX_TIME (omega arith) right.0 within.0 in
     let second = tmax_said tmax (bytes_eq tmax (codes "inf")) refl right.1 within.1 in (
       digits_value 10 tmin,
       second.0,

@@ -2,15 +2,15 @@
 use Rattle.std.proofs.Common.{◌≡◌, ℕ, ◌≤◌, Bool, true, false, cond, List, [], ◌∷◌, length, Option, Some, None, codes, refl, ap, sym, ◌∙◌}
 use Rattle.std.specs.Str.{bytes_eq}
 use Rattle.std.specs.List.{onto_first}
-use Rattle.std.proofs.lemmas.Bool.{ltb-false, eqb-true}
+use Rattle.std.proofs.lemmas.Bool.{ltb-false, eqb-true, cond_both}
 use Rattle.std.proofs.lemmas.Option.{cond_some}
 use Rattle.tfpg_base.proofs.lists.Choices.{option_map-some, cond-some_second}
 use Rattle.std.proofs.lemmas.Slice.Eq.{bytes_eq-Decides}
-use Rattle.tfpg_base.specs.Words.{line_of, words_of}
+use Rattle.tfpg_base.specs.Words.{line_of, words_of, has_empty_word}
 use Rattle.tfpg_base.specs.declared.limits.TheConstants.{LONGEST_LINE}
 use Rattle.tfpg_base.proofs.Separators.{join_with_byte-words_of}
-use Rattle.tfpg_graph.specs.Text.{is_empty_or_comment}
-use Rattle.tfpg_graph.specs.Statements.{FailureWords, OrWords, AndWords, Statement, DeclaresMode, DeclaresNode, DeclaresEdge, Ends, words_of_watch, words_of_statement, lag_in, mode_in, failure_in, or_in, and_in, edge_in, end_in, statement_in, statement_of}
+use Rattle.tfpg_base.specs.Lines.{is_too_long}
+use Rattle.tfpg_graph.specs.Statements.{is_empty_or_comment, NodeWords, FailureWords, OrWords, AndWords, Statement, DeclaresMode, DeclaresNode, DeclaresEdge, Ends, words_of_watch, words_of_node, words_of_statement, lag_in, mode_in, failure_in, discrepancy_in, edge_in, end_in, statement_in, statement_of}
 
 -- ---- laws of choices
 
@@ -48,17 +48,14 @@ failure_in_words (name ∷ []) said some = absurd cc
 failure_in_words (name ∷ rarity ∷ []) said some = let is : DeclaresNode name (FailureWords rarity) ≡ said = cc in ap words_of_statement is
 failure_in_words (name ∷ rarity ∷ more ∷ others) said some = absurd cc
 
-or_in_words : (words : List (List ℕ)) (said : Statement) → or_in words ≡ Some said → codes "or" ∷ words ≡ words_of_statement said
-or_in_words [] said some = absurd cc
-or_in_words (name ∷ others) said some =
-    let is = option_map-some (λ lag. DeclaresNode name (OrWords lag)) (lag_in others) said some in
-    ap (λ words. codes "or" ∷ name ∷ words) (lag_in_words others is.0 is.1) ∙ ap words_of_statement is.2
-
-and_in_words : (words : List (List ℕ)) (said : Statement) → and_in words ≡ Some said → codes "and" ∷ words ≡ words_of_statement said
-and_in_words [] said some = absurd cc
-and_in_words (name ∷ others) said some =
-    let is = option_map-some (λ lag. DeclaresNode name (AndWords lag)) (lag_in others) said some in
-    ap (λ words. codes "and" ∷ name ∷ words) (lag_in_words others is.0 is.1) ∙ ap words_of_statement is.2
+-- of a discrepancy, whose keyword this is
+discrepancy_in_words : (key : List ℕ) (with_lag : Option (List ℕ) → NodeWords)
+    → ((name : List ℕ) (lag : Option (List ℕ)) → words_of_node name (with_lag lag) ≡ key ∷ name ∷ words_of_watch lag)
+    → (words : List (List ℕ)) (said : Statement) → discrepancy_in with_lag words ≡ Some said → key ∷ words ≡ words_of_statement said
+discrepancy_in_words key with_lag keyed [] said some = absurd cc
+discrepancy_in_words key with_lag keyed (name ∷ others) said some =
+    let is = option_map-some (λ lag. DeclaresNode name (with_lag lag)) (lag_in others) said some in
+    ap (λ words. key ∷ name ∷ words) (lag_in_words others is.0 is.1) ∙ sym (keyed name is.0) ∙ ap words_of_statement is.2
 
 edge_in_words : (words : List (List ℕ)) (said : Statement) → edge_in words ≡ Some said → codes "edge" ∷ words ≡ words_of_statement said
 edge_in_words [] said some = absurd cc
@@ -80,8 +77,8 @@ statement_in_words [] said some = absurd cc
 statement_in_words (keyword ∷ others) said some =
     keyword_chosen keyword (codes "mode") others (mode_in others) _ said some (mode_in_words others said)
     (λ some. keyword_chosen keyword (codes "failure") others (failure_in others) _ said some (failure_in_words others said)
-    (λ some. keyword_chosen keyword (codes "or") others (or_in others) _ said some (or_in_words others said)
-    (λ some. keyword_chosen keyword (codes "and") others (and_in others) _ said some (and_in_words others said)
+    (λ some. keyword_chosen keyword (codes "or") others (discrepancy_in OrWords others) _ said some (discrepancy_in_words (codes "or") OrWords (λ _ _. refl) others said)
+    (λ some. keyword_chosen keyword (codes "and") others (discrepancy_in AndWords others) _ said some (discrepancy_in_words (codes "and") AndWords (λ _ _. refl) others said)
     (λ some. keyword_chosen keyword (codes "edge") others (edge_in others) _ said some (edge_in_words others said)
     (λ some. keyword_chosen keyword (codes "end") others (end_in others) None said some (end_in_words others said)
     (λ none. absurd cc))))))
@@ -102,14 +99,12 @@ no_keyword : (parts : List (List ℕ)) → statement_in (onto_first 35 parts) �
 no_keyword [] = refl
 no_keyword (part ∷ parts) = refl
 
--- where both ways give nothing, a choice does
-cond_neither : {X : Type 0} (b : Bool) (o : Option X) → o ≡ None → cond b None o ≡ None
-cond_neither true o none = refl
-cond_neither false o none = none
-
 -- A line that is skipped says nothing.
 pub skipped_says_nothing : (line : List ℕ) → is_empty_or_comment line ≡ true → statement_of line ≡ None
 skipped_says_nothing [] skipped = refl
 skipped_says_nothing (first ∷ others) skipped =
     let sign : first ≡ 35 = eqb-true first 35 skipped in
-    cond_neither _ _ (cond_neither _ _ (ap (λ byte. statement_in (words_of (byte ∷ others))) sign ∙ no_keyword (words_of others)))
+    let words = words_of (first ∷ others) in
+    cond_both (is_too_long (first ∷ others)) None (cond (has_empty_word words) None (statement_in words)) (λ (said : Option Statement). said ≡ None) (λ long. refl)
+    (λ short. cond_both (has_empty_word words) None (statement_in words) (λ (said : Option Statement). said ≡ None) (λ empty. refl)
+    (λ full. ap (λ byte. statement_in (words_of (byte ∷ others))) sign ∙ no_keyword (words_of others)))

@@ -11,12 +11,11 @@ use Rattle.std.proofs.lemmas.Option.{none-some}
 use Rattle.std.proofs.lemmas.Slice.Eq.{bytes_eq-Decides}
 use Rattle.tfpg_base.specs.Lines.{lines_of}
 use Rattle.tfpg_base.specs.declared.limits.TheConstants.{LONGEST_LINE}
-use Rattle.tfpg_graph.specs.declared.cause.GraphCause.{GraphCause}
 use Rattle.tfpg_graph.specs.declared.cause.GraphCause.TheVariants.{BadHeader, AfterEnd}
 use Rattle.tfpg_graph.specs.Graph.{Tfpg}
 use Rattle.tfpg_base.specs.Words.{line_of}
-use Rattle.tfpg_graph.specs.Text.{header, Spells, is_empty_or_comment, content_lines}
-use Rattle.tfpg_graph.specs.Statements.{Statement, statement_of, statements_of, is_skipped, ends_text, words_of_statement}
+use Rattle.tfpg_graph.specs.Text.{header, Spells, content_lines}
+use Rattle.tfpg_graph.specs.Statements.{is_empty_or_comment, Statement, statement_of, statements_of, is_skipped, ends_text, words_of_statement}
 use Rattle.tfpg_graph.specs.Declares.{graph_said}
 use Rattle.tfpg_graph.specs.Causes.{is_out_of_order, cause_of_said, cause_after}
 use Rattle.tfpg_graph.specs.declared.reading.reader.Part.TheVariants.{Declarations, Ended}
@@ -26,6 +25,7 @@ use Rattle.tfpg_graph.proofs.lemmas.reading.WithoutCause.{HasNoCause-from_none}
 use Rattle.tfpg_graph.proofs.lemmas.reading.NoCause.{HasNoCause}
 use Rattle.tfpg_graph.proofs.lemmas.reading.SaidWords.{said_by_words, skipped_says_nothing}
 use Rattle.tfpg_graph.proofs.lemmas.reading.SpelledSoFar.{SpellsSoFar, AreSpelled, statement_spelled}
+use Rattle.tfpg_base.proofs.lists.Choices.{cond-none_second}
 
 -- ---- one line more
 
@@ -152,11 +152,7 @@ lines_spelled before after (line ∷ lines) so_far clean =
     subst (λ said. AreSpelled said (after ++ content_lines (line ∷ lines))) same_said
     (subst (AreSpelled (before ++ statements_of (line ∷ []) ++ statements_of lines)) same_lines rest)
 
--- a value that a test lets through lets it through
-passed_by_test : (b : Bool) (fault : GraphCause) → cond b None (Some fault) ≡ None → b ≡ true
-passed_by_test true fault none = refl
-passed_by_test false fault none = absurd cc
-
+-- what a test says of the end
 ended_by_test : (b : Bool) → cond b Ended Declarations ≡ Ended → b ≡ true
 ended_by_test true ended = refl
 ended_by_test false ended = absurd cc
@@ -185,7 +181,7 @@ read_whole progress (first ∷ after) stands ended =
     }
   where
     is_header : first ≡ header
-    is_header = (bytes_eq-Decides first header).0 (passed_by_test (bytes_eq first header) BadHeader (stands.clean 0 (omega arith)))
+    is_header = (bytes_eq-Decides first header).0 (cond-none_second (bytes_eq first header) BadHeader (stands.clean 0 (omega arith)))
 
     says_nothing : (lines : List (List ℕ)) → statements_of (first ∷ lines) ≡ statements_of lines
     says_nothing lines = ap (λ line. cons_option (statement_of line) (statements_of lines)) is_header

@@ -1,13 +1,15 @@
 -- What the line that spells an edge says, and the edge that it declares.
-use Rattle.std.proofs.Common.{◌≡◌, ◌≢◌, ℕ, ◌<◌, ◌≤◌, true, false, cond, List, [], ◌∷◌, length, get_or, All, AllPairs, IsTrue, Option, Some, None, IfSome, is_none, unwrap_or, codes, refl, ap, ◌∙◌, arith, ⊎_elim}
+use Rattle.std.proofs.Common.{◌≡◌, ◌≢◌, ℕ, ◌<◌, ◌≤◌, true, false, cond, List, [], length, get_or, All, AllPairs, IsTrue, Option, Some, None, IfSome, is_none, unwrap_or, codes, refl, ap, ◌∙◌, arith, ⊎_elim, inl, inr}
 use Rattle.std.specs.Prelude.{decimal}
 use Rattle.std.specs.Option.{option_map, option_and_then}
 use Rattle.std.specs.List.{AllByRecursion, list_any, list_all, filter_map, join_with_byte}
 use Rattle.std.specs.Str.{bytes_eq}
-use Rattle.std.proofs.lemmas.List.{length-map}
-use Rattle.std.proofs.lemmas.List.Elements.{All-from_recursion}
+use Rattle.std.proofs.lemmas.List.{length-map, nil_from_length}
+use Rattle.std.proofs.lemmas.List.Elements.{All-from_recursion, All-weaker}
 use Rattle.std.proofs.lemmas.List.Sums.{list_all-from_AllPass}
 use Rattle.std.proofs.lemmas.Option.{slice_get-get_or}
+use Rattle.std.proofs.lemmas.Bool.{cases_lt}
+use Rattle.std.proofs.lemmas.List.Folds.{list_any_none}
 use Rattle.tfpg_base.specs.SetBits.{bits_of}
 use Rattle.tfpg_base.specs.Words.{is_name}
 use Rattle.tfpg_base.specs.declared.limits.TheConstants.{LONGEST_LINE, MAX_TIME}
@@ -21,9 +23,10 @@ use Rattle.tfpg_graph.specs.Statements.{Statement, DeclaresEdge, statement_of}
 use Rattle.tfpg_graph.specs.Declares.{modes_listed, modes_of_word, edge_declared}
 use Rattle.tfpg_graph.specs.Causes.{has_twice}
 use Rattle.tfpg_graph.proofs.lemmas.reading.LinesSay.{IsWord, IsWord-star, IsWord-names, statement_of-edge}
-use Rattle.tfpg_graph.proofs.lemmas.reading.SpelledValues.{tmax_of_word-tmax, names_at, filter_map-names, filter_map-numbers, all_named, has_twice-names, all_names, join-not, modes_listed-join}
-use Rattle.tfpg_base.proofs.lists.Positions.{position-at}
-use Rattle.tfpg_base.proofs.lists.SameBytes.{bytes_eq-differ, bytes_eq-same}
+use Rattle.tfpg_graph.proofs.lemmas.reading.SpelledValues.{tmax_of_word-tmax, names_at, has_twice-names, all_names, join-not, modes_listed-join}
+use Rattle.tfpg_base.proofs.lists.SameBytes.{position-bytes}
+use Rattle.tfpg_base.proofs.lists.Images.{list_any-map}
+use Rattle.tfpg_base.proofs.lists.LookedUp.{filter_map-made, filter_map-slice_get}
 
 -- What the line of an edge says, with the word for its modes.
 abbrev pub edge_statement : Tfpg → Edge → List ℕ → Statement
@@ -47,10 +50,7 @@ module _ (graph : Tfpg) (node : ℕ) (within : node < length graph.nodes) where
       → node_named graph (name_word graph node) ≡ Some node
   node_named-name_word differ =
       ap (node_named graph) name_word-node
-      ∙ position-at (λ n. bytes_eq n.name (get_or graph.nodes node nobody).name) graph.nodes node nobody within
-      (bytes_eq-same (get_or graph.nodes node nobody).name)
-      (λ earlier before. bytes_eq-differ (get_or graph.nodes earlier nobody).name (get_or graph.nodes node nobody).name
-      (differ earlier node nobody before within))
+      ∙ position-bytes (λ n. n.name) graph.nodes node nobody differ within
 
 -- what holds of a word that spells modes
 pub record IsModesWord (graph : Tfpg) (bits : ℕ) (word : List ℕ) : Type 0 where
@@ -71,10 +71,6 @@ IsModesWord-star graph = record {
   not_none = refl;
 }
 
-some_item : {X : Type 0} (xs : List X) → xs ≢ [] → 0 < length xs
-some_item [] some = absurd (some refl)
-some_item (x ∷ xs) some = omega arith
-
 module _ (graph : Tfpg) (named : All (λ mode. IsTrue (is_name mode)) graph.modes)
     (differ : AllPairs (λ a b. a ≢ b) graph.modes) (modes : List ℕ) (some : modes ≢ [])
     (apart : AllPairs (λ a b. a ≢ b) modes) (below : All (λ mode. mode < length graph.modes) modes) where
@@ -82,7 +78,10 @@ module _ (graph : Tfpg) (named : All (λ mode. IsTrue (is_name mode)) graph.mode
   names = names_at graph.modes modes
 
   some_name : 0 < length names
-  some_name = omega (arith, some_item modes some, length-map modes (λ mode. get_or graph.modes mode []))
+  some_name = elim (cases_lt 0 (length modes)) [
+    | inl less ↦ omega (arith, less, length-map modes (λ mode. get_or graph.modes mode []))
+    | inr none ↦ absurd (some (nil_from_length modes (omega (arith, none))))
+  ]
 
   are_names : AllByRecursion (λ name. IsTrue (is_name name)) names
   are_names = all_names graph.modes modes named below
@@ -90,16 +89,24 @@ module _ (graph : Tfpg) (named : All (λ mode. IsTrue (is_name mode)) graph.mode
   listed : modes_listed (join_with_byte 44 names) ≡ names
   listed = modes_listed-join names some_name are_names
 
+  found_at : All (λ mode. mode_named graph (get_or graph.modes mode []) ≡ Some mode) modes
+  found_at = All-weaker (λ mode. mode < length graph.modes) (λ mode. mode_named graph (get_or graph.modes mode []) ≡ Some mode)
+      (λ mode within. position-bytes (λ name. name) graph.modes mode [] differ within) modes below
+
   IsModesWord-names : IsModesWord graph (bits_of modes) (join_with_byte 44 names)
   IsModesWord-names = record {
     is_word = IsWord-names names some_name are_names;
     read =
         (λ i. cond (join-not names some_name are_names (codes "*") refl i) (all_modes graph)
         (bits_of (filter_map (mode_named graph) (listed i))))
-        ∙ ap (bits_of) (filter_map-numbers graph.modes differ modes below);
+        ∙ ap bits_of (filter_map-made (mode_named graph) (λ number. get_or graph.modes number []) modes found_at);
     names = ap (list_all is_name) listed ∙ list_all-from_AllPass is_name names (All-from_recursion (λ name. IsTrue (is_name name)) names are_names);
     once = ap has_twice listed ∙ has_twice-names graph.modes differ modes below apart;
-    known = ap (list_any (λ name. is_none (mode_named graph name))) listed ∙ all_named graph.modes differ modes below;
+    known = ap (list_any (λ name. is_none (mode_named graph name))) listed
+        ∙ list_any-map (λ name. is_none (mode_named graph name)) (λ mode. get_or graph.modes mode []) modes
+        ∙ list_any_none (λ mode. is_none (mode_named graph (get_or graph.modes mode []))) modes
+        (All-weaker (λ mode. mode_named graph (get_or graph.modes mode []) ≡ Some mode)
+        (λ mode. is_none (mode_named graph (get_or graph.modes mode [])) ≡ false) (λ mode is. ap is_none is) modes found_at);
     not_none = join-not names some_name are_names (codes "-") refl;
   }
 
@@ -110,7 +117,7 @@ module _ (graph : Tfpg) (valid : IsValid graph) where
       (λ star. coe 1 0 (i. IsModesWord graph (star.1 i) (star.0 i)) (IsModesWord-star graph))
       (λ listed. coe 1 0
       (i. IsModesWord graph (listed.5 i)
-      ((listed.4 ∙ ap (join_with_byte 44) (filter_map-names graph.modes listed.0 listed.3)) i))
+      ((listed.4 ∙ ap (join_with_byte 44) (filter_map-slice_get graph.modes [] listed.0 listed.3)) i))
       (IsModesWord-names graph valid.so_far.mode_names valid.so_far.modes_differ listed.0 listed.1 listed.2 listed.3))
 
   module _ (edge : Edge) (is : IsValidEdge graph edge) where

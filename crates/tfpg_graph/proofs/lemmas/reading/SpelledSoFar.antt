@@ -1,15 +1,16 @@
 -- The lines of what is declared so far, with one statement more.
-use Rattle.std.proofs.Common.{◌≡◌, ℕ, ◌<◌, Bool, true, false, List, [], ◌∷◌, ◌++◌, length, map, codes, ap, sym, ◌∙◌, subst, append_assoc}
+use Rattle.std.proofs.Common.{◌≡◌, ℕ, ◌<◌, Bool, true, false, List, [], ◌∷◌, ◌++◌, length, map, codes, ap, sym, ◌∙◌, subst}
 use Rattle.std.specs.List.{AllZip, list_any}
 use Rattle.std.proofs.lemmas.Bool.{not-false}
-use Rattle.std.proofs.lemmas.List.{append-nil, map-append}
+use Rattle.std.proofs.lemmas.List.{map-append}
+use Rattle.tfpg_base.proofs.lists.Appended.{append-first_of_four, append-second_of_four, append-third_of_four, append-fourth_of_four}
 use Rattle.tfpg_base.proofs.lists.Zipped.{AllZip-push, AllZip-none}
 use Rattle.tfpg_graph.specs.declared.kind.Kind.{Kind}
 use Rattle.tfpg_graph.specs.declared.edge.Edge.{Edge}
 use Rattle.tfpg_graph.specs.Graph.{Tfpg}
 use Rattle.tfpg_base.specs.Words.{line_of}
 use Rattle.tfpg_graph.specs.Text.{mode_line, node_line, node_words, SpellsEdge}
-use Rattle.tfpg_graph.specs.inside.Indexes.{with_mode, with_node, with_edge}
+use Rattle.tfpg_graph.specs.inside.declaring.Indexes.{with_mode, with_node, with_edge}
 use Rattle.tfpg_graph.specs.Statements.{Statement, DeclaresMode, DeclaresNode, DeclaresEdge, Ends, ends_text, words_of_statement}
 use Rattle.tfpg_graph.specs.Declares.{graph_said}
 use Rattle.tfpg_graph.specs.Causes.{is_out_of_order}
@@ -31,36 +32,13 @@ pub record SpellsSoFar (graph : Tfpg) (ended : Bool) (lines : List (List ℕ)) :
   pub all : lines ≡ map mode_line graph.modes ++ map node_line graph.nodes ++ edge_lines ++ end_lines ended
   pub some_mode : ended ≡ true → 0 < length graph.modes
 
-module _ (modes nodes edges : List (List ℕ)) (line : List ℕ) where
-  -- one line more, after the modes, the nodes or the edges, where nothing else follows
-  after_modes : (lines : List (List ℕ)) → lines ≡ modes ++ nodes ++ edges ++ [] → nodes ≡ [] → edges ≡ []
-      → lines ++ line ∷ [] ≡ (modes ++ line ∷ []) ++ nodes ++ [] ++ []
-  after_modes lines is no_node no_edge =
-      ap (λ front. front ++ line ∷ []) (is ∙ append-nil _ ∙ (λ i. modes ++ no_node i ++ no_edge i) ∙ append-nil _ ∙ append-nil _)
-      ∙ sym (append-nil _ ∙ append-nil _ ∙ (λ i. (modes ++ line ∷ []) ++ no_node i) ∙ append-nil _)
-
-  after_nodes : (lines : List (List ℕ)) → lines ≡ modes ++ nodes ++ edges ++ [] → edges ≡ []
-      → lines ++ line ∷ [] ≡ modes ++ (nodes ++ line ∷ []) ++ [] ++ []
-  after_nodes lines is no_edge =
-      ap (λ front. front ++ line ∷ []) (is ∙ append-nil _ ∙ (λ i. modes ++ nodes ++ no_edge i) ∙ append-nil _)
-      ∙ append_assoc modes nodes (line ∷ []) ∙ sym (append-nil _ ∙ append-nil _)
-
-  after_edges : (lines : List (List ℕ)) → lines ≡ modes ++ nodes ++ edges ++ []
-      → lines ++ line ∷ [] ≡ modes ++ nodes ++ (edges ++ line ∷ []) ++ []
-  after_edges lines is =
-      ap (λ front. front ++ line ∷ []) (is ∙ append-nil _) ∙ append_assoc (modes ++ nodes) edges (line ∷ []) ∙ sym (append-nil _)
-
-  after_all : (lines : List (List ℕ)) → lines ≡ modes ++ nodes ++ edges ++ []
-      → lines ++ line ∷ [] ≡ modes ++ nodes ++ edges ++ line ∷ []
-  after_all lines is = ap (λ front. front ++ line ∷ []) (is ∙ append-nil _)
-
 module _ (graph : Tfpg) (lines : List (List ℕ)) (so_far : SpellsSoFar graph false lines) where
   spells-with_mode : (name : List ℕ) → graph.nodes ≡ [] → graph.edges ≡ []
       → SpellsSoFar (with_mode graph name) false (lines ++ mode_line name ∷ [])
   spells-with_mode name no_node no_edge = record {
     edge_lines = [];
     edges = subst (λ edges. AllZip (SpellsEdge (with_mode graph name)) edges []) (sym no_edge) tt;
-    all = after_modes (map mode_line graph.modes) (map node_line graph.nodes) so_far.edge_lines (mode_line name) lines so_far.all
+    all = append-first_of_four (map mode_line graph.modes) (map node_line graph.nodes) so_far.edge_lines (mode_line name) lines so_far.all
         (ap (map node_line) no_node) (AllZip-none (SpellsEdge graph) graph.edges so_far.edge_lines no_edge so_far.edges)
         ∙ ap (λ modes. modes ++ map node_line graph.nodes ++ [] ++ []) (sym (map-append mode_line graph.modes (name ∷ [])));
     some_mode = λ ended. absurd cc;
@@ -71,7 +49,7 @@ module _ (graph : Tfpg) (lines : List (List ℕ)) (so_far : SpellsSoFar graph fa
   spells-with_node name kind no_edge = record {
     edge_lines = [];
     edges = subst (λ edges. AllZip (SpellsEdge (with_node graph name kind)) edges []) (sym no_edge) tt;
-    all = after_nodes (map mode_line graph.modes) (map node_line graph.nodes) so_far.edge_lines (line_of (node_words name kind)) lines so_far.all
+    all = append-second_of_four (map mode_line graph.modes) (map node_line graph.nodes) so_far.edge_lines (line_of (node_words name kind)) lines so_far.all
         (AllZip-none (SpellsEdge graph) graph.edges so_far.edge_lines no_edge so_far.edges)
         ∙ ap (λ nodes. map mode_line graph.modes ++ nodes ++ [] ++ [])
         (sym (map-append node_line graph.nodes (record { name = name; kind = kind } ∷ [])));
@@ -83,7 +61,7 @@ module _ (graph : Tfpg) (lines : List (List ℕ)) (so_far : SpellsSoFar graph fa
   spells-with_edge edge line spelled = record {
     edge_lines = so_far.edge_lines ++ line ∷ [];
     edges = AllZip-push (SpellsEdge graph) graph.edges so_far.edge_lines edge line so_far.edges spelled;
-    all = after_edges (map mode_line graph.modes) (map node_line graph.nodes) so_far.edge_lines line lines so_far.all;
+    all = append-third_of_four (map mode_line graph.modes) (map node_line graph.nodes) so_far.edge_lines line lines so_far.all;
     some_mode = λ ended. absurd cc;
   }
 
@@ -91,7 +69,7 @@ module _ (graph : Tfpg) (lines : List (List ℕ)) (so_far : SpellsSoFar graph fa
   spells-with_end mode = record {
     edge_lines = so_far.edge_lines;
     edges = so_far.edges;
-    all = after_all (map mode_line graph.modes) (map node_line graph.nodes) so_far.edge_lines (codes "end") lines so_far.all;
+    all = append-fourth_of_four (map mode_line graph.modes) (map node_line graph.nodes) so_far.edge_lines (codes "end") lines so_far.all;
     some_mode = λ ended. mode;
   }
 

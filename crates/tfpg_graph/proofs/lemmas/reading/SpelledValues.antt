@@ -1,27 +1,28 @@
 -- The values that the words of a spelled graph have.
-use Rattle.std.proofs.Common.{◌≡◌, ◌≢◌, ℕ, ◌<◌, ◌≤◌, ◌^◌, ◌||◌, true, false, cond, List, [], ◌∷◌, ◌++◌, length, map, get_or, All, AllPairs, IsTrue, Option, Some, None, IfSome, is_none, slice_get, position, codes, refl, ap, sym, ◌∙◌, subst, arith}
+use Rattle.std.proofs.Common.{◌≡◌, ◌≢◌, ℕ, ◌<◌, ◌≤◌, ◌||◌, true, false, cond, List, [], ◌∷◌, ◌++◌, length, map, get_or, All, AllPairs, IsTrue, Option, Some, None, IfSome, codes, refl, ap, sym, ◌∙◌, subst, arith}
 use Rattle.std.specs.Prelude.{decimal}
 use Rattle.std.specs.Option.{option_map}
-use Rattle.std.specs.List.{AllByRecursion, list_any, filter_map, cons_option, join_with_byte}
+use Rattle.std.specs.List.{AllByRecursion, join_with_byte}
 use Rattle.std.specs.Str.{bytes_eq}
 use Rattle.std.proofs.lemmas.Bool.{false≢true, and_parts, or_from, cond-false}
 use Rattle.std.proofs.lemmas.List.{append-nil}
 use Rattle.std.proofs.lemmas.List.Elements.{All-head, All-tail}
-use Rattle.std.proofs.lemmas.Option.{slice_get-get_or}
-use Rattle.tfpg_base.specs.Words.{is_name, is_number, is_letter, number_of}
-use Rattle.tfpg_base.proofs.Numbers.{is_number-decimal, number_of-decimal}
-use Rattle.tfpg_base.proofs.Separators.{Lacks, name_lacks, slice_split-join}
+use Rattle.std.proofs.lemmas.List.Folds.{list_any_none}
+use Rattle.tfpg_base.specs.Words.{is_name, is_letter, number_of}
+use Rattle.tfpg_base.proofs.Numbers.{number_of-decimal, decimal-differs}
+use Rattle.tfpg_base.proofs.Separators.{name_lacks}
+use Rattle.tfpg_base.proofs.lists.Lacking.{Lacks, slice_split-join}
 use Rattle.tfpg_base.proofs.lists.Elements.{AllPairs-head, AllPairs-tail}
 use Rattle.tfpg_graph.specs.declared.kind.Kind.{Kind}
 use Rattle.tfpg_graph.specs.declared.kind.Kind.TheVariants.{Failure, Or, And}
-use Rattle.tfpg_graph.specs.Text.{tmax_word}
+use Rattle.tfpg_graph.specs.Text.{tmax_word, words_of_kind}
 use Rattle.tfpg_base.specs.declared.limits.TheConstants.{MAX_TIME}
 use Rattle.tfpg_graph.specs.Valid.{HasValidNumber}
 use Rattle.tfpg_graph.specs.Declares.{kind_of_words, lag_of_word, tmax_of_word, modes_listed}
 use Rattle.tfpg_graph.specs.Causes.{has_twice}
-use Rattle.tfpg_base.proofs.lists.Positions.{position-at}
-use Rattle.tfpg_base.proofs.lists.SameBytes.{bytes_eq-differ, bytes_eq-same}
-use Rattle.tfpg_graph.proofs.lemmas.reading.LinesSay.{words_of_kind}
+use Rattle.tfpg_base.proofs.lists.SameBytes.{bytes_eq-differ}
+use Rattle.tfpg_base.proofs.lists.Images.{list_any-map}
+use Rattle.tfpg_base.proofs.lists.Distinct.{get_or-differ}
 
 lag_read : (lag : Option ℕ) → IfSome lag (λ l. l ≤ MAX_TIME) → lag_of_word (option_map decimal lag) ≡ Some lag
 lag_read None small = refl
@@ -33,93 +34,32 @@ kind_of_words-kind (Failure rarity) small = ap (option_map Failure) (number_of-d
 kind_of_words-kind (Or lag) small = ap (option_map Or) (lag_read lag small)
 kind_of_words-kind (And lag) small = ap (option_map And) (lag_read lag small)
 
--- no number is spelled as `inf`
-pub decimal-not_inf : (number : ℕ) → number < 2 ^ 64 → bytes_eq (decimal number) (codes "inf") ≡ false
-decimal-not_inf number small =
-    bytes_eq-differ (decimal number) (codes "inf")
-    (λ same. false≢true (sym (ap is_number same) ∙ is_number-decimal number small))
-
 -- The word for a greatest delay is read as it.
 pub tmax_of_word-tmax : (tmax : Option ℕ) → IfSome tmax (λ time. time ≤ MAX_TIME)
     → tmax_of_word (tmax_word tmax) ≡ Some tmax
 tmax_of_word-tmax None small = refl
 tmax_of_word-tmax (Some time) small =
     cond-false (bytes_eq (decimal time) (codes "inf")) (Some None) (option_map Some (number_of (decimal time)))
-    (decimal-not_inf time (omega arith))
+    (decimal-differs time (codes "inf") (omega arith) refl)
     ∙ ap (option_map Some) (number_of-decimal time (omega arith))
-
--- among names that differ, each stands first at its own index
-pub position-named : (names : List (List ℕ)) (number : ℕ) (d : List ℕ) → AllPairs (λ a b. a ≢ b) names
-    → number < length names
-    → position (λ name. bytes_eq name (get_or names number d)) names ≡ Some number
-position-named names number d differ within =
-    position-at (λ name. bytes_eq name (get_or names number d)) names number d within
-    (bytes_eq-same (get_or names number d))
-    (λ earlier before. bytes_eq-differ (get_or names earlier d) (get_or names number d)
-    (differ earlier number d before within))
 
 -- the names of these numbers
 abbrev pub names_at : List (List ℕ) → List ℕ → List (List ℕ)
 names_at names numbers = map (λ number. get_or names number []) numbers
 
--- the names of numbers, all of which are below the count of names
-pub filter_map-names : (names : List (List ℕ)) (numbers : List ℕ) → All (λ number. number < length names) numbers
-    → filter_map (slice_get names) numbers ≡ names_at names numbers
-filter_map-names names [] below = refl
-filter_map-names names (number ∷ numbers) below =
-    λ i. cons_option (slice_get-get_or names number [] (All-head (λ n. n < length names) number numbers below) i)
-    (filter_map-names names numbers (All-tail (λ n. n < length names) number numbers below) i)
-
 module _ (names : List (List ℕ)) (differ : AllPairs (λ a b. a ≢ b) names) where
-  -- the numbers of names that have these numbers
-  pub filter_map-numbers : (numbers : List ℕ) → All (λ number. number < length names) numbers
-      → filter_map (λ name. position (λ other. bytes_eq other name) names) (names_at names numbers) ≡ numbers
-  filter_map-numbers [] below = refl
-  filter_map-numbers (number ∷ numbers) below =
-      λ i. cons_option
-      (position-named names number [] differ (All-head (λ n. n < length names) number numbers below) i)
-      (filter_map-numbers numbers (All-tail (λ n. n < length names) number numbers below) i)
-
-  -- each of them is found
-  pub all_named : (numbers : List ℕ) → All (λ number. number < length names) numbers
-      → list_any (λ name. is_none (position (λ other. bytes_eq other name) names)) (names_at names numbers) ≡ false
-  all_named [] below = refl
-  all_named (number ∷ numbers) below =
-      or_from _ _ (ap is_none
-      (position-named names number [] differ
-      (All-head (λ n. n < length names) number numbers below))) (all_named numbers (All-tail
-      (λ n. n < length names) number numbers below))
-
-  -- two numbers that differ have two names
-  names_differ : (a b : ℕ) → a < length names → b < length names → a ≢ b → get_or names a [] ≢ get_or names b []
-  names_differ a b in_a in_b other same =
-      other (cc (
-        ap
-            (λ name. position
-            (λ n. bytes_eq n name) names) same,
-        position-named names a [] differ in_a,
-        position-named names b [] differ in_b,
-      ))
-
-  named_once : (number : ℕ) (numbers : List ℕ) → number < length names → All (λ n. n < length names) numbers
-      → All (λ n. number ≢ n) numbers
-      → list_any (bytes_eq (get_or names number [])) (names_at names numbers) ≡ false
-  named_once number [] within below others = refl
-  named_once number (n ∷ numbers) within below others =
-      or_from _ _ (bytes_eq-differ _ _
-      (names_differ number n within (All-head (λ m. m < length names) n numbers below)
-      (All-head (λ m. number ≢ m) n numbers others)))
-      (named_once number numbers within (All-tail (λ m. m < length names) n numbers below)
-      (All-tail (λ m. number ≢ m) n numbers others))
-
   -- names of numbers that differ stand once
   pub has_twice-names : (numbers : List ℕ) → All (λ number. number < length names) numbers
       → AllPairs (λ a b. a ≢ b) numbers → has_twice (names_at names numbers) ≡ false
   has_twice-names [] below apart = refl
   has_twice-names (number ∷ numbers) below apart =
+      let own = All-head (λ n. n < length names) number numbers below in
+      let later = All-tail (λ n. n < length names) number numbers below in
+      let others = AllPairs-head (λ a b. a ≢ b) number numbers apart in
       or_from _ _
-      (named_once number numbers (All-head (λ n. n < length names) number numbers below)
-      (All-tail (λ n. n < length names) number numbers below) (AllPairs-head (λ a b. a ≢ b) number numbers apart))
+      (list_any-map (bytes_eq (get_or names number [])) (λ n. get_or names n []) numbers
+      ∙ list_any_none (λ n. bytes_eq (get_or names number []) (get_or names n [])) numbers
+      (λ k d within. bytes_eq-differ _ _ (get_or-differ names [] number (get_or numbers k d) differ own (later k d within) (others k d within))))
       (has_twice-names numbers (All-tail (λ n. n < length names) number numbers below)
       (AllPairs-tail (λ a b. a ≢ b) number numbers apart))
 

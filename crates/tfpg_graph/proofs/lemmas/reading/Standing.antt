@@ -8,14 +8,14 @@ use Rattle.tfpg_graph.specs.declared.cause.GraphCause.TheVariants.{BadHeader, Af
 use Rattle.tfpg_graph.specs.declared.kind.Kind.{Kind}
 use Rattle.tfpg_graph.specs.declared.edge.Edge.{Edge as GraphEdge}
 use Rattle.tfpg_graph.specs.Text.{header}
-use Rattle.tfpg_graph.specs.inside.Indexes.{with_mode, with_node, with_edge}
+use Rattle.tfpg_graph.specs.inside.declaring.Indexes.{with_mode, with_node, with_edge}
 use Rattle.tfpg_graph.specs.Statements.{Statement, DeclaresMode, DeclaresNode, DeclaresEdge, Ends, statement_of, statements_of, is_skipped, ends_text}
 use Rattle.tfpg_graph.specs.Declares.{kind_of_words, edge_declared, graph_said, declared_by}
 use Rattle.tfpg_graph.specs.Causes.{cause_at, is_out_of_order}
 use Rattle.tfpg_graph.specs.declared.reading.reader.Part.{Part}
 use Rattle.tfpg_graph.specs.declared.reading.reader.Part.TheVariants.{Header, Declarations, Ended}
 use Rattle.tfpg_graph.specs.declared.reading.reader.Reader.{Reader}
-use Rattle.tfpg_graph.specs.inside.reading.Turns.{nothing_read, is_misplaced, reader_with, cause_or_value, turn_said, turn_of, turn, part_after, HasValue, ReaderRepresents}
+use Rattle.tfpg_graph.specs.inside.reading.Turns.{is_misplaced, reader_with, cause_or_value, turn_said, turn_of, turn, part_after, HasValue, ReaderRepresents}
 use Rattle.tfpg_graph.proofs.lemmas.reading.SaidBy.{statement_of-skipped, statement_of-header, statements_of-push, statements_of-silent}
 use Rattle.tfpg_graph.proofs.lemmas.reading.GraphsSaid.{graph_said-mode, graph_said-node, graph_said-edge, graph_said-end}
 use Rattle.tfpg_graph.proofs.lemmas.reading.DeclaredBy.{AllHaveValues, is_misplaced-said, values-mode, values-node, values-edge, values-end}
@@ -27,10 +27,6 @@ use Rattle.tfpg_graph.proofs.lemmas.reading.PartAfter.{part-declarations, part-e
 -- no line has none
 all_clean-none : AllClean []
 all_clean-none index within = absurd (omega arith)
-
--- Before the first line nothing is read.
-pub ReaderRepresents-nothing : ReaderRepresents nothing_read []
-ReaderRepresents-nothing = record { clean = all_clean-none; graph = refl; part = refl; values = All-nil (HasValue (declared_by [])) }
 
 -- what is taken has no cause and a value
 is_taken : (first : Option GraphCause) (value : Option Reader) (next : Reader) → cause_or_value first value ≡ Ok next

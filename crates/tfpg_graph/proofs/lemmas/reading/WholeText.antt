@@ -1,8 +1,6 @@
 -- What the parts of a text that were read say of its lines, which are the same but for the empty text.
-use Rattle.std.proofs.Common.{◌≡◌, ℕ, zero, suc, ◌+◌, ◌<◌, ◌≤◌, ⊎_elim, inl, inr, List, [], ◌∷◌, ◌++◌, length, take, drop, get_or, add-one, Some, None, Result, Ok, Err, IfOk, IfErr, refl, sym, ap, ◌∙◌, subst, arith}
-use Rattle.std.proofs.lemmas.Option.{slice_get_read}
+use Rattle.std.proofs.Common.{◌≡◌, ℕ, zero, suc, ◌+◌, ◌<◌, ◌≤◌, ⊎_elim, inl, inr, List, [], ◌∷◌, ◌++◌, length, Some, None, Result, Ok, Err, IfOk, IfErr, refl, sym, ap, ◌∙◌, subst, arith}
 use Rattle.tfpg_base.specs.Lines.{lines_of, parts_of}
-use Rattle.tfpg_base.proofs.lists.Cuts.{cut_at}
 use Rattle.tfpg_graph.specs.declared.cause.GraphFault.{GraphFault}
 use Rattle.tfpg_graph.specs.declared.cause.GraphRefusal.{GraphRefusal}
 use Rattle.tfpg_graph.specs.declared.cause.GraphRefusal.TheVariants.{Fault, NoMemory}
@@ -119,10 +117,3 @@ module _ (text body : List ℕ) (is : IsBody text body) where
         inl (ap Ok (read.0 ∙ stands_lines.graph ∙ (Spells-clean text graph spells valid).1))
     IsGraphResult-end (Err refusal) read refused graph spells valid =
         IsGraphResult-refused graph refusal (IsRefusalOf-end refusal refused) spells valid
-
--- The lines round the one at an index.
-pub lines_at : (lines before : List (List ℕ)) (index : ℕ) (line : List ℕ) → before ≡ take index lines
-    → index < length lines → line ≡ get_or lines index line → lines ≡ before ++ line ∷ drop (index + 1) lines
-lines_at lines before index line are within at =
-    cut_at lines index line (slice_get_read lines (length lines) index line refl within at)
-    ∙ (λ i. sym are i ++ line ∷ drop (sym (add-one index) i) lines)

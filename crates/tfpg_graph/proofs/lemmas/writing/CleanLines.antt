@@ -4,28 +4,21 @@ use Rattle.std.specs.Prelude.{decimal}
 use Rattle.std.specs.Option.{option_map}
 use Rattle.std.specs.List.{join_with_byte}
 use Rattle.std.proofs.lemmas.Bool.{cond_both}
-use Rattle.std.proofs.lemmas.List.Elements.{All-nil, All-cons, All-head, All-tail, All-append}
+use Rattle.std.proofs.lemmas.List.Elements.{All-nil, All-cons, All-head, All-tail}
 use Rattle.tfpg_base.specs.Words.{line_of, is_name}
-use Rattle.tfpg_base.specs.Lines.{HasNoLineEnd}
-use Rattle.tfpg_base.proofs.Separators.{name_lacks, number_lacks, decimal_lacks}
+use Rattle.tfpg_base.specs.Lines.{HasNoLineEnd, ends_line}
+use Rattle.tfpg_base.proofs.Separators.{name_lacks, number_lacks}
+use Rattle.tfpg_base.proofs.lists.Lacking.{decimal_lacks}
+use Rattle.tfpg_base.proofs.lists.Joined.{All-join}
+use Rattle.tfpg_base.proofs.lists.Passing.{All-filter_map-slice_get}
 use Rattle.tfpg_graph.specs.declared.kind.Kind.{Kind}
 use Rattle.tfpg_graph.specs.declared.kind.Kind.TheVariants.{Failure, Or, And}
 use Rattle.tfpg_graph.specs.declared.edge.Edge.{Edge}
 use Rattle.tfpg_graph.specs.Graph.{Tfpg, Node, name_word}
-use Rattle.tfpg_graph.specs.Text.{header, mode_line, node_words, watch_words, tmax_word, edge_line, modes_word, all_modes}
+use Rattle.tfpg_graph.specs.Text.{header, mode_line, node_words, tmax_word, edge_line, modes_word, all_modes}
+use Rattle.tfpg_graph.specs.inside.writing.Written.{watch_words, modes_before, mode_names_before}
 use Rattle.tfpg_base.specs.declared.limits.TheConstants.{MAX_TIME}
 use Rattle.tfpg_graph.specs.Valid.{HasValidNumber, IsValidEdge}
-use Rattle.tfpg_graph.specs.inside.writing.Written.{modes_before, mode_names_before}
-use Rattle.tfpg_graph.proofs.lemmas.writing.ModeNames.{All-named}
-
--- parts with bytes between them that are not this one
-clean_joined : (separator : ℕ) (parts : List (List ℕ)) → eqb separator 10 ≡ false → All HasNoLineEnd parts → HasNoLineEnd (join_with_byte separator parts)
-clean_joined separator [] other clean = All-nil (λ byte. eqb byte 10 ≡ false)
-clean_joined separator (part ∷ []) other clean = All-head HasNoLineEnd part [] clean
-clean_joined separator (part ∷ next ∷ parts) other clean =
-    All-append (λ byte. eqb byte 10 ≡ false) part (separator ∷ join_with_byte separator (next ∷ parts)) (All-head HasNoLineEnd part (next ∷ parts) clean)
-    (All-cons (λ byte. eqb byte 10 ≡ false) separator (join_with_byte separator (next ∷ parts)) other
-    (clean_joined separator (next ∷ parts) other (All-tail HasNoLineEnd part (next ∷ parts) clean)))
 
 -- the list of one word
 clean_one : (word : List ℕ) → HasNoLineEnd word → All HasNoLineEnd (word ∷ [])
@@ -39,17 +32,17 @@ pub clean_number : (number : ℕ) → number ≤ MAX_TIME → HasNoLineEnd (deci
 clean_number number small = decimal_lacks 10 number refl (omega arith)
 
 -- a keyword and the other words
-clean_words : (keyword : List ℕ) (words : List (List ℕ)) → IsTrue (is_name keyword) → All HasNoLineEnd words → HasNoLineEnd (line_of (keyword ∷ words))
-clean_words keyword words named clean = clean_joined 32 (keyword ∷ words) refl (All-cons HasNoLineEnd keyword words (clean_name keyword named) clean)
+pub clean_words : (keyword : List ℕ) (words : List (List ℕ)) → HasNoLineEnd keyword → All HasNoLineEnd words → HasNoLineEnd (line_of (keyword ∷ words))
+clean_words keyword words own clean = All-join (λ byte. ends_line byte ≡ false) 32 (keyword ∷ words) refl (All-cons HasNoLineEnd keyword words own clean)
 
 pub clean_header : HasNoLineEnd header
-clean_header = clean_words (codes "tfpg") (codes "1" ∷ []) refl (clean_one (codes "1") (number_lacks 10 (codes "1") refl refl))
+clean_header = clean_words (codes "tfpg") (codes "1" ∷ []) (clean_name (codes "tfpg") refl) (clean_one (codes "1") (number_lacks 10 (codes "1") refl refl))
 
 pub clean_end : HasNoLineEnd (codes "end")
 clean_end = clean_name (codes "end") refl
 
 pub clean_mode : (name : List ℕ) → IsTrue (is_name name) → HasNoLineEnd (mode_line name)
-clean_mode name named = clean_words (codes "mode") (name ∷ []) refl (clean_one name (clean_name name named))
+clean_mode name named = clean_words (codes "mode") (name ∷ []) (clean_name (codes "mode") refl) (clean_one name (clean_name name named))
 
 clean_watch : (lag : Option ℕ) → IfSome lag (λ l. l ≤ MAX_TIME) → All HasNoLineEnd (watch_words lag)
 clean_watch None small = clean_one (codes "hidden") (clean_name (codes "hidden") refl)
@@ -58,12 +51,12 @@ clean_watch (Some lag) small =
 
 pub clean_node : (name : List ℕ) (kind : Kind) → IsTrue (is_name name) → HasValidNumber kind → HasNoLineEnd (line_of (node_words name kind))
 clean_node name (Failure rarity) named small =
-    clean_words (codes "failure") (name ∷ decimal rarity ∷ []) refl
+    clean_words (codes "failure") (name ∷ decimal rarity ∷ []) (clean_name (codes "failure") refl)
     (All-cons HasNoLineEnd name (decimal rarity ∷ []) (clean_name name named) (clean_one (decimal rarity) (clean_number rarity (omega arith))))
 clean_node name (Or lag) named small =
-    clean_words (codes "or") (name ∷ watch_words lag) refl (All-cons HasNoLineEnd name (watch_words lag) (clean_name name named) (clean_watch lag small))
+    clean_words (codes "or") (name ∷ watch_words lag) (clean_name (codes "or") refl) (All-cons HasNoLineEnd name (watch_words lag) (clean_name name named) (clean_watch lag small))
 clean_node name (And lag) named small =
-    clean_words (codes "and") (name ∷ watch_words lag) refl (All-cons HasNoLineEnd name (watch_words lag) (clean_name name named) (clean_watch lag small))
+    clean_words (codes "and") (name ∷ watch_words lag) (clean_name (codes "and") refl) (All-cons HasNoLineEnd name (watch_words lag) (clean_name name named) (clean_watch lag small))
 
 clean_name_in : (nodes : List Node) (node : ℕ) → All (λ n. IsTrue (is_name n.name)) nodes → HasNoLineEnd (unwrap_or (option_map (λ n. n.name) (slice_get nodes node)) [])
 clean_name_in [] node named = All-nil (λ byte. eqb byte 10 ≡ false)
@@ -78,8 +71,8 @@ clean_modes : (graph : Tfpg) (bits : ℕ) → All (λ mode. IsTrue (is_name mode
 clean_modes graph bits named =
     cond_both (bits == all_modes graph) (codes "*") (join_with_byte 44 (mode_names_before graph bits (length graph.modes))) HasNoLineEnd
     (λ all. All-cons (λ byte. eqb byte 10 ≡ false) 42 [] refl (All-nil (λ byte. eqb byte 10 ≡ false)))
-    (λ some. clean_joined 44 (mode_names_before graph bits (length graph.modes)) refl
-    (All-named HasNoLineEnd graph.modes (λ k d within. clean_name _ (named k d within)) (modes_before bits (length graph.modes))))
+    (λ some. All-join (λ byte. ends_line byte ≡ false) 44 (mode_names_before graph bits (length graph.modes)) refl
+    (All-filter_map-slice_get HasNoLineEnd graph.modes (λ k d within. clean_name _ (named k d within)) (modes_before bits (length graph.modes))))
 
 pub clean_edge : (graph : Tfpg) (edge : Edge) → All (λ n. IsTrue (is_name n.name)) graph.nodes → All (λ mode. IsTrue (is_name mode)) graph.modes → IsValidEdge graph edge
     → HasNoLineEnd (edge_line graph edge (modes_word graph edge.modes))
@@ -89,7 +82,7 @@ clean_edge graph edge nodes modes valid =
     let tmin = decimal edge.tmin in
     let tmax = tmax_word edge.tmax in
     let word = modes_word graph edge.modes in
-    clean_words (codes "edge") (source ∷ target ∷ tmin ∷ tmax ∷ word ∷ []) refl
+    clean_words (codes "edge") (source ∷ target ∷ tmin ∷ tmax ∷ word ∷ []) (clean_name (codes "edge") refl)
     (All-cons HasNoLineEnd source (target ∷ tmin ∷ tmax ∷ word ∷ []) (clean_name_in graph.nodes edge.source nodes)
     (All-cons HasNoLineEnd target (tmin ∷ tmax ∷ word ∷ []) (clean_name_in graph.nodes edge.target nodes)
     (All-cons HasNoLineEnd tmin (tmax ∷ word ∷ []) (clean_number edge.tmin valid.least)

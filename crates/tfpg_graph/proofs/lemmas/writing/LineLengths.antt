@@ -1,5 +1,5 @@
 -- No line of a canonical text is too long.
-use Rattle.std.proofs.Common.{ℕ, suc, zero, ◌*◌, ◌≤◌, ◌==◌, List, [], ◌∷◌, ◌++◌, length, slice_get, All, IsTrue, Option, Some, None, IfSome, unwrap_or, codes, arith}
+use Rattle.std.proofs.Common.{ℕ, suc, zero, ◌≤◌, ◌==◌, List, [], ◌∷◌, ◌++◌, length, slice_get, All, IsTrue, Option, Some, None, IfSome, unwrap_or, codes, arith}
 use Rattle.std.specs.Prelude.{decimal}
 use Rattle.std.specs.Option.{option_map}
 use Rattle.std.specs.List.{join_with_byte}
@@ -14,12 +14,12 @@ use Rattle.tfpg_graph.specs.declared.kind.Kind.TheVariants.{Failure, Or, And}
 use Rattle.tfpg_graph.specs.declared.edge.Edge.{Edge}
 use Rattle.tfpg_graph.specs.declared.limits.TheConstants.{MAX_MODES}
 use Rattle.tfpg_graph.specs.Graph.{Tfpg, Node, name_word}
-use Rattle.tfpg_graph.specs.Text.{mode_line, node_words, watch_words, tmax_word, edge_line, modes_word, all_modes}
+use Rattle.tfpg_graph.specs.Text.{mode_line, node_words, tmax_word, edge_line, modes_word, all_modes}
+use Rattle.tfpg_graph.specs.inside.writing.Written.{watch_words, modes_before, mode_names_before}
 use Rattle.tfpg_graph.specs.Valid.{HasValidNumber, IsValidEdge}
-use Rattle.tfpg_graph.specs.inside.writing.Written.{modes_before, mode_names_before}
 use Rattle.tfpg_graph.proofs.lemmas.writing.ModeBits.{modes_before-few}
-use Rattle.tfpg_base.proofs.lists.Passing.{length-filter_map}
-use Rattle.tfpg_graph.proofs.lemmas.writing.ModeNames.{All-named}
+use Rattle.tfpg_base.proofs.lists.Passing.{length-filter_map, All-filter_map-slice_get}
+use Rattle.tfpg_base.proofs.lists.Joined.{length-join}
 
 pub short_mode : (name : List ℕ) → IsTrue (is_name name) → length (mode_line name) ≤ LONGEST_LINE
 short_mode name named = omega (arith, name_short name named)
@@ -42,26 +42,14 @@ short_tmax : (tmax : Option ℕ) (tmin : ℕ) → IfSome tmax (λ time. (tmin �
 short_tmax None tmin small = omega arith
 short_tmax (Some tmax) tmin small = number_short tmax small.1
 
--- names with a byte between each two
-length-joined : (separator : ℕ) (names : List (List ℕ)) → All (λ name. length name ≤ LONGEST_NAME) names → length (join_with_byte separator names) ≤ 33 * length names
-length-joined separator [] short = omega arith
-length-joined separator (name ∷ []) short = omega (arith, All-head (λ n. length n ≤ LONGEST_NAME) name [] short)
-length-joined separator (name ∷ next ∷ names) short =
-    omega (
-      arith,
-      length-append name (separator ∷ join_with_byte separator (next ∷ names)),
-      All-head (λ n. length n ≤ LONGEST_NAME) name (next ∷ names) short,
-      length-joined separator (next ∷ names) (All-tail (λ n. length n ≤ LONGEST_NAME) name (next ∷ names) short),
-    )
-
 pub short_modes : (graph : Tfpg) (bits : ℕ) → All (λ mode. IsTrue (is_name mode)) graph.modes → length graph.modes ≤ MAX_MODES → length (modes_word graph bits) ≤ 2112
 short_modes graph bits named few =
     let end : ℕ = length graph.modes in
     let names : List (List ℕ) = mode_names_before graph bits end in
-    let short : All (λ name. length name ≤ LONGEST_NAME) names = All-named (λ name. length name ≤ LONGEST_NAME) graph.modes (λ k d within. name_short _ (named k d within)) (modes_before bits end) in
+    let short : All (λ name. length name ≤ LONGEST_NAME) names = All-filter_map-slice_get (λ name. length name ≤ LONGEST_NAME) graph.modes (λ k d within. name_short _ (named k d within)) (modes_before bits end) in
     cond_both (bits == all_modes graph) (codes "*") (join_with_byte 44 names) (λ word. length word ≤ 2112)
     (λ all. omega arith)
-    (λ some. omega (arith, few, length-joined 44 names short, length-filter_map (slice_get graph.modes) (modes_before bits end), modes_before-few bits end))
+    (λ some. omega (arith, few, length-join 44 LONGEST_NAME names short, length-filter_map (slice_get graph.modes) (modes_before bits end), modes_before-few bits end))
 
 pub short_edge : (graph : Tfpg) (edge : Edge) (word : List ℕ) → All (λ n. IsTrue (is_name n.name)) graph.nodes → IsValidEdge graph edge → length word ≤ 2112
     → length (edge_line graph edge word) ≤ LONGEST_LINE

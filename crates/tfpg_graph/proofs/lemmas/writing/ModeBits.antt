@@ -1,27 +1,24 @@
 -- The modes whose bits are set.
-use Rattle.std.proofs.Common.{◌≡◌, ◌≢◌, ℕ, suc, zero, ◌+◌, ◌<◌, ◌≤◌, ◌^◌, ◌==◌, not, cond, List, [], ◌∷◌, ◌++◌, length, filter, All, refl, sym, ap, ◌∙◌, arith, zero-add}
+use Rattle.std.proofs.Common.{◌≡◌, ◌≢◌, ℕ, suc, zero, ◌+◌, ◌<◌, ◌≤◌, ◌^◌, ◌==◌, not, cond, List, [], ◌∷◌, ◌++◌, length, filter, All, refl, sym, ap, ◌∙◌, arith, zero-add, add-one}
 use Rattle.std.specs.List.{range_with_len, AllPairs}
 use Rattle.std.specs.Int.{bit_at}
 use Rattle.std.proofs.Math.Nat.{mod-eq_of_lt}
-use Rattle.std.proofs.lemmas.List.Elements.{filter-append, All-filter}
+use Rattle.std.proofs.lemmas.List.Elements.{All-filter}
 use Rattle.std.proofs.lemmas.List.Filters.{length-filter_both}
-use Rattle.std.proofs.lemmas.List.FromFn.{length-range_with_len, get_or-range_with_len}
+use Rattle.std.proofs.lemmas.List.FromFn.{length-range_with_len, get_or-range_with_len, filter_of_map_range_with_len_more}
 use Rattle.std.proofs.lemmas.List.Kept.{AllPairs-filter}
+use Rattle.std.proofs.lemmas.List.{map-id}
 use Rattle.tfpg_base.specs.SetBits.{ones_below, bits_of}
 use Rattle.tfpg_base.proofs.Sets.{bits_of-ones_below}
 use Rattle.tfpg_graph.specs.inside.writing.Written.{modes_before}
 
--- one number more
-range_with_len-more : (from count : ℕ) → range_with_len from (suc count) ≡ range_with_len from count ++ (from + count) ∷ []
-range_with_len-more from zero = ap (λ (n : ℕ). n ∷ []) (omega arith)
-range_with_len-more from (suc count) =
-    ap (λ (ns : List ℕ). from ∷ ns) (range_with_len-more (from + 1) count ∙ ap (λ (n : ℕ). range_with_len (from + 1) count ++ n ∷ []) (omega arith))
-
 -- one mode more stands after the others, where its bit is set
 pub modes_before-more : (bits mode : ℕ) → modes_before bits (suc mode) ≡ modes_before bits mode ++ cond (bit_at bits mode == 1) (mode ∷ []) []
 modes_before-more bits mode =
-    ap (filter (λ m. bit_at bits m == 1)) (range_with_len-more 0 mode ∙ ap (λ (n : ℕ). range_with_len 0 mode ++ n ∷ []) (zero-add mode))
-    ∙ filter-append (λ m. bit_at bits m == 1) (range_with_len 0 mode) (mode ∷ [])
+    ap (modes_before bits) (sym (add-one mode))
+    ∙ ap (filter (λ m. bit_at bits m == 1)) (sym (map-id (range_with_len 0 (mode + 1))))
+    ∙ filter_of_map_range_with_len_more (λ m. bit_at bits m == 1) (λ m. m) 0 mode mode (zero-add mode)
+    ∙ ap (λ (modes : List ℕ). filter (λ m. bit_at bits m == 1) modes ++ cond (bit_at bits mode == 1) (mode ∷ []) []) (map-id (range_with_len 0 mode))
 
 -- they are the ones among the lowest bits
 modes_before-ones : (bits end : ℕ) → modes_before bits end ≡ ones_below end bits

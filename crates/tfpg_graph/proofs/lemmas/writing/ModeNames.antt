@@ -1,5 +1,5 @@
 -- The names of the modes whose bits are set.
-use Rattle.std.proofs.Common.{◌≡◌, ℕ, ◌+◌, ◌==◌, Bool, true, false, cond, eqb, List, [], ◌∷◌, ◌++◌, length, All, Option, Some, slice_get, refl, sym, ap, ◌∙◌, append_assoc, append-nil, add-one, arith}
+use Rattle.std.proofs.Common.{◌≡◌, ℕ, ◌+◌, ◌==◌, Bool, true, false, cond, eqb, List, [], ◌∷◌, ◌++◌, length, Option, Some, slice_get, refl, sym, ap, ◌∙◌, append_assoc, append-nil, add-one, arith}
 use Rattle.std.specs.List.{join_with_byte, filter_map, cons_option}
 use Rattle.std.specs.Int.{bit_at}
 use Rattle.std.proofs.lemmas.Bool.Decides.{nat_tests}
@@ -9,13 +9,7 @@ use Rattle.tfpg_base.specs.TextLine.{separated}
 use Rattle.tfpg_base.proofs.lists.Joined.{join-push}
 use Rattle.tfpg_graph.specs.Graph.{Tfpg}
 use Rattle.tfpg_graph.specs.inside.writing.Written.{modes_before, mode_names_before}
-use Rattle.tfpg_base.proofs.lists.Elements.{All-at}
-use Rattle.tfpg_base.proofs.lists.Passing.{All-filter_map}
 use Rattle.tfpg_graph.proofs.lemmas.writing.ModeBits.{modes_before-more}
-
--- what holds of each name holds of those of some numbers
-pub All-named : (P : List ℕ → Type 0) (names : List (List ℕ)) → All P names → (numbers : List ℕ) → All P (filter_map (slice_get names) numbers)
-All-named P names all numbers = All-filter_map (slice_get names) P (λ number name at. All-at P names number name all at) numbers
 
 module _ (graph : Tfpg) (bits mode : ℕ) where
   -- the names before the next mode

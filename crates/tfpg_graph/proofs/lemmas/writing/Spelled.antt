@@ -12,7 +12,8 @@ use Rattle.tfpg_base.proofs.lists.Zipped.{AllZip-map}
 use Rattle.tfpg_graph.specs.declared.kind.Kind.{Kind}
 use Rattle.tfpg_graph.specs.declared.kind.Kind.TheVariants.{Failure, Or, And}
 use Rattle.tfpg_graph.specs.Graph.{Tfpg}
-use Rattle.tfpg_graph.specs.Text.{header, mode_line, node_words, node_line, edge_line, modes_word, all_modes, SpellsModes, SpellsEdge, Spells, is_empty_or_comment, content_lines, canonical_lines, canonical_text}
+use Rattle.tfpg_graph.specs.Text.{header, mode_line, node_words, node_line, edge_line, modes_word, all_modes, SpellsModes, SpellsEdge, Spells, content_lines, canonical_lines, canonical_text}
+use Rattle.tfpg_graph.specs.Statements.{is_empty_or_comment}
 use Rattle.tfpg_graph.specs.Valid.{IsValid, IsValidEdge}
 use Rattle.tfpg_graph.specs.inside.writing.Written.{modes_before, mode_names_before}
 use Rattle.tfpg_graph.proofs.lemmas.writing.ModeBits.{worth-all, modes_before-some, modes_before-within, modes_before-differ}

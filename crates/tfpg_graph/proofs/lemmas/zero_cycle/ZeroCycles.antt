@@ -1,11 +1,11 @@
 -- Which edges lie on a cycle of edges that may take no time.
-use Rattle.std.proofs.Common.{◌≡◌, ◌≢◌, ℕ, zero, suc, ◌+◌, ◌<◌, ◌≤◌, List, length, get_or, Option, Some, unwrap_or, slice_get, All, Contains, refl, sym, ap, ◌∙◌, subst, arith, below_more}
+use Rattle.std.proofs.Common.{◌≡◌, ◌≢◌, ℕ, zero, suc, ◌+◌, ◌<◌, ◌≤◌, List, length, get_or, Option, Some, unwrap_or, slice_get, All, refl, sym, ap, ◌∙◌, arith}
 use Rattle.std.proofs.lemmas.Option.{slice_get-get_or, slice_get_within}
 use Rattle.std.proofs.lemmas.List.Elements.{All-contains}
 use Rattle.tfpg_base.proofs.lists.Elements.{Contains-at}
 use Rattle.tfpg_graph.specs.declared.edge.Edge.{Edge}
 use Rattle.tfpg_graph.specs.Graph.{Tfpg}
-use Rattle.tfpg_graph.specs.Valid.{IsValidEdge, WalksInNoTime}
+use Rattle.tfpg_graph.specs.Valid.{IsValidEdge, WalksInNoTime, HasNoZeroCycle}
 use Rattle.tfpg_graph.specs.ZeroCycle.{LiesOnZeroCycle, HasZeroOrder}
 use Rattle.tfpg_graph.specs.inside.zero_cycle.ZeroSearch.{mark_of, IsMarked}
 use Rattle.tfpg_graph.specs.inside.zero_cycle.ZeroEdges.{AreZeroGroups, StaysInGroup, NoneStaysBefore}
@@ -21,31 +21,14 @@ rank_rises graph is (suc steps) from to walk =
     omega (arith, up walk.3, ap is.rank walk.2, rank_rises graph is steps edge.target to walk.4)
 
 -- where there are ranks, no cycle takes no time
-pub HasZeroOrder-no_cycle : (graph : Tfpg) → HasZeroOrder graph → (node steps : ℕ)
-    → WalksInNoTime graph node node (suc steps) → ⊥
+pub HasZeroOrder-no_cycle : (graph : Tfpg) → HasZeroOrder graph → HasNoZeroCycle graph
 HasZeroOrder-no_cycle graph is node steps walk = omega (arith, rank_rises graph is (suc steps) node node walk)
 
--- and no edge lies on such a cycle
-pub HasZeroOrder-none_lies : (graph : Tfpg) (number : ℕ) → HasZeroOrder graph → LiesOnZeroCycle graph number → ⊥
-HasZeroOrder-none_lies graph number is lies =
-    HasZeroOrder-no_cycle graph is lies.edge.source lies.steps
+-- where no cycle takes no time, no edge lies on such a cycle
+pub HasNoZeroCycle-none_lies : (graph : Tfpg) (number : ℕ) → HasNoZeroCycle graph → LiesOnZeroCycle graph number → ⊥
+HasNoZeroCycle-none_lies graph number none lies =
+    none lies.edge.source lies.steps
     (lies.edge, Contains-at graph.edges number lies.edge lies.numbered, refl, lies.no_time, lies.back)
-
--- on each cycle that takes no time lies an edge
-pub LiesOnZeroCycle-some : (graph : Tfpg) (node steps : ℕ) → WalksInNoTime graph node node (suc steps)
-    → (number : ℕ) × LiesOnZeroCycle graph number
-LiesOnZeroCycle-some graph node steps walk =
-    let edge : Edge = walk.0 in
-    let has : Contains graph.edges edge = walk.1 in (
-      has.0,
-      record {
-        edge = edge;
-        numbered = slice_get-get_or graph.edges has.0 edge has.1 ∙ ap Some has.2;
-        no_time = walk.3;
-        steps = steps;
-        back = subst (λ (to : ℕ). WalksInNoTime graph edge.target to steps) (sym walk.2) walk.4;
-      },
-    )
 
 module _ (graph : Tfpg) (marks : List (Option ℕ)) (valid : All (IsValidEdge graph) graph.edges)
     (groups : AreZeroGroups graph marks) where
@@ -55,9 +38,6 @@ module _ (graph : Tfpg) (marks : List (Option ℕ)) (valid : All (IsValidEdge gr
 
   pub source_within : (number : ℕ) (edge : Edge) → slice_get graph.edges number ≡ Some edge → edge.source < length marks
   source_within number edge at = let is = valid_at number edge at in omega (arith, is.source, groups.count)
-
-  pub target_within : (number : ℕ) (edge : Edge) → slice_get graph.edges number ≡ Some edge → edge.target < length marks
-  target_within number edge at = let is = valid_at number edge at in omega (arith, is.target, groups.count)
 
   -- marks do not fall along a walk
   marks_rise : (steps from to mark : ℕ) → WalksInNoTime graph from to steps → mark_of marks from ≡ Some mark
@@ -124,14 +104,3 @@ module _ (graph : Tfpg) (marks : List (Option ℕ)) (valid : All (IsValidEdge gr
     rises = λ k d within. edge_rises (λ number before. none number (omega (arith, before, all))) k
         (get_or graph.edges k d) (slice_get-get_or graph.edges k d within);
   }
-
-  -- one edge further
-  pub NoneStaysBefore-more : (number : ℕ) (edge : Edge) → slice_get graph.edges number ≡ Some edge
-      → (StaysInGroup marks edge → ⊥) → NoneStaysBefore graph marks number
-      → NoneStaysBefore graph marks (number + 1)
-  NoneStaysBefore-more number edge at leaves none =
-      below_more (λ n. (e : Edge) → slice_get graph.edges n ≡ Some e → StaysInGroup marks e → ⊥) number none
-      (λ e e_at stays.
-      let both : Some e ≡ Some edge = sym e_at ∙ at in
-      let same : e ≡ edge = cc in
-      leaves (subst (λ (x : Edge). StaysInGroup marks x) same stays))

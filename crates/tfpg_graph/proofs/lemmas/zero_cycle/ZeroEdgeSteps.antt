@@ -1,21 +1,13 @@
 -- The steps along edges that may take no time, edge by edge, and walks along them.
-use Rattle.std.proofs.Common.{◌≡◌, ℕ, zero, suc, ◌+◌, ◌<◌, ◌⊎◌, inl, inr, ⊎_elim, Bool, true, false, List, [], ◌∷◌, ◌++◌, length, get_or, replicate, take, Option, refl, sym, ap, ◌∙◌, subst, arith}
-use Rattle.std.proofs.lemmas.List.{length-replicate, take_more}
+use Rattle.std.proofs.Common.{◌≡◌, ℕ, zero, suc, ◌+◌, ◌<◌, ◌⊎◌, inl, inr, ⊎_elim, Bool, true, false, List, [], ◌∷◌, ◌++◌, length, get_or, take, Option, refl, sym, ap, ◌∙◌, subst, arith}
+use Rattle.std.proofs.lemmas.List.{take_more}
 use Rattle.std.proofs.lemmas.List.Elements.{Contains-append_left, Contains-push, Contains-push_cases}
 use Rattle.tfpg_graph.specs.declared.edge.Edge.{Edge}
 use Rattle.tfpg_graph.specs.Graph.{Tfpg}
 use Rattle.tfpg_graph.specs.Valid.{WalksInNoTime}
 use Rattle.tfpg_graph.specs.inside.zero_cycle.ZeroSearch.{IsStep, with_zero_step, AreReversed, WalksUnmarked, AreGroups}
 use Rattle.tfpg_graph.specs.inside.zero_cycle.ZeroEdges.{step_begin, step_end, IsZeroStep, AreZeroSteps, AddsZeroStep, AreZeroGroups}
-use Rattle.tfpg_graph.proofs.lemmas.zero_cycle.StepRows.{no_step, IsStep-new, IsStep-old, IsStep-cases, length-with_zero_step}
-
--- before the first edge
-pub AreZeroSteps-none : (count : ℕ) (reversed : Bool) → AreZeroSteps count [] reversed (replicate count [])
-AreZeroSteps-none count reversed = record {
-  row_count = length-replicate count (let none : List ℕ = [] in none);
-  along = λ from to leads. absurd (no_step count from to leads);
-  all = λ from to step. absurd (omega (arith, step.among.1));
-}
+use Rattle.tfpg_graph.proofs.lemmas.zero_cycle.StepRows.{IsStep-new, IsStep-old, IsStep-cases, length-with_zero_step}
 
 -- one of the edges is one of these and one more
 IsZeroStep-more : (edges : List Edge) (edge : Edge) (reversed : Bool) (from to : ℕ) → IsZeroStep edges reversed from to

@@ -5,7 +5,8 @@ use Rattle.std.proofs.lemmas.List.{get_or-replicate, length-replicate, get_or_pa
 use Rattle.std.proofs.lemmas.List.Elements.{Contains-append_left}
 use Rattle.tfpg_graph.specs.inside.zero_cycle.ZeroSearch.{IsStep, mark_of, IsMarked, AreReversed, WalksUnmarked, ReachesUnmarked, ClosesGroup, IsVisited, HasVisited, HasSwept, IsFinishingOrder, IsGroupedFrom, AreGroups}
 use Rattle.tfpg_graph.proofs.lemmas.zero_cycle.StepRows.{IsStep-begin}
-use Rattle.tfpg_graph.proofs.lemmas.zero_cycle.ZeroWalks.{mark_cases, not_both, ReachesUnmarked-any, ReachesUnmarked-trans, ReachesUnmarked-reversed}
+use Rattle.tfpg_graph.proofs.lemmas.zero_cycle.ZeroWalks.{ReachesUnmarked-any, ReachesUnmarked-trans, ReachesUnmarked-reversed}
+use Rattle.tfpg_base.proofs.lists.Choices.{option_cases, some-not_none}
 
 -- no node has a mark
 pub no_mark : (count node : ℕ) → mark_of (replicate count None) node ≡ None
@@ -19,7 +20,7 @@ pub IsVisited-none : (rows : List (List ℕ)) (marks : List (Option ℕ)) → Is
 IsVisited-none rows marks = record {
   marked = λ node has. absurd (omega (arith, has.1));
   followed = λ from to has leads. absurd (omega (arith, has.1));
-  settled = λ index within. absurd (omega (arith, within));
+  closed = λ index within. absurd (omega (arith, within));
 }
 
 module _ (rows : List (List ℕ)) (node mark : ℕ) (m₀ : List (Option ℕ)) (o₀ : List ℕ) (m₁ : List (Option ℕ))
@@ -38,7 +39,7 @@ module _ (rows : List (List ℕ)) (node mark : ℕ) (m₀ : List (Option ℕ)) (
       (λ in_order. in_order)
       (visited.grown.done other has none))
       (λ given. still_done other (finished other given))
-      (mark_cases (mark_of m₀ other))
+      (option_cases (mark_of m₀ other))
 
   pub HasVisited-kept : (other : ℕ) → IsMarked m₀ other → IsMarked m₁ other
   HasVisited-kept other has = (has.0, visited.grown.kept other has.0 has.1)
@@ -48,7 +49,7 @@ pub HasSwept-none : (rows : List (List ℕ)) (count : ℕ) → count ≡ length 
 HasSwept-none rows count same = record {
   count = length-replicate count (let none : Option ℕ = None in none) ∙ same;
   marked = λ node lt. absurd (omega (arith, lt));
-  finished = λ node has. absurd (not_both (mark_of (replicate count None) node) has.0 has.1 (no_mark count node));
+  finished = λ node has. absurd (some-not_none (mark_of (replicate count None) node) has.0 has.1 (no_mark count node));
   searched = IsVisited-none rows (replicate count None);
 }
 
@@ -68,7 +69,7 @@ HasSwept-more rows node mark m₀ o₀ m₁ o₁ was visited = record {
 pub marked_within : (marks : List (Option ℕ)) (node : ℕ) → IsMarked marks node → node < length marks
 marked_within marks node has = ⊎_elim
     (λ within. within)
-    (λ past. absurd (not_both (mark_of marks node) has.0 has.1 (get_or_past marks node None past)))
+    (λ past. absurd (some-not_none (mark_of marks node) has.0 has.1 (get_or_past marks node None past)))
     (cases_lt node (length marks))
 
 -- all searches are done
@@ -78,7 +79,7 @@ IsFinishingOrder-swept rows marks order end swept all = record {
   complete = λ node within. swept.finished node (swept.marked node (omega (arith, within, all)));
   inside = λ node has. let within = marked_within marks node (swept.searched.marked node has) in
       omega (arith, within, swept.count);
-  settled = swept.searched.settled;
+  closed = swept.searched.closed;
 }
 
 -- no group is found
@@ -86,7 +87,7 @@ pub IsGroupedFrom-none : (rows reversed : List (List ℕ)) (order : List ℕ) (c
     → IsGroupedFrom rows reversed order (replicate count None) [] (length order)
 IsGroupedFrom-none rows reversed order count same =
     let none = λ (node : ℕ) (mark : ℕ) (e : mark_of (replicate count None) node ≡ Some mark).
-    not_both (mark_of (replicate count None) node) mark e (no_mark count node) in
+    some-not_none (mark_of (replicate count None) node) mark e (no_mark count node) in
     record {
       count = length-replicate count (let unmarked : Option ℕ = None in unmarked) ∙ same;
       later = λ other from within. absurd (omega (arith, from, within));
@@ -106,33 +107,33 @@ module _ (rows reversed : List (List ℕ)) (order : List ℕ) (index : ℕ) (m�
   abbrev root : ℕ
   root = get_or order index 0
 
-  abbrev settled : ClosesGroup reversed order index
-  settled = finishing.settled index within
+  abbrev closed : ClosesGroup reversed order index
+  closed = finishing.closed index within
 
   -- what has no mark stands up to the root
   up_to_root : (node other : ℕ) → get_or order other 0 ≡ node → other < length order → mark_of m₀ node ≡ None
       → other ≤ index
   up_to_root node other at in_order none = ⊎_elim
       (λ beyond. let given = was.later other (omega (arith, beyond)) in_order in
-      absurd (not_both (mark_of m₀ node) (given.0) (ap (mark_of m₀) (sym at) ∙ given.1) none))
+      absurd (some-not_none (mark_of m₀ node) (given.0) (ap (mark_of m₀) (sym at) ∙ given.1) none))
       (λ upto. upto)
       (cases_lt index other)
 
   -- what steps to the root's part of the order is no earlier
-  from_start : (node next here other : ℕ) → get_or order here 0 ≡ node → settled.start ≤ here → here ≤ index
+  from_start : (node next here other : ℕ) → get_or order here 0 ≡ node → closed.start ≤ here → here ≤ index
       → get_or order other 0 ≡ next → IsStep reversed next node
-      → settled.start ≤ other
+      → closed.start ≤ other
   from_start node next here other at from upto at_other leads = ⊎_elim
-      (λ early. absurd (settled.apart other here early from upto
+      (λ early. absurd (closed.apart other here early from upto
       (subst (λ (x : ℕ). IsStep reversed x (get_or order here 0)) (sym at_other)
       (subst (λ (x : ℕ). IsStep reversed next x) (sym at) leads))))
       (λ late. late)
-      (cases_lt other settled.start)
+      (cases_lt other closed.start)
 
   -- a walk past marks stays in the root's part of the order
-  walk_inside : (steps from to here : ℕ) → get_or order here 0 ≡ from → settled.start ≤ here → here ≤ index
+  walk_inside : (steps from to here : ℕ) → get_or order here 0 ≡ from → closed.start ≤ here → here ≤ index
       → WalksUnmarked rows m₀ from to steps
-      → (other : ℕ) × (settled.start ≤ other) × (other ≤ index) × (get_or order other 0 ≡ to)
+      → (other : ℕ) × (closed.start ≤ other) × (other ≤ index) × (get_or order other 0 ≡ to)
   walk_inside zero from to here at start_in upto walk = (here, start_in, upto, at ∙ walk)
   walk_inside (suc steps) from to here at start_in upto walk =
       let next : ℕ = walk.0 in
@@ -145,8 +146,8 @@ module _ (rows reversed : List (List ℕ)) (order : List ℕ) (index : ℕ) (m�
   -- what the search from the root reaches reaches the root
   new_back : (node : ℕ) → ReachesUnmarked rows m₀ root node → ReachesUnmarked reversed [] root node
   new_back node walk =
-      let inside = walk_inside walk.0 root node index refl settled.begins (omega arith) walk.1 in
-      subst (λ (x : ℕ). ReachesUnmarked reversed [] root x) inside.3 (settled.reached inside.0 inside.1 inside.2)
+      let inside = walk_inside walk.0 root node index refl closed.begins (omega arith) walk.1 in
+      subst (λ (x : ℕ). ReachesUnmarked reversed [] root x) inside.3 (closed.reached inside.0 inside.1 inside.2)
 
   now_high : (node mark : ℕ) → mark_of m₁ node ≡ Some mark → index ≤ mark
   now_high node mark e = ⊎_elim

@@ -1,11 +1,12 @@
 -- Ranks of the nodes of a valid graph, by which each edge that may take no time goes upwards. The rank of a node is the
 -- number of nodes from which one can walk to it over some such edges.
-use Rattle.std.proofs.Common.{◌≡◌, ℕ, zero, suc, ◌+◌, ◌<◌, ◌≤◌, ◌&&◌, ◌||◌, Bool, true, false, cond, ◌⊎◌, ⊎_elim, inl, inr, length, nat_eq, Contains, refl, sym, ap, ◌∙◌, subst, arith}
+use Rattle.std.proofs.Common.{◌≡◌, ℕ, zero, suc, ◌+◌, ◌<◌, ◌≤◌, ◌&&◌, ◌||◌, Bool, true, ◌⊎◌, ⊎_elim, inl, inr, length, nat_eq, Contains, refl, sym, ap, ◌∙◌, subst, arith}
 use Rattle.std.specs.List.{list_any}
-use Rattle.std.proofs.lemmas.Bool.{and_parts, and_from, or_left, or_right, or_cases, eqb-true, eq-eqb, false≢true, false_from_ne_true, cases_lt}
+use Rattle.std.proofs.lemmas.Bool.{and_parts, and_from, or_left, or_right, or_cases, eqb-true, eq-eqb, false_from_ne_true, cases_lt}
 use Rattle.std.proofs.lemmas.List.Elements.{All-contains}
 use Rattle.std.proofs.lemmas.List.Folds.{list_any_at}
 use Rattle.tfpg_base.proofs.lists.Elements.{All-from_members, list_any-found}
+use Rattle.tfpg_base.proofs.lists.Sequences.{count_below, count_below-lt}
 use Rattle.tfpg_graph.specs.declared.edge.Edge.{Edge}
 use Rattle.tfpg_graph.specs.Graph.{Tfpg}
 use Rattle.tfpg_graph.specs.Valid.{IsValid, IsValidEdge, WalksInNoTime}
@@ -20,11 +21,6 @@ is_zero_edge from to edge = nat_eq edge.source from && (nat_eq edge.target to &&
 abbrev pub walks : Tfpg → ℕ → ℕ → ℕ → Bool
 walks graph zero from to = list_any (is_zero_edge from to) graph.edges
 walks graph (suc below) from to = walks graph below from to || (walks graph below from below && walks graph below below to)
-
--- how many numbers below this one pass a test
-abbrev passing : (ℕ → Bool) → ℕ → ℕ
-passing test zero = 0
-passing test (suc number) = cond (test number) 1 0 + passing test number
 
 module _ (graph : Tfpg) where
   -- a walk of as many steps
@@ -138,40 +134,10 @@ module _ (graph : Tfpg) where
           (or_cases (walks graph below between to) (walks graph below between below && walks graph below below to) other)
       at (inr least) join = last between (omega arith) one other
 
--- one that passes adds to the count
-step_le : (x y : Bool) → (x ≡ true → y ≡ true) → cond {A = ℕ} x 1 0 ≤ cond {A = ℕ} y 1 0
-step_le true true more = omega arith
-step_le true false more = absurd (false≢true (more refl))
-step_le false true more = omega arith
-step_le false false more = omega arith
-
--- where more numbers pass, the count is no less
-passing-le : (test other : ℕ → Bool) (end : ℕ) → ((number : ℕ) → test number ≡ true → other number ≡ true)
-    → passing test end ≤ passing other end
-passing-le test other zero more = omega arith
-passing-le test other (suc end) more =
-    omega (arith, step_le (test end) (other end) (more end), passing-le test other end more)
-
--- where one more passes, it is greater
-passing-lt : (test other : ℕ → Bool) (end one : ℕ) → ((number : ℕ) → test number ≡ true → other number ≡ true)
-    → one < end → test one ≡ false → other one ≡ true → passing test end < passing other end
-passing-lt test other zero one more within old new = absurd (omega arith)
-passing-lt test other (suc end) one more within old new =
-    by (cases_lt one end) (λ less. passing-lt test other end one more less old new)
-  where
-    by : (one < end) ⊎ (end ≤ one) → (one < end → passing test end < passing other end)
-        → cond {A = ℕ} (test end) 1 0 + passing test end < cond {A = ℕ} (other end) 1 0 + passing other end
-    by (inl less) before = omega (arith, step_le (test end) (other end) (more end), before less)
-    by (inr last) before =
-        let is : end ≡ one = omega arith in
-        let none : cond {A = ℕ} (test end) 1 0 ≡ 0 = ap (λ b. cond {A = ℕ} b 1 0) (ap test is ∙ old) in
-        let some : cond {A = ℕ} (other end) 1 0 ≡ 1 = ap (λ b. cond {A = ℕ} b 1 0) (ap other is ∙ new) in
-        omega (arith, none, some, passing-le test other end more)
-
 -- Each valid graph has ranks by which each edge that may take no time goes upwards.
 pub HasZeroOrder-valid : (graph : Tfpg) → IsValid graph → HasZeroOrder graph
 HasZeroOrder-valid graph valid = record {
-  rank = λ node. passing (λ before. walks graph count before node) count;
+  rank = λ node. count_below (λ before. walks graph count before node) count;
   rises = All-from_members (λ edge. edge.tmin ≡ 0 → rank edge.source < rank edge.target) graph.edges (λ edge among. up edge among);
 }
   where
@@ -179,13 +145,13 @@ HasZeroOrder-valid graph valid = record {
     count = length graph.nodes
 
     rank : ℕ → ℕ
-    rank node = passing (λ before. walks graph count before node) count
+    rank node = count_below (λ before. walks graph count before node) count
 
     up : (edge : Edge) → Contains graph.edges edge → edge.tmin ≡ 0 → rank edge.source < rank edge.target
     up edge among no_time =
         let is : IsValidEdge graph edge = All-contains (IsValidEdge graph) graph.edges edge valid.so_far.edges among in
         let along = walks-edge graph count edge among no_time in
-        passing-lt (λ before. walks graph count before edge.source) (λ before. walks graph count before edge.target) count edge.source
+        count_below-lt (λ before. walks graph count before edge.source) (λ before. walks graph count before edge.target) count edge.source
         (λ before there. walks-joined graph count before edge.source edge.target is.source there along)
         is.source
         (false_from_ne_true (walks graph count edge.source edge.source)

@@ -4,9 +4,10 @@ use Rattle.std.proofs.lemmas.Bool.{cases_lt, cases_eq}
 use Rattle.std.proofs.lemmas.List.{append-nil, length-set, length_push, get_or_append_left, get_or-append_right, get_or_push}
 use Rattle.std.proofs.lemmas.List.Elements.{Contains-get_or, Contains-append_left, Contains-append_right, Contains-append_cases, Contains-push, Contains-push_cases}
 use Rattle.tfpg_graph.specs.inside.zero_cycle.ZeroSearch.{IsStep, mark_of, IsMarked, unmarked_count, ReachesUnmarked, ClosesGroup, IsVisited, HasGrown, HasVisited}
-use Rattle.tfpg_graph.proofs.lemmas.zero_cycle.ZeroWalks.{mark_cases, not_both, unmarked_before, ReachesUnmarked-weaker, ReachesUnmarked-any, ReachesUnmarked-step}
+use Rattle.tfpg_graph.proofs.lemmas.zero_cycle.ZeroWalks.{unmarked_before, ReachesUnmarked-weaker, ReachesUnmarked-any, ReachesUnmarked-step}
+use Rattle.tfpg_base.proofs.lists.Choices.{option_cases, some-not_none}
 
--- what is settled stays so when the order goes on
+-- a group that is closed stays so when the order goes on
 pub ClosesGroup-append : (rows : List (List ℕ)) (order more : List ℕ) (index : ℕ) → index < length order
     → ClosesGroup rows order index → ClosesGroup rows (order ++ more) index
 ClosesGroup-append rows order more index within is = record {
@@ -37,7 +38,7 @@ pub IsVisited-kept : (rows : List (List ℕ)) (old new : List (Option ℕ)) (ord
 IsVisited-kept rows old new order kept is = record {
   marked = λ node has. let was = is.marked node has in (was.0, kept node was.0 was.1);
   followed = λ from to has leads. let was = is.followed from to has leads in (was.0, kept to was.0 was.1);
-  settled = is.settled;
+  closed = is.closed;
 }
 
 -- a search from a node that has a mark does nothing
@@ -49,14 +50,14 @@ HasVisited-already rows node mark marks order is marked = record {
     count = refl;
     kept = λ other given e. e;
     fresh = λ other given e. inl e;
-    done = λ other has none. absurd (not_both (mark_of marks other) has.0 has.1 none);
+    done = λ other has none. absurd (some-not_none (mark_of marks other) has.0 has.1 none);
     more = [];
     order_is = sym (append-nil order);
     more_new = λ other has. absurd (omega (arith, has.1));
     searched = is;
   };
   marked = marked;
-  finished = λ none. absurd (not_both (mark_of marks node) marked.0 marked.1 none);
+  finished = λ none. absurd (some-not_none (mark_of marks node) marked.0 marked.1 none);
   fewer = omega arith;
 }
 
@@ -72,7 +73,7 @@ module _ (rows : List (List ℕ)) (node mark : ℕ) (marks : List (Option ℕ)) 
   begin_kept : (other given : ℕ) → mark_of marks other ≡ Some given
       → mark_of (set marks node (Some mark)) other ≡ Some given
   begin_kept other given e = ⊎_elim
-      (λ same. absurd (not_both (mark_of marks other) given e (ap (mark_of marks) same ∙ none)))
+      (λ same. absurd (some-not_none (mark_of marks other) given e (ap (mark_of marks) same ∙ none)))
       (λ differs. elsewhere other differs ∙ e)
       (cases_eq other node)
 
@@ -88,7 +89,7 @@ module _ (rows : List (List ℕ)) (node mark : ℕ) (marks : List (Option ℕ)) 
         (λ differs. inl (sym (elsewhere other differs) ∙ e))
         (cases_eq other node);
     done = λ other has was. ⊎_elim inl
-        (λ differs. absurd (not_both (mark_of marks other) has.0 (sym (elsewhere other differs) ∙ has.1) was))
+        (λ differs. absurd (some-not_none (mark_of marks other) has.0 (sym (elsewhere other differs) ∙ has.1) was))
         (cases_eq other node);
     more = [];
     order_is = sym (append-nil order);
@@ -132,7 +133,7 @@ module _ (rows : List (List ℕ)) (node mark next : ℕ) (m₀ : List (Option �
     done = λ other has was_none. ⊎_elim
         (λ unmarked. ⊎_elim (λ same. inr (next_done other same unmarked)) inr (visited.grown.done other has unmarked))
         (λ given. ⊎_elim inl (λ in_order. inr (further other in_order)) (was.done other given was_none))
-        (mark_cases (mark_of m₁ other));
+        (option_cases (mark_of m₁ other));
     more = was.more ++ visited.grown.more;
     order_is = visited.grown.order_is ∙ ap (λ o. o ++ visited.grown.more) was.order_is
         ∙ append_assoc o₀ was.more visited.grown.more;
@@ -192,7 +193,7 @@ module _ (rows : List (List ℕ)) (node mark : ℕ) (m₀ : List (Option ℕ)) (
   new_reached other has =
       let given = grown.searched.marked other (in_order other has) in
       ⊎_elim
-      (λ old. absurd (not_both (mark_of m₀ other) given.0 old (grown.more_new other has)))
+      (λ old. absurd (some-not_none (mark_of m₀ other) given.0 old (grown.more_new other has)))
       (λ new. ReachesUnmarked-any rows m₀ node other new.walk)
       (grown.fresh other given.0 given.1)
 
@@ -202,15 +203,15 @@ module _ (rows : List (List ℕ)) (node mark : ℕ) (m₀ : List (Option ℕ)) (
       (λ past. (zero, sym (last_is index (omega arith))))
       (cases_lt index (length o₁))
 
-  settled_last : (index : ℕ) → index ≡ length o₁ → ClosesGroup rows whole index
-  settled_last index last = record {
+  closed_last : (index : ℕ) → index ≡ length o₁ → ClosesGroup rows whole index
+  closed_last index last = record {
     start = length o₀;
     begins = omega (arith, longer);
     reached = λ other from upto. subst (λ (x : ℕ). ReachesUnmarked rows [] x (get_or whole other 0))
         (sym (last_is index last)) (reached_at other from (omega arith));
     apart = λ before other early from upto leads.
         let given = was.followed (get_or whole before 0) (get_or whole other 0) (old_at before early) leads in
-        not_both (mark_of m₀ (get_or whole other 0)) given.0 given.1 (unmarked_at other from (omega arith));
+        some-not_none (mark_of m₀ (get_or whole other 0)) given.0 given.1 (unmarked_at other from (omega arith));
   }
 
   searched_whole : IsVisited rows m₁ whole
@@ -221,9 +222,9 @@ module _ (rows : List (List ℕ)) (node mark : ℕ) (m₀ : List (Option ℕ)) (
         (λ early. grown.searched.followed from to early leads)
         (λ same. followed to (subst (λ (x : ℕ). IsStep rows x to) (sym same) leads))
         (Contains-push_cases o₁ node from has);
-    settled = λ index within. ⊎_elim
-        (λ early. ClosesGroup-append rows o₁ (node ∷ []) index early (grown.searched.settled index early))
-        (λ late. settled_last index (omega (arith, length_push o₁ node)))
+    closed = λ index within. ⊎_elim
+        (λ early. ClosesGroup-append rows o₁ (node ∷ []) index early (grown.searched.closed index early))
+        (λ late. closed_last index (omega (arith, length_push o₁ node)))
         (cases_lt index (length o₁));
   }
 

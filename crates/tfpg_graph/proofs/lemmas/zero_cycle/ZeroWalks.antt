@@ -1,25 +1,17 @@
 -- Walks along steps to nodes without marks.
-use Rattle.std.proofs.Common.{◌≡◌, ℕ, zero, suc, ◌<◌, ◌≤◌, ◌⊎◌, inl, inr, ⊎_elim, true, false, cond, List, [], length, get_or, set, Option, Some, None, is_some, is_none, Contains, refl, sym, ap, ◌∙◌, subst, arith}
+use Rattle.std.proofs.Common.{◌≡◌, ℕ, zero, suc, ◌<◌, ◌≤◌, ⊎_elim, true, false, cond, List, [], length, get_or, set, Option, Some, None, is_some, is_none, Contains, refl, sym, ap, ◌∙◌, subst, arith}
 use Rattle.std.proofs.lemmas.List.{get_or_read, get_or_default}
 use Rattle.std.proofs.lemmas.List.Sums.{sum_by-set}
-use Rattle.tfpg_base.proofs.lists.Choices.{is_some-there, is_some-none}
+use Rattle.tfpg_base.proofs.lists.Choices.{is_some-there, is_some-none, option_cases, some-not_none}
 use Rattle.tfpg_graph.specs.inside.zero_cycle.ZeroSearch.{IsStep, mark_of, IsMarked, unmarked_count, WalksUnmarked, ReachesUnmarked}
-
-pub mark_cases : (o : Option ℕ) → (o ≡ None) ⊎ ((mark : ℕ) × (o ≡ Some mark))
-mark_cases None = inl refl
-mark_cases (Some mark) = inr (mark, refl)
-
--- a node has not both a mark and none
-pub not_both : (o : Option ℕ) (mark : ℕ) → o ≡ Some mark → o ≡ None → ⊥
-not_both o mark some none = cc
 
 -- where marks are kept, a node without one had none
 pub unmarked_before : (old new : List (Option ℕ))
     → ((other given : ℕ) → mark_of old other ≡ Some given → mark_of new other ≡ Some given)
     → (node : ℕ) → mark_of new node ≡ None → mark_of old node ≡ None
 unmarked_before old new kept node none =
-    ⊎_elim (λ is. is) (λ is. absurd (not_both (mark_of new node) is.0 (kept node is.0 is.1) none))
-    (mark_cases (mark_of old node))
+    ⊎_elim (λ is. is) (λ is. absurd (some-not_none (mark_of new node) is.0 (kept node is.0 is.1) none))
+    (option_cases (mark_of old node))
 
 -- a walk past fewer marks
 pub WalksUnmarked-weaker : (rows : List (List ℕ)) (old new : List (Option ℕ))

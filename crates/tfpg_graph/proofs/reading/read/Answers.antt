@@ -8,7 +8,8 @@ use Rattle.tfpg_graph.specs.inside.reading.Turns.{ReaderRepresents}
 use Rattle.tfpg_graph.specs.inside.reading.TurnResults.{refusal_at}
 use Rattle.tfpg_graph.proofs.lemmas.reading.Standing.{ReaderRepresents-ok}
 use Rattle.tfpg_base.proofs.LinesOf.{parts_of_some}
-use Rattle.tfpg_graph.proofs.lemmas.reading.WholeText.{IsBody, lines_at, IsRefusalOf-line, IsGraphResult-refused, IfOk-spelled, IfErr-refused, IsGraphResult-end}
+use Rattle.tfpg_base.proofs.lists.Cuts.{cut_read}
+use Rattle.tfpg_graph.proofs.lemmas.reading.WholeText.{IsBody, IsRefusalOf-line, IsGraphResult-refused, IfOk-spelled, IfErr-refused, IsGraphResult-end}
 use Rattle.tfpg_graph.proofs.lemmas.reading.OneFault.{IsFaultResult-from}
 use Rattle.tfpg_graph.proofs.reading.read.Goals as goal
 use Rattle.tfpg_graph.proofs.reading.read.Goals.{After-next, In-Some, In-None}
@@ -30,7 +31,7 @@ parts_round c =
     (λ x b q k. search (rules, tests)) in
     let turn = YieldsList-turn all c.loop-line.yielded _ c.loop-line.yielded_by _ _ c.in-Some.line c.in-Some.is
     c.next.ensures.steps in
-    lines_at (parts_of body) (map (λ line. line.now) c.loop-line.yielded) (length c.loop-line.yielded)
+    cut_read (parts_of body) (map (λ line. line.now) c.loop-line.yielded) (length c.loop-line.yielded)
     c.in-Some.line.now (YieldsList-so_far all c.loop-line.yielded _ c.loop-line.yielded_by) turn.0 turn.1
 
 -- all lines are the parts

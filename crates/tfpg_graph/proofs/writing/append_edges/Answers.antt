@@ -1,5 +1,6 @@
 use Rattle.std.proofs.Common.{arith}
-use Rattle.tfpg_base.proofs.Appended.{Appends-err_after, appended_next, appended_all}
+use Rattle.tfpg_base.proofs.Appended.{Appends-err_after}
+use Rattle.tfpg_base.proofs.lists.Appended.{appended_next, appended_all}
 use Rattle.tfpg_base.proofs.lists.Elements.{All-at}
 use Rattle.tfpg_graph.specs.Valid.{IsValidEdge}
 use Rattle.tfpg_graph.specs.inside.writing.Written.{edge_text}

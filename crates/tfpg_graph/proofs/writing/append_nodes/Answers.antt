@@ -1,6 +1,7 @@
 use Rattle.std.proofs.Common.{arith}
-use Rattle.tfpg_base.proofs.Appended.{Appends-err_after, appended_next, appended_all}
-use Rattle.tfpg_graph.specs.inside.writing.Written.{node_text}
+use Rattle.tfpg_base.proofs.Appended.{Appends-err_after}
+use Rattle.tfpg_base.proofs.lists.Appended.{appended_next, appended_all}
+use Rattle.tfpg_graph.specs.Text.{node_text}
 use Rattle.tfpg_graph.proofs.NodeAt.{node_at}
 use Rattle.tfpg_graph.proofs.writing.append_nodes.Goals as goal
 

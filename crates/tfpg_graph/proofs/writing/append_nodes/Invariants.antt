@@ -1,6 +1,6 @@
 use Rattle.std.proofs.Common.{◌≡◌, ◌++◌, take}
 use Rattle.std.specs.List.{flat_map}
-use Rattle.tfpg_graph.specs.inside.writing.Written.{node_text}
+use Rattle.tfpg_graph.specs.Text.{node_text}
 use Rattle.tfpg_graph.proofs.writing.append_nodes.Given as goal
 
 -- the lines of the nodes so far stand after the old bytes

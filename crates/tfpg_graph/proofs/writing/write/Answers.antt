@@ -1,8 +1,9 @@
 use Rattle.std.proofs.Common.{sym, subst}
 use Rattle.tfpg_base.specs.Append.{Appends}
 use Rattle.tfpg_graph.proofs.lemmas.writing.Spelled.{Spells-canonical}
-use Rattle.tfpg_graph.proofs.lemmas.writing.TextPieces.{Appends-after_four, canonical_text-pieces}
+use Rattle.tfpg_graph.proofs.lemmas.writing.TextPieces.{canonical_text-pieces}
 use Rattle.tfpg_graph.proofs.writing.write.Goals as goal
+use Rattle.tfpg_base.proofs.Appended.{Appends-after_four}
 
 pub returns-in_err-append_line-clause-spelled : goal.returns-in_err-append_line-clause-spelled
 returns-in_err-append_line-clause-spelled c = Spells-canonical c.args.graph.now c.node_count-nodes.ensures.valid

@@ -7,7 +7,7 @@ use Rattle.tfpg_graph.specs.declared.reading.reader.Part.{Part}
 use Rattle.tfpg_graph.specs.declared.reading.reader.Part.TheVariants.{Header, Declarations, Ended}
 use Rattle.tfpg_graph.specs.Graph.{Tfpg}
 use Rattle.tfpg_graph.specs.Text.{header}
-use Rattle.tfpg_graph.specs.inside.Indexes.{nothing_declared, with_node, with_edge, with_mode}
+use Rattle.tfpg_graph.specs.inside.declaring.Indexes.{nothing_declared, with_node, with_edge, with_mode}
 use Rattle.tfpg_graph.specs.Statements.{Statement, DeclaresMode, DeclaresNode, DeclaresEdge, Ends, statement_of, statements_of, is_skipped, ends_text}
 use Rattle.tfpg_graph.specs.Declares.{kind_of_words, edge_declared, declared_by}
 use Rattle.tfpg_base.specs.Choice.{first_of}

@@ -1,19 +1,19 @@
 -- Pieces of the canonical text, as the calls that append them name them.
-use Rattle.std.specs.Prelude.{ℕ, List, filter, filter_map, slice_get, ◌==◌}
+use Rattle.std.specs.Prelude.{ℕ, List, filter, filter_map, slice_get, Option, option_map, decimal}
 use Rattle.std.specs.List.{range_with_len}
-use Rattle.std.specs.Int.{bit_at}
 use Rattle.tfpg_base.specs.Lines.{with_line_end}
 use Rattle.tfpg_graph.specs.declared.edge.Edge.{Edge}
-use Rattle.tfpg_graph.specs.Graph.{Tfpg, Node}
-use Rattle.tfpg_graph.specs.Text.{mode_line, node_line, edge_line, modes_word}
+use Rattle.tfpg_graph.specs.Graph.{Tfpg, has_mode_bit}
+use Rattle.tfpg_graph.specs.Statements.{words_of_watch}
+use Rattle.tfpg_graph.specs.Text.{mode_line, edge_line, modes_word}
 
 -- the line of a mode, with its line end
 abbrev pub mode_text : List ℕ → List ℕ
 mode_text name = with_line_end (mode_line name)
 
--- the line of a node, with its line end
-abbrev pub node_text : Node → List ℕ
-node_text node = with_line_end (node_line node)
+-- a discrepancy's last words, by its lag
+abbrev pub watch_words : Option ℕ → List (List ℕ)
+watch_words lag = words_of_watch (option_map decimal lag)
 
 -- the line of an edge, with its line end
 abbrev pub edge_text : Tfpg → Edge → List ℕ
@@ -21,7 +21,7 @@ edge_text graph edge = with_line_end (edge_line graph edge (modes_word graph edg
 
 -- the modes before this number whose bits are set, rising
 abbrev pub modes_before : ℕ → ℕ → List ℕ
-modes_before bits end = filter (λ mode. bit_at bits mode == 1) (range_with_len 0 end)
+modes_before bits end = filter (has_mode_bit bits) (range_with_len 0 end)
 
 -- the names of the modes before this number whose bits are set
 abbrev pub mode_names_before : Tfpg → ℕ → ℕ → List (List ℕ)

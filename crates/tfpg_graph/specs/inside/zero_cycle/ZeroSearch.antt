@@ -60,7 +60,7 @@ pub record ClosesGroup (rows : List (List ℕ)) (order : List ℕ) (index : ℕ)
 pub record IsVisited (rows : List (List ℕ)) (marks : List (Option ℕ)) (order : List ℕ) : Type 0 where
   pub marked : (node : ℕ) → Contains order node → IsMarked marks node
   pub followed : (from to : ℕ) → Contains order from → IsStep rows from to → IsMarked marks to
-  pub settled : (index : ℕ) → index < length order → ClosesGroup rows order index
+  pub closed : (index : ℕ) → index < length order → ClosesGroup rows order index
 
 -- A node got this mark in a search from a node that had none.
 pub record IsFresh (rows : List (List ℕ)) (node mark : ℕ) (old_marks : List (Option ℕ)) (other given : ℕ) : Type 0 where
@@ -101,7 +101,7 @@ pub record HasSwept (rows : List (List ℕ)) (marks : List (Option ℕ)) (order 
 pub record IsFinishingOrder (rows : List (List ℕ)) (order : List ℕ) : Type 0 where
   pub complete : (node : ℕ) → node < length rows → Contains order node
   pub inside : (node : ℕ) → Contains order node → node < length rows
-  pub settled : (index : ℕ) → index < length order → ClosesGroup rows order index
+  pub closed : (index : ℕ) → index < length order → ClosesGroup rows order index
 
 -- Nodes have been marked by searches from the nodes of the order from this index on, each with the index as its mark.
 pub record IsGroupedFrom (rows reversed : List (List ℕ)) (order : List ℕ) (marks : List (Option ℕ)) (done : List ℕ)

@@ -2,7 +2,9 @@ use Rattle.std.proofs.Common.{◌++◌, ◌<◌, ◌+◌, All, arith, sym, ◌�
 use Rattle.std.proofs.lemmas.List.{append-nil}
 use Rattle.std.proofs.lemmas.Result.{on_ok_weaker}
 use Rattle.tfpg_hyp.proofs.Counted.{chosen-past}
-use Rattle.tfpg_hyp.proofs.Listed.{after, appended-next, All-with_member}
+use Rattle.tfpg_hyp.proofs.Listed.{after, appended-next}
+use Rattle.tfpg_base.proofs.Sets.{All-with_member}
+use Rattle.std.proofs.lemmas.List.Elements.{All-weaker}
 use Rattle.tfpg_hyp.proofs.listing.+append_sets.Goals as goal
 
 pub returns-then-count-size : goal.returns-then-count-size
@@ -11,7 +13,7 @@ returns-then-count-size t c =
 
 pub append_sets-requires : goal.append_sets-requires
 append_sets-requires t c =
-    (omega arith, (omega (arith, c.requires.room), subst (All (λ index. index < c.args.least + 1)) (sym c.with.ensures.list) (All-with_member c.args.least c.args.members c.requires.below)))
+    (omega arith, (omega (arith, c.requires.room), subst (All (λ index. index < c.args.least + 1)) (sym c.with.ensures.list) (All-with_member (λ index. index < c.args.least + 1) c.args.least c.args.members (omega arith) (All-weaker (λ index. index < c.args.least) (λ index. index < c.args.least + 1) (λ index below. omega (arith, below)) c.args.members c.requires.below))))
 
 pub returns : goal.returns
 returns t c =

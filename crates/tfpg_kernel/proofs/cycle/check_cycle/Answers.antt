@@ -1,4 +1,4 @@
-use Rattle.std.proofs.Common.{◌≡◌, ℕ, suc, ◌+◌, ◌<◌, ◌≤◌, length, take, get_or, List, [], Some, ap, sym, ◌∙◌, refl, arith, ◌++◌, ◌∷◌, None, drop, inl, inr, subst}
+use Rattle.std.proofs.Common.{◌≡◌, ℕ, suc, ◌+◌, ◌<◌, length, take, get_or, List, [], Some, ap, sym, ◌∙◌, refl, arith, ◌++◌, ◌∷◌, None, drop, inl, inr, subst}
 use Rattle.std.specs.Prelude.{map, Ok, Err, Option}
 use Rattle.std.specs.Option.{ok_or}
 use Rattle.std.proofs.lemmas.Int.{ints}
@@ -14,23 +14,16 @@ use Rattle.tfpg_kernel.specs.declared.taken.BadStep.{BadStep}
 use Rattle.tfpg_kernel.specs.Breaks.{fault_of, reasons_fault, CycleBreaks}
 use Rattle.tfpg_kernel.specs.inside.Chains.{chain_of, with_constraint, closing_fault, bad_of}
 use Rattle.tfpg_clause.specs.Paths.{stated_by}
-use Rattle.tfpg_kernel.proofs.Chained.{chain_push, closes, breaks, first_fault, each_more}
+use Rattle.tfpg_base.proofs.lists.Choices.{each_of-map_push, ok_or-err, ok_or-ok}
+use Rattle.tfpg_kernel.proofs.Chained.{chain_push, closes, breaks, first_fault}
 use Rattle.tfpg_kernel.proofs.cycle.check_cycle.Goals as goal
-
-err_is : (o : Option Constraint) (fault bad : BadStep) → ok_or o fault ≡ Err bad → (o ≡ None) × (fault ≡ bad)
-err_is None fault bad is = let same : fault ≡ bad = cc in (refl, same)
-err_is (Some c) fault bad is = cc
-
-ok_is : (o : Option Constraint) (fault : BadStep) (c : Constraint) → ok_or o fault ≡ Ok c → o ≡ Some c
-ok_is None fault c is = cc
-ok_is (Some d) fault c is = let same : d ≡ c = cc in ap (λ (x : Constraint). Some x) same
 
 module _ (states : Reason → Option Constraint) (reasons : List Reason) where
   at_fault : (k : ℕ) (d : Reason) (bad : BadStep) (constraints : List Constraint) → k < length reasons → each_of (map states (take k reasons)) ≡ Some constraints
       → ok_or (states (get_or reasons k d)) (fault_of (get_or reasons k d)) ≡ Err bad → CycleBreaks states reasons bad
   at_fault k d bad constraints within hold is =
       let reason : Reason = get_or reasons k d in
-      let none = err_is (states reason) (fault_of reason) bad is in
+      let none = ok_or-err (states reason) (fault_of reason) bad is in
       let whole : take k reasons ++ reason ∷ drop (suc k) reasons ≡ reasons = ap (λ (rs : List Reason). take k reasons ++ rs) (sym (drop-cons reasons k d within)) ∙ take-append-drop k reasons in
       let found : reasons_fault states (take k reasons ++ reason ∷ drop (suc k) reasons) ≡ Some (fault_of reason) = first_fault states (take k reasons) reason (drop (suc k) reasons) constraints hold none.0 in
       inl (ap (reasons_fault states) (sym whole) ∙ found ∙ ap (λ (b : BadStep). Some b) none.1)
@@ -42,10 +35,7 @@ module _ (states : Reason → Option Constraint) (reasons : List Reason) where
       let more : k + 1 ≡ suc k = omega arith in
       ap (λ (n : ℕ). each_of (map states (take n reasons))) more
       ∙ ap (λ (rs : List Reason). each_of (map states rs)) (take-suc reasons k d within)
-      ∙ each_more states (take k reasons) reason constraints c hold (ok_is (states reason) (fault_of reason) c is)
-
-  all_hold : (k : ℕ) (constraints : List Constraint) → length reasons ≤ k → each_of (map states (take k reasons)) ≡ Some constraints → each_of (map states reasons) ≡ Some constraints
-  all_hold k constraints all hold = ap (λ (rs : List Reason). each_of (map states rs)) (sym (take_all k reasons all)) ∙ hold
+      ∙ each_of-map_push states (take k reasons) reason constraints c hold (ok_or-ok (states reason) (fault_of reason) c is)
 
 pub loop-reason-init : goal.loop-reason-init
 loop-reason-init c = record { constraints = []; hold = refl; chain = refl; small = record { low = omega (arith, ints); high = omega (arith, ints) } }
@@ -74,13 +64,13 @@ pub returns-in-None : goal.returns-in-None
 returns-in-None c =
     let constraints = c.loop-reason.invariant.constraints in
     let chain = c.loop-reason.invariant.chain in
+    let states : Reason → Option Constraint = stated_by c.args.graph.now c.args.log.now c.args.reach.now c.args.path.now in
+    let all : take c.loop-reason.reason-index c.args.reasons.now ≡ c.args.reasons.now = take_all c.loop-reason.reason-index c.args.reasons.now (omega arith) in
     let none : closing_fault (chain_of constraints) ≡ None = ap closing_fault (sym chain) ∙ sym c.fault.ensures ∙ c.in-None.is in
-    let both = closes constraints none in
     record {
       constraints = constraints;
-      hold = all_hold (stated_by c.args.graph.now c.args.log.now c.args.reach.now c.args.path.now) c.args.reasons.now c.loop-reason.reason-index constraints (omega arith) c.loop-reason.invariant.hold;
-      cycle = both.0;
-      negative = both.1;
+      hold = ap (λ (rs : List Reason). each_of (map states rs)) (sym all) ∙ c.loop-reason.invariant.hold;
+      negative_cycle = closes constraints none;
     }
 
 pub returns-in-Some : goal.returns-in-Some
@@ -88,7 +78,8 @@ returns-in-Some c =
     let constraints = c.loop-reason.invariant.constraints in
     let chain = c.loop-reason.invariant.chain in
     let states : Reason → Option Constraint = stated_by c.args.graph.now c.args.log.now c.args.reach.now c.args.path.now in
+    let all : take c.loop-reason.reason-index c.args.reasons.now ≡ c.args.reasons.now = take_all c.loop-reason.reason-index c.args.reasons.now (omega arith) in
     let some : closing_fault (chain_of constraints) ≡ Some c.in-Some.fault = ap closing_fault (sym chain) ∙ sym c.in-Some.ensures in
     let broken : CycleBreaks states c.args.reasons.now (bad_of c.in-Some.fault) =
-    inr (constraints, all_hold states c.args.reasons.now c.loop-reason.reason-index constraints (omega arith) c.loop-reason.invariant.hold, breaks constraints c.in-Some.fault some) in
+    inr (constraints, ap (λ (rs : List Reason). each_of (map states rs)) (sym all) ∙ c.loop-reason.invariant.hold, breaks constraints c.in-Some.fault some) in
     subst (CycleBreaks states c.args.reasons.now) (sym c.from.ensures) broken

@@ -1,4 +1,4 @@
-use Rattle.tfpg_report.proofs.Rendered.{Appends-after_five}
+use Rattle.tfpg_base.proofs.Appended.{Appends-after_five}
 use Rattle.tfpg_report.proofs.round_block.render.Goals as goal
 
 pub returns : goal.returns

@@ -4,9 +4,10 @@ use Rattle.std.specs.Prelude.{unwrap_or}
 use Rattle.tfpg_graph.specs.Graph.{lag_at}
 use Rattle.tfpg_log.specs.Log.{time_of_event}
 use Rattle.tfpg_log.proofs.AlarmEvents.{alarm_event_within}
+use Rattle.tfpg_log.proofs.Order.{number_by_now}
 use Rattle.tfpg_base.specs.Bounds.{at_least}
 use Rattle.tfpg_clause.proofs.InRange.{now_in_range}
-use Rattle.tfpg_search.proofs.StatedBounds.{from_stated, number_by_now}
+use Rattle.tfpg_search.proofs.StatedBounds.{from_stated}
 use Rattle.tfpg_search.proofs.fact_bounds.after_alarm.Goals as goal
 
 pub event-requires-clause-high : goal.event-requires-clause-high

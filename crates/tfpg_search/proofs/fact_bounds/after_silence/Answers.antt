@@ -1,8 +1,8 @@
 -- Of the events that silence a node the last has the greatest time.
 use Rattle.std.proofs.Common.{arith}
-use Rattle.tfpg_log.proofs.SilenceTimes.{last_is_latest}
+use Rattle.tfpg_log.proofs.Order.{number_by_now}
+use Rattle.tfpg_log.proofs.SilenceTimes.{last_is_latest, silence_read}
 use Rattle.tfpg_clause.proofs.InRange.{now_in_range}
-use Rattle.tfpg_search.proofs.StatedBounds.{silence_read, number_by_now}
 use Rattle.tfpg_search.proofs.fact_bounds.after_silence.Goals as goal
 
 pub returns-in-Some-clause-greatest : goal.returns-in-Some-clause-greatest

@@ -2,9 +2,10 @@
 use Rattle.std.proofs.Common.{ℕ, Some, sym, ap, ◌∙◌, arith}
 use Rattle.std.specs.Prelude.{pos}
 use Rattle.tfpg_log.proofs.AlarmEvents.{alarm_event_within}
+use Rattle.tfpg_log.proofs.Order.{number_by_now}
 use Rattle.tfpg_base.specs.Bounds.{at_most}
 use Rattle.tfpg_clause.proofs.InRange.{now_in_range}
-use Rattle.tfpg_search.proofs.StatedBounds.{upto_stated, high_of_event, number_by_now}
+use Rattle.tfpg_search.proofs.StatedBounds.{upto_stated, high_of_event}
 use Rattle.tfpg_search.proofs.fact_bounds.high.Goals as goal
 
 pub event-requires-clause-high : goal.event-requires-clause-high

@@ -1,12 +1,14 @@
 use Rattle.std.proofs.Common.{◌≤◌, ◌+◌, take, get_or, sym, ap, subst, ◌∙◌, arith, Vec, Global}
 use Rattle.std.proofs.lemmas.List.{take_more, take_all}
+use Rattle.tfpg_base.proofs.lists.Elements.{AllPairs-before}
 use Rattle.tfpg_log.specs.declared.span.Span.{Span}
 use Rattle.tfpg_sim.specs.inside.Arrivals.{AreNearSpans, far}
 use Rattle.tfpg_sim.specs.declared.entry.Entry.{Entry}
 use Rattle.tfpg_sim.specs.declared.entry.Entry.TheVariants.{Start}
+use Rattle.tfpg_sim.specs.Script.{time_of_entry}
 use Rattle.tfpg_sim.specs.Simulation.{script_log}
 use Rattle.tfpg_sim.specs.inside.ModeSpans.{AreSpans}
-use Rattle.tfpg_sim.proofs.SplitSpans.{IsSplit, split_next, split_last, split_past, earlier_all, small_more, small_after}
+use Rattle.tfpg_sim.proofs.SplitSpans.{IsSplit, split_next, split_last, split_past, small_more, small_after}
 use Rattle.tfpg_sim.proofs.mode_spans.spans_of.Goals as goal
 use Rattle.tfpg_sim.proofs.mode_spans.spans_of.Goals.{then-current-stop+in_ok-push, else-current-stop}
 
@@ -21,7 +23,7 @@ loop-entry-preserved c =
     record {
       split = split_next c.args.stop (take i entries) (take (i + 1) entries) c.loop-entry.spans.items c.take_entry.new.spans.items c.loop-entry.current
           c.in_ok-current.current entry (take_more entries i (Start 0 0) c.loop-entry-test.true) closed current
-          (earlier_all entries i (Start 0 0) c.requires.order c.loop-entry-test.true) before.split;
+          (AllPairs-before (λ a b. time_of_entry a ≤ time_of_entry b) entries i (Start 0 0) c.requires.order c.loop-entry-test.true) before.split;
       small = subst (λ spans. AreNearSpans spans) (sym closed) (small_more c.loop-entry.spans.items c.loop-entry.current entry before.small before.now);
       now = subst (λ (span : Span). span.lo ≤ far) (sym current)
           (small_after c.loop-entry.current entry before.now (let upto = c.requires.stop i (Start 0 0) c.loop-entry-test.true in omega arith));

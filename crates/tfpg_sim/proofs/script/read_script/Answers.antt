@@ -4,7 +4,7 @@ use Rattle.std.proofs.lemmas.Iterator.Consumers.{YieldsList-so_far, YieldsList-t
 use Rattle.std.proofs.lemmas.Iterator.Splits.{YieldsList-from_slice_split}
 use Rattle.std.proofs.lemmas.List.{map_push}
 use Rattle.tfpg_base.specs.Lines.{lines_of, parts_of}
-use Rattle.tfpg_graph.proofs.lemmas.reading.WholeText.{lines_at}
+use Rattle.tfpg_base.proofs.lists.Cuts.{cut_read}
 use Rattle.tfpg_sim.specs.Script.{has_stopped, next_entry}
 use Rattle.tfpg_sim.specs.Script.{read_lines, with_next}
 use Rattle.tfpg_sim.specs.inside.Entries.{IsScript}
@@ -29,7 +29,7 @@ parts_round c =
     (λ x b q k. search (rules, tests)) in
     let turn = YieldsList-turn all c.loop-line.yielded _ c.loop-line.yielded_by _ _ c.in-Some.line c.in-Some.is
     c.next.ensures.steps in
-    lines_at (parts_of body) (map (λ line. line.now) c.loop-line.yielded) (length c.loop-line.yielded)
+    cut_read (parts_of body) (map (λ line. line.now) c.loop-line.yielded) (length c.loop-line.yielded)
     c.in-Some.line.now (YieldsList-so_far all c.loop-line.yielded _ c.loop-line.yielded_by) turn.0 turn.1
 
 -- all lines are the parts

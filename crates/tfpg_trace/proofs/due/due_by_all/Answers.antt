@@ -1,8 +1,9 @@
 use Rattle.std.proofs.Common.{◌+◌, Some, None, length, sym, subst, arith}
+use Rattle.tfpg_graph.proofs.lemmas.reach.Sources.{incoming_within}
 use Rattle.tfpg_trace.specs.inside.Due.{Begins, AllDue}
 use Rattle.tfpg_trace.proofs.Beginnings.{EachOf, each_of_none, begins_each_more, never_each}
 use Rattle.tfpg_trace.proofs.SpanOrder.{in_order}
-use Rattle.tfpg_trace.proofs.DueInto.{DueAt, in_graph, all_by_indexes}
+use Rattle.tfpg_trace.proofs.DueInto.{DueAt, all_by_indexes}
 use Rattle.tfpg_trace.proofs.GapsOver.{gap_at}
 use Rattle.tfpg_trace.proofs.due.due_by_all.Goals as goal
 
@@ -13,7 +14,7 @@ loop-index-init c log number starts =
 
 pub due_by_edge-requires : goal.due_by_edge-requires
 due_by_edge-requires c =
-    in_graph c.args.graph.now c.args.start.now.node c.loop-index.index c.incoming-incoming.result.now c.incoming-incoming.ensures.edges c.loop-index-test.true
+    incoming_within c.args.graph.now c.args.start.now.node c.loop-index.index c.incoming-incoming.result.now c.incoming-incoming.ensures.edges c.loop-index-test.true
 
 pub returns-in_err-due : goal.returns-in_err-due
 returns-in_err-due c log number starts =

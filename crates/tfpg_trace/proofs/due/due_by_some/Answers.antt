@@ -1,13 +1,14 @@
 use Rattle.std.proofs.Common.{◌+◌, sym, subst, arith}
+use Rattle.tfpg_graph.proofs.lemmas.reach.Sources.{incoming_within}
 use Rattle.tfpg_trace.specs.inside.Due.{Begins}
 use Rattle.tfpg_trace.proofs.Beginnings.{OneOf, begins_one_more}
-use Rattle.tfpg_trace.proofs.DueInto.{DueAt, in_graph, some_by_indexes}
+use Rattle.tfpg_trace.proofs.DueInto.{DueAt, some_by_indexes}
 use Rattle.tfpg_trace.proofs.GapsOver.{gap_at}
 use Rattle.tfpg_trace.proofs.due.due_by_some.Goals as goal
 
 pub due_by_edge-requires : goal.due_by_edge-requires
 due_by_edge-requires c =
-    in_graph c.args.graph.now c.args.start.now.node c.loop-index.index c.incoming-incoming.result.now c.incoming-incoming.ensures.edges c.loop-index-test.true
+    incoming_within c.args.graph.now c.args.start.now.node c.loop-index.index c.incoming-incoming.result.now c.incoming-incoming.ensures.edges c.loop-index-test.true
 
 pub loop-index-preserved : goal.loop-index-preserved
 loop-index-preserved c log number starts =

@@ -3,7 +3,7 @@ use Rattle.std.specs.Borrow.{Bor}
 use Rattle.clap.specs.Walk.{Rule, Text}
 use Rattle.clap.specs.Simple.{with_rule}
 use Rattle.tfpg_words.specs.inside.Rows.{app_with, flag_arg, option_arg}
-use Rattle.tfpg_words.proofs.Taken.{one_more_rule}
+use Rattle.tfpg_base.proofs.lists.Images.{map-map_more}
 use Rattle.tfpg_words.proofs.form.command_for.Goals as goal
 
 no_name : Bor Text
@@ -14,7 +14,7 @@ unfolding no_name
 loop-name-preserved c =
     c.in_ok-command.ensures.shape c.option_arg.ensures.local
     ∙ (ap₂ with_rule c.loop-name.invariant c.option_arg.ensures.rule
-    ∙ ap app_with (sym (one_more_rule option_arg c.args.form.now.options.now c.loop-name.name-index no_name c.loop-name-test.true)))
+    ∙ ap app_with (sym (map-map_more option_arg (λ (name : Bor Text). name.now) c.args.form.now.options.now c.loop-name.name-index no_name c.loop-name-test.true)))
 
 pub loop-name-2-preserved : goal.loop-name-2-preserved
 unfolding no_name
@@ -23,4 +23,4 @@ loop-name-2-preserved c =
     c.in_ok-command-2.ensures.shape c.flag_arg.ensures.local
     ∙ (ap₂ with_rule c.loop-name-2.invariant c.flag_arg.ensures.rule
     ∙ (ap app_with (append_assoc before _ _)
-    ∙ ap (λ (l : List Rule). app_with (before ++ l)) (sym (one_more_rule flag_arg c.args.form.now.flags.now c.loop-name-2.name-index no_name c.loop-name-2-test.true))))
+    ∙ ap (λ (l : List Rule). app_with (before ++ l)) (sym (map-map_more flag_arg (λ (name : Bor Text). name.now) c.args.form.now.flags.now c.loop-name-2.name-index no_name c.loop-name-2-test.true))))

@@ -1,8 +1,19 @@
-use Rattle.tfpg_words.proofs.WithinLimits.{meaning_within, size_within}
+use Rattle.std.proofs.Common.{◌≡◌, List, Ok, subst}
+use Rattle.std.specs.Prelude.{Result, IfOk}
+use Rattle.tfpg_words.specs.Meaning.{Meaning, Diagnose, Simulate, Generate, meaning}
+use Rattle.tfpg_words.specs.Words.{Word}
+use Rattle.tfpg_words.specs.declared.usage_cause.UsageCause.{UsageCause}
+use Rattle.tfpg_words.proofs.WithinLimits.{AreInLimits, meaning_within}
 use Rattle.tfpg_words.proofs.laws.numbers_are_within_their_limits.Goals as goal
 
+within : (words : List Word) (means : Meaning) → meaning words ≡ Ok means → AreInLimits means
+within words means is = subst (λ (r : Result Meaning UsageCause). IfOk r AreInLimits) is (meaning_within words)
+
 pub returns-clause-diagnose : goal.returns-clause-diagnose
-returns-clause-diagnose c words k budget graph e = meaning_within k budget graph words e
+returns-clause-diagnose c words k budget graph is = let are = within words (Diagnose k budget graph) is in (are.0.high, are.1.low, are.1.high)
+
+pub returns-clause-simulate : goal.returns-clause-simulate
+returns-clause-simulate c words draw trace graph script is = (within words (Simulate draw trace graph script) is).high
 
 pub returns-clause-generate : goal.returns-clause-generate
-returns-clause-generate c words draw size e = size_within draw size words e
+returns-clause-generate c words draw size is = let are = within words (Generate draw size) is in (are.0.high, are.1.low, are.1.high)

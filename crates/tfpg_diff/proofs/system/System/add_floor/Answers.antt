@@ -1,20 +1,21 @@
 -- A floor that is not tighter changes nothing, one above the value closes a cycle, and any other is written.
-use Rattle.std.proofs.Common.{◌≡◌, ℕ, ◌+◌, Bool, true, false, List, ◌∷◌, [], length, Some, refl, sym, ap, subst, arith}
-use Rattle.std.specs.Prelude.{slice_get, slice_index, vec_capacity, if◌then◌else◌}
+use Rattle.std.proofs.Common.{◌≡◌, ℕ, ◌+◌, List, ◌∷◌, [], length, Some, refl, sym, ap, subst, arith}
+use Rattle.std.specs.Prelude.{slice_get, slice_index, vec_capacity}
 use Rattle.std.proofs.lemmas.List.{get_or_read_under}
+use Rattle.tfpg_base.proofs.lists.Choices.{cond-same}
 use Rattle.tfpg_diff.specs.declared.demand.Demand.{Demand}
 use Rattle.tfpg_diff.specs.declared.why.Why.TheVariants.{Given}
 use Rattle.tfpg_diff.specs.Demands.{Demands, demands_of}
-use Rattle.tfpg_diff.specs.State.{State}
+use Rattle.tfpg_diff.specs.SystemState.{SystemState}
 use Rattle.tfpg_diff.specs.inside.Kept.{IsRooted, IsLabelled, Walked}
 use Rattle.tfpg_diff.proofs.Lowering.{Labelled-kept}
 use Rattle.tfpg_diff.proofs.Outcomes as outcome
 use Rattle.tfpg_diff.proofs.system.System.add_floor.Goals as goal
-use Rattle.tfpg_diff.proofs.system.System.add_floor.Goals.{After-index-old, Else-least-old, After-index}
+use Rattle.tfpg_diff.proofs.system.System.add_floor.Goals.{After-index-old, After-index}
 
 -- the demands of the fields are those that contracts see
 seen : (c : After-index-old) → demands_of c.self.inside.bounds.items c.self.inside.picks.items ≡ c.args.self.now.demands
-seen c = ap (λ (s : State). s.demands) c.self.view_is
+seen c = ap (λ (s : SystemState). s.demands) c.self.view_is
 
 -- the bounds that the variable has
 at : (c : After-index-old) → slice_get c.self.inside.bounds.items c.args.variable ≡ Some c.index-old.result.now
@@ -25,7 +26,7 @@ at c = outcome.Bounded-old c.self.inside.bounds.items c.self.inside.picks.items 
 -- the value of the variable, as the code reads it
 value : (c : After-index) → c.index.result.now ≡ slice_index c.self.inside.labels.values.items (c.args.variable + 1)
 value c =
-    let len = ap (λ (d : Demands). length d.bounds) (ap (λ (s : State). s.demands) c.self.view_is) in
+    let len = ap (λ (d : Demands). length d.bounds) (ap (λ (s : SystemState). s.demands) c.self.view_is) in
     let all = c.self.invariant.kept.values_len in
     get_or_read_under c.self.inside.labels.values.items (c.args.variable + 1) (length c.self.inside.labels.values.items) c.index.result.now 0 c.index.ensures (omega arith) refl
 
@@ -44,11 +45,6 @@ begin_cycle-requires-clause-labelled c =
     subst (λ (links : List Demand). IsLabelled links) (sym c.deref.ensures.value)
     (Labelled-kept (demands_of c.self.inside.bounds.items c.self.inside.picks.items) c.self.inside.labels.values.items c.self.inside.labels.links.items c.self.invariant.kept)
 
--- a walk that seeks zero ends there either way
-either_zero : (found : Bool) → ◌≡◌ {A = ℕ} (if found then 0 else 0) 0
-either_zero true = refl
-either_zero false = refl
-
 pub returns-then-index-least-clause-adds : goal.returns-then-index-least-clause-adds
 returns-then-index-least-clause-adds c =
     let a = (goal.at.returns-then-index-least-clause-adds c).After-index-old in
@@ -59,7 +55,7 @@ returns-then-index-least-clause-adds c =
     (omega (arith, read, c.if-index-least.true))
     (subst (λ (links : List Demand). Walked links (c.args.variable + 1) 0 0 (Given c.args.tag ∷ []) c.begin_cycle.new.cycle.items) c.deref.ensures.value
     (subst (λ (stands : ℕ). Walked c.deref.result.now (c.args.variable + 1) 0 stands (Given c.args.tag ∷ []) c.begin_cycle.new.cycle.items)
-    (either_zero c.begin_cycle.result) c.begin_cycle.ensures.walked))
+    (cond-same c.begin_cycle.result 0) c.begin_cycle.ensures.walked))
 
 pub invariant_of-self-2 : goal.invariant_of-self-2
 invariant_of-self-2 c =

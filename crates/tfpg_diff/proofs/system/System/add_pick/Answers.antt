@@ -9,7 +9,7 @@ use Rattle.tfpg_diff.specs.Demands.{Demands, demand_of_pick, demands_of}
 use Rattle.tfpg_diff.specs.Solution.{HasSolution}
 use Rattle.tfpg_diff.specs.Cycle.{NamesNegativeCycle}
 use Rattle.tfpg_base.specs.declared.limits.TheConstants.{NEVER}
-use Rattle.tfpg_diff.specs.State.{State, with_pick}
+use Rattle.tfpg_diff.specs.SystemState.{SystemState, with_pick}
 use Rattle.tfpg_diff.specs.inside.Kept.{IsMetBy, IsKept, IsReady}
 use Rattle.tfpg_diff.proofs.Totals.{HasNoSolution-cycle}
 use Rattle.tfpg_diff.proofs.Relaxing.{small-kept}
@@ -20,12 +20,12 @@ use Rattle.tfpg_diff.proofs.system.System.add_pick.Goals.{After-push, After-is_b
 
 -- the demands of the fields are those that contracts see
 seen : (c : After-push) → demands_of c.self.inside.bounds.items c.self.inside.picks.items ≡ c.args.self.now.demands
-seen c = ap (λ (s : State). s.demands) c.self.view_is
+seen c = ap (λ (s : SystemState). s.demands) c.self.view_is
 
 -- there is room, so the pick stands on the stack
 pushed : (c : After-push) → c.push.new.self.items ≡ c.self.inside.picks.items ++ c.args.pick ∷ []
 pushed c =
-    let room = ap (λ (s : State). s.spare) c.self.view_is in
+    let room = ap (λ (s : SystemState). s.spare) c.self.view_is in
     let one = c.requires.spare in
     let ok : is_ok c.push.result ≡ true = c.push.ensures.succeeds (omega arith) in
     rw ok at c.push.ensures.items
@@ -62,11 +62,11 @@ lengthened : (c : After-deref-3) (pushed : c.push.new.self.items ≡ c.self.insi
 lengthened c pushed = outcome.demands_read c.self.inside.bounds.items c.deref-2.result.now (c.self.inside.picks.items ++ c.args.pick ∷ []) c.deref-3.result.now
     c.deref-2.ensures.value (c.deref-3.ensures.value ∙ pushed)
 
-pub settle_or_restore-requires-clause-kept : goal.settle_or_restore-requires-clause-kept
-settle_or_restore-requires-clause-kept c =
-    let p = pushed (goal.at.settle_or_restore-requires-clause-kept c).After-push in
+pub lower_or_restore-requires-clause-kept : goal.lower_or_restore-requires-clause-kept
+lower_or_restore-requires-clause-kept c =
+    let p = pushed (goal.at.lower_or_restore-requires-clause-kept c).After-push in
     subst (λ (d : Demands). IsKept d c.self.inside.labels.values.items c.self.inside.labels.links.items)
-    (sym (lengthened (goal.at.settle_or_restore-requires-clause-kept c).After-deref-3 p))
+    (sym (lengthened (goal.at.lower_or_restore-requires-clause-kept c).After-deref-3 p))
     (IsKept-pick c.self.inside.bounds.items c.self.inside.picks.items c.args.pick c.self.inside.labels.values.items c.self.inside.labels.links.items c.self.invariant.kept)
 
 -- what is left after the pick is taken off
@@ -85,8 +85,8 @@ invariant_of-self-in-Err c =
     let read = ap length c.deref-2.ensures.value in
     outcome.IsReady-restored c.self.inside.bounds.items c.self.inside.picks.items c.self.inside.labels.values.items c.self.inside.labels.links.items
     c.self.inside.backup.values.items c.self.inside.backup.links.items (vec_capacity c.self.inside.cycle) c.self.invariant c.args.self.now.demands (seen a)
-    c.self.inside.bounds.items c.pop.new.self.items c.settle_or_restore.new.labels.values.items c.settle_or_restore.new.labels.links.items
-    c.settle_or_restore.new.backup.values.items c.settle_or_restore.new.backup.links.items (vec_capacity c.settle_or_restore.new.cycle)
+    c.self.inside.bounds.items c.pop.new.self.items c.lower_or_restore.new.labels.values.items c.lower_or_restore.new.labels.links.items
+    c.lower_or_restore.new.backup.values.items c.lower_or_restore.new.backup.links.items (vec_capacity c.lower_or_restore.new.cycle)
     refl (popped a c.pop.new.self.items c.pop.ensures.rest) (c.in-Err.ensures.values ∙ c.save.ensures.values) (c.in-Err.ensures.links ∙ c.save.ensures.links)
     (omega (arith, read, c.in-Err.ensures.backup_values)) (omega (arith, read, c.in-Err.ensures.backup_links)) c.in-Err.ensures.capacity
 
@@ -99,7 +99,7 @@ returns-in-Ok-clause-adds c =
     let same = lengthened (goal.at.returns-in-Ok-clause-adds c).After-deref-3 p in (
       ap (λ (ps : List Pick). demands_of c.self.inside.bounds.items ps) p ∙ is,
       subst HasSolution (same ∙ is)
-          (outcome.HasSolution-kept (demands_of c.deref-2.result.now c.deref-3.result.now) c.settle_or_restore.new.labels.values.items c.settle_or_restore.new.labels.links.items
+          (outcome.HasSolution-kept (demands_of c.deref-2.result.now c.deref-3.result.now) c.lower_or_restore.new.labels.values.items c.lower_or_restore.new.labels.links.items
           c.in-Ok.ensures.kept c.in-Ok.ensures.met),
     )
 
@@ -109,8 +109,8 @@ returns-in-Err-clause-adds c =
     let is = outcome.with_pick-seen c.self.inside.bounds.items c.self.inside.picks.items c.self.inside.labels.values.items c.self.inside.labels.links.items
     c.self.inside.backup.values.items c.self.inside.backup.links.items (vec_capacity c.self.inside.cycle) c.self.invariant c.args.self.now.demands (seen a) c.args.pick in
     let same = lengthened (goal.at.returns-in-Err-clause-adds c).After-deref-3 (pushed a) in
-    let cycle = subst (λ (d : Demands). NamesNegativeCycle d c.settle_or_restore.new.cycle.items) (same ∙ is) c.in-Err.ensures.cycle in (
+    let cycle = subst (λ (d : Demands). NamesNegativeCycle d c.lower_or_restore.new.cycle.items) (same ∙ is) c.in-Err.ensures.cycle in (
       ap (λ (ps : List Pick). demands_of c.self.inside.bounds.items ps) (popped a c.pop.new.self.items c.pop.ensures.rest) ∙ seen a,
-      HasNoSolution-cycle (with_pick c.args.self.now.demands c.args.pick.constraint c.args.pick.tag) c.settle_or_restore.new.cycle.items cycle,
+      HasNoSolution-cycle (with_pick c.args.self.now.demands c.args.pick.constraint c.args.pick.tag) c.lower_or_restore.new.cycle.items cycle,
       cycle,
     )

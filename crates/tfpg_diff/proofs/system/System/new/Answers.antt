@@ -2,7 +2,7 @@
 use Rattle.std.proofs.Common.{◌≡◌, List, length, sym, ◌∙◌, ap, arith}
 use Rattle.std.specs.Prelude.{slice_get, vec_capacity}
 use Rattle.tfpg_diff.specs.declared.bounds.Bounds.{Bounds}
-use Rattle.tfpg_diff.specs.State.{unbounded_from}
+use Rattle.tfpg_diff.specs.SystemState.{unbounded_from}
 use Rattle.tfpg_diff.proofs.Fresh.{length-unbounded_from, widest_from, IsReady-new}
 use Rattle.tfpg_diff.proofs.system.System.new.Goals as goal
 use Rattle.tfpg_diff.proofs.system.System.new.Goals.{After-deref}

@@ -4,7 +4,7 @@ use Rattle.std.proofs.lemmas.List.{take_rest}
 use Rattle.tfpg_diff.specs.Demands.{Demands, demands_of}
 use Rattle.tfpg_diff.specs.Solution.{IsLatest}
 use Rattle.tfpg_base.specs.declared.limits.TheConstants.{NEVER}
-use Rattle.tfpg_diff.specs.State.{State}
+use Rattle.tfpg_diff.specs.SystemState.{SystemState}
 use Rattle.std.specs.Prelude.{All}
 use Rattle.std.proofs.lemmas.List.Elements.{All-drop}
 use Rattle.tfpg_diff.proofs.Relaxing.{small-kept}
@@ -15,7 +15,7 @@ pub returns-clause-latest : goal.returns-clause-latest
 returns-clause-latest c =
     subst (λ (times : List ℕ). IsLatest c.args.self.now.demands times) (sym (take_rest c.deref.result.now 1))
     (subst (λ (values : List ℕ). IsLatest c.args.self.now.demands (drop 1 values)) (sym c.deref.ensures.value)
-    (subst (λ (demands : Demands). IsLatest demands (drop 1 c.self.inside.labels.values.items)) (ap (λ (s : State). s.demands) c.self.view_is)
+    (subst (λ (demands : Demands). IsLatest demands (drop 1 c.self.inside.labels.values.items)) (ap (λ (s : SystemState). s.demands) c.self.view_is)
     (IsLatest-kept (demands_of c.self.inside.bounds.items c.self.inside.picks.items) c.self.inside.labels.values.items c.self.inside.labels.links.items
     c.self.invariant.kept c.self.invariant.met)))
 

@@ -3,7 +3,7 @@ use Rattle.std.proofs.lemmas.List.{take_at}
 use Rattle.tfpg_log.specs.LogOfLines.{log_after_reply}
 use Rattle.std.specs.Prelude.{Ok}
 use Rattle.tfpg_engine.specs.declared.told.Told.TheVariants as told
-use Rattle.tfpg_engine.specs.Engining.{EngineRepresents}
+use Rattle.tfpg_engine.specs.EngineState.{EngineRepresents}
 use Rattle.tfpg_engine.proofs.Eventing.{of_graph, same_refusal, lent_go_on, engine_now, gives_from}
 use Rattle.tfpg_engine.proofs.engine.Engine.event.Goals as goal
 

@@ -1,5 +1,6 @@
 use Rattle.std.proofs.lemmas.Result.{err_from_is_err_and}
-use Rattle.tfpg_engine.proofs.Eventing.{new_engine, new_represents, not_ok, too_many_by, not_too_many}
+use Rattle.tfpg_engine.proofs.Eventing.{new_engine, new_represents, too_many_by, not_too_many}
+use Rattle.tfpg_base.proofs.lists.Choices.{ok-err}
 use Rattle.tfpg_engine.proofs.engine.Engine.new.Goals as goal
 
 pub returns-in_err-table-clause-too_many : goal.returns-in_err-table-clause-too_many
@@ -10,7 +11,7 @@ returns-in_err-table-clause-too_many c count =
 pub returns-in_err-slots-clause-too_many : goal.returns-in_err-slots-clause-too_many
 returns-in_err-slots-clause-too_many c count =
     let failed = err_from_is_err_and c.from_residual-in_err-slots.result c.from_residual-in_err-slots.ensures.1 in
-    not_too_many c.from_residual-in_err-slots.result failed.0 count failed.1 failed.2 (λ many. not_ok _ _ ((c.in_ok-table.ensures.too_many count).1 many))
+    not_too_many c.from_residual-in_err-slots.result failed.0 count failed.1 failed.2 (λ many. ok-err _ _ ((c.in_ok-table.ensures.too_many count).1 many))
 
 pub invariant_of-result : goal.invariant_of-result
 invariant_of-result c =
@@ -22,4 +23,4 @@ returns-clause-represents c =
     new_represents c.args.graph c.args.k c.in_ok-table.table c.args.budget c.new-2.result c.in_ok-slots.slots.items c.len.result c.in_ok-slots.ensures c.new-2.ensures.empty
 
 pub returns-clause-too_many : goal.returns-clause-too_many
-returns-clause-too_many c count = (λ is. absurd (not_ok _ _ is), λ many. absurd (not_ok _ _ ((c.in_ok-table.ensures.too_many count).1 many)))
+returns-clause-too_many c count = (λ is. absurd (ok-err _ _ is), λ many. absurd (ok-err _ _ ((c.in_ok-table.ensures.too_many count).1 many)))

@@ -1,7 +1,7 @@
 use Rattle.std.proofs.Common.{rules, ◌∙◌}
 use Rattle.std.proofs.lemmas.List.Elements.{same_from_all_zip}
 use Rattle.tfpg_graph.specs.declared.declared.Declared.TheInside.{Inside}
-use Rattle.tfpg_graph.proofs.lemmas.declared.Copied.{copied_rows, copied_nodes, same_graph, IsDeclared-copy}
+use Rattle.tfpg_graph.proofs.lemmas.declaring.Copied.{copied_rows, copied_nodes, same_graph, IsDeclared-copy}
 use Rattle.tfpg_graph.proofs.declared.Declared.copy.Goals as goal
 
 pub invariant_of-result : goal.invariant_of-result

@@ -4,7 +4,7 @@ use Rattle.std.proofs.lemmas.List.{drop_all}
 use Rattle.std.proofs.lemmas.List.Elements.{All-get_or, All-same}
 use Rattle.tfpg_base.proofs.lists.FirstFound.{find-past, find-here}
 use Rattle.tfpg_base.proofs.lists.Numbered.{All-below-numbers_from}
-use Rattle.tfpg_graph.proofs.lemmas.declared.Leaving.{is_leaving, is_leaving-edge, find-leaving}
+use Rattle.tfpg_graph.proofs.lemmas.declaring.Leaving.{is_leaving, is_leaving-edge, find-leaving}
 use Rattle.tfpg_graph.proofs.declared.Declared.edge_between.Goals as goal
 
 pub loop-number-init : goal.loop-number-init

@@ -1,7 +1,7 @@
 use Rattle.std.proofs.Common.{rules, ◌≡◌, ◌∙◌}
 use Rattle.std.proofs.lemmas.Option.{IfSome_then}
 use Rattle.tfpg_graph.specs.Graph.{node_named}
-use Rattle.tfpg_graph.proofs.lemmas.declared.Named.{index_of-node, IfSome-named}
+use Rattle.tfpg_graph.proofs.lemmas.declaring.Named.{index_of-node, IfSome-named}
 use Rattle.tfpg_graph.proofs.declared.Declared.find.Goals as goal
 use Rattle.tfpg_graph.proofs.declared.Declared.find.Goals.{After-map}
 

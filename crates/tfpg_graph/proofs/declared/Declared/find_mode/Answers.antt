@@ -1,5 +1,5 @@
 use Rattle.std.proofs.Common.{rules, ◌≡◌, ◌∙◌}
-use Rattle.tfpg_graph.proofs.lemmas.declared.Named.{index_of-mode}
+use Rattle.tfpg_graph.proofs.lemmas.declaring.Named.{index_of-mode}
 use Rattle.tfpg_graph.proofs.declared.Declared.find_mode.Goals as goal
 
 pub returns : goal.returns

@@ -1,4 +1,4 @@
-use Rattle.tfpg_graph.proofs.lemmas.declared.Named.{kind_at-values}
+use Rattle.tfpg_graph.proofs.lemmas.declaring.Named.{kind_at-values}
 use Rattle.tfpg_graph.proofs.declared.Declared.kind.Goals as goal
 
 pub returns : goal.returns

@@ -1,8 +1,8 @@
 use Rattle.std.proofs.Common.{rules, ◌≡◌, ap, ◌∙◌, map, set, length, ◌++◌, ◌∷◌, [], refl}
 use Rattle.std.proofs.lemmas.List.{map-set}
 use Rattle.tfpg_graph.specs.Graph.{incoming}
-use Rattle.tfpg_graph.proofs.lemmas.declared.Named.{row-incoming}
-use Rattle.tfpg_graph.proofs.lemmas.declared.MoreDeclared.{IsDeclared-with_edge, IsDeclared-seen_as}
+use Rattle.tfpg_graph.proofs.lemmas.declaring.Named.{row-incoming}
+use Rattle.tfpg_graph.proofs.lemmas.declaring.MoreDeclared.{IsDeclared-with_edge, IsDeclared-seen_as}
 use Rattle.tfpg_graph.proofs.declared.Declared.with_edge.Goals as goal
 use Rattle.tfpg_graph.proofs.declared.Declared.with_edge.Goals.{In_ok-push-2}
 

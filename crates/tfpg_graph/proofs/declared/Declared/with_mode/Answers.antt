@@ -1,7 +1,7 @@
 use Rattle.std.proofs.Common.{rules, ◌≡◌, ap, ◌∙◌, map, ◌++◌, ◌∷◌, []}
-use Rattle.tfpg_graph.specs.inside.Indexes.{with_mode}
-use Rattle.tfpg_graph.proofs.lemmas.declared.Inserts.{modes-insert}
-use Rattle.tfpg_graph.proofs.lemmas.declared.MoreDeclared.{IsDeclared-seen, IsDeclared-seen_as, HasIndexes-with_mode, IsValidSoFar-with_mode}
+use Rattle.tfpg_graph.specs.inside.declaring.Indexes.{with_mode}
+use Rattle.tfpg_graph.proofs.lemmas.declaring.Inserts.{modes-insert}
+use Rattle.tfpg_graph.proofs.lemmas.declaring.MoreDeclared.{IsDeclared-seen, IsDeclared-seen_as, HasIndexes-with_mode, IsValidSoFar-with_mode}
 use Rattle.tfpg_graph.proofs.declared.Declared.with_mode.Goals as goal
 use Rattle.tfpg_graph.proofs.declared.Declared.with_mode.Goals.{In_ok-insert}
 

@@ -1,9 +1,9 @@
 use Rattle.std.proofs.Common.{rules, ◌≡◌, ap, ◌∙◌, map, length, cond, ◌++◌, ◌∷◌, [], Some, None, sym}
 use Rattle.std.proofs.lemmas.List.{map_push, length-map}
 use Rattle.tfpg_graph.specs.Graph.{is_failure}
-use Rattle.tfpg_graph.specs.inside.Indexes.{with_node}
-use Rattle.tfpg_graph.proofs.lemmas.declared.Inserts.{nodes-insert}
-use Rattle.tfpg_graph.proofs.lemmas.declared.MoreDeclared.{with_failure, IsDeclared-with_node}
+use Rattle.tfpg_graph.specs.inside.declaring.Indexes.{with_node}
+use Rattle.tfpg_graph.proofs.lemmas.declaring.Inserts.{nodes-insert}
+use Rattle.tfpg_graph.proofs.lemmas.declaring.MoreDeclared.{with_failure, IsDeclared-with_node}
 use Rattle.tfpg_graph.proofs.declared.Declared.with_node.Goals as goal
 use Rattle.tfpg_graph.proofs.declared.Declared.with_node.Goals.{In_ok-push-2}
 

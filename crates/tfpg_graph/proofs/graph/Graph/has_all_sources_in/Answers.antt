@@ -4,7 +4,7 @@ use Rattle.tfpg_graph.proofs.lemmas.reach.Sources.{incoming_within, source_lacks
 use Rattle.tfpg_graph.proofs.graph.Graph.has_all_sources_in.Goals as goal
 
 pub edge-requires : goal.edge-requires
-edge-requires c = incoming_within c.args.self.now c.args.nodes.now c.args.node _ c.incoming-number-items.ensures.edges _ c.loop-number-test.true
+edge-requires c = incoming_within c.args.self.now c.args.node _ _ c.incoming-number-items.ensures.edges c.loop-number-test.true
 
 pub returns : goal.returns
 returns c =

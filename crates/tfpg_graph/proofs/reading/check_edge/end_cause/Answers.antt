@@ -1,5 +1,5 @@
 use Rattle.std.proofs.Common.{rules, ◌≢◌}
-use Rattle.tfpg_graph.proofs.lemmas.declared.Named.{node_named-same}
+use Rattle.tfpg_graph.proofs.lemmas.declaring.Named.{node_named-same}
 use Rattle.tfpg_graph.proofs.reading.check_edge.end_cause.Goals as goal
 
 pub returns-else-is_some-clause-clear : goal.returns-else-is_some-clause-clear

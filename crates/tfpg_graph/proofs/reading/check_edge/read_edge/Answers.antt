@@ -8,19 +8,19 @@ use Rattle.tfpg_graph.proofs.reading.check_edge.read_edge.Goals as goal
 pub returns-in-Some-clause-first : goal.returns-in-Some-clause-first
 returns-in-Some-clause-first c =
     let words = c.args.words in
-    edge_cause-name c.args.declared.now words.source.now words.target.now words.tmin.now words.tmax.now words.modes.now c.in-Some.cause (sym c.name_cause.ensures.first ∙ c.in-Some.is)
+    edge_cause-name c.args.declared.now words.source.now words.target.now words.tmin.now words.tmax.now words.modes.now c.in-Some.cause (sym c.edge_name_cause.ensures.first ∙ c.in-Some.is)
 
 pub returns-in_err-source-clause-first : goal.returns-in_err-source-clause-first
 returns-in_err-source-clause-first c =
     let words = c.args.words in
-    let named : first_of (edge_name_causes c.args.declared.now words.source.now words.target.now words.modes.now) ≡ None = sym c.name_cause.ensures.first ∙ c.in_default.is in
+    let named : first_of (edge_name_causes c.args.declared.now words.source.now words.target.now words.modes.now) ≡ None = sym c.edge_name_cause.ensures.first ∙ c.in_default.is in
     let p = err_from_is_err_and c.from_residual.result c.from_residual.ensures.1 in
     rw (p.1, p.2) (edge_cause-unknown c.args.declared.now words.source.now words.target.now words.tmin.now words.tmax.now words.modes.now named c.in_err-source.field-0.0 c.in_err-source.ensures.first)
 
 pub returns-in_err-tmin-clause-first : goal.returns-in_err-tmin-clause-first
 returns-in_err-tmin-clause-first c =
     let words = c.args.words in
-    let named : first_of (edge_name_causes c.args.declared.now words.source.now words.target.now words.modes.now) ≡ None = sym c.name_cause.ensures.first ∙ c.in_default.is in
+    let named : first_of (edge_name_causes c.args.declared.now words.source.now words.target.now words.modes.now) ≡ None = sym c.edge_name_cause.ensures.first ∙ c.in_default.is in
     let p = err_from_is_err_and c.from_residual-in_err-tmin.result c.from_residual-in_err-tmin.ensures.1 in
     rw (p.1, p.2)
     (edge_cause-delay c.args.declared.now words.source.now words.target.now words.tmin.now words.tmax.now words.modes.now named c.in_ok-source.ensures.first.0
@@ -29,17 +29,17 @@ returns-in_err-tmin-clause-first c =
 pub returns-in-Some-end_cause-clause-first : goal.returns-in-Some-end_cause-clause-first
 returns-in-Some-end_cause-clause-first c =
     let words = c.args.words in
-    let named : first_of (edge_name_causes c.args.declared.now words.source.now words.target.now words.modes.now) ≡ None = sym c.name_cause.ensures.first ∙ c.in_default.is in
+    let named : first_of (edge_name_causes c.args.declared.now words.source.now words.target.now words.modes.now) ≡ None = sym c.edge_name_cause.ensures.first ∙ c.in_default.is in
     edge_cause-end c.args.declared.now words.source.now words.target.now words.tmin.now words.tmax.now words.modes.now named c.in_ok-source.ensures.first.0
     c.in_ok-tmin.ensures.delays.0 c.in-Some-end_cause.cause (sym c.end_cause.ensures.first ∙ c.in-Some-end_cause.is)
 
-pub returns-in-Some-room_cause-clause-first : goal.returns-in-Some-room_cause-clause-first
-returns-in-Some-room_cause-clause-first c =
+pub returns-in-Some-edge_room_cause-clause-first : goal.returns-in-Some-edge_room_cause-clause-first
+returns-in-Some-edge_room_cause-clause-first c =
     let words = c.args.words in
-    let named : first_of (edge_name_causes c.args.declared.now words.source.now words.target.now words.modes.now) ≡ None = sym c.name_cause.ensures.first ∙ c.in_default.is in
+    let named : first_of (edge_name_causes c.args.declared.now words.source.now words.target.now words.modes.now) ≡ None = sym c.edge_name_cause.ensures.first ∙ c.in_default.is in
     let ended : first_of (end_causes c.args.declared.now words.source.now words.target.now) ≡ None = search rules in
     edge_cause-room c.args.declared.now words.source.now words.target.now words.tmin.now words.tmax.now words.modes.now named c.in_ok-source.ensures.first.0 c.in_ok-tmin.ensures.delays.0 ended
-    ∙ sym (c.room_cause.ensures.first words.target.now c.in_ok-source.ensures.named.1) ∙ c.in-Some-room_cause.is
+    ∙ sym (c.edge_room_cause.ensures.first words.target.now c.in_ok-source.ensures.named.1) ∙ c.in-Some-edge_room_cause.is
 
 pub modes_of-requires-clause-few : goal.modes_of-requires-clause-few
 modes_of-requires-clause-few c = c.in_default.ensures.few
@@ -47,9 +47,9 @@ modes_of-requires-clause-few c = c.in_default.ensures.few
 pub returns-clause-first : goal.returns-clause-first
 returns-clause-first c =
     let words = c.args.words in
-    let named : first_of (edge_name_causes c.args.declared.now words.source.now words.target.now words.modes.now) ≡ None = sym c.name_cause.ensures.first ∙ c.in_default.is in
+    let named : first_of (edge_name_causes c.args.declared.now words.source.now words.target.now words.modes.now) ≡ None = sym c.edge_name_cause.ensures.first ∙ c.in_default.is in
     let ended : first_of (end_causes c.args.declared.now words.source.now words.target.now) ≡ None = search rules in (
       edge_cause-room c.args.declared.now words.source.now words.target.now words.tmin.now words.tmax.now words.modes.now named c.in_ok-source.ensures.first.0 c.in_ok-tmin.ensures.delays.0 ended
-          ∙ sym (c.room_cause.ensures.first words.target.now c.in_ok-source.ensures.named.1) ∙ search rules,
+          ∙ sym (c.edge_room_cause.ensures.first words.target.now c.in_ok-source.ensures.named.1) ∙ search rules,
       rw (c.in_ok-source.ensures.first.1, c.in_ok-tmin.ensures.delays.1, c.modes_of.ensures.bits) refl,
     )

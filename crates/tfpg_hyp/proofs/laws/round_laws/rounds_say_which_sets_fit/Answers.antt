@@ -1,4 +1,4 @@
-use Rattle.tfpg_hyp.proofs.FittingSets.{rejected_exactly, rejected_not, no_fitting_part}
+use Rattle.tfpg_hyp.proofs.FittingSets.{rejected_exactly, rejected_not, no_fitting_subset}
 use Rattle.tfpg_hyp.proofs.laws.round_laws.rounds_say_which_sets_fit.Goals as goal
 
 pub returns : goal.returns
@@ -8,6 +8,6 @@ returns c =
           rejected_exactly c.a_refutation_leaves_no_trace.ensures graph k budget line rounds log round valid of ordered is_round number finding at not_open;
       not_rejected = λ number finding at fits holds.
           rejected_not c.a_refutation_leaves_no_trace.ensures graph k budget line rounds log round valid of ordered is_round number finding at holds fits;
-      minimal = λ number finding at ranked none_open part.
-          no_fitting_part c.a_refutation_leaves_no_trace.ensures graph k budget line rounds log round valid of ordered is_round number finding at ranked none_open part;
+      minimal = λ number finding at ranked none_open subset.
+          no_fitting_subset c.a_refutation_leaves_no_trace.ensures graph k budget line rounds log round valid of ordered is_round number finding at ranked none_open subset;
     }

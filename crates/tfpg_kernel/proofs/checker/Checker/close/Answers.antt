@@ -1,6 +1,6 @@
 use Rattle.std.proofs.Common.{List, ap, subst, refl, ◌∙◌}
 use Rattle.std.specs.Prelude.{ℕ}
-use Rattle.tfpg_kernel.specs.Checking.{Checking}
+use Rattle.tfpg_kernel.specs.CheckerState.{CheckerState}
 use Rattle.tfpg_clause.specs.declared.path.Frame.{Frame}
 use Rattle.tfpg_kernel.specs.Breaks.{CycleBreaks}
 use Rattle.tfpg_clause.specs.Paths.{stated_by}
@@ -8,8 +8,8 @@ use Rattle.tfpg_kernel.proofs.checker.Checker.close.Goals as goal
 
 pub returns-in-Err-clause-moves : goal.returns-in-Err-clause-moves
 returns-in-Err-clause-moves c =
-    let reach = ap (λ (b : Checking). b.reach) c.self.view_is in
-    let path = c.deref.ensures.value ∙ ap (λ (b : Checking). b.path) c.self.view_is in (
+    let reach = ap (λ (b : CheckerState). b.reach) c.self.view_is in
+    let path = c.deref.ensures.value ∙ ap (λ (b : CheckerState). b.path) c.self.view_is in (
       subst (λ (r : List ℕ). CycleBreaks (stated_by c.args.graph.now c.args.log.now r c.args.self.now.path) c.args.reasons.now c.in-Err.bad) reach
           (subst (λ (f : List Frame). CycleBreaks (stated_by c.args.graph.now c.args.log.now c.self.inside.reach f) c.args.reasons.now c.in-Err.bad) path c.in-Err.ensures),
       refl,

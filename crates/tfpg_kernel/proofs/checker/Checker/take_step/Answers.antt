@@ -1,24 +1,24 @@
 use Rattle.std.proofs.Common.{◌≡◌, ap, sym, subst, ◌∙◌}
 use Rattle.tfpg_evidence.specs.declared.step.Step.{Step}
 use Rattle.tfpg_evidence.specs.declared.step.Step.TheVariants.{Cycle}
-use Rattle.tfpg_kernel.specs.Checking.{Checking}
+use Rattle.tfpg_kernel.specs.CheckerState.{CheckerState}
 use Rattle.tfpg_kernel.specs.inside.Paths.{Moves}
 use Rattle.tfpg_kernel.proofs.checker.Checker.take_step.Goals as goal
 
 pub returns-then-self-clause-result : goal.returns-then-self-clause-result
 returns-then-self-clause-result c = λ earlier steps goes_on represents.
     c.moves_are_results.ensures.refused c.args.graph.now earlier c.args.log.now c.args.self.now steps c.args.step.now c.len-ordered.ensures.ordered goes_on represents
-    (sym (ap (λ (b : Checking). b.closed) c.self.view_is) ∙ c.if-self.true)
+    (sym (ap (λ (b : CheckerState). b.closed) c.self.view_is) ∙ c.if-self.true)
 
 pub returns-in-Split-clause-result : goal.returns-in-Split-clause-result
 returns-in-Split-clause-result c = λ earlier steps goes_on represents.
     c.moves_are_results.ensures.moved c.args.graph.now earlier c.args.log.now c.args.self.now c.split.new.self steps c.args.step.now c.split.result c.len-ordered.ensures.ordered goes_on
-    represents (sym (ap (λ (b : Checking). b.closed) c.self.view_is) ∙ c.if-self.false) c.split.ensures.reach
+    represents (sym (ap (λ (b : CheckerState). b.closed) c.self.view_is) ∙ c.if-self.false) c.split.ensures.reach
     (subst (λ (step : Step). Moves c.args.graph.now c.args.log.now c.args.self.now step c.split.result c.split.new.self) (sym c.in-Split.is) c.split.ensures.moves)
 
 pub returns-in-Cycle-clause-result : goal.returns-in-Cycle-clause-result
 returns-in-Cycle-clause-result c = λ earlier steps goes_on represents.
     let same : Cycle c.as_slice.result.now ≡ c.args.step.now = cc in
     c.moves_are_results.ensures.moved c.args.graph.now earlier c.args.log.now c.args.self.now c.close.new.self steps c.args.step.now c.close.result c.len-ordered.ensures.ordered goes_on
-    represents (sym (ap (λ (b : Checking). b.closed) c.self.view_is) ∙ c.if-self.false) c.close.ensures.reach
+    represents (sym (ap (λ (b : CheckerState). b.closed) c.self.view_is) ∙ c.if-self.false) c.close.ensures.reach
     (subst (λ (step : Step). Moves c.args.graph.now c.args.log.now c.args.self.now step c.close.result c.close.new.self) same c.close.ensures.moves)

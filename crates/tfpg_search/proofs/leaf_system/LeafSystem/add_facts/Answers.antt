@@ -3,7 +3,7 @@ use Rattle.std.proofs.Common.{◌≡◌, ◌+◌, length, sym, subst, ap, ◌∙
 use Rattle.std.proofs.lemmas.Result.{err_from_is_err_and}
 use Rattle.tfpg_clause.specs.Facts.{fact}
 use Rattle.tfpg_diff.specs.Demands.{Demands}
-use Rattle.tfpg_diff.specs.State.{with_floor, with_ceiling}
+use Rattle.tfpg_diff.specs.SystemState.{with_floor, with_ceiling}
 use Rattle.tfpg_search.specs.inside.Closing.{Closes}
 use Rattle.tfpg_search.specs.inside.Facts.{AreFactsIn}
 use Rattle.tfpg_search.proofs.FactsAdded.{facts_met, facts-tightened, facts-kept}

@@ -1,7 +1,7 @@
 -- The reason of the pick is the last.
 use Rattle.std.proofs.Common.{sym, subst, ◌∙◌, arith}
 use Rattle.tfpg_diff.specs.Demands.{Demands}
-use Rattle.tfpg_diff.specs.State.{with_pick}
+use Rattle.tfpg_diff.specs.SystemState.{with_pick}
 use Rattle.tfpg_search.specs.Leaf.{IsStated}
 use Rattle.tfpg_search.specs.inside.Tags.{IsTagged}
 use Rattle.tfpg_search.proofs.Stating.{leaf_of}

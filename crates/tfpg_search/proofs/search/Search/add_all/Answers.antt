@@ -1,5 +1,5 @@
 use Rattle.tfpg_clause.specs.Paths.{stated_by}
-use Rattle.tfpg_search.proofs.Moving.{facts_stand, add_settled, add_closes}
+use Rattle.tfpg_search.proofs.Moving.{facts_stand, add_loaded, add_closes}
 use Rattle.tfpg_search.proofs.search.Search.add_all.Goals as goal
 
 pub returns-clause-stands : goal.returns-clause-stands
@@ -7,9 +7,9 @@ returns-clause-stands g c =
     (facts_stand c.args.graph.now c.args.log.now c.enter.new.self c.enter.ensures.stands c.add_facts.new.self c.add_facts.ensures.same c.add_facts.ensures.variables c.add_facts.ensures.reasons
     c.add_facts.ensures.stated).0
 
-pub returns-clause-settled : goal.returns-clause-settled
-returns-clause-settled g c =
-    add_settled c.args.graph.now c.args.log.now c.enter.new.self c.add_facts.new.self c.add_facts.ensures.same c.in_ok-enter.ensures.entered c.add_facts.result c.add_facts.ensures.facts
+pub returns-clause-loaded : goal.returns-clause-loaded
+returns-clause-loaded g c =
+    add_loaded c.args.graph.now c.args.log.now c.enter.new.self c.add_facts.new.self c.add_facts.ensures.same c.in_ok-enter.ensures.entered c.add_facts.result c.add_facts.ensures.facts
 
 pub returns-clause-closes : goal.returns-clause-closes
 returns-clause-closes g c =

@@ -1,9 +1,10 @@
-use Rattle.std.proofs.Common.{ap, sym, subst, ◌-◌, ℕ, List, Option, length}
+use Rattle.std.proofs.Common.{ap, sym, subst, ◌∙◌, ◌-◌, ℕ, List, Option, arith}
+use Rattle.std.proofs.Math.Nat.{pos_of_ne-zero}
 use Rattle.std.proofs.lemmas.Result.{err_from_is_err_and}
 use Rattle.tfpg_evidence.specs.declared.step.Step.{Step}
 use Rattle.tfpg_clause.specs.declared.path.Frame.{Frame}
 use Rattle.tfpg_search.specs.inside.Moves.{Grows}
-use Rattle.tfpg_search.proofs.Moving.{nothing, some_left, close_counted, close_some, close_ok}
+use Rattle.tfpg_search.proofs.Moving.{nothing, close_counted, close_some, close_ok}
 use Rattle.tfpg_search.proofs.search.Search.close.Goals as goal
 
 pub returns-in_err-push-clause-closing : goal.returns-in_err-push-clause-closing
@@ -15,9 +16,13 @@ returns-in_err-push-clause-closing c =
 
 pub overflow_sub-kept : goal.overflow_sub-kept
 overflow_sub-kept c =
-    some_left c.depth-kept.result (length c.advance.new.self.path) c.depth-kept.ensures
-    (close_some c.args.graph.now c.args.log.now c.args.self.now c.requires.stands c.args.steps.now c.push.new.self c.args.reasons c.requires.cycle c.in_ok-push.ensures.ok c.advance.new.self
-    c.if-not-advance.ensures.same c.if-not-advance.ensures.path)
+    omega (
+      arith,
+      pos_of_ne-zero {n = c.depth-kept.result}
+          (λ none.
+          close_some c.args.graph.now c.args.log.now c.args.self.now c.requires.stands c.args.steps.now c.push.new.self c.args.reasons c.requires.cycle c.in_ok-push.ensures.ok c.advance.new.self
+          c.if-not-advance.ensures.same c.if-not-advance.ensures.path (sym c.depth-kept.ensures ∙ none)),
+    )
 
 pub leave-requires : goal.leave-requires
 leave-requires c = record {

@@ -3,15 +3,15 @@ use Rattle.tfpg_log.specs.Explains.{Explains}
 use Rattle.tfpg_clause.specs.Cut.{cut}
 use Rattle.tfpg_diff.specs.Solution.{IsLatest}
 use Rattle.tfpg_search.specs.Leaf.{Leaf, pick_reasons}
-use Rattle.tfpg_search.specs.Searching.{Searching}
+use Rattle.tfpg_search.specs.SearchState.{SearchState}
 use Rattle.tfpg_search.proofs.Latest.{latest_here}
 use Rattle.tfpg_search.proofs.search.Search.judge.Goals as goal
 
 pub returns-in_ok-cut-in-None : goal.returns-in_ok-cut-in-None
 returns-in_ok-cut-in-None c =
-    let leaf = ap (λ (s : Searching). s.leaf) c.self.view_is in
+    let leaf = ap (λ (s : SearchState). s.leaf) c.self.view_is in
     let latest =
-    latest_here c.clause_laws.ensures c.args.graph.now c.args.log.now c.args.self.now c.requires.stands c.requires.settled
+    latest_here c.clause_laws.ensures c.args.graph.now c.args.log.now c.args.self.now c.requires.stands c.requires.loaded
     (subst (λ (l : Leaf). length l.demands.picks ≡ length (pick_reasons l)) leaf (sym c.pick_count-count.ensures.picks ∙ c.pick_count-count.ensures.reasons)) c.solution-times.result.now
     (subst (λ (l : Leaf). IsLatest l.demands c.solution-times.result.now) leaf c.solution-times.ensures.latest) in
     subst (Explains c.args.graph.now c.args.log.now c.args.self.now.set) (sym (c.in_ok-cut-in-None.ensures ∙ ap (λ (n : ℕ). cut n c.solution-times.result.now) c.now.ensures))
@@ -21,11 +21,11 @@ returns-in_ok-cut-in-None c =
 
 pub returns-in-Some : goal.returns-in-Some
 returns-in-Some c =
-    let leaf = ap (λ (s : Searching). s.leaf) c.self.view_is in
+    let leaf = ap (λ (s : SearchState). s.leaf) c.self.view_is in
     record {
       times = c.solution-times.result.now;
       latest =
-          latest_here c.clause_laws.ensures c.args.graph.now c.args.log.now c.args.self.now c.requires.stands c.requires.settled
+          latest_here c.clause_laws.ensures c.args.graph.now c.args.log.now c.args.self.now c.requires.stands c.requires.loaded
           (subst (λ (l : Leaf). length l.demands.picks ≡ length (pick_reasons l)) leaf (sym c.pick_count-count.ensures.picks ∙ c.pick_count-count.ensures.reasons)) c.solution-times.result.now
           (subst (λ (l : Leaf). IsLatest l.demands c.solution-times.result.now) leaf c.solution-times.ensures.latest);
       first = c.in-Some.ensures.first;

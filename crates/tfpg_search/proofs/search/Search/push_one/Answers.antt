@@ -4,7 +4,7 @@ use Rattle.tfpg_clause.specs.Facts.{fact}
 use Rattle.tfpg_clause.specs.Paths.{framed, stated_by}
 use Rattle.tfpg_clause.specs.declared.path.Frame.{Frame}
 use Rattle.tfpg_search.specs.Leaf.{Leaf, IsStated}
-use Rattle.tfpg_search.specs.Searching.{Searching}
+use Rattle.tfpg_search.specs.SearchState.{SearchState}
 use Rattle.tfpg_search.specs.inside.Leaving.{Pushing}
 use Rattle.tfpg_search.proofs.Moving.{framed_small, pushing_by}
 use Rattle.tfpg_search.proofs.search.Search.push_one.Goals.{in-Ok, in-Err}
@@ -12,24 +12,24 @@ use Rattle.tfpg_search.proofs.search.Search.push_one.Goals as goal
 
 pub push-requires-clause-left : goal.push-requires-clause-left
 push-requires-clause-left g c =
-    let path = c.deref.ensures.value ∙ ap (λ (s : Searching). s.path) c.self.view_is in
+    let path = c.deref.ensures.value ∙ ap (λ (s : SearchState). s.path) c.self.view_is in
     let states : framed c.args.graph.now c.args.log.now c.args.self.now.path c.args.split c.args.number ≡ Some c.in-Some.constraint =
     sym (c.in-Some.ensures ∙ ap (λ (fs : List Frame). framed c.args.graph.now c.args.log.now fs c.args.split c.args.number) path) in
     let small = framed_small c.clause_laws.ensures c.args.graph.now c.args.log.now c.node_count-valid.ensures.valid c.args.self.now.path c.args.split c.args.number c.in-Some.constraint states in
-    subst (λ (n : ℕ). c.in-Some.constraint.left ≤ n) (sym (ap (λ (s : Searching). length s.leaf.demands.bounds) c.self.view_is ∙ c.requires.variables)) small.left
+    subst (λ (n : ℕ). c.in-Some.constraint.left ≤ n) (sym (ap (λ (s : SearchState). length s.leaf.demands.bounds) c.self.view_is ∙ c.requires.variables)) small.left
 
 pub push-requires-clause-right : goal.push-requires-clause-right
 push-requires-clause-right g c =
-    let path = c.deref.ensures.value ∙ ap (λ (s : Searching). s.path) c.self.view_is in
+    let path = c.deref.ensures.value ∙ ap (λ (s : SearchState). s.path) c.self.view_is in
     let states : framed c.args.graph.now c.args.log.now c.args.self.now.path c.args.split c.args.number ≡ Some c.in-Some.constraint =
     sym (c.in-Some.ensures ∙ ap (λ (fs : List Frame). framed c.args.graph.now c.args.log.now fs c.args.split c.args.number) path) in
     let small = framed_small c.clause_laws.ensures c.args.graph.now c.args.log.now c.node_count-valid.ensures.valid c.args.self.now.path c.args.split c.args.number c.in-Some.constraint states in
-    subst (λ (n : ℕ). c.in-Some.constraint.right ≤ n) (sym (ap (λ (s : Searching). length s.leaf.demands.bounds) c.self.view_is ∙ c.requires.variables)) small.right
+    subst (λ (n : ℕ). c.in-Some.constraint.right ≤ n) (sym (ap (λ (s : SearchState). length s.leaf.demands.bounds) c.self.view_is ∙ c.requires.variables)) small.right
 
 pub returns-clause-pushing : goal.returns-clause-pushing
 returns-clause-pushing g c =
-    let path = c.deref.ensures.value ∙ ap (λ (s : Searching). s.path) c.self.view_is in
-    let leaf = ap (λ (s : Searching). s.leaf) c.self.view_is in
+    let path = c.deref.ensures.value ∙ ap (λ (s : SearchState). s.path) c.self.view_is in
+    let leaf = ap (λ (s : SearchState). s.leaf) c.self.view_is in
     let states : framed c.args.graph.now c.args.log.now c.args.self.now.path c.args.split c.args.number ≡ Some c.in-Some.constraint =
     sym (c.in-Some.ensures ∙ ap (λ (fs : List Frame). framed c.args.graph.now c.args.log.now fs c.args.split c.args.number) path) in
     subst (λ (l : Leaf). Pushing c.args.graph.now c.args.log.now c.args.self.now.reach c.args.self.now.path l c.push.new.self) leaf
@@ -40,8 +40,8 @@ returns-clause-pushing g c =
 
 pub returns-clause-closes : goal.returns-clause-closes
 returns-clause-closes g c =
-    let path = c.deref.ensures.value ∙ ap (λ (s : Searching). s.path) c.self.view_is in
-    let leaf = ap (λ (s : Searching). s.leaf) c.self.view_is in
+    let path = c.deref.ensures.value ∙ ap (λ (s : SearchState). s.path) c.self.view_is in
+    let leaf = ap (λ (s : SearchState). s.leaf) c.self.view_is in
     let states : framed c.args.graph.now c.args.log.now c.args.self.now.path c.args.split c.args.number ≡ Some c.in-Some.constraint =
     sym (c.in-Some.ensures ∙ ap (λ (fs : List Frame). framed c.args.graph.now c.args.log.now fs c.args.split c.args.number) path) in
     let stated =

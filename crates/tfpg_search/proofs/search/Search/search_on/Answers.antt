@@ -3,7 +3,7 @@ use Rattle.std.proofs.Math.Arith.{lt_of_le-ne}
 use Rattle.std.specs.Prelude.{Ok}
 use Rattle.tfpg_search.specs.declared.search.Look.{Look}
 use Rattle.tfpg_search.specs.inside.Moves.{Looking, Sees}
-use Rattle.tfpg_search.proofs.Settling.{keeps_on, grows_still, grows_after, found_on}
+use Rattle.tfpg_search.proofs.Loading.{keeps_on, grows_still, grows_after, found_on}
 use Rattle.tfpg_search.proofs.search.Search.search_on.Goals as goal
 
 pub returns-in-Err-clause-searches : goal.returns-in-Err-clause-searches

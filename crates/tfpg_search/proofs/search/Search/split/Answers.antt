@@ -1,7 +1,10 @@
-use Rattle.std.proofs.Common.{sym, subst, List, Option}
+use Rattle.std.proofs.Common.{sym, ap, ◌∙◌, subst, List, [], ◌∷◌, ◌++◌, Option}
 use Rattle.std.proofs.lemmas.Result.{err_from_is_err_and}
 use Rattle.tfpg_evidence.specs.declared.step.Step.{Step}
+use Rattle.tfpg_clause.specs.Clauses.{count_of}
 use Rattle.tfpg_clause.specs.declared.path.Frame.{Frame}
+use Rattle.tfpg_clause.proofs.FramePaths.{new_frame_some}
+use Rattle.tfpg_search.specs.SearchState.{SearchState}
 use Rattle.tfpg_search.specs.inside.Moves.{Grows}
 use Rattle.tfpg_search.proofs.Moving.{nothing, split_ok}
 use Rattle.tfpg_search.proofs.search.Search.split.Goals as goal
@@ -20,5 +23,8 @@ returns-in_err-push-clause-splitting c =
 
 pub returns-clause-splitting : goal.returns-clause-splitting
 returns-clause-splitting c =
-    split_ok c.args.graph.now c.args.log.now c.args.self.now c.requires.stands c.args.steps.now c.descend.new.self c.push.new.self c.args.name c.in-Ok.alternatives c.requires.entered
-    c.requires.live (sym c.in-Ok.ensures) (c.clause_laws.ensures.some c.args.graph.now c.args.log.now c.args.name c.in-Ok.alternatives (sym c.in-Ok.ensures)) c.in_ok-descend.ensures.ok c.in_ok-push.ensures.ok
+    let old : SearchState = c.args.self.now in
+    let is = new_frame_some c.args.name (count_of c.args.graph.now c.args.log.now c.args.name) c.in-Some.frame c.in-Some.ensures in
+    split_ok c.args.graph.now c.args.log.now old c.requires.stands c.args.steps.now c.descend.new.self c.push.new.self c.args.name c.in-Some.frame.alternatives c.requires.entered
+    c.requires.live is.0 (c.clause_laws.ensures.some c.args.graph.now c.args.log.now c.args.name c.in-Some.frame.alternatives is.0)
+    (c.in_ok-descend.ensures.ok ∙ ap (λ (frame : Frame). record old { path = old.path ++ frame ∷ [] }) is.1) c.in_ok-push.ensures.ok

@@ -1,7 +1,7 @@
 use Rattle.std.proofs.Common.{◌≡◌, ◌++◌, take}
 use Rattle.std.specs.List.{flat_map}
 use Rattle.tfpg_sim.specs.Generated.{named_nodes}
-use Rattle.tfpg_graph.specs.inside.writing.Written.{node_text}
+use Rattle.tfpg_graph.specs.Text.{node_text}
 use Rattle.tfpg_sim.specs.declared.limits.TheConstants.{FAILURE_COUNT}
 use Rattle.tfpg_sim.proofs.generating.graph_text.append_discrepancies.Given as goal
 

@@ -1,7 +1,7 @@
 use Rattle.std.proofs.Common.{◌≡◌, ◌++◌}
 use Rattle.std.specs.List.{flat_map}
 use Rattle.tfpg_sim.specs.Generated.{failure_kinds, named_nodes}
-use Rattle.tfpg_graph.specs.inside.writing.Written.{node_text}
+use Rattle.tfpg_graph.specs.Text.{node_text}
 use Rattle.tfpg_sim.proofs.generating.graph_text.append_failures.Given as goal
 
 -- the lines of the failure modes so far stand after the old bytes

@@ -1,12 +1,13 @@
-use Rattle.std.proofs.Common.{◌≢◌, ℕ, ◌<◌, Some, IfSome, subst, arith}
+use Rattle.std.proofs.Common.{◌≢◌, ℕ, ◌<◌, Some, IfSome, subst, arith, Option, IfNone}
 use Rattle.tfpg_base.specs.Lines.{parts_of}
 use Rattle.tfpg_graph.specs.inside.reading.Turns.{ReaderRepresents}
 use Rattle.tfpg_graph.specs.ZeroCycle.{HasZeroOrder, LiesOnZeroCycle}
 use Rattle.tfpg_graph.proofs.lemmas.reading.LinesSaying.{count-node_lines, count-edge_lines}
 use Rattle.tfpg_graph.proofs.lemmas.reading.SpelledBy.{has_mode}
-use Rattle.tfpg_graph.proofs.lemmas.reading.Ending.{edge_within, IfNone-none, IsValid-whole, IsEndRefusal-cycle, IsEndRefusal-unended}
+use Rattle.tfpg_graph.proofs.lemmas.reading.Ending.{edge_within, IsValid-whole, IsEndRefusal-cycle, IsEndRefusal-unended}
 use Rattle.tfpg_graph.proofs.reading.reader.Reader.end.Goals as goal
 use Rattle.tfpg_graph.proofs.reading.reader.Reader.end.Goals.{After-without_incoming, In_ok-edge, In-Some-2}
+use Rattle.tfpg_base.proofs.lists.Choices.{none-from_never}
 
 -- what is read represents the parts
 stands : (c : After-without_incoming)
@@ -15,20 +16,20 @@ stands c = c.requires.stands
 
 -- where no edge was found, no cycle takes no time
 order : (c : In_ok-edge) → ((edge : ℕ) → c.in_ok-edge.field-0 ≢ Some edge) → HasZeroOrder c.args.self.declared
-order c none = IfNone-none c.in_ok-edge.field-0 none c.in_ok-edge.ensures.order
+order c none = subst (λ (o : Option ℕ). IfNone o (HasZeroOrder c.args.self.declared)) (none-from_never c.in_ok-edge.field-0 none) c.in_ok-edge.ensures.order
 
 -- the edge that was found lies on a cycle that takes no time
 lies : (c : In-Some-2) → LiesOnZeroCycle c.args.self.declared c.in-Some-2.edge
 lies c = subst (λ o. IfSome o (LiesOnZeroCycle c.args.self.declared)) c.in-Some-2.is c.in_ok-edge.ensures.lies
 
-pub line_declaring-requires : goal.line_declaring-requires
-line_declaring-requires c =
-    let read = stands (goal.at.line_declaring-requires c).After-without_incoming in
+pub line_declaring-line-requires : goal.line_declaring-line-requires
+line_declaring-line-requires c =
+    let read = stands (goal.at.line_declaring-line-requires c).After-without_incoming in
     record { there = omega (arith, c.in-Some.ensures.lacking.0, count-node_lines _ (parts_of c.args.text.now) read) }
 
-pub line_declaring-requires-in-Some-2 : goal.line_declaring-requires-in-Some-2
-line_declaring-requires-in-Some-2 c =
-    let read = stands (goal.at.line_declaring-requires-in-Some-2 c).After-without_incoming in
+pub line_declaring-line-requires-in-Some-2 : goal.line_declaring-line-requires-in-Some-2
+line_declaring-line-requires-in-Some-2 c =
+    let read = stands (goal.at.line_declaring-line-requires-in-Some-2 c).After-without_incoming in
     let within = edge_within c.args.self.declared c.in-Some-2.edge (lies c) in
     record { there = omega (arith, within, count-edge_lines _ (parts_of c.args.text.now) read) }
 
@@ -39,8 +40,8 @@ returns-in-Some-2-clause-fault c =
     (λ o. IfSome o (λ n. (earlier : ℕ) → earlier < n → LiesOnZeroCycle c.args.self.declared earlier → ⊥))
     c.in-Some-2.is c.in_ok-edge.ensures.first in
     IsEndRefusal-cycle _ c.args.text.now (stands at.After-without_incoming) c.in-Some-2.edge
-    c.line_declaring-in-Some-2.result c.fault-in-Some-2.result c.in_default.ensures.all (lies at.In-Some-2) first
-    c.line_declaring-in-Some-2.ensures c.fault-in-Some-2.ensures
+    c.line_declaring-line-in-Some-2.result c.at-in-Some-2.result c.in_default.ensures.all (lies at.In-Some-2) first
+    c.line_declaring-line-in-Some-2.ensures c.at-in-Some-2.ensures
 
 pub new-requires : goal.new-requires
 new-requires c =
@@ -56,6 +57,6 @@ returns-in_default-part c =
       graph = tt;
       valid = tt;
       fault = IsEndRefusal-unended _ c.args.text.now (stands at.After-without_incoming) c.args.line_count
-          c.fault-in_default-part.result c.in_default.ensures.all (order at.In_ok-edge c.in_default-2.not-Some)
-          c.in_default-part.not-Ended c.requires.count c.fault-in_default-part.ensures;
+          c.at-in_default-part.result c.in_default.ensures.all (order at.In_ok-edge c.in_default-2.not-Some)
+          c.in_default-part.not-Ended c.requires.count c.at-in_default-part.ensures;
     }

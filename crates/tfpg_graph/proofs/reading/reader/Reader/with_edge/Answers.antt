@@ -3,7 +3,7 @@ use Rattle.std.proofs.lemmas.Result.{err_from_is_err_and}
 use Rattle.tfpg_graph.specs.declared.edge.Edge.{Edge}
 use Rattle.tfpg_graph.specs.declared.reading.reader.Part.TheVariants.{Declarations}
 use Rattle.tfpg_graph.specs.Graph.{Tfpg}
-use Rattle.tfpg_graph.specs.inside.Indexes.{with_edge}
+use Rattle.tfpg_graph.specs.inside.declaring.Indexes.{with_edge}
 use Rattle.tfpg_graph.specs.declared.reading.reader.Reader.{Reader}
 use Rattle.tfpg_graph.proofs.lemmas.reading.Judged.{cause_or_value-caused, cause_or_value-valued}
 use Rattle.tfpg_graph.proofs.reading.reader.Reader.with_edge.Goals as goal

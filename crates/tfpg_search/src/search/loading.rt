@@ -1,0 +1,207 @@
+//! The moves of a search: all that holds at the present leaf is brought into the system, the leaf is closed or split.
+
+ghost use Rattle.std.specs.Prelude.{◌≡◌, ◌++◌, ◌∷◌, ℕ, [], IfOk, OnOk, OnErr, IfErr, length, Option, Some, None, List};
+ghost use Rattle.std.specs.Bool.{MatchBool};
+ghost use Rattle.tfpg_base.specs.Constraint.{Meets};
+ghost use Rattle.tfpg_diff.specs.Solution.{IsSolution};
+ghost use Rattle.tfpg_base.specs.declared.constraint.Constraint.{Constraint};
+ghost use Rattle.tfpg_log.specs.Log.{IsLogOf};
+ghost use Rattle.tfpg_evidence.specs.declared.reason.Reason.{Reason};
+ghost use Rattle.tfpg_clause.specs.Facts.{fact};
+ghost use Rattle.tfpg_clause.specs.Paths.{stated_by, path_after};
+ghost use Rattle.tfpg_search.specs.Leaf.{pick_reasons, IsStated};
+ghost use Rattle.tfpg_search.specs.SearchState.{IsAtItsLeaf, HasEnteredAll};
+ghost use Rattle.tfpg_search.specs.inside.Closing.{IsSimpleCycle, Closes};
+ghost use Rattle.tfpg_search.specs.inside.Moves.{KeepsSet, IsLoaded, IsLiveFramed, Closing, Loading, Sees, Looking, Splitting};
+
+use crate::add_fault::AddFault;
+use crate::clause_laws::clause_laws;
+use crate::cut::cut;
+use crate::search::{Look, Search};
+use std::sync::ledger::Ledger;
+use tfpg_base::{NoMemory, Steps};
+use tfpg_clause::laws::numbers_that_meet_all_give_a_trace;
+use tfpg_clause::{Frame, advance, violated};
+use tfpg_evidence::{ClauseName, Reasons, Step, StepList};
+use tfpg_graph::Graph;
+use tfpg_log::Log;
+
+impl Search {
+    /// Loads the present leaf, and looks whether its latest solution keeps the rules. Returns what was seen, or that no leaf
+    /// is left.
+    pub(super) fn look<L: Ledger>(
+        &mut self,
+        graph: &Graph,
+        log: &Log,
+        steps: &mut StepList,
+        work: &mut Steps<L>,
+    ) -> Result<Option<Look>, NoMemory>
+        requires of { IsLogOf graph.now log.now }
+        requires stands { IsAtItsLeaf graph.now log.now self.old }
+        ensures keeps { KeepsSet self.old self.new }
+        ensures looking { Looking graph.now log.now self.old self.new steps.old steps.new result }
+    {
+        match self.load(graph, log, steps, work) {
+            Ok(true) => {}
+            Ok(false) => return Ok(None),
+            Err(NoMemory) => return Err(NoMemory),
+        }
+        match self.judge(graph, log) {
+            Ok(look) => Ok(Some(look)),
+            Err(NoMemory) => Err(NoMemory),
+        }
+    }
+
+    /// Looks whether the latest solution at a loaded leaf keeps the rules.
+    fn judge(&self, graph: &Graph, log: &Log) -> Result<Look, NoMemory>
+        requires of { IsLogOf graph.now log.now }
+        requires stands { IsAtItsLeaf graph.now log.now self.now }
+        requires loaded { IsLoaded graph.now log.now self.now }
+        ensures { IfOk result (Sees graph.now log.now self.now) }
+    {
+        let _valid = graph.node_count();
+        let _ordered = log.len();
+        clause_laws();
+        numbers_that_meet_all_give_a_trace();
+        let _count = self.leaf.pick_count();
+        let times = self.leaf.solution();
+        match violated(graph, log, times) {
+            None => Ok(Look::Shown(cut(self.alloc, log.now(), times)?)),
+            Some(name) => Ok(Look::Violated(name)),
+        }
+    }
+
+    /// Brings all that holds at the present leaf into the system. Where no times meet it, the leaf is closed and the next
+    /// one taken. Returns whether there is a leaf left.
+    fn load<L: Ledger>(
+        &mut self,
+        graph: &Graph,
+        log: &Log,
+        steps: &mut StepList,
+        work: &mut Steps<L>,
+    ) -> Result<bool, NoMemory>
+        requires of { IsLogOf graph.now log.now }
+        requires stands { IsAtItsLeaf graph.now log.now self.old }
+        ensures keeps { KeepsSet self.old self.new }
+        ensures loading { Loading graph.now log.now self.old self.new steps.old steps.new result }
+    {
+        loop {
+            match self.add_all(graph, log, work) {
+                Ok(()) => return Ok(true),
+                Err(AddFault::NoMemory) => return Err(NoMemory),
+                Err(AddFault::Conflict(reasons)) => match self.close(graph, log, reasons, steps) {
+                    Ok(true) => {}
+                    Ok(false) => return Ok(false),
+                    Err(NoMemory) => return Err(NoMemory),
+                },
+            }
+        }
+    }
+
+    /// Adds the alternative that is not yet entered, and the facts of the log.
+    fn add_all<L: Ledger>(
+        &mut self,
+        graph: &Graph,
+        log: &Log,
+        work: &mut Steps<L>,
+    ) -> Result<(), AddFault>
+        requires of { IsLogOf graph.now log.now }
+        requires stands { IsAtItsLeaf graph.now log.now self.old }
+        ensures stands { IsAtItsLeaf graph.now log.now self.new }
+        ensures keeps { KeepsSet self.old self.new }
+        ensures path { self.new.path ≡ self.old.path }
+        ensures loaded { OnOk result (IsLoaded graph.now log.now self.new) }
+        ensures closes { IfErr result (Closes (stated_by graph.now log.now self.old.reach self.old.path)) }
+    {
+        self.enter(graph, log, work)?;
+        self.add_facts(graph, log, work)
+    }
+
+    /// Adds the facts of the log.
+    fn add_facts<L: Ledger>(
+        &mut self,
+        graph: &Graph,
+        log: &Log,
+        work: &mut Steps<L>,
+    ) -> Result<(), AddFault>
+        requires of { IsLogOf graph.now log.now }
+        requires variables { length self.old.leaf.demands.bounds ≡ length graph.now.nodes }
+        ensures same { self.new ≡ record self.old { leaf = self.new.leaf } }
+        ensures variables { length self.new.leaf.demands.bounds ≡ length self.old.leaf.demands.bounds }
+        ensures reasons { pick_reasons self.new.leaf ≡ pick_reasons self.old.leaf }
+        ensures stated { (stated : Reason → Option Constraint) →
+            IsStated (fact graph.now log.now self.old.reach) stated self.old.leaf →
+            IsStated (fact graph.now log.now self.old.reach) stated self.new.leaf }
+        ensures closes { (stated : Reason → Option Constraint) →
+            IsStated (fact graph.now log.now self.old.reach) stated self.old.leaf →
+            IfErr result (Closes stated) }
+        ensures facts { OnOk result ((reason : Reason) (constraint : Constraint) →
+            fact graph.now log.now self.old.reach reason ≡ Some constraint →
+            (times : List ℕ) → IsSolution self.new.leaf.demands times → Meets times constraint) }
+    {
+        self.leaf.add_facts(graph, log, &self.reach, work)
+    }
+
+    /// Closes the present leaf by a cycle, and takes the next one. Returns whether there is one.
+    fn close(
+        &mut self,
+        graph: &Graph,
+        log: &Log,
+        reasons: Reasons,
+        steps: &mut StepList,
+    ) -> Result<bool, NoMemory>
+        requires stands { IsAtItsLeaf graph.now log.now self.old }
+        requires cycle { IsSimpleCycle (stated_by graph.now log.now self.old.reach self.old.path) reasons }
+        ensures keeps { KeepsSet self.old self.new }
+        ensures closing { Closing graph.now log.now self.old self.new steps.old steps.new result }
+    {
+        steps.push(Step::Cycle(reasons))?;
+        if !self.advance() {
+            return Ok(false);
+        }
+        let kept = self.depth() - 1;
+        self.leave(kept);
+        Ok(true)
+    }
+
+    /// Moves the path to the next leaf. Returns whether there is one.
+    fn advance(&mut self) -> bool
+        ensures same { self.new ≡ record self.old { path = self.new.path } }
+        ensures path { MatchBool result (path_after self.old.path ≡ Some self.new.path)
+            (path_after self.old.path ≡ None) }
+    {
+        advance(&mut self.path)
+    }
+
+    /// Splits the present leaf on a clause. Its first alternative is the present leaf then, and not yet entered.
+    pub(super) fn split(
+        &mut self,
+        graph: &Graph,
+        log: &Log,
+        name: ClauseName,
+        steps: &mut StepList,
+    ) -> Result<(), NoMemory>
+        requires stands { IsAtItsLeaf graph.now log.now self.old }
+        requires entered { HasEnteredAll self.old }
+        requires live { IsLiveFramed graph.now log.now self.old.reach self.old.path name }
+        ensures keeps { KeepsSet self.old self.new }
+        ensures splitting { Splitting graph.now log.now self.old self.new steps.old steps.new result }
+    {
+        clause_laws();
+        let Some(frame) = Frame::of_split(graph, log, name) else {
+            unreachable!()
+        };
+        self.descend(frame)?;
+        steps.push(Step::Split(name))?;
+        Ok(())
+    }
+
+    /// Appends a split to the path.
+    fn descend(&mut self, frame: Frame) -> Result<(), NoMemory>
+        ensures ok { OnOk result (self.new ≡ record self.old { path = self.old.path ++ frame ∷ [] }) }
+        ensures err { OnErr result (self.new ≡ self.old) }
+    {
+        self.path.push(frame)?;
+        Ok(())
+    }
+}
