@@ -1,12 +1,12 @@
 #!/usr/bin/env python3
 """Prints what a reader has to believe: the definitions in `specs/` that clauses of public calls reach.
 
-    bench/believed.py [--from FUNCTION] [--names]
+    bench/believed.py [--from FUNCTION | --of DEFINITION] [--names]
 
 Without `--from` it begins with the clauses of all public functions and traits and with the values of public models, with
-`--from run` with those of the functions of that name. Each word of a clause or of a definition is looked up where the `use`
-line of its file says, and from there on. With `--names` each definition is printed. It goes by names and knows no types, so
-it is a guide and no proof.
+`--from run` with those of the functions of that name, and with `--of IsReport` with the definition of that name. Each word of a
+clause or of a definition is looked up where the `use` line of its file says, and from there on. With `--names` each
+definition is printed. It goes by names and knows no types, so it is a guide and no proof.
 """
 import argparse
 import re
@@ -79,8 +79,8 @@ def read_definitions():
     return found, imports
 
 
-def reached_from(wanted, found, imports):
-    """The places of the definitions that the clauses reach."""
+def reached_from(function, definition, found, imports):
+    """The places of the definitions that the clauses reach, or else that this definition does, itself among them."""
     reached, waiting = set(), []
 
     def look_up(text, names, crate=None, module=None):
@@ -90,10 +90,14 @@ def reached_from(wanted, found, imports):
                     reached.add(place)
                     waiting.append(place)
 
-    for file in sorted(CRATES.glob("*/src/**/*.rt")):
-        text = file.read_text()
-        for clause in clauses_of(text, wanted):
-            look_up(clause, imported(text))
+    if definition is not None:
+        waiting = [place for place in found if place[2] == definition and "inside" not in place[1].split(".")]
+        reached.update(waiting)
+    else:
+        for file in sorted(CRATES.glob("*/src/**/*.rt")):
+            text = file.read_text()
+            for clause in clauses_of(text, function):
+                look_up(clause, imported(text))
     while waiting:
         crate, module, name = waiting.pop()
         look_up("\n".join(found[crate, module, name].lines), imports[crate, module], crate, module)
@@ -102,11 +106,13 @@ def reached_from(wanted, found, imports):
 
 def main():
     parser = argparse.ArgumentParser(description=__doc__.splitlines()[0])
-    parser.add_argument("--from", dest="wanted", metavar="FUNCTION", help="begin with the clauses of the functions of this name")
+    begin = parser.add_mutually_exclusive_group()
+    begin.add_argument("--from", dest="function", metavar="FUNCTION", help="begin with the clauses of the functions of this name")
+    begin.add_argument("--of", dest="definition", metavar="DEFINITION", help="begin with the definition of this name")
     parser.add_argument("--names", action="store_true", help="print each definition")
     options = parser.parse_args()
     found, imports = read_definitions()
-    reached = reached_from(options.wanted, found, imports)
+    reached = reached_from(options.function, options.definition, found, imports)
     modules = {}
     for place in sorted(reached):
         modules.setdefault(place[:2], []).append(found[place])
